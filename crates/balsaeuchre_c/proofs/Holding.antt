@@ -27,7 +27,7 @@ use Rattle.qrules.specs.Private.Effects.{makes}
 use Rattle.qrules.specs.Private.Facts.{Facts, is_for_answer, message, sender, threads_of, route}
 use Rattle.qrules.specs.Private.Lawful.{IsLawful, facts_of, with_event}
 use Rattle.qrules.specs.Private.Past.{call_by_now, copied_count_among, copied_count_of, has_ending_of, is_ended, open_call, priority_of_item, wait_with_receipt, with_receipt}
-use Rattle.qrules.specs.Private.Rows.{item_in_mark, receipt_ending}
+use Rattle.qrules.specs.Private.Rows.{item_in, receipt_ending}
 use Rattle.qmodel.specs.Trace.{SentItem}
 use Rattle.qmodel.specs.Trace.{Trace}
 use Rattle.qmodel.specs.declared.call.Call.{Call}
@@ -58,6 +58,7 @@ use Rattle.qrules.proofs.Traces.Properties.Rows.Delivering.{Delivers, delivery_m
 use Rattle.qrules.proofs.Traces.Properties.Rows.Receiving.{receive_takes}
 use Rattle.qrules.proofs.Traces.Properties.Rows.Telling.{Tells, told_meets, unblock_ends}
 use Rattle.qrules.proofs.Traces.TraceLaws.Held.{held_is_held_send}
+use Rattle.qrules.specs.Past.{ReceivedItem}
 
 -- ---- a receipt whose mark is of a message
 
@@ -67,8 +68,8 @@ is_message (mark.Message rcvid copied) = true
 is_message other = false
 
 -- no mark is one of a message that receives nothing
-no_message : (y : Completion) (i copied : ℕ) → y.mark ≡ mark.Message i copied → item_in_mark y.mark ≡ None → ⊥
-no_message y i copied m none = none-some _ (sym none ∙ ap item_in_mark m)
+no_message : (y : Completion) (i copied : ℕ) → y.mark ≡ mark.Message i copied → item_in y.mark ≡ None → ⊥
+no_message y i copied m none = none-some _ (sym none ∙ ap item_in m)
 
 -- such an ending takes a message of that number
 record TakesMessage (x : Item) (i : ℕ) : Type 0 where
@@ -79,7 +80,7 @@ message_taken : (x : Item) (sent : List ℕ) (u m : ℕ) (buffer : List ℕ) (y 
 message_taken x sent u m buffer y i copied e is = by_kind (is_pulse x.what) refl (ap (λ (z : Completion). z.mark) e ∙ is) where
   by_kind : (b : Bool) → is_pulse x.what ≡ b → (cond {A = Mark × List ℕ} b (mark.Pulse x.number x.priority x.what, buffer) (mark.Message x.number (laid_count buffer 0 sent), lay_over buffer 0 sent)).0 ≡ mark.Message i copied → TakesMessage x i
   by_kind true kind given = absurd (true≢false (sym (ap is_message given)))
-  by_kind false kind given = record { message = kind; number = ap (λ (p : ℕ × ℕ). p.0) (same_Some (x.number, laid_count buffer 0 sent) (i, copied) (ap item_in_mark given)) }
+  by_kind false kind given = record { message = kind; number = ap (λ (p : ReceivedItem). p.number) (same_Some (record { number = x.number; copied = laid_count buffer 0 sent }) (record { number = i; copied = copied }) (ap item_in given)) }
 
 -- ---- the caller's own ending
 
@@ -101,7 +102,7 @@ own_message f t (Receive chid buffer) y i copied e m =
 own_message f t (ReceivePulse chid) y i copied e m =
     let r = receive_takes f t chid PulseOnly [] y e in
     record { channel = chid; kind = PulseOnly; best_item = r.item; best = r.best; takes = message_taken r.item (message f r.item.number) t f.number [] y i copied r.ending m; alone = λ u. refl }
-own_message f t c y i copied e m = absurd (no_message y i copied m (ap (λ x. item_in_mark x.mark) (sym (same_Some _ y e))))
+own_message f t c y i copied e m = absurd (no_message y i copied m (ap (λ x. item_in x.mark) (sym (same_Some _ y e))))
 
 -- ---- an ending of another thread
 
@@ -125,14 +126,14 @@ ends_message f t (Reply rcvid status bytes) u y i copied r e m =
     absurd (no_message y i copied m (answer_receives f t rcvid (reply_finish status bytes) u y (λ buffer. refl) (sender_ends f t rcvid (reply_finish status bytes) u y r e)))
 ends_message f t (Error rcvid code) u y i copied r e m =
     absurd (no_message y i copied m (answer_receives f t rcvid (error_finish code) u y (λ buffer. no_receipt code) (sender_ends f t rcvid (error_finish code) u y r e)))
-ends_message f t (ChannelDestroy chid) u y i copied r e m = absurd (no_message y i copied m (ap (λ x. item_in_mark x.mark) (sym (cancel_parts (is_on f.connection chid) Srch u (f.open_call u) y e).ending)))
-ends_message f t Shutdown u y i copied r e m = absurd (no_message y i copied m (ap (λ x. item_in_mark x.mark) (sym (cancel_parts (λ wait. true) Srch u (f.open_call u) y e).ending)))
+ends_message f t (ChannelDestroy chid) u y i copied r e m = absurd (no_message y i copied m (ap (λ x. item_in x.mark) (sym (cancel_parts (is_on f.connection chid) Srch u (f.open_call u) y e).ending)))
+ends_message f t Shutdown u y i copied r e m = absurd (no_message y i copied m (ap (λ x. item_in x.mark) (sym (cancel_parts (λ wait. true) Srch u (f.open_call u) y e).ending)))
 ends_message f t (Unblock thread) u y i copied r e m = elim (unblock_ends f thread u y (unblock.due_pulse f thread) e) [
-  | inl cancel ↦ absurd (no_message y i copied m (ap (λ x. item_in_mark x.mark) (sym cancel.ending)))
+  | inl cancel ↦ absurd (no_message y i copied m (ap (λ x. item_in x.mark) (sym cancel.ending)))
   | inr k ↦ told_message f t (Unblock thread) (unblock.due_pulse f thread) u y i copied refl k m
 ]
 ends_message f t (ConnectDetach coid) u y i copied r e m = elim (detach_ends f coid (connect_detach.due_pulse f t coid) u y e) [
-  | inl cancel ↦ absurd (no_message y i copied m (ap (λ x. item_in_mark x.mark) (sym cancel.ending)))
+  | inl cancel ↦ absurd (no_message y i copied m (ap (λ x. item_in x.mark) (sym cancel.ending)))
   | inr s ↦ told_message f t (ConnectDetach coid) (connect_detach.due_pulse f t coid) u y i copied refl (told_meets f (connect_detach.due_pulse f t coid) u y s) m
 ]
 ends_message f t (Send coid sent reply_buffer) u y i copied r e m =
@@ -176,7 +177,7 @@ module _ (roster : List Member) (past : Trace) (t : ℕ) (c : Call) (X : List Co
   -- and it is counted as it was copied
   counted_after : (v : ℕ) (y : Completion) (i copied : ℕ) → ending f t c v ≡ Some y → y.mark ≡ mark.Message i copied → copied_count_of (with_event t c X past) i ≡ Some copied
   counted_after v y i copied given m =
-      let r = ending_receives f t c v y (i, copied) (laws_of f t c X a) given (ap item_in_mark m) in
+      let r = ending_receives f t c v y (record { number = i; copied = copied }) (laws_of f t c X a) given (ap item_in m) in
       let now : copied_count_among X i ≡ Some copied = accepted_receipts roster past t c X i l member a ∙ rw (r.is, eq-eqb r.receipt.item i (sym r.item)) (ap Some (sym r.copied)) in
       rw now refl
 
@@ -227,5 +228,5 @@ received_told roster past t c X rises l member answers = let lawful : IsLawful r
   | inl a ↦ subst (AllByRecursion (IsHeldAfter roster (with_event t c X past))) (sym a.1)
       (all_filter_map (IsHeldAfter roster (with_event t c X past)) (ending (facts_of roster past) t c) (threads_of roster) (λ v y given i copied m.
       held_told roster (with_event t c X past) i copied rises lawful (going_after roster past t c X l member a v y i copied given m) (counted_after roster past t c X l member a v y i copied given m)))
-  | inr a ↦ subst (AllByRecursion (IsHeldAfter roster (with_event t c X past))) (sym a.2) ((λ i copied m. absurd (none-some _ (ap item_in_mark m))), tt)
+  | inr a ↦ subst (AllByRecursion (IsHeldAfter roster (with_event t c X past))) (sym a.2) ((λ i copied m. absurd (none-some _ (ap item_in m))), tt)
 ]

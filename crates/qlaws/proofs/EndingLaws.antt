@@ -31,11 +31,9 @@ use Rattle.qrules.specs.Rules.{effect_of}
 use Rattle.qrules.proofs.Same.{facts_view}
 use Rattle.qrules.proofs.Lawful.{of_roster}
 use Rattle.qrules.proofs.Outcomes.{same_buffer}
-use Rattle.qrules.proofs.Past.Done.{same_attached, same_destroyed}
-use Rattle.qrules.proofs.Past.Effects.{same_request}
 use Rattle.qrules.proofs.Properties.BestFirst.{request_from}
 use Rattle.qrules.proofs.Properties.Calls.{same_connection_of}
-use Rattle.qrules.proofs.Properties.Items.{same_channel_among, same_items, same_number}
+use Rattle.qrules.proofs.Properties.Items.{same_channel_among, same_items}
 use Rattle.qlaws.specs.Endings
 use Rattle.qlaws.proofs.Waits.{place_of, before, blocked_at, buffer_at, facts_at, number_at}
 
@@ -99,7 +97,7 @@ endings_keep_length roster past e r l =
 
 module _ (roster : List Member) (past : Trace) (l : IsLawful roster past) where
   leads : (k h : ℕ) → old_laws.LeadsTo roster past k h → Endings.LeadsTo roster past k h
-  leads k h to = ap (option_map (λ c. c.channel)) (same_attached roster past k ∙ to.is) ∙ ap Some to.channel
+  leads k h to = ap (option_map (λ c. c.channel)) to.is ∙ ap Some to.channel
 
   was_sent : (x : Completion) (i : ℕ) (c : Call) (channel : ℕ) (kind : Kind) (request : Option ReceiveRequest) → old_call_at past x.call ≡ Some c → (effect_of c).receives ≡ request → option_map place_of request ≡ Some (channel, kind)
       → list_any (λ m. eqb m.item.number i && eqb m.channel channel) (old_items roster past) ≡ true
@@ -118,8 +116,8 @@ module _ (roster : List Member) (past : Trace) (l : IsLawful roster past) where
 pub received_was_sent : Endings.ReceivedWasSent
 received_was_sent roster past e r l =
     all_more _ _ e.endings (sent.received_was_sent roster past e r (before roster (e ∷ past) l)) (λ x was i is.
-    let w = was i (sym (same_number x) ∙ is) in
-    was_sent roster (e ∷ past) l x i w.call w.channel w.kind (effect_of w.call).receives w.is_call refl (same_request w.call ∙ w.receives) w.made w.sent)
+    let w = was i is in
+    was_sent roster (e ∷ past) l x i w.call w.channel w.kind (effect_of w.call).receives w.is_call refl w.receives w.made w.sent)
 
 all_for : {X : Type 0} (Q : ℕ → Type 0) (P : ℕ → X → Type 0) (xs : List X) → ((h : ℕ) → Q h → AllByRecursion (P h) xs) → AllByRecursion (λ x. (h : ℕ) → Q h → P h x) xs
 all_for Q P [] f = tt
@@ -129,7 +127,7 @@ pub nothing_from_destroyed : Endings.NothingFromDestroyed
 nothing_from_destroyed roster past e r l =
     let of = of_roster roster (e ∷ past) l in
     all_more _ _ e.endings (all_for _ _ e.endings (ending.nothing_from_destroyed roster past e r (before roster (e ∷ past) l))) (λ x none h i destroyed is on.
-    none h (sym (same_destroyed (e ∷ past) h) ∙ destroyed) i (sym (same_number x) ∙ is)
+    none h destroyed i is
     (sym (ap (λ (made : List SentItem). option_map (λ m. m.channel) (item_among made i)) (same_items roster (e ∷ past) of) ∙ same_channel_among (old_items roster (e ∷ past)) i) ∙ on))
 
 -- ---- refusals

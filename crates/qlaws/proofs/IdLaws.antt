@@ -55,10 +55,9 @@ use Rattle.qrules.proofs.Traces.Properties.Rows.Receiving.{receive_takes, Receiv
 use Rattle.qrules.proofs.Traces.Properties.Rows.Telling.{told_meets, unblock_ends}
 use Rattle.qrules.specs.Facts.{Facts as NewFacts}
 use Rattle.qrules.specs.Lawful.{IsLawful}
-use Rattle.qrules.specs.Past.{accepted_calls, attached_connection, channel_at, connection_at, created_channel, is_accepted, is_number, was_done}
+use Rattle.qrules.specs.Past.{attached_connection, channel_at, connection_at, created_channel, is_number, was_done}
 use Rattle.qrules.specs.Rule.{Effect}
 use Rattle.qrules.specs.Trace.{endings_of}
-use Rattle.qrules.proofs.Past.Done.{newest, same_destroyed, same_done}
 use Rattle.qlaws.specs.Ids as laws
 use Rattle.qlaws.proofs.Waits.{before, facts_at}
 
@@ -132,11 +131,11 @@ module _ {A : Type 0} where
 
 pub channels_are_limited : laws.ChannelsAreLimited
 channels_are_limited roster past r l =
-    subst (λ (f : NewFacts). laws.AtMost 64 f.channel) (sym (facts_at roster past l)) (at_most roster creates closes past 64 (are_few roster past r (before roster past l)).0)
+    subst (λ (f : NewFacts). laws.AtMost 64 f.channel) (sym (facts_at roster past l)) (at_most roster creates (λ f. f.destroys) past 64 (are_few roster past r (before roster past l)).0)
 
 pub connections_are_limited : laws.ConnectionsAreLimited
 connections_are_limited roster past r l =
-    subst (λ (f : NewFacts). laws.AtMost 1024 f.connection) (sym (facts_at roster past l)) (at_most roster attaches detaches past 1024 (are_few roster past r (before roster past l)).1)
+    subst (λ (f : NewFacts). laws.AtMost 1024 f.connection) (sym (facts_at roster past l)) (at_most roster attaches (λ f. f.detaches) past 1024 (are_few roster past r (before roster past l)).1)
 
 -- ---- an id that an ending gives is the number of its call
 
@@ -208,11 +207,7 @@ never_given roster past (e ∷ later) i below l =
 still_done : (is : Effect → Bool) (past later : Trace) → was_done is past ≡ true → was_done is (later ++ past) ≡ true
 still_done is past [] done = done
 still_done is past (e ∷ later) done =
-    let all : Trace = later ++ past in
-    elim (is_accepted e all) as (λ b. list_any (λ c. is c.effect) (cond b (newest e all ∷ accepted_calls all) (accepted_calls all)) ≡ true) [
-      | true ↦ rw (still_done is past later done) (or-true _)
-      | false ↦ still_done is past later done
-    ]
+    rw (still_done is past later done) (or-true _)
 
 -- an accepted call detaches a connection that is live, and attaches none
 detaches_live : (f : Facts) (t : ℕ) (c : Call) (k : ℕ) → (row_of f t c).refusal ≡ None → names (detaches c) k ≡ true → is_some (f.connection k) ≡ true
@@ -242,13 +237,12 @@ pub destroyed_stays_destroyed : laws.DestroyedStaysDestroyed
 destroyed_stays_destroyed past later h gone roster after r l is = (
   ap (λ t. channel_at roster t h) is ∙ ap (λ b. cond b None (created_channel roster (later ++ past) h)) (still_done (λ e. is_number e.destroys h) past later gone),
   never_again roster past later after h (mark.Channel h) l is (λ lawful.
-      gone_below roster creates closes (λ past t c X a h e. let f = old.facts_of roster past in closes_open f t c h (passes_of f t c X a).row e) closes_alone past h lawful (sym (same_destroyed past h) ∙ gone)) refl,
+      gone_below roster creates (λ f. f.destroys) (λ past t c X a h e. let f = old.facts_of roster past in closes_open f t c h (passes_of f t c X a).row e) closes_alone past h lawful gone) refl,
 )
 
 pub detached_stays_detached : laws.DetachedStaysDetached
 detached_stays_detached past later k gone roster after r l is = (
   ap (λ t. connection_at roster t k) is ∙ ap (λ b. cond b None (attached_connection roster (later ++ past) k)) (still_done (λ e. is_number e.detaches k) past later gone),
   never_again roster past later after k (mark.Connection k) l is (λ lawful.
-      gone_below roster attaches detaches (λ past t c X a k e. let f = old.facts_of roster past in detaches_live f t c k (passes_of f t c X a).row e) detaches_alone past k lawful
-      (sym (same_done _ _ past (λ c. refl)) ∙ gone)) refl,
+      gone_below roster attaches (λ f. f.detaches) (λ past t c X a k e. let f = old.facts_of roster past in detaches_live f t c k (passes_of f t c X a).row e) detaches_alone past k lawful gone) refl,
 )

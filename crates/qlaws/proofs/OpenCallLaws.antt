@@ -1,4 +1,5 @@
 -- The laws of the calls that threads wait in.
+use mathlib.Core.Path.{fun_ext}
 use Rattle.std.proofs.Common.{◌≡◌, ◌∙◌, ◌↔◌, ◌<◌, ◌≤◌, ℕ, List, [], ◌∷◌, length, refl, ap, sym, subst, cond, arith, Bool, true, false, inl, inr, eqb}
 use Rattle.std.specs.Prelude.{Option, None, Some, is_some, not, nat_lt, ◌||◌, ◌&&◌, filter, fold, option_map, option_and_then}
 use Rattle.std.specs.List.{AllByRecursion, reduce}
@@ -15,9 +16,9 @@ use Rattle.qrules.specs.Private.Facts.{Facts as OldFacts}
 use Rattle.qrules.specs.Private.Headline.AnsweredToSender.{is_held as was_held}
 use Rattle.qrules.specs.Private.Laws as old_laws
 use Rattle.qrules.specs.Private.Lawful as old
-use Rattle.qrules.specs.Private.Past.{is_down, is_taken, made_at, open_call}
+use Rattle.qrules.specs.Private.Past.{is_down, is_received, accepted_at, open_call}
 use Rattle.qrules.specs.Private.Step.{open_call_after, unless}
-use Rattle.qmodel.specs.Trace.{Trace}
+use Rattle.qmodel.specs.Trace.{Event, Trace}
 use Rattle.qmodel.specs.declared.call.Call.{Call}
 use Rattle.qmodel.specs.declared.call.Call.TheVariants as calls
 use Rattle.qmodel.specs.declared.open_call.OpenCall.{OpenCall}
@@ -33,14 +34,11 @@ use Rattle.qrules.proofs.Traces.TraceLaws.Waiting as waiting
 use Rattle.qrules.specs.Delivery.{newer}
 use Rattle.qrules.specs.Facts.{open_send, receive_of, Facts, OpenReceive, OpenSend}
 use Rattle.qrules.specs.Lawful.{facts_of}
-use Rattle.qrules.specs.Past.{accepted_call, is_ended, AcceptedCall}
 use Rattle.qrules.specs.Rules.{effect_of}
 use Rattle.qrules.specs.View.{receipt_view}
 use Rattle.qrules.proofs.Same.{facts_view}
 use Rattle.qrules.proofs.Messages.{send_cases, NoSend, OneSend}
 use Rattle.qrules.proofs.Outcomes.{same_buffer}
-use Rattle.qrules.proofs.Past.Done.{same_channel, same_connection_at, same_down, same_made}
-use Rattle.qrules.proofs.Past.Receipts.{same_ended, same_received}
 use Rattle.qrules.proofs.Properties.Calls.{same_call_at}
 use Rattle.qlaws.specs.OpenCalls as laws
 use Rattle.qlaws.proofs.Waits.{all_receives, all_sends, before, blocked_at, facts_at, number_at, receive_at, receive_parts, send_parts}
@@ -51,29 +49,14 @@ waits_same : (c : Call) → (is_some (effect_of c).sends || is_some (effect_of c
 waits_same calls.Shutdown = refl
 waits_same _ = refl
 
--- the thread of a call that may wait
-abbrev waiter : AcceptedCall → Option ℕ
-waiter c = cond (is_some c.effect.sends || is_some c.effect.receives) (Some c.thread) None
-
-waiter_at : (past : Trace) (i : ℕ) → option_and_then waiter (accepted_call past i) ≡ made_at old_laws.blocker past i
-waiter_at past i = same_made waiter old_laws.blocker past i (λ e n. ap (λ b. cond b (Some e.thread) None) (waits_same e.call))
+waiter_at : (past : Trace) (i : ℕ) → accepted_at laws.waiter past i ≡ accepted_at old_laws.blocker past i
+waiter_at past i = ap (λ (say : Event → Option ℕ). accepted_at say past i) (fun_ext (λ e. ap (λ b. cond b (Some e.thread) None) (waits_same e.call)))
 
 unended_before : (past : Trace) (t i : ℕ) → laws.IsUnended past t i → old_laws.IsUnended past t i
-unended_before past t i h = record {
-  blocks = sym (waiter_at past i) ∙ ap (option_and_then waiter) h.is ∙ ap (λ b. cond b (Some h.call.thread) None) h.waits ∙ ap Some h.thread;
-  going = sym (same_ended past i) ∙ h.going;
-}
+unended_before past t i h = record { blocks = sym (waiter_at past i) ∙ h.waits; going = h.going }
 
 unended_by_rules : (past : Trace) (t i : ℕ) → old_laws.IsUnended past t i → laws.IsUnended past t i
-unended_by_rules past t i h =
-    elim (accepted_call past i) as (λ o. accepted_call past i ≡ o → option_and_then waiter o ≡ Some t → laws.IsUnended past t i) [
-      | None ↦ λ is e. absurd (none-some t e)
-      | Some c ↦ λ is e.
-          elim (is_some c.effect.sends || is_some c.effect.receives) as (λ b. (is_some c.effect.sends || is_some c.effect.receives) ≡ b → cond b (Some c.thread) None ≡ Some t → laws.IsUnended past t i) [
-            | true ↦ λ waits e. record { call = c; is = is; thread = same_Some c.thread t e; waits = waits; going = same_ended past i ∙ h.going }
-            | false ↦ λ waits e. absurd (none-some t e)
-          ] refl e
-    ] refl (waiter_at past i ∙ h.blocks)
+unended_by_rules past t i h = record { waits = waiter_at past i ∙ h.blocks; going = h.going }
 
 pub at_most_one_open : laws.AtMostOneOpen
 at_most_one_open roster past r l t i j first second =
@@ -92,12 +75,9 @@ open_sends_are_routed roster past r l = all_sends roster past l (laws.IsRouted (
     let w = waiting.open_sends_are_live roster past r (before roster past l) u s.number s.connection s.message s.reply_buffer k.receipt k.is in
     record {
       connection = w.connection;
-      is_live = same_connection_at roster past s.connection ∙ w.is_live;
-      is_open = ap is_some (same_channel roster past w.connection.channel) ∙ w.is_open;
+      is_live = w.is_live;
+      is_open = w.is_open;
     })
-
-pub same_held : (past : Trace) (i : ℕ) → laws.is_held past i ≡ was_held past i
-same_held past i = ap (λ b. b && not (is_ended past i)) (same_received past i) ∙ ap (λ b. is_taken past i && not b) (same_ended past i)
 
 -- whether the Send of a held message has a receipt
 abbrev has_receipt : Facts → ℕ → Bool
@@ -133,8 +113,7 @@ pub held_is_open_send : laws.HeldIsOpenSend
 held_is_open_send roster past r l i =
     let law = held.held_is_held_send roster past r (before roster past l) i in
     let f : OldFacts = old.facts_of roster past in
-    same_held past i
-    ∙ elim (send_cases f i) as (λ k. was_held past i ≡ has_receipt (facts_view f) i) [
+    elim (send_cases f i) as (λ k. was_held past i ≡ has_receipt (facts_view f) i) [
       | inl k ↦ no_send roster past i law k ∙ ap (λ o. option_map_or (λ (s : OpenSend). is_some s.receipt) o false) (sym k.new)
       | inr k ↦ one_send roster past i law k.receipt k refl ∙ some_view k.receipt ∙ ap (λ o. option_map_or (λ (s : OpenSend). is_some s.receipt) o false) (sym k.new)
     ]
@@ -260,4 +239,4 @@ none_open roster (e ∷ past) r l down u =
 
 pub nobody_waits_after_shutdown : laws.NobodyWaitsAfterShutdown
 nobody_waits_after_shutdown roster past r l down t =
-    blocked_at roster past l t ∙ ap is_some (none_open roster past r (before roster past l) (sym (same_down past) ∙ down) t)
+    blocked_at roster past l t ∙ ap is_some (none_open roster past r (before roster past l) down t)

@@ -30,16 +30,11 @@ use Rattle.qrules.specs.Properties.{items}
 use Rattle.qrules.specs.View.{send_view}
 use Rattle.qrules.proofs.Same.{AreOfRoster}
 use Rattle.qrules.proofs.Lawful.{of_roster}
-use Rattle.qrules.proofs.Past.Effects.{same_request}
 use Rattle.qrules.proofs.Past.Facts.{same_facts}
-use Rattle.qrules.proofs.Past.Items.{same_among, same_by_now}
-use Rattle.qrules.proofs.Past.Done.{same_sender_of}
-use Rattle.qrules.proofs.Past.Receipts.{same_ended, same_received}
 use Rattle.qrules.proofs.Properties.BestFirst.{asks_of}
-use Rattle.qrules.proofs.Properties.Items.{same_items, same_number}
+use Rattle.qrules.proofs.Properties.Items.{same_items}
 use Rattle.qlaws.specs.OpenCalls.{is_held}
 use Rattle.qlaws.specs.Pending as laws
-use Rattle.qlaws.proofs.OpenCallLaws.{same_held}
 use Rattle.qlaws.proofs.Waits.{place_of, before, facts_at, send_at}
 
 -- ---- what is pending
@@ -58,14 +53,14 @@ pulses_are_limited roster past r l h =
 pub none_pending_is_held : laws.NonePendingIsHeld
 none_pending_is_held roster past r l h =
     of_pending roster past l h (AllByRecursion (λ item. is_held past item.number ≡ false))
-    (all_more _ _ (old.pending_items roster past h) (pending.none_pending_is_held roster past r (before roster past l) h) (λ item k. same_held past item.number ∙ k.unread))
+    (all_more _ _ (old.pending_items roster past h) (pending.none_pending_is_held roster past r (before roster past l) h) (λ item k. k.unread))
 
 module _ (roster : List Member) (past : Trace) (l : IsLawful roster past) (i : ℕ) where
   unreceived : (t : ℕ) (o : OpenCall) (w : Wait) → old.sender_of past i ≡ Some t → old.open_call roster past t ≡ Some o → o.number ≡ i → o.wait ≡ w → is_for_receipt w ≡ true → laws.IsUnreceived roster past i
   unreceived t o (Answer coid message reply_buffer None) sent is number waits unread = record {
     send = record { number = o.number; thread = t; connection = coid; message = message; reply_buffer = reply_buffer; receipt = None };
     number = number;
-    sent = same_sender_of past i ∙ sent;
+    sent = sent;
     is_open = send_at roster past l t ∙ ap (send_view t) (is ∙ ap (λ w. Some (record { number = o.number; wait = w })) waits);
     unread = refl;
   }
@@ -83,7 +78,7 @@ pub pending_follows_its_sender : laws.PendingFollowsItsSender
 pending_follows_its_sender roster past r l h =
     subst (λ f. AllByRecursion (λ item. is_pulse item.what ≡ false → (t : ℕ) → sender_of past item.number ≡ Some t → item.priority ≡ f.priority t) (f.pending h)) (sym (facts_at roster past l))
     (all_more _ _ (old.pending_items roster past h) (current_priority.pending_follows_its_sender roster past r (before roster past l) h) (λ item k message t sent.
-    k message t (sym (same_sender_of past item.number) ∙ sent)))
+    k message t sent))
 
 -- ---- the order of receipt
 
@@ -94,11 +89,6 @@ earlier_of_roster roster past (e ∷ later) l = earlier_of_roster roster past la
 same_now : (roster : List Member) (past : Trace) (x : Item) → AreOfRoster roster past → priority_of_item (item_among (items_by_now past (items roster past)) x.number) ≡ old.priority_of_item roster past x.number
 same_now roster past x l =
     ap (λ made. priority_of_item (item_among (items_by_now past made) x.number)) (same_items roster past l)
-    ∙ ap (λ made. priority_of_item (item_among made x.number)) (same_by_now past (old.items roster past))
-    ∙ ap priority_of_item (same_among (old.items_by_now past (old.items roster past)) x.number)
-
-pub same_gone : (past : Trace) (x : Item) → is_gone past x ≡ old.is_gone past x
-same_gone past x = ap (λ b. b || (not (is_pulse x.what) && is_ended past x.number)) (same_received past x.number) ∙ ap (λ b. old.is_taken past x.number || (not (is_pulse x.what) && b)) (same_ended past x.number)
 
 takes_before : (past : Trace) (z : Completion) (i h : ℕ) (x : Item) → laws.TakesBeside past z i h x → old_laws.TakesBeside past z i h x
 takes_before past z i h x k =
@@ -107,9 +97,9 @@ takes_before past z i h x k =
       call = asks.call;
       kind = k.request.kind;
       is_call = asks.is;
-      receives = sym (same_request asks.call) ∙ ap (option_map place_of) asks.receives ∙ ap (λ h. Some (h, k.request.kind)) k.channel;
+      receives = ap (option_map place_of) asks.receives ∙ ap (λ h. Some (h, k.request.kind)) k.channel;
       may = k.may;
-      item = sym (same_number z) ∙ k.item;
+      item = k.item;
     }
 
 first_by_rules : (past : Trace) (roster : List Member) (later : Trace) (e : Event) → IsRoster roster → IsLawful roster (e ∷ later ++ past) → (h : ℕ)
@@ -125,7 +115,7 @@ first_by_rules past roster later e r l h =
     (all_more _ _ (old.pending_items roster past h) (order.first_goes_first roster past later e r (before roster (e ∷ later ++ past) l) h) (λ x all.
     all_more _ _ (old.pending_items roster past h) all (λ y k first of_x of_y.
     all_more _ _ e.endings (k first (sym (same_now roster after x of) ∙ of_x) (sym (same_now roster after y of) ∙ of_y)) (λ z gone takes.
-    same_gone after x ∙ gone (takes_before (e ∷ after) z y.number h x takes)))))
+    gone (takes_before (e ∷ after) z y.number h x takes)))))
 
 pub first_goes_first : laws.FirstGoesFirst
 first_goes_first past roster after e r l later is h =
@@ -136,20 +126,14 @@ first_goes_first past roster after e r l later is h =
 
 -- ---- setting a priority
 
-same_message_of : (past : Trace) (t : ℕ) → laws.is_message_of past t ≡ old_laws.is_message_of past t
-same_message_of past t = fun_ext (λ item. ap (λ sender. not (is_pulse item.what) && is_number sender t) (same_sender_of past item.number))
-
 pub setting_moves_its_own : laws.SettingMovesItsOwn
 setting_moves_its_own roster past e r l accepted t priority is h =
     ap (λ f. f.pending h) (facts_at roster (e ∷ past) l)
     ∙ setting.setting_moves_its_own roster past e r (before roster (e ∷ past) l) accepted t priority is h
-    ∙ ap (λ (of : Item → Bool). map (λ item. cond (of item) (with_priority priority item) item) (old.pending_items roster past h)) (sym (same_message_of past t))
     ∙ ap (λ f. map (λ item. cond (laws.is_message_of past t item) (with_priority priority item) item) (f.pending h)) (sym (facts_at roster past l.0))
 
 pub others_keep_their_order : laws.OthersKeepTheirOrder
 others_keep_their_order roster past e r l accepted t priority is h =
     ap (λ f. filter (λ item. not (laws.is_message_of past t item)) (f.pending h)) (facts_at roster (e ∷ past) l)
-    ∙ ap (λ (of : Item → Bool). filter (λ item. not (of item)) (old.pending_items roster (e ∷ past) h)) (same_message_of past t)
     ∙ setting.others_keep_their_order roster past e r (before roster (e ∷ past) l) accepted t priority is h
-    ∙ ap (λ (of : Item → Bool). filter (λ item. not (of item)) (old.pending_items roster past h)) (sym (same_message_of past t))
     ∙ ap (λ f. filter (λ item. not (laws.is_message_of past t item)) (f.pending h)) (sym (facts_at roster past l.0))

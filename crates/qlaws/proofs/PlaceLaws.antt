@@ -11,7 +11,7 @@ use Rattle.qqueue.specs.Order.{comes_before}
 use Rattle.qqueue.specs.declared.item.Item.{Item}
 use Rattle.qtables.specs.declared.member.Member.{Member}
 use Rattle.qrules.specs.Private.Lawful as old
-use Rattle.qrules.specs.Private.Past.{current_priority, is_closed, is_gone, is_taken, item_of, made_on, pending_items, priority_set_by, sender_of}
+use Rattle.qrules.specs.Private.Past.{current_priority, is_destroyed, is_gone, is_received, item_of, made_on, pending_items, priority_set_by, sender_of}
 use Rattle.qmodel.specs.Trace.{Event, SentItem, Trace}
 use Rattle.qrules.proofs.Traces.Past.Cancels.{sent_by}
 use Rattle.qrules.proofs.Traces.Past.CurrentPriority.{now, worth_newest, worth_set}
@@ -20,12 +20,9 @@ use Rattle.qrules.proofs.Traces.Past.Pending.{items_more, stays_gone}
 use Rattle.qrules.specs.Lawful.{facts_of, item_made_by}
 use Rattle.qrules.specs.Past as new
 use Rattle.qrules.proofs.Lawful.{of_roster}
-use Rattle.qrules.proofs.Past.Done.{same_sender_of}
 use Rattle.qrules.proofs.Past.Effects.{same_makes}
 use Rattle.qrules.proofs.Past.Facts.{facts_known}
-use Rattle.qrules.proofs.Past.Items.{same_set_by}
 use Rattle.qlaws.specs.Pending as laws
-use Rattle.qlaws.proofs.PendingLaws.{same_gone}
 use Rattle.qlaws.proofs.Waits.{before, facts_at}
 
 -- ---- counts
@@ -112,7 +109,7 @@ module _ (roster : List Member) (past : Trace) (e : Event) (l : old.IsLawful ros
             let s = sent_by roster past h y l (standing_is roster past h y at going) message in
             let same : unwrap_or (option_and_then (priority_set_by e past) (sender_of past y.number)) (current_priority past y) ≡ current_priority (e ∷ past) y =
             ap (λ o. unwrap_or (option_and_then (priority_set_by e past) o) (current_priority past y)) s.sent
-            ∙ sym (worth_set e past y s.sender (item_below roster past y.number _ at) message (or_parts (is_taken past y.number) _ going).0 s.sent) in
+            ∙ sym (worth_set e past y s.sender (item_below roster past y.number _ at) message (or_parts (is_received past y.number) _ going).0 s.sent) in
             put (ap not going) (ap (λ q. comes_before (with_priority q y) x) same ∙ first)
       ] refl
 
@@ -140,13 +137,13 @@ module _ (roster : List Member) (past : Trace) (e : Event) (l : old.IsLawful ros
   falls made put =
       let is_before : Item → Bool = λ y. comes_before y x in
       let L : List Item = items_on roster past h in
-      elim (is_closed (e ∷ past) h) as (λ b. is_closed (e ∷ past) h ≡ b → laws.place x (pending_items roster (e ∷ past) h) + laws.place x (filter (is_gone (e ∷ past)) (pending_items roster past h)) ≤ laws.place x (pending_items roster past h)) [
+      elim (is_destroyed (e ∷ past) h) as (λ b. is_destroyed (e ∷ past) h ≡ b → laws.place x (pending_items roster (e ∷ past) h) + laws.place x (filter (is_gone (e ∷ past)) (pending_items roster past h)) ≤ laws.place x (pending_items roster past h)) [
         | true ↦ λ closed.
             let none : pending_items roster (e ∷ past) h ≡ [] = rw closed refl in
             subst (λ items. laws.place x items + laws.place x (filter (is_gone (e ∷ past)) (pending_items roster past h)) ≤ laws.place x (pending_items roster past h)) (sym none)
             (fewer_gone is_before (is_gone (e ∷ past)) (pending_items roster past h))
         | false ↦ λ going.
-            let was_open : is_closed past h ≡ false = (or_parts _ (is_closed past h) going).1 in
+            let was_open : is_destroyed past h ≡ false = (or_parts _ (is_destroyed past h) going).1 in
             let was : pending_items roster past h ≡ map (now past) (staying roster past h) = pending_is roster past h ∙ ap (λ b. cond b [] (map (now past) (staying roster past h))) was_open in
             let is : pending_items roster (e ∷ past) h ≡ map (now (e ∷ past)) (staying roster (e ∷ past) h) = pending_is roster (e ∷ past) h ∙ ap (λ b. cond b [] (map (now (e ∷ past)) (staying roster (e ∷ past) h))) going in
             let counted : (q : Item → Bool) → count_by q (pending_items roster past h) ≡ count_by (λ y. not (is_gone past y) && q (now past y)) L =
@@ -169,11 +166,6 @@ module _ (roster : List Member) (past : Trace) (e : Event) (l : old.IsLawful ros
 
 -- ---- by the rules
 
-same_set : (e : Event) (past : Trace) (y : Item) → laws.as_set_by e past y ≡ set_by e past y
-same_set e past y =
-    ap (λ (set : ℕ → Option ℕ). with_priority (unwrap_or (option_and_then set (new.sender_of past y.number)) y.priority) y) (fun_ext (same_set_by e past))
-    ∙ ap (λ o. with_priority (unwrap_or (option_and_then (priority_set_by e past) o) y.priority) y) (same_sender_of past y.number)
-
 pub places_fall : laws.PlacesFall
 places_fall roster past e r l h x none =
     let of = of_roster roster past l.0 in
@@ -181,8 +173,7 @@ places_fall roster past e r l h x none =
     let made : item_made_by (facts_of roster past) e past ≡ item_of roster e past =
     ap (λ f. item_made_by f e past) (facts_at roster past l.0) ∙ ap (λ o. cond (new.is_accepted e past) o None) (same_makes f e.thread e.call (facts_known roster past of)) in
     let put = all_more _ _ (pending_items roster past h) (subst (λ f. AllByRecursion (λ y. comes_before (laws.as_set_by e past y) x ≡ true → comes_before y x ≡ true) (f.pending h)) (facts_at roster past l.0) none.set)
-    (λ y k first. k (ap (λ y. comes_before y x) (same_set e past y) ∙ first)) in
+    (λ y k first. k first) in
     subst (λ f. laws.place x (f.pending h) + laws.place x (filter (new.is_gone (e ∷ past)) ((facts_of roster past).pending h)) ≤ laws.place x ((facts_of roster past).pending h)) (sym (facts_at roster (e ∷ past) l)) (
     subst (λ f. laws.place x (pending_items roster (e ∷ past) h) + laws.place x (filter (new.is_gone (e ∷ past)) (f.pending h)) ≤ laws.place x (f.pending h)) (sym (facts_at roster past l.0)) (
-    subst (λ (gone : Item → Bool). laws.place x (pending_items roster (e ∷ past) h) + laws.place x (filter gone (pending_items roster past h)) ≤ laws.place x (pending_items roster past h)) (sym (fun_ext (same_gone (e ∷ past)))) (
-    falls roster past e (before roster past l.0) h x (λ m is on stays. none.made m (made ∙ is) on (same_gone (e ∷ past) m.item ∙ stays)) put)))
+    falls roster past e (before roster past l.0) h x (λ m is on stays. none.made m (made ∙ is) on stays) put))

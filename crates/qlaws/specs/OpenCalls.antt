@@ -1,25 +1,27 @@
 -- Laws of the calls that threads wait in.
-use Rattle.std.specs.Prelude.{◌&&◌, ◌==◌, ◌||◌, ◌≡◌, ◌↔◌, ◌≤◌}
+use Rattle.std.specs.Prelude.{◌&&◌, ◌==◌, ◌||◌, ◌≡◌, ◌↔◌, ◌≤◌, if◌then◌else◌}
 use Rattle.qrules.specs.Words.{false, is_some, length, may_take, not, option_map, option_map_or, option_or}
 use Rattle.qrules.specs.Words.{true}
 use Rattle.qrules.specs.Words.{AllByRecursion, Bool, Call, Connection, None, Option, Some}
-use Rattle.qrules.specs.Trace.{call_at, Bytes, CallNo, ReceiveId, ThreadNo, Trace}
+use Rattle.qrules.specs.Trace.{call_at, Bytes, CallNo, Event, ReceiveId, ThreadNo, Trace}
 use Rattle.qrules.specs.Facts.{is_blocked, open_send, receive_of, send_of, Facts, OpenReceive, OpenSend}
 use Rattle.qrules.specs.Rule.{buffer_of, SentItem}
 use Rattle.qrules.specs.Rules.{effect_of}
 use Rattle.qrules.specs.Delivery.{newest_receiver}
-use Rattle.qrules.specs.Past.{accepted_call, is_ended, is_received, was_done, AcceptedCall}
+use Rattle.qrules.specs.Past.{accepted_at, is_ended, is_received, was_done}
 use Rattle.qrules.specs.Lawful.{facts_of}
 use Rattle.qlaws.specs.Lawful.{AfterEach}
 
 -- ---- at most one for each thread
 
+-- the thread of an event whose call may wait
+abbrev pub waiter : Event → Option ThreadNo
+waiter e = if is_some (effect_of e.call).sends || is_some (effect_of e.call).receives then Some e.thread
+    else None
+
 -- call i is one of thread t that was accepted, may wait and isn't ended
 pub record IsUnended (past : Trace) (t : ThreadNo) (i : CallNo) : Type 0 where
-  pub call : AcceptedCall
-  pub is : accepted_call past i ≡ Some call
-  pub thread : call.thread ≡ t
-  pub waits : (is_some call.effect.sends || is_some call.effect.receives) ≡ true
+  pub waits : accepted_at waiter past i ≡ Some t
   pub going : is_ended past i ≡ false
 
 -- a thread has at most one such call

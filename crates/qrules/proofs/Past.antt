@@ -1,7 +1,4 @@
--- The past is read by both models as one.
+-- Searches in the past, in both models.
 pub mod Effects
-pub mod Done
-pub mod Receipts
-pub mod Items
 pub mod Waits
 pub mod Facts

@@ -1,15 +1,15 @@
 -- Lawful traces: the endings of each event are the ones that the rules require after the events before it.
 use Rattle.std.specs.Prelude.{◌++◌, ◌+◌, ◌==◌, ◌∷◌, ◌≡◌, if◌then◌else◌}
 use Rattle.qrules.specs.Words.{[], filter_map, is_some, length, map, member_at, option_and_then}
-use Rattle.qrules.specs.Words.{option_map_or, option_or, option_to_list, slice_get, unwrap_or, AllByRecursion}
+use Rattle.qrules.specs.Words.{option_map_or, option_or, option_to_list, unwrap_or, AllByRecursion}
 use Rattle.qrules.specs.Words.{Call, IsTrue, List, Member, NoMemory, None, Option, Some}
 use Rattle.qrules.specs.Trace.{followed_by, CallNo, Event, InEachEvent, Priority, ThreadNo, Trace}
 use Rattle.qrules.specs.Facts.{count_to, has_flag, threads_of, Facts}
 use Rattle.qrules.specs.Rule.{SentItem}
 use Rattle.qrules.specs.Rules.{effect_of}
 use Rattle.qrules.specs.Outcome.{Answers}
-use Rattle.qrules.specs.Past.{channel_at, connection_at, is_accepted, item_among, item_in, items_by_now}
-use Rattle.qrules.specs.Past.{pending_among, priority_set_by, receive_after, send_after, was_done}
+use Rattle.qrules.specs.Past.{channel_at, connection_at, first_among, is_accepted, item_among, item_in}
+use Rattle.qrules.specs.Past.{items_by_now, pending_among, priority_set_by, receive_after, send_after, was_done}
 use Rattle.qrules.specs.Words.mark
 
 -- all items made so far, each as it was made, in rising number, and each thread's priority
@@ -47,9 +47,9 @@ module _ (roster : List Member) where
   -- the priority that thread t takes by event e: the one that the event sets, or else that of the item that t
   -- receives
   abbrev pub priority_given_by : Event → Trace → List SentItem → ThreadNo → Option Priority
-  priority_given_by e past items t = option_or (priority_set_by e past t) (slice_get (filter_map
+  priority_given_by e past items t = option_or (priority_set_by e past t) (first_among
       (λ x. if x.thread == t then option_and_then (λ r. carried_priority past items r.number) (item_in x.mark)
-      else None) e.endings) 0)
+      else None) e.endings)
 
   -- each accepted event may make an item, and a thread begins with the priority in the roster
   abbrev pub items_and_priorities : Trace → ItemsAndPriorities

@@ -1,13 +1,13 @@
 -- Searches in the list of all past calls.
 use Rattle.std.specs.Prelude.{◌&&◌, ◌+◌, ◌==◌, ◌||◌, ◌∷◌, if◌then◌else◌}
-use Rattle.qrules.specs.Words.{[], false, filter, filter_map, find, fold, is_pulse, is_some, lay_over, length}
+use Rattle.qrules.specs.Words.{[], false, filter, find, is_pulse, is_some, lay_over, length}
 use Rattle.qrules.specs.Words.{list_any, map, member_at, not, option_and_then, option_map, option_map_or}
-use Rattle.qrules.specs.Words.{option_or, reverse, true, unwrap_or, with_priority, Bool, Connection, Item}
-use Rattle.qrules.specs.Words.{List, Mark, Member, None, Option, Some, What, ℕ}
-use Rattle.qrules.specs.Trace.{endings_of, Bytes, CallNo, ChannelId, ConnectionId, Event, Priority, ReceiveId}
+use Rattle.qrules.specs.Words.{option_or, true, unwrap_or, with_priority, Bool, Connection, Item}
+use Rattle.qrules.specs.Words.{Completion, List, Mark, Member, None, Option, Some, What, ℕ}
+use Rattle.qrules.specs.Trace.{Bytes, CallNo, ChannelId, ConnectionId, Event, Priority, ReceiveId}
 use Rattle.qrules.specs.Trace.{ThreadNo, Trace}
 use Rattle.qrules.specs.Facts.{OpenChannel, OpenReceive, OpenSend}
-use Rattle.qrules.specs.Rule.{Effect, SentItem}
+use Rattle.qrules.specs.Rule.{Effect, SentItem, Transfer}
 use Rattle.qrules.specs.Rules.{effect_of}
 use Rattle.qrules.specs.Words.mark
 use Rattle.qrules.specs.Words.what
@@ -23,26 +23,16 @@ is_failure other = false
 abbrev pub is_accepted : Event → Trace → Bool
 is_accepted e past = not (list_any (λ x. (x.call == length past + 1) && is_failure x.mark) e.endings)
 
--- an accepted call
-pub record AcceptedCall : Type 0 where
-  pub number : CallNo
-  pub thread : ThreadNo
-  pub effect : Effect
-
--- all accepted calls, the newest first
-abbrev pub accepted_calls : Trace → List AcceptedCall
-accepted_calls [] = []
-accepted_calls (e ∷ past) = let call : AcceptedCall =
-    record { number = length past + 1; thread = e.thread; effect = effect_of e.call } in
-    if is_accepted e past then call ∷ accepted_calls past else accepted_calls past
-
--- the accepted call of number i
-abbrev pub accepted_call : Trace → CallNo → Option AcceptedCall
-accepted_call past i = find (λ c. c.number == i) (accepted_calls past)
+-- what this says of the event of number i, if that was accepted
+abbrev pub accepted_at : {A : Type 0} → (Event → Option A) → Trace → CallNo → Option A
+accepted_at say [] i = None
+accepted_at say (e ∷ past) i = if i == length past + 1 then (if is_accepted e past then say e else None)
+    else accepted_at say past i
 
 -- an accepted call had an effect for which the condition is true
 abbrev pub was_done : (Effect → Bool) → Trace → Bool
-was_done is_such past = list_any (λ c. is_such c.effect) (accepted_calls past)
+was_done is_such [] = false
+was_done is_such (e ∷ past) = (is_accepted e past && is_such (effect_of e.call)) || was_done is_such past
 
 -- the number is this one
 abbrev pub is_number : Option ℕ → ℕ → Bool
@@ -52,7 +42,7 @@ is_number number i = option_map_or (λ n. n == i) number false
 
 -- call i is ended
 abbrev pub is_ended : Trace → CallNo → Bool
-is_ended past i = list_any (λ x. x.call == i) (endings_of past)
+is_ended past i = list_any (λ e. list_any (λ x. x.call == i) e.endings) past
 
 -- an item that is received, and how many bytes were copied, 0 for a pulse
 pub record ReceivedItem : Type 0 where
@@ -65,13 +55,27 @@ item_in (mark.Message rcvid copied) = Some (record { number = rcvid; copied = co
 item_in (mark.Pulse item priority what) = Some (record { number = item; copied = 0 })
 item_in other = None
 
--- item i, if it is received
-abbrev pub received_item : Trace → CallNo → Option ReceivedItem
-received_item past i = find (λ r. r.number == i) (filter_map (λ x. item_in x.mark) (endings_of past))
+-- how many bytes were copied of item i, if this is its receipt
+abbrev pub copied_count_in : CallNo → Option ReceivedItem → Option ℕ
+copied_count_in i received = option_and_then (λ r. if r.number == i then Some r.copied else None) received
+
+-- the first value that this says of these endings
+abbrev pub first_among : {A : Type 0} → (Completion → Option A) → List Completion → Option A
+first_among say [] = None
+first_among say (x ∷ endings) = option_or (say x) (first_among say endings)
+
+-- how many bytes of item i were copied by these endings, if one of them receives it
+abbrev pub copied_count_among : List Completion → CallNo → Option ℕ
+copied_count_among endings i = first_among (λ x. copied_count_in i (item_in x.mark)) endings
+
+-- how many bytes of item i were copied, if it is received
+abbrev pub copied_count_of : Trace → CallNo → Option ℕ
+copied_count_of [] i = None
+copied_count_of (e ∷ past) i = option_or (copied_count_among e.endings i) (copied_count_of past i)
 
 -- item i is received
 abbrev pub is_received : Trace → CallNo → Bool
-is_received past i = is_some (received_item past i)
+is_received past i = is_some (copied_count_of past i)
 
 -- ---- channels and connections
 
@@ -81,9 +85,9 @@ is_destroyed past h = was_done (λ e. is_number e.destroys h) past
 
 -- channel h as it was created, owned by its thread's process
 abbrev pub created_channel : List Member → Trace → ChannelId → Option OpenChannel
-created_channel roster past h = option_and_then (λ c. option_and_then
-    (λ m. option_map (λ flags. record { owner = m.process; flags = flags }) c.effect.creates)
-    (member_at roster c.thread)) (accepted_call past h)
+created_channel roster past h = accepted_at (λ e. option_and_then
+    (λ m. option_map (λ flags. record { owner = m.process; flags = flags }) (effect_of e.call).creates)
+    (member_at roster e.thread)) past h
 
 -- the open channel h
 abbrev pub channel_at : List Member → Trace → ChannelId → Option OpenChannel
@@ -91,9 +95,9 @@ channel_at roster past h = if is_destroyed past h then None else created_channel
 
 -- connection k as it was attached, by its thread's process
 abbrev pub attached_connection : List Member → Trace → ConnectionId → Option Connection
-attached_connection roster past k = option_and_then (λ c. option_and_then
-    (λ m. option_map (λ h. record { process = m.process; channel = h }) c.effect.attaches)
-    (member_at roster c.thread)) (accepted_call past k)
+attached_connection roster past k = accepted_at (λ e. option_and_then
+    (λ m. option_map (λ h. record { process = m.process; channel = h }) (effect_of e.call).attaches)
+    (member_at roster e.thread)) past k
 
 -- the live connection k
 abbrev pub connection_at : List Member → Trace → ConnectionId → Option Connection
@@ -112,7 +116,7 @@ priority_of_item item = option_map_or (λ m. m.item.priority) item 0
 
 -- the thread that sent message i
 abbrev pub sender_of : Trace → ReceiveId → Option ThreadNo
-sender_of past i = option_and_then (λ c. option_map (λ s. c.thread) c.effect.sends) (accepted_call past i)
+sender_of past i = accepted_at (λ e. option_map (λ s. e.thread) (effect_of e.call).sends) past i
 
 -- the priority that event e sets for thread t
 abbrev pub priority_set_by : Event → Trace → ThreadNo → Option Priority
@@ -146,9 +150,22 @@ is_gone past item = is_received past item.number || (not (is_pulse item.what) &&
 -- those of these items that wait on channel h to be received
 abbrev pub pending_among : Trace → List SentItem → ChannelId → List Item
 pending_among past items h = if is_destroyed past h then []
-    else map (λ m. m.item) (filter (λ m. (m.channel == h) && not (is_gone past m.item)) items)
+    else filter (λ item. not (is_gone past item)) (map (λ m. m.item) (filter (λ m. m.channel == h) items))
 
 -- ---- open calls
+
+-- an accepted call
+pub record AcceptedCall : Type 0 where
+  pub number : CallNo
+  pub thread : ThreadNo
+  pub effect : Effect
+
+-- all accepted calls, the newest first
+abbrev pub accepted_calls : Trace → List AcceptedCall
+accepted_calls [] = []
+accepted_calls (e ∷ past) = let call : AcceptedCall =
+    record { number = length past + 1; thread = e.thread; effect = effect_of e.call } in
+    if is_accepted e past then call ∷ accepted_calls past else accepted_calls past
 
 -- the call that thread t waits in: its newest accepted call that may wait, unless that is ended
 abbrev pub waiting_call : Trace → ThreadNo → Option AcceptedCall
@@ -156,11 +173,17 @@ waiting_call past t = option_and_then (λ c. if is_ended past c.number then None
     (find (λ c. (c.thread == t) && (is_some c.effect.sends || is_some c.effect.receives))
     (accepted_calls past))
 
+-- the reply buffer of message i with what is written over it
+abbrev pub buffer_after_write : Option Transfer → ReceiveId → Bytes → Bytes
+buffer_after_write written i b =
+    option_map_or (λ w. if w.rcvid == i then lay_over b w.offset w.bytes else b) written b
+
 -- a reply buffer of message i with each accepted Write to it, in order
 abbrev pub with_writes : Trace → ReceiveId → Bytes → Bytes
-with_writes past i buffer = fold (λ b w. lay_over b w.offset w.bytes) buffer (reverse (filter_map
-    (λ c. option_and_then (λ w. if w.rcvid == i then Some w else None) c.effect.writes)
-    (accepted_calls past)))
+with_writes [] i b = b
+with_writes (e ∷ past) i b =
+    if is_accepted e past then buffer_after_write (effect_of e.call).writes i (with_writes past i b)
+    else with_writes past i b
 
 -- the item is an unblock pulse for message i
 abbrev pub is_unblock_for : ReceiveId → What → Bool
@@ -175,11 +198,11 @@ send_after past items t = option_and_then (λ c. option_map (λ s. record {
   connection = s.connection;
   message = s.message;
   reply_buffer = with_writes past c.number s.reply_buffer;
-  receipt = option_map (λ r. record {
+  receipt = option_map (λ copied. record {
     priority = priority_of_item (item_among items c.number);
-    copied = r.copied;
+    copied = copied;
     unblocked = list_any (λ m. is_unblock_for c.number m.item.what) items;
-  }) (received_item past c.number);
+  }) (copied_count_of past c.number);
 }) c.effect.sends) (waiting_call past t)
 
 -- the open Receive or ReceivePulse of thread t

@@ -23,7 +23,6 @@ use Rattle.qrules.specs.Lawful as rules
 use Rattle.qrules.specs.Outcome as outcome
 use Rattle.qrules.specs.Rules.{effect_of}
 use Rattle.qrules.specs.Trace.{followed_by, Event, Trace}
-use Rattle.qrules.proofs.Past.Done.{same_down}
 use Rattle.qrules.proofs.Traces.Past.Ends.{accepted}
 use Rattle.qrules.proofs.Traces.Rosters.{known}
 use Rattle.qrules.proofs.Traces.TraceLaws.Blocked.{blocked_unless_ended, endings_are_apart, endings_go_to_blocked}
@@ -79,8 +78,7 @@ old_shutdown_down roster past t X up idle a = elim a [
 
 pub shutdown_down : (roster : List Member) (past : Trace) (t : ℕ) (X : List Completion) → rules.IsLawful roster past → is_down past ≡ false → is_blocked (rules.facts_of roster past) t ≡ false → outcome.Answers (rules.facts_of roster past) t Shutdown X → is_down (with_event t Shutdown X past) ≡ true
 shutdown_down roster past t X lawful up idle a =
-    same_down (with_event t Shutdown X past)
-    ∙ old_shutdown_down roster past t X (sym (same_down past) ∙ up) (sym (blocked_same roster past lawful t) ∙ idle) (answers_before roster past lawful t Shutdown X a)
+    old_shutdown_down roster past t X up (sym (blocked_same roster past lawful t) ∙ idle) (answers_before roster past lawful t Shutdown X a)
 
 -- ---- what an event requires
 
@@ -192,7 +190,7 @@ module _ (roster : List Member) (limit : ℕ) (threads rooms : List ℕ) (log : 
             within = omega (arith, before.0, longer);
             spare = λ up'. elim (f.kept.noted_room refl).event [
               | inl shut ↦
-                  let down : is_down (e ∷ past) ≡ true = same_down (e ∷ past) ∙ subst (λ k. old_past.is_down (with_event t k X past) ≡ true) (sym shut) (old_shutdown_down roster past t X (sym (same_down past) ∙ f.up) f.idle (subst (λ k. Answers (facts_of roster past) t k X) shut f.answers)) in
+                  let down : is_down (e ∷ past) ≡ true = subst (λ k. old_past.is_down (with_event t k X past) ≡ true) (sym shut) (old_shutdown_down roster past t X f.up f.idle (subst (λ k. Answers (facts_of roster past) t k X) shut f.answers)) in
                   absurd (true≢false (sym down ∙ ap is_down (sym past_is) ∙ up'))
               | inr r ↦ (omega (arith, r.0, longer), omega (arith, r.1), omega (arith, r.2, few))
             ];

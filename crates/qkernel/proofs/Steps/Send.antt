@@ -22,7 +22,7 @@ use Rattle.qstate.specs.Channel.{route_in, SetsItems}
 use Rattle.qstate.specs.Kept.{pending_in}
 use Rattle.qrules.specs.Private.Facts.{route, threads_of}
 use Rattle.qrules.specs.Private.Receivers.{newest_receiver}
-use Rattle.qrules.specs.Private.Rows.{message_item, takes, item_in_mark, item_sent_over}
+use Rattle.qrules.specs.Private.Rows.{message_item, takes, item_in, item_sent_over}
 use Rattle.qkernel.specs.Kernel.{State, IsSound}
 use Rattle.qkernel.specs.Private.Steps.{Steps, facts_in}
 use Rattle.qrules.specs.Private.Step.{unless, held_call}
@@ -96,7 +96,7 @@ module _ (s : State) (t coid : ℕ) (message reply_buffer : List ℕ) (m : Membe
       )
 
   module _ (r : ℕ) (y : Completion) (copied : ℕ) (newest_is_r : newest_receiver (facts_in s) h item ≡ Some r) (there : is_among (threads_of (members_of s.threads)) r ≡ true) (ended : takes item message r (open_in s.threads r) ≡ Some y)
-      (is_receipt : item_in_mark y.mark ≡ Some (s.made + 1, copied)) where
+      (is_receipt : item_in y.mark ≡ Some (record { number = s.made + 1; copied = copied })) where
     apart : t ≢ r
     apart e = none-some y (sym (ap (takes item message r) (ap (open_in s.threads) (sym e) ∙ free)) ∙ ended)
 

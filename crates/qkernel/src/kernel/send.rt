@@ -2,7 +2,7 @@
 
 ghost use Rattle.std.specs.Prelude.{◌≡◌, Some, false};
 ghost use Rattle.qqueue.specs.Best.{is_pulse};
-ghost use Rattle.qrules.specs.Private.Rows.{item_in_mark, receipt_ending};
+ghost use Rattle.qrules.specs.Private.Rows.{item_in, receipt_ending};
 
 use super::Kernel;
 use super::caller::Caller;
@@ -20,7 +20,7 @@ use qstate::open::OpenReceive;
 fn deliver(receive: OpenReceive, item: &Item, message: &Bytes) -> (Completion, Receipt)
     requires { is_pulse item.now.what ≡ false }
     ensures ended { result.0 ≡ receipt_ending item.now message.now receive.thread receive.number receive.buffer }
-    ensures copied { item_in_mark result.0.mark ≡ Some (item.now.number, result.1.copied) }
+    ensures copied { item_in result.0.mark ≡ Some (record { number = item.now.number; copied = result.1.copied }) }
     ensures receipt { result.1 ≡ record { priority = item.now.priority; copied = result.1.copied; unblocked = false } }
 {
     let mut receive = receive;

@@ -1,8 +1,6 @@
 -- What is so after all past calls is one in both models, where each of these calls is one of a thread of the roster.
-use mathlib.Core.Path.{fun_ext}
 use Rattle.std.proofs.Common.{◌≡◌, ◌∙◌, ℕ, ◌+◌, List, [], ◌∷◌, ◌++◌, length, refl, ap, subst, cond, true, inl, inr}
-use Rattle.std.specs.Prelude.{Option, None, Some, is_some, unwrap_or, option_to_list}
-use Rattle.std.specs.List.{filter_map}
+use Rattle.std.specs.Prelude.{None, Some, is_some, unwrap_or, option_to_list}
 use Rattle.std.proofs.lemmas.Option.{none-some}
 use Rattle.qbase.proofs.Lists.{some_of}
 use Rattle.qtables.specs.Members.{member_at}
@@ -15,12 +13,9 @@ use Rattle.qmodel.specs.Trace.{Event, Trace}
 use Rattle.qmodel.specs.declared.open_call.OpenCall.{OpenCall}
 use Rattle.qrules.proofs.Traces.Past.Numbers.{block_cases, open_parts}
 use Rattle.qrules.proofs.Traces.Rosters.{filter_map_same, known}
-use Rattle.qrules.specs.Facts.{count_to}
 use Rattle.qrules.specs.Lawful.{facts_by, facts_of, item_made_by, items_and_priorities, priority_given_by, ItemsAndPriorities}
 use Rattle.qrules.specs.Past as new
-use Rattle.qrules.proofs.Past.Done.{same_channel, same_connection_at, same_down}
 use Rattle.qrules.proofs.Past.Effects.{same_makes}
-use Rattle.qrules.proofs.Past.Items.{same_by_now, same_from, same_pending}
 use Rattle.qrules.proofs.Past.Waits.{same_receive, same_send}
 use Rattle.qrules.specs.View.{receive_view, send_view}
 use Rattle.qrules.proofs.Same.{facts_view, AreOfRoster}
@@ -46,25 +41,19 @@ module _ (roster : List Member) (past : Trace) where
   by : (made : List SentItem) (priority : ℕ → ℕ) → facts_by roster past (record { items = made; priority = priority }) ≡ facts_view (old.facts_by roster past (record { made = made; priority = priority }))
   by made priority =
       let now : List SentItem = old.items_by_now past made in
-      let by_now : new.items_by_now past made ≡ now = same_by_now past made in
-      let channel : new.channel_at roster past ≡ old.channel_at roster past = fun_ext (same_channel roster past) in
-      let connection : new.connection_at roster past ≡ old.connection_at roster past = fun_ext (same_connection_at roster past) in
-      let sends : filter_map (new.send_after past (new.items_by_now past made)) (threads_of roster) ≡ filter_map (λ u. send_view u (old.open_call_by past now u)) (threads_of roster) =
-      ap (λ items. filter_map (new.send_after past items) (threads_of roster)) by_now ∙ filter_map_same (new.send_after past now) (λ u. send_view u (old.open_call_by past now u)) (threads_of roster) (λ u. same_send past now u) in
-      let receives : filter_map (new.receive_after past) (threads_of roster) ≡ filter_map (λ u. receive_view u (old.open_call_by past now u)) (threads_of roster) =
-      filter_map_same (new.receive_after past) (λ u. receive_view u (old.open_call_by past now u)) (threads_of roster) (λ u. same_receive past now u) in
-      let pending : new.pending_among past (new.items_by_now past made) ≡ (λ h. old.pending_among past now h) = ap (new.pending_among past) by_now ∙ fun_ext (same_pending past now) in
+      let sends = filter_map_same (new.send_after past now) (λ u. send_view u (old.open_call_by past now u)) (threads_of roster) (λ u. same_send past now u) in
+      let receives = filter_map_same (new.receive_after past) (λ u. receive_view u (old.open_call_by past now u)) (threads_of roster) (λ u. same_receive past now u) in
       λ i. record {
         roster = roster;
         number = length past + 1;
-        down = same_down past i;
-        channel = channel i;
-        open_channels = count_to (channel i) (length past);
-        connection = connection i;
-        live_connections = count_to (connection i) (length past);
+        down = old.is_down past;
+        channel = old.channel_at roster past;
+        open_channels = old.open_channels roster past;
+        connection = old.connection_at roster past;
+        live_connections = old.live_connections roster past;
         open_sends = sends i;
         open_receives = receives i;
-        pending = pending i;
+        pending = new.pending_among past now;
         priority = priority;
       }
 
@@ -77,10 +66,6 @@ known_view k = record { items = k.made; priority = k.priority }
 -- what is known after event e, by these items and what was known before it
 abbrev with_items : List Member → Event → Trace → List SentItem → ItemsAndPriorities → ItemsAndPriorities
 with_items roster e past items known = record { items = items; priority = λ t. unwrap_or (priority_given_by roster e past items t) (known.priority t) }
-
--- the same, by these items and the priorities that the event gives
-abbrev with_priorities : List SentItem → (ℕ → ℕ) → (ℕ → Option ℕ) → ItemsAndPriorities
-with_priorities items before given = record { items = items; priority = λ t. unwrap_or (given t) (before t) }
 
 pub same_known : (roster : List Member) (past : Trace) → AreOfRoster roster past → items_and_priorities roster past ≡ known_view (old.knowledge_of roster past)
 same_known roster [] l = refl
@@ -95,7 +80,6 @@ same_known roster (e ∷ past) l =
     let all : List SentItem = k.made ++ option_to_list (old.item_of roster e past) in
     ap (λ items. with_items roster e past items (items_and_priorities roster past)) made
     ∙ ap (with_items roster e past all) known
-    ∙ ap (with_priorities all k.priority) (fun_ext (λ t. same_from roster past all t e))
 
 pub same_facts : (roster : List Member) (past : Trace) → AreOfRoster roster past → facts_of roster past ≡ facts_view (old_lawful.facts_of roster past)
 same_facts roster past l = ap (facts_by roster past) (same_known roster past l) ∙ by roster past (old.knowledge_of roster past).made (old.knowledge_of roster past).priority

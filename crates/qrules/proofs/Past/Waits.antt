@@ -1,60 +1,28 @@
 -- What a thread waits in.
-use mathlib.Core.List.{reverse-cons}
-use Rattle.std.proofs.Common.{◌≡◌, ◌∙◌, ℕ, ◌+◌, List, [], ◌∷◌, reverse, length, refl, ap, sym, subst, cond, Bool, true, false, eqb}
-use Rattle.std.specs.Prelude.{Option, None, Some, is_some, ◌||◌, ◌&&◌, find, filter_map, fold, option_map, option_and_then}
-use Rattle.std.specs.List.{cons_option}
-use Rattle.std.specs.Option.{option_map_or, option_or}
+use Rattle.std.proofs.Common.{◌≡◌, ◌∙◌, ℕ, ◌+◌, List, [], ◌∷◌, length, refl, ap, sym, subst, cond, Bool, true, false, eqb}
+use Rattle.std.specs.Prelude.{Option, None, Some, is_some, ◌||◌, ◌&&◌, find, option_map, option_and_then}
+use Rattle.std.specs.Option.{option_or}
 use Rattle.std.proofs.lemmas.Bool.{true≢false}
-use Rattle.std.proofs.lemmas.List.Sums.{fold-append}
 use Rattle.std.proofs.lemmas.Option.{none-some, same_Some}
 use Rattle.std.proofs.Math.Bool.{and-false}
 use Rattle.qbase.proofs.Lists.{cond_same}
-use Rattle.qbase.specs.Laying.{lay_over}
-use Rattle.qrules.specs.Private.Effects.{asks, writes as old_writes}
+use Rattle.qrules.specs.Private.Effects.{asks}
 use Rattle.qrules.specs.Private.Past as old
-use Rattle.qrules.specs.Private.Rows.{buffer_after_write}
 use Rattle.qmodel.specs.Trace.{SentItem}
-use Rattle.qmodel.specs.Trace.{Trace}
+use Rattle.qmodel.specs.Trace.{Event, Trace}
 use Rattle.qmodel.specs.declared.call.Call.{Call}
 use Rattle.qmodel.specs.declared.call.Call.TheVariants as calls
 use Rattle.qmodel.specs.declared.open_call.OpenCall.{OpenCall}
 use Rattle.qmodel.specs.declared.open_call.Wait.TheVariants.{Answer, Item as ForItem}
 use Rattle.qrules.specs.Facts.{OpenReceive, OpenSend}
 use Rattle.qrules.specs.Past as new
-use Rattle.qrules.specs.Rule.{ReceiveRequest, SendRequest, Transfer}
+use Rattle.qrules.specs.Rule.{ReceiveRequest, SendRequest}
 use Rattle.qrules.specs.Rules.{effect_of}
-use Rattle.qrules.proofs.Past.Done.{newest}
-use Rattle.qrules.proofs.Past.Items.{same_among}
-use Rattle.qrules.proofs.Past.Receipts.{same_copied, same_ended}
 use Rattle.qrules.specs.View.{receive_view, send_view}
 
--- ---- what is written
-
-abbrev lay : List ℕ → Transfer → List ℕ
-lay b w = lay_over b w.offset w.bytes
-
-abbrev to_message : ℕ → Option Transfer → Option Transfer
-to_message i o = option_and_then (λ w. cond (eqb w.rcvid i) (Some w) None) o
-
-lay_last : (b : List ℕ) (o : Option Transfer) (rest : List Transfer) → fold lay b (reverse (cons_option o rest)) ≡ option_map_or (lay (fold lay b (reverse rest))) o (fold lay b (reverse rest))
-lay_last b None rest = refl
-lay_last b (Some w) rest = ap (fold lay b) (reverse-cons w rest) ∙ fold-append lay b (reverse rest) (w ∷ [])
-
-lay_same : (b : List ℕ) (i : ℕ) (o : Option Transfer) → option_map_or (lay b) (to_message i o) b ≡ buffer_after_write o i b
-lay_same b i None = refl
-lay_same b i (Some w) = elim (eqb w.rcvid i) as (λ c. option_map_or (lay b) (cond c (Some w) None) b ≡ cond c (lay b w) b) [ true ↦ refl | false ↦ refl ]
-
-pub same_with_writes : (past : Trace) (i : ℕ) (b : List ℕ) → new.with_writes past i b ≡ old.with_writes past i b
-same_with_writes [] i b = refl
-same_with_writes (e ∷ past) i b =
-    elim (old.is_accepted e past) as (λ a. fold lay b (reverse (filter_map (λ d. to_message i d.effect.writes) (cond a (newest e past ∷ new.accepted_calls past) (new.accepted_calls past))))
-    ≡ cond a (buffer_after_write (old_writes e.call) i (old.with_writes past i b)) (old.with_writes past i b)) [
-      | true ↦
-          lay_last b (to_message i (effect_of e.call).writes) (filter_map (λ d. to_message i d.effect.writes) (new.accepted_calls past))
-          ∙ lay_same (new.with_writes past i b) i (effect_of e.call).writes
-          ∙ ap (buffer_after_write (old_writes e.call) i) (same_with_writes past i b)
-      | false ↦ same_with_writes past i b
-    ]
+-- the newest event as an accepted call
+abbrev newest : Event → Trace → new.AcceptedCall
+newest e past = record { number = length past + 1; thread = e.thread; effect = effect_of e.call }
 
 -- ---- the newest call that may wait
 
@@ -78,11 +46,10 @@ same_newest [] t = refl
 same_newest (e ∷ past) t =
     let n : ℕ = length past + 1 in
     let d : new.AcceptedCall = newest e past in
-    let asked : call_of d ≡ asks n e.call = refl in
     elim (old.is_accepted e past) as (λ a. option_and_then call_of (find (waits t) (cond a (d ∷ new.accepted_calls past) (new.accepted_calls past))) ≡ cond ((eqb e.thread t && a) && is_some (asks n e.call)) (asks n e.call) (old.newest_block past t)) [
       | true ↦
           elim (eqb e.thread t) as (λ b. option_and_then call_of (cond (b && (is_some d.effect.sends || is_some d.effect.receives)) (Some d) (find (waits t) (new.accepted_calls past))) ≡ cond ((b && true) && is_some (asks n e.call)) (asks n e.call) (old.newest_block past t)) [
-            | true ↦ newest_step d (find (waits t) (new.accepted_calls past)) (old.newest_block past t) d.effect.sends d.effect.receives (same_newest past t) refl ∙ ap (λ o. cond (is_some o) o (old.newest_block past t)) asked
+            | true ↦ newest_step d (find (waits t) (new.accepted_calls past)) (old.newest_block past t) d.effect.sends d.effect.receives (same_newest past t) refl
             | false ↦ same_newest past t
           ]
       | false ↦ rw (and-false (eqb e.thread t)) (same_newest past t)
@@ -113,58 +80,52 @@ unless_then false k x = refl
 
 module _ (past : Trace) (made : List SentItem) (t : ℕ) where
   abbrev priority_at : ℕ → ℕ
-  priority_at n = old.priority_of_made (old.made_among made n)
+  priority_at n = old.priority_of_made (old.item_among made n)
 
   abbrev by_now : OpenCall → OpenCall
   by_now o = old.with_receipt (priority_at o.number) (old.unblocked_among made o.number) (old.copied_count_of past o.number) (old.call_by_now past o)
 
-  abbrev sent : ℕ → SendRequest → List ℕ → ℕ → Option new.ReceivedItem → OpenSend
-  sent n s buffer priority received = record {
+  abbrev sent : ℕ → SendRequest → Option ℕ → OpenSend
+  sent n s received = record {
     number = n;
     thread = t;
     connection = s.connection;
     message = s.message;
-    reply_buffer = buffer;
-    receipt = option_map (λ r. record { priority = priority; copied = r.copied; unblocked = old.unblocked_among made n }) received;
+    reply_buffer = new.with_writes past n s.reply_buffer;
+    receipt = option_map (λ copied. record { priority = priority_at n; copied = copied; unblocked = old.unblocked_among made n }) received;
   }
 
-  same_sent : (n : ℕ) (s : SendRequest) → Some (sent n s (new.with_writes past n s.reply_buffer) (new.priority_of_item (new.item_among made n)) (new.received_item past n)) ≡ send_view t (Some (by_now (record { number = n; wait = Answer s.connection s.message s.reply_buffer None })))
-  same_sent n s =
-      let o : OpenCall = old.call_by_now past (record { number = n; wait = Answer s.connection s.message s.reply_buffer None }) in
-      let b : List ℕ = old.with_writes past n s.reply_buffer in
-      ap (λ b. Some (sent n s b (new.priority_of_item (new.item_among made n)) (new.received_item past n))) (same_with_writes past n s.reply_buffer)
-      ∙ ap (λ m. Some (sent n s b (new.priority_of_item m) (new.received_item past n))) (same_among made n)
-      ∙ elim (new.received_item past n) as (λ received. Some (sent n s b (priority_at n) received) ≡ send_view t (Some (old.with_receipt (priority_at n) (old.unblocked_among made n) (option_map (λ r. r.copied) received) o))) [ None ↦ refl | Some r ↦ refl ]
-      ∙ ap (λ copied. send_view t (Some (old.with_receipt (priority_at n) (old.unblocked_among made n) copied o))) (same_copied past n)
+  same_sent : (n : ℕ) (s : SendRequest) (copied : Option ℕ) → Some (sent n s copied)
+      ≡ send_view t (Some (old.with_receipt (priority_at n) (old.unblocked_among made n) copied (old.call_by_now past (record { number = n; wait = Answer s.connection s.message s.reply_buffer None }))))
+  same_sent n s None = refl
+  same_sent n s (Some copied) = refl
 
   no_send : (n : ℕ) (r : ReceiveRequest) (copied : Option ℕ) → send_view t (Some (old.with_receipt (priority_at n) (old.unblocked_among made n) copied (record { number = n; wait = ForItem r.channel r.kind r.buffer }))) ≡ None
   no_send n r None = refl
   no_send n r (Some k) = refl
 
   send_step : (n : ℕ) (sends : Option SendRequest) (receives : Option ReceiveRequest)
-      → cond (new.is_ended past n) None (option_map (λ s. sent n s (new.with_writes past n s.reply_buffer) (new.priority_of_item (new.item_among made n)) (new.received_item past n)) sends)
+      → cond (new.is_ended past n) None (option_map (λ s. sent n s (new.copied_count_of past n)) sends)
       ≡ send_view t (option_map by_now (old.unless_ended past (call_from n sends receives)))
   send_step n (Some s) receives =
-      rw (same_ended past n) (
-      elim (old.is_ended past n) as (λ b. cond b None (Some (sent n s (new.with_writes past n s.reply_buffer) (new.priority_of_item (new.item_among made n)) (new.received_item past n)))
+      elim (old.is_ended past n) as (λ b. cond b None (Some (sent n s (new.copied_count_of past n)))
       ≡ send_view t (option_map by_now (cond b None (Some (record { number = n; wait = Answer s.connection s.message s.reply_buffer None }))))) [
         | true ↦ refl
-        | false ↦ same_sent n s
-      ])
+        | false ↦ same_sent n s (new.copied_count_of past n)
+      ]
   send_step n None (Some r) =
-      rw (same_ended past n) (
       elim (old.is_ended past n) as (λ b. cond b None None ≡ send_view t (option_map by_now (cond b None (Some (record { number = n; wait = ForItem r.channel r.kind r.buffer }))))) [
         | true ↦ refl
         | false ↦ sym (no_send n r (old.copied_count_of past n))
-      ])
+      ]
   send_step n None None = cond_same (new.is_ended past n) None
 
   pub same_send : new.send_after past made t ≡ send_view t (old.open_call_by past made t)
   same_send =
-      elim (find (waits t) (new.accepted_calls past)) as (λ found. option_and_then (λ d. option_map (λ s. sent d.number s (new.with_writes past d.number s.reply_buffer) (new.priority_of_item (new.item_among made d.number)) (new.received_item past d.number)) d.effect.sends)
+      elim (find (waits t) (new.accepted_calls past)) as (λ found. option_and_then (λ d. option_map (λ s. sent d.number s (new.copied_count_of past d.number)) d.effect.sends)
       (option_and_then (λ d. cond (new.is_ended past d.number) None (Some d)) found) ≡ send_view t (option_map by_now (old.unless_ended past (option_and_then call_of found)))) [
         | None ↦ refl
-        | Some d ↦ unless_then (new.is_ended past d.number) (λ d. option_map (λ s. sent d.number s (new.with_writes past d.number s.reply_buffer) (new.priority_of_item (new.item_among made d.number)) (new.received_item past d.number)) d.effect.sends) d
+        | Some d ↦ unless_then (new.is_ended past d.number) (λ d. option_map (λ s. sent d.number s (new.copied_count_of past d.number)) d.effect.sends) d
             ∙ send_step d.number d.effect.sends d.effect.receives
       ]
       ∙ ap (λ o. send_view t (option_map by_now (old.unless_ended past o))) (same_newest past t)
@@ -185,17 +146,16 @@ module _ (past : Trace) (made : List SentItem) (t : ℕ) where
   receive_step : (n : ℕ) (sends : Option SendRequest) (receives : Option ReceiveRequest) → (is_some sends ≡ true → receives ≡ None)
       → cond (new.is_ended past n) None (option_map (taking n) receives) ≡ receive_view t (option_map by_now (old.unless_ended past (call_from n sends receives)))
   receive_step n (Some s) receives alone =
-      rw (alone refl, same_ended past n) (
+      rw (alone refl) (
       elim (old.is_ended past n) as (λ b. cond b None None ≡ receive_view t (option_map by_now (cond b None (Some (record { number = n; wait = Answer s.connection s.message s.reply_buffer None }))))) [
         | true ↦ refl
         | false ↦ sym (no_receive n s (old.with_writes past n s.reply_buffer) (old.copied_count_of past n))
       ])
   receive_step n None (Some r) alone =
-      rw (same_ended past n) (
       elim (old.is_ended past n) as (λ b. cond b None (Some (taking n r)) ≡ receive_view t (option_map by_now (cond b None (Some (record { number = n; wait = ForItem r.channel r.kind r.buffer }))))) [
         | true ↦ refl
         | false ↦ same_taking n r (old.copied_count_of past n)
-      ])
+      ]
   receive_step n None None alone = cond_same (new.is_ended past n) None
 
   pub same_receive : new.receive_after past t ≡ receive_view t (old.open_call_by past made t)

@@ -1,6 +1,6 @@
 -- A message is answered once, by a call that may answer it, and to its sender.
 use Rattle.std.proofs.Common.{◌≡◌, ◌∙◌, ◌↔◌, ℕ, List, [], ◌∷◌, refl, ap, sym, false}
-use Rattle.std.specs.Prelude.{Option, None, Some, not, ◌&&◌, option_map}
+use Rattle.std.specs.Prelude.{Option, None, Some, option_map}
 use Rattle.std.specs.Option.{option_map_or}
 use Rattle.qbase.proofs.Lists.{all_more}
 use Rattle.qtables.specs.declared.member.Member.{Member}
@@ -13,17 +13,12 @@ use Rattle.qmodel.specs.Trace.{Event, Trace}
 use Rattle.qmodel.specs.declared.call.Completion.{Completion}
 use Rattle.qrules.specs.Facts.{owns}
 use Rattle.qrules.specs.Lawful.{facts_of}
-use Rattle.qrules.specs.Past.{is_ended, is_received, item_among}
+use Rattle.qrules.specs.Past.{item_among}
 use Rattle.qrules.specs.Properties.{items, AnsweredToSender, AnswersIts}
-use Rattle.qrules.proofs.Past.Done.{same_sender_of}
 use Rattle.qrules.proofs.Past.Facts.{same_facts}
-use Rattle.qrules.proofs.Past.Receipts.{same_ended, same_received}
 use Rattle.qrules.proofs.Properties.Items.{same_channel_among, same_items}
 use Rattle.qrules.proofs.Same.{facts_view, AreOfRoster}
 use Rattle.qrules.proofs.View.{owns_same}
-
-same_held : (past : Trace) (i : ℕ) → (is_received past i && not (is_ended past i)) ≡ old.is_held past i
-same_held past i = ap (λ b. b && not (is_ended past i)) (same_received past i) ∙ ap (λ b. past_of.is_taken past i && not b) (same_ended past i)
 
 owner_of : (f : OldFacts) (t : ℕ) (m : Option SentItem) → option_map_or (λ m. owns (facts_view f) t m.channel) m false ≡ option_map_or (λ h. old_owns f t h) (option_map (λ m. m.channel) m) false
 owner_of f t None = refl
@@ -39,18 +34,18 @@ answers_as_before : (roster : List Member) (past : Trace) (e : Event) (x : Compl
 answers_as_before roster past e x l h = record {
   named = h.named;
   accepted = h.accepted;
-  held = sym (same_held past x.call) ∙ h.held;
+  held = h.held;
   owner = sym (same_owner roster past e.thread x.call l) ∙ h.owner;
-  sender = sym (same_sender_of past x.call) ∙ h.sender;
+  sender = h.sender;
 }
 
 answers_by_rules : (roster : List Member) (past : Trace) (e : Event) (x : Completion) → AreOfRoster roster past → old.AnswersIts roster past e x → AnswersIts roster past e x
 answers_by_rules roster past e x l h = record {
   named = h.named;
   accepted = h.accepted;
-  held = same_held past x.call ∙ h.held;
+  held = h.held;
   owner = same_owner roster past e.thread x.call l ∙ h.owner;
-  sender = same_sender_of past x.call ∙ h.sender;
+  sender = h.sender;
 }
 
 as_before : (roster : List Member) (past : Trace) → AreOfRoster roster past → AnsweredToSender roster past → old.AnsweredToSender roster past

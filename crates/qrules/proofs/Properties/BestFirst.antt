@@ -16,7 +16,7 @@ use Rattle.qrules.specs.Rule.{ReceiveRequest}
 use Rattle.qrules.specs.Rules.{effect_of}
 use Rattle.qrules.proofs.Same.{AreOfRoster}
 use Rattle.qrules.proofs.Properties.Calls.{same_call_at}
-use Rattle.qrules.proofs.Properties.Items.{same_number, same_takeable}
+use Rattle.qrules.proofs.Properties.Items.{same_takeable}
 
 -- ---- what a call asks to receive
 
@@ -74,11 +74,11 @@ best_by_rules roster past e x i l h = best_from roster past e x i h.call (h.chan
 
 as_before : (roster : List Member) (past : Trace) → AreOfRoster roster past → BestFirst roster past → old.BestFirst roster past
 as_before roster [] l h = tt
-as_before roster (e ∷ past) l h = (all_more _ _ e.endings h.1 (λ x takes i is. best_as_before roster past e x i l.0 (takes i (same_number x ∙ is))), as_before roster past l.0 h.0)
+as_before roster (e ∷ past) l h = (all_more _ _ e.endings h.1 (λ x takes i is. best_as_before roster past e x i l.0 (takes i is)), as_before roster past l.0 h.0)
 
 by_rules : (roster : List Member) (past : Trace) → AreOfRoster roster past → old.BestFirst roster past → BestFirst roster past
 by_rules roster [] l h = tt
-by_rules roster (e ∷ past) l h = (by_rules roster past l.0 h.1, all_more _ _ e.endings h.0 (λ x takes i is. best_by_rules roster past e x i l.0 (takes i (sym (same_number x) ∙ is))))
+by_rules roster (e ∷ past) l h = (by_rules roster past l.0 h.1, all_more _ _ e.endings h.0 (λ x takes i is. best_by_rules roster past e x i l.0 (takes i is)))
 
 pub same_best_first : (roster : List Member) (past : Trace) → AreOfRoster roster past → BestFirst roster past ↔ old.BestFirst roster past
 same_best_first roster past l = (as_before roster past l, by_rules roster past l)

@@ -1,7 +1,7 @@
 -- Calls, as the properties name them.
 use mathlib.Core.Path.{fun_ext}
 use Rattle.std.proofs.Common.{◌≡◌, ◌∙◌, ℕ, ◌+◌, List, [], ◌∷◌, length, refl, ap, cond, eqb}
-use Rattle.std.specs.Prelude.{Option, None, Some, is_some, option_and_then}
+use Rattle.std.specs.Prelude.{None, Some, is_some, option_and_then}
 use Rattle.std.specs.Option.{option_map_or}
 use Rattle.qrules.specs.Private.Effects as effects
 use Rattle.qrules.specs.Private.Headline.CopiedExactly as copied
@@ -14,7 +14,6 @@ use Rattle.qrules.specs.Rule.{buffer_of}
 use Rattle.qrules.specs.Rules.{effect_of}
 use Rattle.qrules.specs.Trace.{call_at}
 use Rattle.qrules.proofs.Outcomes.{same_buffer}
-use Rattle.qrules.proofs.Past.Waits.{same_with_writes}
 
 pub same_call_at : (past : Trace) (i : ℕ) → call_at past i ≡ copied.call_at past i
 same_call_at [] i = refl
@@ -38,6 +37,5 @@ buffer_by past i c =
 
 pub same_buffer_at : (past : Trace) (i : ℕ) → buffer_at past i ≡ copied.buffer_at past i
 same_buffer_at past i =
-    ap (λ (written : List ℕ → List ℕ). option_map_or (λ c. cond (is_some (effect_of c).sends) (written (buffer_of (effect_of c))) (buffer_of (effect_of c))) (call_at past i) []) (fun_ext (same_with_writes past i))
-    ∙ ap (λ call. option_map_or (λ c. cond (is_some (effect_of c).sends) (old.with_writes past i (buffer_of (effect_of c))) (buffer_of (effect_of c))) call []) (same_call_at past i)
+    ap (λ call. option_map_or (λ c. cond (is_some (effect_of c).sends) (old.with_writes past i (buffer_of (effect_of c))) (buffer_of (effect_of c))) call []) (same_call_at past i)
     ∙ ap (λ (by : Call → List ℕ). option_map_or by (copied.call_at past i) []) (fun_ext (buffer_by past i))

@@ -1,43 +1,23 @@
 -- Items, as the properties name them.
-use mathlib.Core.Path.{fun_ext}
 use Rattle.std.proofs.Common.{◌≡◌, ◌∙◌, ℕ, List, [], ◌∷◌, ◌++◌, map, refl, ap, cond, Bool, true, false, eqb}
-use Rattle.std.specs.Prelude.{Option, None, Some, is_some, ◌||◌, filter, find, filter_map, option_map, option_to_list}
+use Rattle.std.specs.Prelude.{Option, None, Some, is_some, ◌||◌, filter, find, option_map, option_to_list}
 use Rattle.std.specs.List.{list_any}
 use Rattle.qtables.specs.declared.member.Member.{Member}
 use Rattle.qrules.specs.Private.Headline.AnsweredToSender.{channel_among}
 use Rattle.qrules.specs.Private.Headline.BestFirst.{takeable as old_takeable}
-use Rattle.qrules.specs.Private.Headline.ReceivedOnce as once
 use Rattle.qrules.specs.Private.Lawful as old_lawful
 use Rattle.qrules.specs.Private.Past as old
 use Rattle.qmodel.specs.Trace.{SentItem}
 use Rattle.qmodel.specs.Trace.{Event, Trace}
-use Rattle.qmodel.specs.declared.call.Completion.{Completion}
 use Rattle.qrules.specs.Lawful.{facts_of, item_made_by}
-use Rattle.qrules.specs.Past.{item_among, item_in, priority_of_item, ReceivedItem}
-use Rattle.qrules.specs.Properties.{items, number_received, priority_before, takeable}
-use Rattle.qrules.specs.Trace.{endings_of}
+use Rattle.qrules.specs.Past.{item_among, priority_of_item}
+use Rattle.qrules.specs.Properties.{items, priority_before, takeable}
 use Rattle.qrules.proofs.Past.Effects.{same_makes}
 use Rattle.qrules.proofs.Past.Facts.{facts_known, same_facts, same_known}
-use Rattle.qrules.proofs.Past.Items.{same_among, same_by_now}
-use Rattle.qrules.proofs.Past.Receipts.{pair_of, same_item}
 use Rattle.qrules.proofs.Same.{AreOfRoster}
 
 pub same_items : (roster : List Member) (past : Trace) → AreOfRoster roster past → items roster past ≡ old.items roster past
 same_items roster past l = ap (λ k. k.items) (same_known roster past l)
-
-pub same_endings_of : (past : Trace) → endings_of past ≡ once.endings_of past
-same_endings_of [] = refl
-same_endings_of (e ∷ past) = ap (λ rest. e.endings ++ rest) (same_endings_of past)
-
-number_of : (o : Option ReceivedItem) → option_map (λ r. r.number) o ≡ option_map (λ (r : ℕ × ℕ). r.0) (option_map pair_of o)
-number_of None = refl
-number_of (Some r) = refl
-
-pub same_number : (x : Completion) → number_received x ≡ once.item_received x
-same_number x = number_of (item_in x.mark) ∙ ap (option_map (λ (r : ℕ × ℕ). r.0)) (same_item x.mark)
-
-pub same_numbers : (endings : List Completion) → filter_map number_received endings ≡ once.items_received endings
-same_numbers endings = ap (λ (number : Completion → Option ℕ). filter_map number endings) (fun_ext same_number)
 
 pub found_any : {X : Type 0} (p : X → Bool) (xs : List X) → is_some (find p xs) ≡ list_any p xs
 found_any p [] = refl
@@ -64,5 +44,4 @@ same_takeable roster past e h l =
 
 pub same_priority_before : (roster : List Member) (past : Trace) (e : Event) (i : ℕ) → AreOfRoster roster (e ∷ past) → priority_before roster past e i ≡ old.priority_before roster e past i
 same_priority_before roster past e i l =
-    ap (λ (made : List SentItem). priority_of_item (item_among made i)) (same_by_now past (items roster (e ∷ past)) ∙ ap (old.items_by_now past) (same_items roster (e ∷ past) l))
-    ∙ ap priority_of_item (same_among (old.items_by_now past (old.items roster (e ∷ past))) i)
+    ap (λ (made : List SentItem). priority_of_item (item_among (old.items_by_now past made) i)) (same_items roster (e ∷ past) l)

@@ -1,5 +1,5 @@
 -- Each item is received once, and each call ended once.
-use Rattle.std.proofs.Common.{◌≡◌, ◌∙◌, ◌↔◌, ℕ, List, [], ◌∷◌, map, ap, sym, subst, true, eqb}
+use Rattle.std.proofs.Common.{◌≡◌, ◌∙◌, ◌↔◌, ℕ, List, [], ◌∷◌, ap, sym, true, eqb}
 use Rattle.std.specs.Prelude.{is_some}
 use Rattle.std.specs.List.{filter_map, AllByRecursion}
 use Rattle.qtables.specs.declared.member.Member.{Member}
@@ -8,13 +8,9 @@ use Rattle.qmodel.specs.Trace.{SentItem}
 use Rattle.qmodel.specs.Trace.{Event, Trace}
 use Rattle.qrules.specs.Past.{item_among}
 use Rattle.qrules.specs.Properties.{items, number_received, ReceivedOnce}
-use Rattle.qrules.specs.Trace.{endings_of, InEachEvent}
+use Rattle.qrules.specs.Trace.{InEachEvent}
 use Rattle.qrules.proofs.Same.{AreOfRoster}
-use Rattle.qrules.proofs.Properties.Items.{found_any, same_endings_of, same_items, same_numbers}
-
--- the numbers of all items received, and of all calls ended
-same_all : (past : Trace) → filter_map number_received (endings_of past) ≡ old.items_received (old.endings_of past)
-same_all past = same_numbers (endings_of past) ∙ ap old.items_received (same_endings_of past)
+use Rattle.qrules.proofs.Properties.Items.{found_any, same_items}
 
 same_made : (roster : List Member) (past : Trace) (i : ℕ) → AreOfRoster roster past → is_some (item_among (items roster past) i) ≡ old.is_made roster past i
 same_made roster past i l = ap (λ (made : List SentItem). is_some (item_among made i)) (same_items roster past l) ∙ found_any (λ m. eqb m.item.number i) _
@@ -35,22 +31,22 @@ same_early roster past e (i ∷ numbers) l =
 
 none_early : (roster : List Member) (past : Trace) → AreOfRoster roster past → InEachEvent (λ past e. early roster past e (filter_map number_received e.endings)) past → old.NoneEarly roster past
 none_early roster [] l h = tt
-none_early roster (e ∷ past) l h = (subst (old_early roster past e) (same_numbers e.endings) ((same_early roster past e (filter_map number_received e.endings) l).0 h.1), none_early roster past l.0 h.0)
+none_early roster (e ∷ past) l h = ((same_early roster past e (filter_map number_received e.endings) l).0 h.1, none_early roster past l.0 h.0)
 
 none_early_new : (roster : List Member) (past : Trace) → AreOfRoster roster past → old.NoneEarly roster past → InEachEvent (λ past e. early roster past e (filter_map number_received e.endings)) past
 none_early_new roster [] l h = tt
-none_early_new roster (e ∷ past) l h = (none_early_new roster past l.0 h.1, (same_early roster past e (filter_map number_received e.endings) l).1 (subst (old_early roster past e) (sym (same_numbers e.endings)) h.0))
+none_early_new roster (e ∷ past) l h = (none_early_new roster past l.0 h.1, (same_early roster past e (filter_map number_received e.endings) l).1 h.0)
 
 pub same_received_once : (roster : List Member) (past : Trace) → AreOfRoster roster past → ReceivedOnce roster past ↔ old.ReceivedOnce roster past
 same_received_once roster past l = (
   λ h. record {
-    each_item = subst old.AllDifferent (same_all past) h.each_item;
+    each_item = h.each_item;
     none_early = none_early roster past l h.none_early;
-    each_call = subst (λ endings. old.AllDifferent (map (λ x. x.call) endings)) (same_endings_of past) h.each_call;
+    each_call = h.each_call;
   },
   λ h. record {
-    each_item = subst old.AllDifferent (sym (same_all past)) h.each_item;
+    each_item = h.each_item;
     none_early = none_early_new roster past l h.none_early;
-    each_call = subst (λ endings. old.AllDifferent (map (λ x. x.call) endings)) (sym (same_endings_of past)) h.each_call;
+    each_call = h.each_call;
   },
 )

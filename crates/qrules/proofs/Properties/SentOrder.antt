@@ -19,7 +19,7 @@ use Rattle.qrules.specs.Rules.{effect_of}
 use Rattle.qrules.proofs.Same.{AreOfRoster}
 use Rattle.qrules.proofs.Properties.BestFirst.{asks_of, request_from}
 use Rattle.qrules.proofs.Properties.Calls.{same_connection_of}
-use Rattle.qrules.proofs.Properties.Items.{same_number, same_priority_before, same_takeable}
+use Rattle.qrules.proofs.Properties.Items.{same_priority_before, same_takeable}
 
 -- ---- a call that takes messages and pulses is a Receive
 
@@ -38,7 +38,7 @@ sent_as_before past x j k h =
       channel = h.request.channel;
       buffer = h.request.buffer;
       call = asks.is ∙ ap Some (any_receive asks.call h.request asks.receives h.any);
-      item = sym (same_number x) ∙ h.item;
+      item = h.item;
       connection = sym (same_connection_of past j) ∙ h.connection;
     }
 
@@ -49,7 +49,7 @@ sent_by_rules past x j k h =
       request = request;
       call = request_from past x.call (calls.Receive h.channel h.buffer) request h.call refl;
       any = refl;
-      item = same_number x ∙ h.item;
+      item = h.item;
       connection = same_connection_of past j ∙ h.connection;
     }
 

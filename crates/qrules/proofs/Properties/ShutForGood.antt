@@ -24,9 +24,8 @@ use Rattle.qrules.specs.Facts.{OpenReceive, OpenSend}
 use Rattle.qrules.specs.Lawful.{facts_of}
 use Rattle.qrules.specs.Past.{attached_connection, item_among}
 use Rattle.qrules.specs.Properties.{items, number_received, IsShut, ShutForGood}
-use Rattle.qrules.proofs.Past.Done.{same_attached, same_destroyed}
 use Rattle.qrules.proofs.Past.Facts.{facts_known, same_facts}
-use Rattle.qrules.proofs.Properties.Items.{same_channel_among, same_items, same_number}
+use Rattle.qrules.proofs.Properties.Items.{same_channel_among, same_items}
 use Rattle.qrules.specs.View.{receive_in, receive_view, send_in, send_view}
 use Rattle.qrules.proofs.Same.{AreOfRoster}
 
@@ -67,13 +66,13 @@ led (Some c) h e = eq-eqb c.channel h (same_Some c.channel h e)
 module _ (roster : List Member) (past : Trace) (h : ℕ) where
   elsewhere : (u n : ℕ) (w : Wait) → ((s : OpenSend) → send_in u n w ≡ Some s → send_elsewhere roster past h s) → ((r : OpenReceive) → receive_in u n w ≡ Some r → receive_elsewhere h r)
       → is_on (λ k. past_of.attached_connection roster past k) h w ≡ false
-  elsewhere u n (Answer coid message reply_buffer receipt) sends receives = false_from_ne_true _ (λ on. sends _ refl (ap (option_map (λ c. c.channel)) (same_attached roster past coid) ∙ leads _ h on))
+  elsewhere u n (Answer coid message reply_buffer receipt) sends receives = false_from_ne_true _ (λ on. sends _ refl (leads _ h on))
   elsewhere u n (ForItem chid kind buffer) sends receives = false_from_ne_true _ (λ on. receives _ refl (eqb-true chid h on))
 
   sends_elsewhere : (u n : ℕ) (w : Wait) (s : OpenSend) → is_on (λ k. past_of.attached_connection roster past k) h w ≡ false → send_in u n w ≡ Some s → send_elsewhere roster past h s
   sends_elsewhere u n (Answer coid message reply_buffer receipt) s off is on =
       let over : option_map (λ c. c.channel) (attached_connection roster past coid) ≡ Some h = ap (λ (s : OpenSend). option_map (λ c. c.channel) (attached_connection roster past s.connection)) (same_Some _ s is) ∙ on in
-      true≢false (sym (led _ h (sym (ap (option_map (λ c. c.channel)) (same_attached roster past coid)) ∙ over)) ∙ off)
+      true≢false (sym (led _ h over) ∙ off)
   sends_elsewhere u n (ForItem chid kind buffer) s off is on = none-some s is
 
   receives_elsewhere : (u n : ℕ) (w : Wait) (r : OpenReceive) → is_on (λ k. past_of.attached_connection roster past k) h w ≡ false → receive_in u n w ≡ Some r → receive_elsewhere h r
@@ -106,7 +105,7 @@ module _ (roster : List Member) (past : Trace) (h : ℕ) where
 
   shut_as_before : (endings : List Completion) → AreOfRoster roster past → IsShut roster past endings h → old.NoneReceivedFrom roster past h endings × old.NoneBlockedOn roster past h
   shut_as_before endings l shut = (
-    all_more from_elsewhere _ endings shut.none_received (λ x off i is from. off i (same_number x ∙ is) (same_channel_of l i ∙ from)),
+    all_more from_elsewhere _ endings shut.none_received (λ x off i is from. off i is (same_channel_of l i ∙ from)),
     none_as_before l shut.no_send shut.no_receive,
   )
 
@@ -114,7 +113,7 @@ module _ (roster : List Member) (past : Trace) (h : ℕ) where
   shut_by_rules endings l shut =
       let f : OldFacts = old_lawful.facts_of roster past in
       record {
-        none_received = all_more _ from_elsewhere endings shut.0 (λ x off i is from. off i (sym (same_number x) ∙ is) (sym (same_channel_of l i) ∙ from));
+        none_received = all_more _ from_elsewhere endings shut.0 (λ x off i is from. off i is (sym (same_channel_of l i) ∙ from));
         no_send = subst (λ g. AllByRecursion (send_elsewhere roster past h) g.open_sends) (sym (same_facts roster past l))
             (all_filter_map (send_elsewhere roster past h) (λ v. send_view v (f.open_call v)) (threads_of roster) (λ u s e. send_off shut.1 u s (f.open_call u) refl e));
         no_receive = subst (λ g. AllByRecursion (receive_elsewhere h) g.open_receives) (sym (same_facts roster past l))
@@ -123,11 +122,11 @@ module _ (roster : List Member) (past : Trace) (h : ℕ) where
 
 as_before : (roster : List Member) (past : Trace) → AreOfRoster roster past → ShutForGood roster past → old.ShutForGood roster past
 as_before roster [] l h = tt
-as_before roster (e ∷ past) l h = (λ channel closed. shut_as_before roster (e ∷ past) channel e.endings l (h.1 channel (same_destroyed (e ∷ past) channel ∙ closed)), as_before roster past l.0 h.0)
+as_before roster (e ∷ past) l h = (λ channel closed. shut_as_before roster (e ∷ past) channel e.endings l (h.1 channel closed), as_before roster past l.0 h.0)
 
 by_rules : (roster : List Member) (past : Trace) → AreOfRoster roster past → old.ShutForGood roster past → ShutForGood roster past
 by_rules roster [] l h = tt
-by_rules roster (e ∷ past) l h = (by_rules roster past l.0 h.1, λ channel destroyed. shut_by_rules roster (e ∷ past) channel e.endings l (h.0 channel (sym (same_destroyed (e ∷ past) channel) ∙ destroyed)))
+by_rules roster (e ∷ past) l h = (by_rules roster past l.0 h.1, λ channel destroyed. shut_by_rules roster (e ∷ past) channel e.endings l (h.0 channel destroyed))
 
 pub same_shut_for_good : (roster : List Member) (past : Trace) → AreOfRoster roster past → ShutForGood roster past ↔ old.ShutForGood roster past
 same_shut_for_good roster past l = (as_before roster past l, by_rules roster past l)

@@ -1,8 +1,7 @@
 -- The facts of the past that the answer to a call may depend on.
-use Rattle.std.specs.Prelude.{ℕ, ◌+◌, ◌==◌, ◌&&◌, Bool, true, false, is_some, List, [], ◌∷◌, map, Option}
-use Rattle.std.specs.Prelude.{None, Some, if◌then◌else◌, bit_and}
+use Rattle.std.specs.Prelude.{ℕ, ◌==◌, ◌&&◌, Bool, true, false, is_some, List, [], ◌∷◌, Option}
+use Rattle.std.specs.Prelude.{None, Some, if◌then◌else◌}
 use Rattle.std.specs.Option.{option_and_then, option_map_or}
-use Rattle.qbase.specs.declared.flags.ChannelFlags.{ChannelFlags}
 use Rattle.qqueue.specs.declared.item.Item.{Item}
 use Rattle.qtables.specs.declared.connection.Connection.{Connection}
 use Rattle.qtables.specs.declared.member.Member.{Member}
@@ -12,6 +11,7 @@ use Rattle.qmodel.specs.declared.open_call.Wait.{Wait}
 use Rattle.qmodel.specs.declared.open_call.Wait.TheVariants.{Answer, Item as ForItem}
 use Rattle.qmodel.specs.Trace.{OpenChannel}
 use Rattle.qmodel.specs.Trace.{CallNo, ChannelId, ConnectionId, Priority, ProcessNo, ReceiveId, ThreadNo}
+pub use Rattle.qrules.specs.Facts.{count_to, has_flag, threads_of}
 
 -- the threads, the number of the call that is answered, whether the kernel is shut down, the open channels
 -- and their number, the live connections and their number, each thread's open call, the pending items of each
@@ -29,10 +29,6 @@ pub record Facts : Type 0 where
   pub priority : ThreadNo → Priority
 
 -- ---- threads and processes
-
--- the threads of a roster, in rising number
-abbrev pub threads_of : List Member → List ThreadNo
-threads_of roster = map (λ m. m.thread) roster
 
 -- the member is of this process
 abbrev pub is_in_process : ProcessNo → Option Member → Bool
@@ -60,10 +56,6 @@ route f t k =
     option_and_then (λ c. if is_of_process f t c.process && is_some (f.channel c.channel) then Some c.channel
     else None) (f.connection k)
 
--- the channel is open, and has this flag
-abbrev pub has_flag : ℕ → Option OpenChannel → Bool
-has_flag flag channel = option_map_or (λ c. bit_and c.flags.0 flag == flag) channel false
-
 -- the channel has the flag that leaves its receivers' priorities as they are
 abbrev pub is_fixed : Option OpenChannel → Bool
 is_fixed channel = has_flag 1 channel
@@ -75,11 +67,6 @@ tells_unblock channel = has_flag 2 channel
 -- the channel has the disconnect flag
 abbrev pub tells_disconnect : Option OpenChannel → Bool
 tells_disconnect channel = has_flag 4 channel
-
--- how many of the numbers from 1 to n have a value that isn't None
-abbrev pub count_to : {A : Type 0} → (ℕ → Option A) → ℕ → ℕ
-count_to at Prim.Native.Nat.zero = 0
-count_to at (Prim.Native.Nat.suc n) = (if is_some (at (n + 1)) then 1 else 0) + count_to at n
 
 -- ---- messages
 

@@ -26,13 +26,13 @@ use Rattle.qrules.specs.Private.Effects.{asks, receives_on}
 use Rattle.qrules.specs.Private.Facts.{Facts, is_for_receipt, sender}
 use Rattle.qrules.specs.Private.Headline.AnsweredToSender.{is_held}
 use Rattle.qrules.specs.Private.Headline.CopiedExactly.{call_at}
-use Rattle.qrules.specs.Private.Headline.ReceivedOnce.{item_received}
+use Rattle.qrules.specs.Private.Headline.ReceivedOnce.{number_received}
 use Rattle.qrules.specs.Private.Headline.SentOrder.{connection_of}
 use Rattle.qrules.specs.Private.Headline.ShutForGood.{NoneReceivedFrom}
 use Rattle.qrules.specs.Private.Lawful.{IsLawful, facts_of}
 use Rattle.qrules.specs.Private.Pulses.{pulses_among}
-use Rattle.qrules.specs.Private.Past.{attached_connection, channel_at, connection_at, made_at, is_accepted}
-use Rattle.qrules.specs.Private.Past.{is_closed}
+use Rattle.qrules.specs.Private.Past.{attached_connection, channel_at, connection_at, accepted_at, is_accepted}
+use Rattle.qrules.specs.Private.Past.{is_destroyed}
 use Rattle.qrules.specs.Private.Past.{is_down, is_ended, is_gone, items, open_call, pending_items}
 use Rattle.qrules.specs.Private.Past.{priority_of_item}
 use Rattle.qrules.specs.Private.Past.{priority_of_thread, sender_of}
@@ -68,7 +68,7 @@ pub record WasSent (roster : List Member) (past : Trace) (x : Completion) (i : C
 abbrev pub ReceivedWasSent : Type 0
 ReceivedWasSent = (roster : List Member) (past : Trace) (e : Event) → IsRoster roster
     → IsLawful roster (e ∷ past)
-    → AllByRecursion (λ x. (i : CallNo) → item_received x ≡ Some i → WasSent roster (e ∷ past) x i) e.endings
+    → AllByRecursion (λ x. (i : CallNo) → number_received x ≡ Some i → WasSent roster (e ∷ past) x i) e.endings
 
 -- ---- open calls
 
@@ -78,7 +78,7 @@ blocker e = if is_some (asks 0 e.call) then Some e.thread else None
 
 -- call i is one of thread t that was accepted, may wait and isn't ended
 pub record IsUnended (past : Trace) (t : ThreadNo) (i : CallNo) : Type 0 where
-  pub blocks : made_at blocker past i ≡ Some t
+  pub blocks : accepted_at blocker past i ≡ Some t
   pub going : is_ended past i ≡ false
 
 -- a thread has at most one such call
@@ -190,7 +190,7 @@ pub record TakesBeside (past : Trace) (z : Completion) (i : CallNo) (h : Channel
   pub is_call : call_at past z.call ≡ Some call
   pub receives : receives_on call ≡ Some (h, kind)
   pub may : may_take kind x ≡ true
-  pub item : item_received z ≡ Some i
+  pub item : number_received z ≡ Some i
 
 -- the priority in x is the present priority of the item of its number
 abbrev pub HasPriority : List Member → Trace → Item → Type 0
@@ -282,7 +282,7 @@ RefusedChangesNothing = (roster : List Member) (past : Trace) (e : Event) → Is
 abbrev pub NothingFromDestroyed : Type 0
 NothingFromDestroyed = (roster : List Member) (past : Trace) (e : Event) → IsRoster roster
     → IsLawful roster (e ∷ past)
-    → (h : ChannelId) → is_closed (e ∷ past) h ≡ true → NoneReceivedFrom roster (e ∷ past) h e.endings
+    → (h : ChannelId) → is_destroyed (e ∷ past) h ≡ true → NoneReceivedFrom roster (e ∷ past) h e.endings
 
 -- after an accepted Shutdown each call is refused: its event has one ending, its own, with Down and the
 -- buffer that the call brought

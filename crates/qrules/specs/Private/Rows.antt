@@ -16,7 +16,8 @@ use Rattle.qmodel.specs.declared.open_call.Receipt.{Receipt}
 use Rattle.qmodel.specs.declared.open_call.Wait.{Wait}
 use Rattle.qmodel.specs.declared.open_call.Wait.TheVariants.{Answer, Item as ForItem}
 use Rattle.qmodel.specs.Trace.{SentItem}
-use Rattle.qrules.specs.Rule.{PriorityChange, Transfer}
+use Rattle.qrules.specs.Rule.{PriorityChange}
+pub use Rattle.qrules.specs.Past.{buffer_after_write, item_in}
 use Rattle.qmodel.specs.Trace.{CallNo, ChannelId, Priority, ProcessNo, ReceiveId, ThreadNo}
 
 -- a receipt: the item's number and channel, the thread that takes it, the thread that waits for its answer,
@@ -87,11 +88,6 @@ names number h = option_map_or (λ k. k == h) number false
 
 -- ---- buffers
 
--- the reply buffer of message i with what is written over it
-abbrev pub buffer_after_write : Option Transfer → ReceiveId → List ℕ → List ℕ
-buffer_after_write written i b =
-    option_map_or (λ w. if w.rcvid == i then lay_over b w.offset w.bytes else b) written b
-
 -- a wait with its reply buffer changed
 abbrev pub with_buffer : (List ℕ → List ℕ) → Wait → Wait
 with_buffer f (Answer coid message reply_buffer receipt) = Answer coid message (f reply_buffer) receipt
@@ -126,19 +122,13 @@ takes_into item message u m (ForItem chid kind buffer) = Some (receipt_ending it
 abbrev pub takes : Item → List ℕ → ThreadNo → Option OpenCall → Option Completion
 takes item message u call = option_and_then (λ o. takes_into item message u o.number o.wait) call
 
--- the number of the item that an ending receives, and how many bytes were copied, 0 for a pulse
-abbrev pub item_in_mark : Mark → Option (CallNo × ℕ)
-item_in_mark (mark.Message rcvid copied) = Some (rcvid, copied)
-item_in_mark (mark.Pulse item priority what) = Some (item, 0)
-item_in_mark other = None
-
 -- the receipt in an ending, of an item of this channel, sender and priority
 abbrev pub receipt_in : ChannelId → Option ThreadNo → Priority → Option Completion → Option Received
 receipt_in h sender priority ending =
     option_and_then (λ y. option_map (λ r. record {
-      item = r.0;
+      item = r.number;
       channel = h;
       by = y.thread;
       sender = sender;
-      kept = record { priority = priority; copied = r.1; unblocked = false };
-    }) (item_in_mark y.mark)) ending
+      kept = record { priority = priority; copied = r.copied; unblocked = false };
+    }) (item_in y.mark)) ending

@@ -5,7 +5,7 @@ use Rattle.std.proofs.lemmas.Option.{none-some}
 use Rattle.qrules.specs.Private.Calls.{row_of}
 use Rattle.qrules.specs.Private.Facts.{Facts, sender}
 use Rattle.qrules.specs.Private.Effects.{asks, makes, writes}
-use Rattle.qrules.specs.Private.Rows.{item_in_mark}
+use Rattle.qrules.specs.Private.Rows.{item_in}
 use Rattle.qmodel.specs.declared.call.Call.{Call}
 use Rattle.qmodel.specs.declared.call.Completion.{Completion}
 use Rattle.qrules.proofs.Traces.Past.Laws.{CallLaws, RowLaws, IsOwn}
@@ -24,7 +24,7 @@ waits_not c a m = record {
 -- its ending is its own, and no receipt
 pub record IsPlain (n t : ℕ) (y : Completion) : Type 0 where
   pub own : IsOwn n t y
-  pub mark : item_in_mark y.mark ≡ None
+  pub mark : item_in y.mark ≡ None
 
 pub alone : (f : Facts) (t : ℕ) (c : Call) → ((y : Completion) → (row_of f t c).own ≡ Some y → IsPlain f.number t y) → ((u : ℕ) → (row_of f t c).ends u ≡ None) → (row_of f t c).receipt ≡ None
     → makes f t c ≡ None → ((w : Transfer) → writes c ≡ Some w → (s : ℕ) × (sender f w.rcvid ≡ Some s)) → RowLaws f t c

@@ -6,7 +6,7 @@ use Rattle.qrules.specs.Private.Calls.{row_of}
 use Rattle.qrules.specs.Private.Facts.{Facts, sender}
 use Rattle.qrules.specs.Private.Held.{Finish, ends_sender, refusal}
 use Rattle.qrules.specs.Private.Effects.{makes, writes}
-use Rattle.qrules.specs.Private.Rows.{item_in_mark}
+use Rattle.qrules.specs.Private.Rows.{item_in}
 use Rattle.qmodel.specs.declared.call.Call.{Call}
 use Rattle.qmodel.specs.declared.call.Completion.{Completion}
 use Rattle.qrules.proofs.Traces.Calls.Alone.{IsPlain}
@@ -26,11 +26,11 @@ settled_open : (f : Facts) (t rcvid : ℕ) (finish : Finish) (u : ℕ) (y : Comp
 settled_open f t rcvid finish u y s w is = ap (λ o. is_settled o.wait) (same_Some w s.held.waiting (sym is ∙ s.held.is_open)) ∙ ap is_settled s.held.waits
 
 -- its mark is none of a receipt
-pub answer_receives : (f : Facts) (t rcvid : ℕ) (finish : Finish) (u : ℕ) (y : Completion) → ((buffer : List ℕ) → item_in_mark (finish buffer).0 ≡ None) → SenderEnds f t rcvid finish u y → item_in_mark y.mark ≡ None
-answer_receives f t rcvid finish u y none s = ap (λ x. item_in_mark x.mark) (sym s.ending) ∙ none s.held.reply_buffer
+pub answer_receives : (f : Facts) (t rcvid : ℕ) (finish : Finish) (u : ℕ) (y : Completion) → ((buffer : List ℕ) → item_in (finish buffer).0 ≡ None) → SenderEnds f t rcvid finish u y → item_in y.mark ≡ None
+answer_receives f t rcvid finish u y none s = ap (λ x. item_in x.mark) (sym s.ending) ∙ none s.held.reply_buffer
 
 -- a call that ends in its own event, and ends the Send that it answers
-pub answers : (f : Facts) (t : ℕ) (c : Call) (rcvid : ℕ) (finish : Finish) → ((buffer : List ℕ) → item_in_mark (finish buffer).0 ≡ None) → refusal f t rcvid ≡ None
+pub answers : (f : Facts) (t : ℕ) (c : Call) (rcvid : ℕ) (finish : Finish) → ((buffer : List ℕ) → item_in (finish buffer).0 ≡ None) → refusal f t rcvid ≡ None
     → ((y : Completion) → (row_of f t c).own ≡ Some y → IsPlain f.number t y) → ((u : ℕ) → (row_of f t c).ends u ≡ ends_sender f finish (sender f rcvid) u) → (row_of f t c).receipt ≡ None
     → makes f t c ≡ None → ((w : Transfer) → writes c ≡ Some w → (s : ℕ) × (sender f w.rcvid ≡ Some s)) → RowLaws f t c
 answers f t c rcvid finish none passed own ends receipt made written =

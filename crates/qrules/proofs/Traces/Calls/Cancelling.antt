@@ -8,7 +8,7 @@ use Rattle.qrules.specs.Private.Calls.{row_of}
 use Rattle.qrules.specs.Private.Cancelling.{cancel_call, cancel_where, cancels}
 use Rattle.qrules.specs.Private.Facts.{Facts, sender}
 use Rattle.qrules.specs.Private.Effects.{makes, writes}
-use Rattle.qrules.specs.Private.Rows.{item_in_mark}
+use Rattle.qrules.specs.Private.Rows.{item_in}
 use Rattle.qmodel.specs.declared.call.Call.{Call}
 use Rattle.qmodel.specs.declared.call.Completion.{Completion}
 use Rattle.qmodel.specs.declared.open_call.OpenCall.{OpenCall}
@@ -42,7 +42,7 @@ cancelling f t c is_cancelled e force own ends receipt made written =
       ends_open = λ u y s. let k = ended u y s in record { waiting = k.waiting; is = k.is; call = sym (ap (λ x. x.call) k.ending); thread = sym (ap (λ x. x.thread) k.ending) };
       ends_settled = λ mild u y s. absurd (true≢false (sym force ∙ mild));
       own_receives = λ y q s m. absurd (none-some q (sym (own y s).mark ∙ m));
-      ends_receives = λ u y q s m. absurd (none-some q (ap (λ x. item_in_mark x.mark) (ended u y s).ending ∙ m));
+      ends_receives = λ u y q s m. absurd (none-some q (ap (λ x. item_in x.mark) (ended u y s).ending ∙ m));
       receives = λ r s. absurd (none-some r (sym receipt ∙ s));
       sends = λ m s message. absurd (none-some m (sym made ∙ s));
       makes_open = λ m s. absurd (none-some m (sym made ∙ s));

@@ -15,13 +15,14 @@ use Rattle.qrules.specs.Private.Facts.{Facts, tells_disconnect}
 use Rattle.qmodel.specs.Trace.{OpenChannel}
 use Rattle.qrules.specs.Private.Past.{is_unblock_for}
 use Rattle.qrules.specs.Private.Pulses.{refusal_if_full_for, ends_receiver, pulse_receipt}
-use Rattle.qrules.specs.Private.Rows.{Received, disconnect_item, item_in_mark}
+use Rattle.qrules.specs.Private.Rows.{Received, disconnect_item, item_in}
 use Rattle.qmodel.specs.Trace.{SentItem}
 use Rattle.qmodel.specs.declared.call.Call.TheVariants.{ConnectDetach}
 use Rattle.qmodel.specs.declared.call.Completion.{Completion}
 use Rattle.qrules.proofs.Traces.Past.Laws.{CallLaws, IsOfOpen, IsOwn, IsReceipt, IsReceived, Passes, RowLaws}
 use Rattle.qrules.proofs.Traces.Calls.Cancelling.{IsCutCall, cancel_parts}
 use Rattle.qrules.proofs.Traces.Calls.Delivering.{met_item, met_open, met_receipt, met_received}
+use Rattle.qrules.specs.Past.{ReceivedItem}
 
 -- ---- the pulse that is due
 
@@ -100,7 +101,7 @@ module _ (f : Facts) (t coid : ℕ) (p : Passes f t (ConnectDetach coid)) where
   told_open None u y e = absurd (none-some y e)
   told_open (Some m) u y e = met_open f m.item [] (Some m.channel) u y e
 
-  told_one : (o : Option SentItem) → due_pulse f t coid ≡ o → (u : ℕ) (y : Completion) (q : ℕ × ℕ) → ends_receiver f o u ≡ Some y → item_in_mark y.mark ≡ Some q → IsReceipt (row_of f t (ConnectDetach coid)) u q
+  told_one : (o : Option SentItem) → due_pulse f t coid ≡ o → (u : ℕ) (y : Completion) (q : ReceivedItem) → ends_receiver f o u ≡ Some y → item_in y.mark ≡ Some q → IsReceipt (row_of f t (ConnectDetach coid)) u q
   told_one None is u y q e m = absurd (none-some y e)
   told_one (Some m) is u y q e mark = met_receipt f t (Some m.channel) (ConnectDetach coid) m.item [] None (ap (pulse_receipt f) is) u y q e mark
 
@@ -121,8 +122,8 @@ module _ (f : Facts) (t coid : ℕ) (p : Passes f t (ConnectDetach coid)) where
     owns = λ y e. subst (IsOwn f.number t) (same_Some _ y e) (record { call = refl; thread = refl; mark = refl });
     ends_open = λ u y e. elim (ended u y e) [ inl k ↦ cancel_open u y k | inr s ↦ told_open (due_pulse f t coid) u y s ];
     ends_settled = λ mild. absurd (true≢false mild);
-    own_receives = λ y q e m. absurd (none-some q (ap (λ x. item_in_mark x.mark) (same_Some _ y e) ∙ m));
-    ends_receives = λ u y q e m. elim (ended u y e) [ inl k ↦ absurd (none-some q (ap (λ x. item_in_mark x.mark) k.ending ∙ m)) | inr s ↦ told_one (due_pulse f t coid) refl u y q s m ];
+    own_receives = λ y q e m. absurd (none-some q (ap (λ x. item_in x.mark) (same_Some _ y e) ∙ m));
+    ends_receives = λ u y q e m. elim (ended u y e) [ inl k ↦ absurd (none-some q (ap (λ x. item_in x.mark) k.ending ∙ m)) | inr s ↦ told_one (due_pulse f t coid) refl u y q s m ];
     receives = λ q e. receives (due_pulse f t coid) refl q e;
     sends = λ m e sent. absurd (true≢false (sym (due_is_pulse f t coid m e) ∙ sent));
     makes_open = λ m e. tells_open (f.channel m.channel) (due_parts f t (f.connection coid) m e).tells;

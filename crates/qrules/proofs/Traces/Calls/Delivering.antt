@@ -14,7 +14,7 @@ use Rattle.qrules.specs.Private.Facts.{Facts, route}
 use Rattle.qrules.proofs.Traces.Parts.{leads_to}
 use Rattle.qrules.specs.Private.Receivers.{newest_receiver}
 use Rattle.qrules.specs.Private.Effects.{asks, makes}
-use Rattle.qrules.specs.Private.Rows.{Received, item_in_mark, receipt_in, item_sent_over, takes, takes_into, receipt_ending}
+use Rattle.qrules.specs.Private.Rows.{Received, item_in, receipt_in, item_sent_over, takes, takes_into, receipt_ending}
 use Rattle.qmodel.specs.Trace.{SentItem}
 use Rattle.qmodel.specs.declared.call.Call.{Call}
 use Rattle.qmodel.specs.declared.call.Completion.{Completion}
@@ -25,6 +25,7 @@ use Rattle.qbase.proofs.Lists.{eqb_same}
 use Rattle.qrules.proofs.Traces.Past.Laws.{IsOfOpen, IsSettled, IsReceipt, IsReceived, is_settled}
 use Rattle.qrules.proofs.Traces.Calls.Taking.{Taken, taken_by, receipt_from, receipt_in_at}
 use Rattle.qrules.proofs.Traces.Routes.{leads_over}
+use Rattle.qrules.specs.Past.{ReceivedItem}
 
 -- what goes over a connection is the item
 pub sent_item : (o : Option Connection) (item : Item) (m : SentItem) → item_sent_over o item ≡ Some m → m.item ≡ item
@@ -74,7 +75,7 @@ record Sent (f : Facts) (sender : Option ℕ) (item : Item) (message : List ℕ)
   given : Completion
   is_given : receipt_by f item message by ≡ Some given
   taken : Taken item.number by (f.open_call by) given
-  same : receipt_from channel sender item.priority given.thread (item.number, taken.copied) ≡ q
+  same : receipt_from channel sender item.priority given.thread (record { number = item.number; copied = taken.copied }) ≡ q
 
 sent_on : (f : Facts) (sender : Option ℕ) (item : Item) (message : List ℕ) (h : ℕ) (r : Option ℕ) (q : Received) → receipt_when_sent f sender item message (Some h) r ≡ Some q → Sent f sender item message (Some h) r q
 sent_on f sender item message h None q e = absurd (none-some q e)
@@ -91,7 +92,7 @@ sent_on f sender item message h (Some v) q e =
             given = y;
             is_given = is;
             taken = k;
-            same = same_Some _ q (sym (receipt_in_at h sender item.priority (Some y) y (item.number, k.copied) refl k.mark) ∙ s);
+            same = same_Some _ q (sym (receipt_in_at h sender item.priority (Some y) y (record { number = item.number; copied = k.copied }) refl k.mark) ∙ s);
           }
     ] refl e
 
@@ -100,8 +101,8 @@ sent_over_way f sender item message None r q e = absurd (none-some q e)
 sent_over_way f sender item message (Some h) r q e = sent_on f sender item message h r q e
 
 -- the receiver that is met has the receipt of the row
-met_receives : (f : Facts) (sender : Option ℕ) (item : Item) (message : List ℕ) (o : Option ℕ) (u : ℕ) (y : Completion) (p : ℕ × ℕ) → delivers f item message (receiver f item o) u ≡ Some y → item_in_mark y.mark ≡ Some p
-    → (q : Received) × (receipt_when_sent f sender item message o (receiver f item o) ≡ Some q) × (q.by ≡ u) × (p.0 ≡ q.item) × (p.1 ≡ q.kept.copied)
+met_receives : (f : Facts) (sender : Option ℕ) (item : Item) (message : List ℕ) (o : Option ℕ) (u : ℕ) (y : Completion) (p : ReceivedItem) → delivers f item message (receiver f item o) u ≡ Some y → item_in y.mark ≡ Some p
+    → (q : Received) × (receipt_when_sent f sender item message o (receiver f item o) ≡ Some q) × (q.by ≡ u) × (p.number ≡ q.item) × (p.copied ≡ q.kept.copied)
 met_receives f sender item message None u y p e m = absurd (none-some y e)
 met_receives f sender item message (Some h) u y p e m =
     let k = met_by f item message (newest_receiver f h item) u y e in
@@ -148,7 +149,7 @@ module _ (f : Facts) (item : Item) (message : List ℕ) (o : Option ℕ) where
 
 module _ (f : Facts) (t : ℕ) (o : Option ℕ) (c : Call) (item : Item) (message : List ℕ) (sender : Option ℕ)
     (receipt_is : (row_of f t c).receipt ≡ receipt_when_sent f sender item message o (receiver f item o)) where
-  pub met_receipt : (u : ℕ) (y : Completion) (p : ℕ × ℕ) → delivers f item message (receiver f item o) u ≡ Some y → item_in_mark y.mark ≡ Some p → IsReceipt (row_of f t c) u p
+  pub met_receipt : (u : ℕ) (y : Completion) (p : ReceivedItem) → delivers f item message (receiver f item o) u ≡ Some y → item_in y.mark ≡ Some p → IsReceipt (row_of f t c) u p
   met_receipt u y p e m =
       let r = met_receives f sender item message o u y p e m in
       record { receipt = r.0; is = receipt_is ∙ r.1; by = r.2; item = r.3; copied = r.4 }
@@ -182,7 +183,7 @@ module _ (f : Facts) (t : ℕ) (o : Option ℕ) (c : Call) (item : Item) (messag
   pub delivers_settled : (u : ℕ) (y : Completion) → (row_of f t c).ends u ≡ Some y → IsSettled (f.open_call u)
   delivers_settled u y e = met_settled f item message o u y (sym (ends_is u) ∙ e)
 
-  pub delivers_receipt : (u : ℕ) (y : Completion) (p : ℕ × ℕ) → (row_of f t c).ends u ≡ Some y → item_in_mark y.mark ≡ Some p → IsReceipt (row_of f t c) u p
+  pub delivers_receipt : (u : ℕ) (y : Completion) (p : ReceivedItem) → (row_of f t c).ends u ≡ Some y → item_in y.mark ≡ Some p → IsReceipt (row_of f t c) u p
   delivers_receipt u y p e m = met_receipt f t o c item message sender receipt_is u y p (sym (ends_is u) ∙ e) m
 
   pub delivers_received : f.open_call t ≡ None → ((h : ℕ) → o ≡ Some h → makes f t c ≡ Some (record { item = item; channel = h })) → sender ≡ option_map (λ o. t) (asks f.number c)

@@ -5,7 +5,7 @@ use Rattle.std.specs.Ordering.{int_eq}
 use Rattle.std.proofs.lemmas.Option.{none-some, same_Some}
 use Rattle.qrules.specs.Private.Calls.Error.{error_finish, mark_of}
 use Rattle.qrules.specs.Private.Facts.{Facts}
-use Rattle.qrules.specs.Private.Rows.{item_in_mark}
+use Rattle.qrules.specs.Private.Rows.{item_in}
 use Rattle.qmodel.specs.declared.call.Call.TheVariants.{Error}
 use Rattle.qmodel.specs.declared.call.Mark.TheVariants as mark
 use Rattle.qrules.proofs.Traces.Calls.Alone.{IsPlain, waits_not}
@@ -16,8 +16,8 @@ pub call_laws : (rcvid : ℕ) (code : ℤ) → CallLaws (Error rcvid code)
 call_laws rcvid code = waits_not (Error rcvid code) (λ n. refl) (λ f t. refl)
 
 -- its mark is no receipt
-pub no_receipt : (code : ℤ) → item_in_mark (mark_of code) ≡ None
-no_receipt code = elim (int_eq code (pos 0)) as (λ b. item_in_mark (cond b (mark.Replied (pos 0) 0) (mark.Errored code)) ≡ None) [ true ↦ refl | false ↦ refl ]
+pub no_receipt : (code : ℤ) → item_in (mark_of code) ≡ None
+no_receipt code = elim (int_eq code (pos 0)) as (λ b. item_in (cond b (mark.Replied (pos 0) 0) (mark.Errored code)) ≡ None) [ true ↦ refl | false ↦ refl ]
 
 pub row_laws : (f : Facts) (t rcvid : ℕ) (code : ℤ) → Passes f t (Error rcvid code) → RowLaws f t (Error rcvid code)
 row_laws f t rcvid code p = answers f t (Error rcvid code) rcvid (error_finish code) (λ buffer. no_receipt code) p.row

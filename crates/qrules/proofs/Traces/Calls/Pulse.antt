@@ -8,7 +8,7 @@ use Rattle.qrules.specs.Private.Calls.Pulse.{sent_pulse}
 use Rattle.qrules.specs.Private.Facts.{Facts}
 use Rattle.qrules.specs.Private.Past.{is_unblock_for}
 use Rattle.qrules.specs.Private.Pulses.{ends_receiver, pulse_receipt}
-use Rattle.qrules.specs.Private.Rows.{pulse_item, item_in_mark}
+use Rattle.qrules.specs.Private.Rows.{pulse_item, item_in}
 use Rattle.qmodel.specs.Trace.{SentItem}
 use Rattle.qmodel.specs.declared.call.Call.TheVariants.{Pulse}
 use Rattle.qrules.proofs.Traces.Past.Laws.{CallLaws, RowLaws, Passes, IsOwn}
@@ -42,7 +42,7 @@ row_laws f t coid priority code value p =
       owns = λ y e. subst (IsOwn f.number t) (same_Some _ y e) (record { call = refl; thread = refl; mark = refl });
       ends_open = delivers_open f t (Some w.0) c item [] None (λ u. ap (λ o. ends_receiver f o u) goes) (ap (pulse_receipt f) goes);
       ends_settled = λ mild. delivers_settled f t (Some w.0) c item [] None (λ u. ap (λ o. ends_receiver f o u) goes) (ap (pulse_receipt f) goes);
-      own_receives = λ y q e m. absurd (none-some q (ap (λ x. item_in_mark x.mark) (same_Some _ y e) ∙ m));
+      own_receives = λ y q e m. absurd (none-some q (ap (λ x. item_in x.mark) (same_Some _ y e) ∙ m));
       ends_receives = delivers_receipt f t (Some w.0) c item [] None (λ u. ap (λ o. ends_receiver f o u) goes) (ap (pulse_receipt f) goes);
       receives = delivers_received f t (Some w.0) c item [] None (λ u. ap (λ o. ends_receiver f o u) goes) (ap (pulse_receipt f) goes) p.idle (λ h is. goes ∙ ap (λ k. Some (record { item = item; channel = k })) (same_Some w.0 h is)) refl;
       sends = λ m e no_pulse. absurd (true≢false (sym (sent_is_pulse f coid priority code value m e) ∙ no_pulse));

@@ -9,7 +9,7 @@ use Rattle.qrules.specs.Private.Calls.{row_of}
 use Rattle.qrules.specs.Private.Facts.{Facts, message}
 use Rattle.qrules.specs.Private.Receiving.{own_receipt, receipt_when_taken, sender_for}
 use Rattle.qrules.specs.Private.Effects.{asks, makes, writes}
-use Rattle.qrules.specs.Private.Rows.{Received, item_in_mark, receipt_ending}
+use Rattle.qrules.specs.Private.Rows.{Received, item_in, receipt_ending}
 use Rattle.qmodel.specs.declared.call.Call.{Call}
 use Rattle.qmodel.specs.declared.call.Completion.{Completion}
 use Rattle.qmodel.specs.declared.open_call.OpenCall.{OpenCall}
@@ -17,6 +17,7 @@ use Rattle.qmodel.specs.declared.open_call.Wait.TheVariants.{Item as ForItem}
 use Rattle.qbase.proofs.Lists.{eqb_same}
 use Rattle.qrules.proofs.Traces.Past.Laws.{BeginsToWait, CallLaws, RowLaws, IsOwn, IsReceived}
 use Rattle.qrules.proofs.Traces.Calls.Taking.{given_no_failure, given_received, receipt_from, receipt_in_at}
+use Rattle.qrules.specs.Past.{ReceivedItem}
 
 -- the open call of a receive
 abbrev pub receiver : ℕ → Kind → List ℕ → ℕ → OpenCall
@@ -37,19 +38,19 @@ own_one f t buffer None y e = absurd (none-some y e)
 own_one f t buffer (Some item) y e = subst (IsOwn f.number t) (same_Some _ y e) (record { call = refl; thread = refl; mark = given_no_failure item (message f item.number) buffer })
 
 -- what it receives by its own ending is the receipt of the row
-record Own (f : Facts) (t chid : ℕ) (buffer : List ℕ) (o : Option Item) (p : ℕ × ℕ) : Type 0 where
+record Own (f : Facts) (t chid : ℕ) (buffer : List ℕ) (o : Option Item) (p : ReceivedItem) : Type 0 where
   receipt : Received
   is : receipt_when_taken f chid (own_receipt f t buffer o) o ≡ Some receipt
   by : receipt.by ≡ t
-  item : p.0 ≡ receipt.item
-  copied : p.1 ≡ receipt.kept.copied
+  item : p.number ≡ receipt.item
+  copied : p.copied ≡ receipt.kept.copied
 
-own_received : (f : Facts) (t chid : ℕ) (buffer : List ℕ) (o : Option Item) (y : Completion) (p : ℕ × ℕ) → own_receipt f t buffer o ≡ Some y → item_in_mark y.mark ≡ Some p → Own f t chid buffer o p
+own_received : (f : Facts) (t chid : ℕ) (buffer : List ℕ) (o : Option Item) (y : Completion) (p : ReceivedItem) → own_receipt f t buffer o ≡ Some y → item_in y.mark ≡ Some p → Own f t chid buffer o p
 own_received f t chid buffer None y p e m = absurd (none-some y e)
 own_received f t chid buffer (Some item) y p e m = record {
   receipt = receipt_from chid (sender_for f item) item.priority t p;
   is = receipt_in_at chid (sender_for f item) item.priority (Some (receipt_ending item (message f item.number) t f.number buffer)) (receipt_ending item (message f item.number) t f.number buffer) p refl
-      (ap (λ x. item_in_mark x.mark) (same_Some (receipt_ending item (message f item.number) t f.number buffer) y e) ∙ m);
+      (ap (λ x. item_in x.mark) (same_Some (receipt_ending item (message f item.number) t f.number buffer) y e) ∙ m);
   by = refl;
   item = refl;
   copied = refl;
@@ -60,8 +61,8 @@ best_received : (f : Facts) (t : ℕ) (c : Call) (chid : ℕ) (kind : Kind) (buf
 best_received f t c chid kind buffer None r own is e = absurd (none-some r e)
 best_received f t c chid kind buffer (Some item) r own is e =
     let g = given_received item (message f item.number) buffer in
-    let at = receipt_in_at chid (sender_for f item) item.priority (Some (receipt_ending item (message f item.number) t f.number buffer)) (receipt_ending item (message f item.number) t f.number buffer) (item.number, g.0) refl g.1 in
-    subst (IsReceived f t c) (same_Some (receipt_from chid (sender_for f item) item.priority t (item.number, g.0)) r (sym at ∙ e)) (record {
+    let at = receipt_in_at chid (sender_for f item) item.priority (Some (receipt_ending item (message f item.number) t f.number buffer)) (receipt_ending item (message f item.number) t f.number buffer) (record { number = item.number; copied = g.0 }) refl g.1 in
+    subst (IsReceived f t c) (same_Some (receipt_from chid (sender_for f item) item.priority t (record { number = item.number; copied = g.0 })) r (sym at ∙ e)) (record {
       item = item;
       number = refl;
       priority = refl;

@@ -6,7 +6,7 @@ use Rattle.qbase.specs.Laying.{laid_count, lay_over}
 use Rattle.qqueue.specs.Best.{is_pulse}
 use Rattle.qqueue.specs.declared.item.Item.{Item}
 use Rattle.qrules.specs.Private.Past.{is_failure}
-use Rattle.qrules.specs.Private.Rows.{delivery_of, takes, takes_into, item_in_mark, Received, receipt_in}
+use Rattle.qrules.specs.Private.Rows.{delivery_of, takes, takes_into, item_in, Received, receipt_in}
 use Rattle.qmodel.specs.declared.call.Completion.{Completion}
 use Rattle.qmodel.specs.declared.call.Mark.{Mark}
 use Rattle.qmodel.specs.declared.call.Mark.TheVariants as mark
@@ -14,13 +14,14 @@ use Rattle.qmodel.specs.declared.open_call.OpenCall.{OpenCall}
 use Rattle.qmodel.specs.declared.open_call.Wait.{Wait}
 use Rattle.qmodel.specs.declared.open_call.Wait.TheVariants.{Answer, Item as ForItem}
 use Rattle.qrules.proofs.Traces.Past.Laws.{is_settled}
+use Rattle.qrules.specs.Past.{ReceivedItem}
 
 -- ---- the mark of a receipt
 
 -- it receives the item
-pub given_received : (item : Item) (message buffer : List ℕ) → (copied : ℕ) × (item_in_mark (delivery_of item message buffer).0 ≡ Some (item.number, copied))
+pub given_received : (item : Item) (message buffer : List ℕ) → (copied : ℕ) × (item_in (delivery_of item message buffer).0 ≡ Some (record { number = item.number; copied = copied }))
 given_received item message buffer =
-    elim (is_pulse item.what) as (λ b. (copied : ℕ) × (item_in_mark (cond {A = Mark × List ℕ} b (mark.Pulse item.number item.priority item.what, buffer) (mark.Message item.number (laid_count buffer 0 message), lay_over buffer 0 message)).0 ≡ Some (item.number, copied))) [
+    elim (is_pulse item.what) as (λ b. (copied : ℕ) × (item_in (cond {A = Mark × List ℕ} b (mark.Pulse item.number item.priority item.what, buffer) (mark.Message item.number (laid_count buffer 0 message), lay_over buffer 0 message)).0 ≡ Some (record { number = item.number; copied = copied }))) [
       | true ↦ (0, refl)
       | false ↦ (laid_count buffer 0 message, refl)
     ]
@@ -46,7 +47,7 @@ pub record Taken (i u : ℕ) (o : Option OpenCall) (y : Completion) : Type 0 whe
   pub call : y.call ≡ waiting.number
   pub thread : y.thread ≡ u
   pub copied : ℕ
-  pub mark : item_in_mark y.mark ≡ Some (i, copied)
+  pub mark : item_in y.mark ≡ Some (record { number = i; copied = copied })
 
 taken_into : (item : Item) (message : List ℕ) (u m : ℕ) (w : Wait) (y : Completion) → takes_into item message u m w ≡ Some y → Taken item.number u (Some (record { number = m; wait = w })) y
 taken_into item message u m (Answer coid sent reply_buffer receipt) y e = absurd (none-some y e)
@@ -60,9 +61,9 @@ taken_by item message u None y e = absurd (none-some y e)
 taken_by item message u (Some o) y e = taken_into item message u o.number o.wait y e
 
 -- the receipt that an ending with such a mark is
-abbrev pub receipt_from : ℕ → Option ℕ → ℕ → ℕ → ℕ × ℕ → Received
-receipt_from h sender priority u p = record { item = p.0; channel = h; by = u; sender = sender; kept = record { priority = priority; copied = p.1; unblocked = false } }
+abbrev pub receipt_from : ℕ → Option ℕ → ℕ → ℕ → ReceivedItem → Received
+receipt_from h sender priority u p = record { item = p.number; channel = h; by = u; sender = sender; kept = record { priority = priority; copied = p.copied; unblocked = false } }
 
-pub receipt_in_at : (h : ℕ) (sender : Option ℕ) (priority : ℕ) (o : Option Completion) (y : Completion) (p : ℕ × ℕ) → o ≡ Some y → item_in_mark y.mark ≡ Some p
+pub receipt_in_at : (h : ℕ) (sender : Option ℕ) (priority : ℕ) (o : Option Completion) (y : Completion) (p : ReceivedItem) → o ≡ Some y → item_in y.mark ≡ Some p
     → receipt_in h sender priority o ≡ Some (receipt_from h sender priority y.thread p)
 receipt_in_at h sender priority o y p e m = rw (e, m) refl

@@ -12,7 +12,7 @@ use Rattle.qrules.proofs.Traces.Parts.{due_pulse_on, due_pulse_of_open}
 use Rattle.qrules.specs.Private.Facts.{Facts, is_fellow, tells_unblock}
 use Rattle.qmodel.specs.Trace.{OpenChannel}
 use Rattle.qrules.specs.Private.Pulses.{refusal_if_full_for, pulse_receipt}
-use Rattle.qrules.specs.Private.Rows.{Received, item_in_mark, unblock_item}
+use Rattle.qrules.specs.Private.Rows.{Received, item_in, unblock_item}
 use Rattle.qmodel.specs.Trace.{SentItem}
 use Rattle.qmodel.specs.declared.call.Call.TheVariants.{Unblock}
 use Rattle.qmodel.specs.declared.call.Completion.{Completion}
@@ -23,6 +23,7 @@ use Rattle.qmodel.specs.declared.open_call.Wait.TheVariants.{Answer, Item as For
 use Rattle.qrules.proofs.Traces.Past.Laws.{CallLaws, IsOfOpen, IsOwn, IsReceipt, IsReceived, Passes, RowLaws}
 use Rattle.qrules.proofs.Traces.Calls.Cancelling.{cancel_parts}
 use Rattle.qrules.proofs.Traces.Calls.Delivering.{delivers_open, delivers_receipt, delivers_received}
+use Rattle.qrules.specs.Past.{ReceivedItem}
 
 -- ---- the pulse that is due
 
@@ -136,17 +137,17 @@ is_cancelled f thread v wait = eqb v thread && not (is_some (guard f wait))
 
 module _ (f : Facts) (t thread : ℕ) (p : Passes f t (Unblock thread)) where
   -- with no pulse due
-  ends_cancelled : (due_pulse f thread ≡ None) → (u : ℕ) (y : Completion) → other_ending f thread (due_pulse f thread) u ≡ Some y → IsOfOpen f u y × (item_in_mark y.mark ≡ None)
+  ends_cancelled : (due_pulse f thread ≡ None) → (u : ℕ) (y : Completion) → other_ending f thread (due_pulse f thread) u ≡ Some y → IsOfOpen f u y × (item_in y.mark ≡ None)
   ends_cancelled none u y e =
       let k = cancel_parts (is_cancelled f thread u) Intr u (f.open_call u) y (ap (λ d. other_ending f thread d u) (sym none) ∙ e) in
-      (record { waiting = k.waiting; is = k.is; call = sym (ap (λ x. x.call) k.ending); thread = sym (ap (λ x. x.thread) k.ending) }, ap (λ x. item_in_mark x.mark) (sym k.ending))
+      (record { waiting = k.waiting; is = k.is; call = sym (ap (λ x. x.call) k.ending); thread = sym (ap (λ x. x.thread) k.ending) }, ap (λ x. item_in x.mark) (sym k.ending))
 
   -- with this one due
   module _ (m : SentItem) (is : due_pulse f thread ≡ Some m) where
     told_open : (u : ℕ) (y : Completion) → other_ending f thread (due_pulse f thread) u ≡ Some y → IsOfOpen f u y
     told_open = delivers_open f t (Some m.channel) (Unblock thread) m.item [] None (λ u. ap (λ d. other_ending f thread d u) is) (ap (pulse_receipt f) is)
 
-    told_taken : (u : ℕ) (y : Completion) (q : ℕ × ℕ) → other_ending f thread (due_pulse f thread) u ≡ Some y → item_in_mark y.mark ≡ Some q → IsReceipt (row_of f t (Unblock thread)) u q
+    told_taken : (u : ℕ) (y : Completion) (q : ReceivedItem) → other_ending f thread (due_pulse f thread) u ≡ Some y → item_in y.mark ≡ Some q → IsReceipt (row_of f t (Unblock thread)) u q
     told_taken = delivers_receipt f t (Some m.channel) (Unblock thread) m.item [] None (λ u. ap (λ d. other_ending f thread d u) is) (ap (pulse_receipt f) is)
 
     told_received : (q : Received) → pulse_receipt f (due_pulse f thread) ≡ Some q → IsReceived f t (Unblock thread) q
@@ -162,8 +163,8 @@ module _ (f : Facts) (t thread : ℕ) (p : Passes f t (Unblock thread)) where
           | Some m ↦ λ is. told_open m is
         ] refl;
         ends_settled = λ mild. absurd (true≢false mild);
-        own_receives = λ y q e m. absurd (none-some q (ap (λ x. item_in_mark x.mark) (same_Some _ y e) ∙ m));
-        ends_receives = elim (due_pulse f thread) as (λ o. due_pulse f thread ≡ o → (u : ℕ) (y : Completion) (q : ℕ × ℕ) → other_ending f thread (due_pulse f thread) u ≡ Some y → item_in_mark y.mark ≡ Some q → IsReceipt (row_of f t (Unblock thread)) u q) [
+        own_receives = λ y q e m. absurd (none-some q (ap (λ x. item_in x.mark) (same_Some _ y e) ∙ m));
+        ends_receives = elim (due_pulse f thread) as (λ o. due_pulse f thread ≡ o → (u : ℕ) (y : Completion) (q : ReceivedItem) → other_ending f thread (due_pulse f thread) u ≡ Some y → item_in y.mark ≡ Some q → IsReceipt (row_of f t (Unblock thread)) u q) [
           | None ↦ λ none u y q e m. absurd (none-some q (sym (ends_cancelled none u y e).1 ∙ m))
           | Some m ↦ λ is. told_taken m is
         ] refl;

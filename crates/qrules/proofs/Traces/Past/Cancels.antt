@@ -13,7 +13,7 @@ use Rattle.qrules.specs.Private.Calls.{row_of}
 use Rattle.qrules.specs.Private.Cancelling.{is_on}
 use Rattle.qrules.specs.Private.Facts.{Facts, is_for_answer, is_for_receipt, threads_of}
 use Rattle.qrules.specs.Private.Lawful.{facts_of, IsLawful, with_event}
-use Rattle.qrules.specs.Private.Past.{connection_at, has_ending_of, call_by_now, is_ended, is_taken, open_call, priority_of_item, copied_count_of, sender_of, with_receipt, attached_connection}
+use Rattle.qrules.specs.Private.Past.{connection_at, has_ending_of, call_by_now, is_ended, is_received, open_call, priority_of_item, copied_count_of, sender_of, with_receipt, attached_connection}
 use Rattle.qrules.specs.Private.Step.{is_cancelled, uncut_items, is_unread_send}
 use Rattle.qmodel.specs.Trace.{Trace}
 use Rattle.qmodel.specs.declared.call.Call.{Call}
@@ -100,8 +100,8 @@ pub sent_by : (roster : List Member) (past : Trace) (h : ℕ) (item : Item) → 
 sent_by roster past h item l p message =
     let going : is_ended past item.number ≡ false = pending_going roster past h item p message in
     let w = item_waits roster past item.number (record { item = p.first; channel = h }) l p.made (ap is_pulse p.what ∙ message) going in
-    let unread : is_taken past item.number ≡ false = (or_parts _ _ p.stays).0 in
-    let none : copied_count_of past w.block.number ≡ None = none_of (copied_count_of past w.block.number) (subst (λ i. is_taken past i ≡ false) (sym w.number) unread) in
+    let unread : is_received past item.number ≡ false = (or_parts _ _ p.stays).0 in
+    let none : copied_count_of past w.block.number ≡ None = none_of (copied_count_of past w.block.number) (subst (λ i. is_received past i ≡ false) (sym w.number) unread) in
     let k = block_over roster past w.thread w.block l w.is w.answer in
     let same = same_Some k.made (record { item = p.first; channel = h }) (sym k.is_made ∙ ap (item_at roster past) w.number ∙ p.made) in
     let answer : is_for_answer (call_by_now past w.block).wait ≡ true = filled_answer past w.block ∙ w.answer in

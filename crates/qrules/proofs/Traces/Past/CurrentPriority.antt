@@ -6,7 +6,7 @@ use Rattle.std.proofs.lemmas.Bool.{ne_eqb}
 use Rattle.qqueue.specs.Best.{is_pulse, with_priority}
 use Rattle.qqueue.specs.declared.item.Item.{Item}
 use Rattle.qrules.specs.Private.Effects.{sets, thread_of_send}
-use Rattle.qrules.specs.Private.Past.{items_by_now, is_accepted, is_gone, is_taken, made_among, is_unblock_for, sender_of, priority_set_by, priority_set_since, unblocked_among, current_priority}
+use Rattle.qrules.specs.Private.Past.{items_by_now, is_accepted, is_gone, is_received, item_among, is_unblock_for, sender_of, priority_set_by, priority_set_since, unblocked_among, current_priority}
 use Rattle.qrules.specs.Private.Rows.{priority_set_for}
 use Rattle.qmodel.specs.Trace.{SentItem}
 use Rattle.qmodel.specs.Trace.{Event, Trace}
@@ -24,12 +24,12 @@ sender_earlier : (e : Event) (past : Trace) (i : ℕ) → i ≤ length past → 
 sender_earlier e past i l = let other : eqb i (length past + 1) ≡ false = ne_eqb _ _ (λ same. omega arith) in rw other refl
 
 -- what an event changes of what was set since
-set_earlier : (e : Event) (past : Trace) (i t : ℕ) → i ≤ length past → priority_set_since (e ∷ past) i t ≡ option_or (cond (is_taken past i) None (priority_set_by e past t)) (priority_set_since past i t)
+set_earlier : (e : Event) (past : Trace) (i t : ℕ) → i ≤ length past → priority_set_since (e ∷ past) i t ≡ option_or (cond (is_received past i) None (priority_set_by e past t)) (priority_set_since past i t)
 set_earlier e past i t l = let other : eqb i (length past + 1) ≡ false = ne_eqb _ _ (λ same. omega arith) in rw other refl
 
 -- nothing is set for a sender by an event that sets nothing, nor by any once the message is received
 abbrev pub SetsNone : Event → Trace → ℕ → Type 0
-SetsNone e past i = (t : ℕ) → cond (is_taken past i) None (priority_set_by e past t) ≡ None
+SetsNone e past i = (t : ℕ) → cond (is_received past i) None (priority_set_by e past t) ≡ None
 
 same_since : (e : Event) (past : Trace) (i : ℕ) → i ≤ length past → SetsNone e past i → (o : Option ℕ) → option_and_then (priority_set_since (e ∷ past) i) o ≡ option_and_then (priority_set_since past i) o
 same_since e past i l none None = refl
@@ -44,8 +44,8 @@ worth_stays e past item l none =
 -- a call that sets no priority
 pub sets_none : (e : Event) (past : Trace) (i : ℕ) → sets e.call ≡ None → SetsNone e past i
 sets_none e past i none t =
-    ap (λ s. cond (is_taken past i) None (cond (is_accepted e past) (priority_set_for s t) None)) none
-    ∙ elim (is_taken past i) as (λ b. cond {A = Option ℕ} b None (cond {A = Option ℕ} (is_accepted e past) None None) ≡ None) [
+    ap (λ s. cond (is_received past i) None (cond (is_accepted e past) (priority_set_for s t) None)) none
+    ∙ elim (is_received past i) as (λ b. cond {A = Option ℕ} b None (cond {A = Option ℕ} (is_accepted e past) None None) ≡ None) [
       | true ↦ refl
       | false ↦ elim (is_accepted e past) as (λ b. cond {A = Option ℕ} b None None ≡ None) [ true ↦ refl | false ↦ refl ]
     ]
@@ -53,15 +53,15 @@ sets_none e past i none t =
 -- a call that is refused
 pub refused_sets_none : (e : Event) (past : Trace) (i : ℕ) → is_accepted e past ≡ false → SetsNone e past i
 refused_sets_none e past i refused t =
-    ap (λ b. cond (is_taken past i) None (cond b (priority_set_for (sets e.call) t) None)) refused
-    ∙ elim (is_taken past i) as (λ b. cond {A = Option ℕ} b None None ≡ None) [ true ↦ refl | false ↦ refl ]
+    ap (λ b. cond (is_received past i) None (cond b (priority_set_for (sets e.call) t) None)) refused
+    ∙ elim (is_received past i) as (λ b. cond {A = Option ℕ} b None None ≡ None) [ true ↦ refl | false ↦ refl ]
 
 -- a message that is received
-pub taken_sets_none : (e : Event) (past : Trace) (i : ℕ) → is_taken past i ≡ true → SetsNone e past i
+pub taken_sets_none : (e : Event) (past : Trace) (i : ℕ) → is_received past i ≡ true → SetsNone e past i
 taken_sets_none e past i taken t = rw taken refl
 
 -- a message that isn't received is worth what is set for its sender
-pub worth_set : (e : Event) (past : Trace) (item : Item) (t : ℕ) → item.number ≤ length past → is_pulse item.what ≡ false → is_taken past item.number ≡ false → sender_of past item.number ≡ Some t
+pub worth_set : (e : Event) (past : Trace) (item : Item) (t : ℕ) → item.number ≤ length past → is_pulse item.what ≡ false → is_received past item.number ≡ false → sender_of past item.number ≡ Some t
     → current_priority (e ∷ past) item ≡ unwrap_or (priority_set_by e past t) (current_priority past item)
 worth_set e past item t l message unread sent =
     ap (λ b. cond b item.priority (unwrap_or (option_and_then (priority_set_since (e ∷ past) item.number) (sender_of (e ∷ past) item.number)) item.priority)) message
@@ -93,17 +93,17 @@ worth_newest e past item number =
     none : (o : Option ℕ) → option_and_then (priority_set_since (e ∷ past) item.number) o ≡ None
     none None = refl
     none (Some t) =
-        ap (λ i. cond (eqb i (length past + 1)) None (option_or (cond (is_taken past item.number) None (priority_set_by e past t)) (priority_set_since past item.number t))) number
-        ∙ ap (λ b. cond b None (option_or (cond (is_taken past item.number) None (priority_set_by e past t)) (priority_set_since past item.number t))) (eqb_same (length past + 1))
+        ap (λ i. cond (eqb i (length past + 1)) None (option_or (cond (is_received past item.number) None (priority_set_by e past t)) (priority_set_since past item.number t))) number
+        ∙ ap (λ b. cond b None (option_or (cond (is_received past item.number) None (priority_set_by e past t)) (priority_set_since past item.number t))) (eqb_same (length past + 1))
 
 -- ---- lists of items
 
 -- the item of a number as it is by now
-pub among_now : (past : Trace) (made : List SentItem) (i : ℕ) → made_among (items_by_now past made) i ≡ option_map (λ m. record { item = now past m.item; channel = m.channel }) (made_among made i)
+pub among_now : (past : Trace) (made : List SentItem) (i : ℕ) → item_among (items_by_now past made) i ≡ option_map (λ m. record { item = now past m.item; channel = m.channel }) (item_among made i)
 among_now past [] i = refl
 among_now past (m ∷ made) i =
-    elim (eqb m.item.number i) as (λ b. cond b (Some (record { item = now past m.item; channel = m.channel })) (made_among (items_by_now past made) i)
-    ≡ option_map (λ (m : SentItem). record { item = now past m.item; channel = m.channel }) (cond b (Some m) (made_among made i))) [
+    elim (eqb m.item.number i) as (λ b. cond b (Some (record { item = now past m.item; channel = m.channel })) (item_among (items_by_now past made) i)
+    ≡ option_map (λ (m : SentItem). record { item = now past m.item; channel = m.channel }) (cond b (Some m) (item_among made i))) [
       | true ↦ refl
       | false ↦ among_now past made i
     ]

@@ -11,7 +11,7 @@ use Rattle.qtables.specs.declared.member.Member.{Member}
 use Rattle.qrules.specs.Private.Facts.{is_for_answer}
 use Rattle.qrules.specs.Private.Headline.CopiedExactly.{call_at}
 use Rattle.qrules.specs.Private.Lawful.{facts_of}
-use Rattle.qrules.specs.Private.Past.{items_by_now, is_accepted, item_of, items, made_among, priority_before, priority_of_made, priority_of_item, is_closed, is_gone, pending_items, newest_block, current_priority}
+use Rattle.qrules.specs.Private.Past.{items_by_now, is_accepted, item_of, items, item_among, priority_before, priority_of_made, priority_of_item, is_destroyed, is_gone, pending_items, newest_block, current_priority}
 use Rattle.qrules.specs.Private.Effects.{asks, makes}
 use Rattle.qmodel.specs.Trace.{SentItem}
 use Rattle.qmodel.specs.Trace.{Event, Trace}
@@ -102,48 +102,48 @@ items_below roster past =
 
 -- ---- the item of a number, searched for among all
 
-among_other : (xs ys : List SentItem) (i : ℕ) → AllByRecursion (λ m. m.item.number ≢ i) ys → made_among (xs ++ ys) i ≡ made_among xs i
+among_other : (xs ys : List SentItem) (i : ℕ) → AllByRecursion (λ m. m.item.number ≢ i) ys → item_among (xs ++ ys) i ≡ item_among xs i
 among_other [] [] i h = refl
 among_other [] (y ∷ ys) i h = rw (ne_eqb y.item.number i h.0) (among_other [] ys i h.1)
 among_other (x ∷ xs) ys i h = rw (among_other xs ys i h) refl
 
-among_last : (xs : List SentItem) (m : SentItem) (i : ℕ) → AllByRecursion (λ x. x.item.number ≢ i) xs → m.item.number ≡ i → made_among (xs ++ m ∷ []) i ≡ Some m
+among_last : (xs : List SentItem) (m : SentItem) (i : ℕ) → AllByRecursion (λ x. x.item.number ≢ i) xs → m.item.number ≡ i → item_among (xs ++ m ∷ []) i ≡ Some m
 among_last [] m i h same = rw (eq-eqb m.item.number i same) refl
 among_last (x ∷ xs) m i h same = rw (ne_eqb x.item.number i h.0) (among_last xs m i h.1 same)
 
 -- what is found has that number
-found_number : (made : List SentItem) (i : ℕ) (m : SentItem) → made_among made i ≡ Some m → m.item.number ≡ i
+found_number : (made : List SentItem) (i : ℕ) (m : SentItem) → item_among made i ≡ Some m → m.item.number ≡ i
 found_number [] i m is = absurd (none-some m is)
 found_number (x ∷ made) i m is =
-    elim (eqb x.item.number i) as (λ b. eqb x.item.number i ≡ b → cond b (Some x) (made_among made i) ≡ Some m → m.item.number ≡ i) [
+    elim (eqb x.item.number i) as (λ b. eqb x.item.number i ≡ b → cond b (Some x) (item_among made i) ≡ Some m → m.item.number ≡ i) [
       | true ↦ λ same at. ap (λ (y : SentItem). y.item.number) (sym (same_Some x m at)) ∙ eqb-true _ _ same
       | false ↦ λ other at. found_number made i m at
     ] refl is
 
 -- a new event changes no earlier item
-pub found_earlier : (roster : List Member) (e : Event) (past : Trace) (i : ℕ) → i ≤ length past → made_among (items roster (e ∷ past)) i ≡ made_among (items roster past) i
+pub found_earlier : (roster : List Member) (e : Event) (past : Trace) (i : ℕ) → i ≤ length past → item_among (items roster (e ∷ past)) i ≡ item_among (items roster past) i
 found_earlier roster e past i l = among_other (items roster past) (option_to_list (item_of roster e past)) i (
     elim (item_of roster e past) as (λ o. item_of roster e past ≡ o → AllByRecursion (λ m. m.item.number ≢ i) (option_to_list o)) [
       | None ↦ λ is. tt
       | Some m ↦ λ is. let number : m.item.number ≡ length past + 1 = (made_by roster e past m is).number in ((λ same. omega arith), tt)
     ] refl)
 
-found_newest : (roster : List Member) (e : Event) (past : Trace) (m : SentItem) → item_of roster e past ≡ Some m → made_among (items roster (e ∷ past)) (length past + 1) ≡ Some m
+found_newest : (roster : List Member) (e : Event) (past : Trace) (m : SentItem) → item_of roster e past ≡ Some m → item_among (items roster (e ∷ past)) (length past + 1) ≡ Some m
 found_newest roster e past m is = rw is (among_last (items roster past) m (length past + 1)
     (all_more (λ x. x.item.number ≤ length past) (λ x. x.item.number ≢ length past + 1) (items roster past) (items_below roster past) (λ x l same. omega arith)) (made_by roster e past m is).number)
 
-pub item_found : (roster : List Member) (past : Trace) (i : ℕ) (m : SentItem) → item_at roster past i ≡ Some m → made_among (items roster past) i ≡ Some m
+pub item_found : (roster : List Member) (past : Trace) (i : ℕ) (m : SentItem) → item_at roster past i ≡ Some m → item_among (items roster past) i ≡ Some m
 item_found roster [] i m is = absurd (none-some m is)
 item_found roster (e ∷ past) i m is =
-    elim (eqb i (length past + 1)) as (λ b. eqb i (length past + 1) ≡ b → cond b (item_of roster e past) (item_at roster past i) ≡ Some m → made_among (items roster (e ∷ past)) i ≡ Some m) [
-      | true ↦ λ same at. subst (λ k. made_among (items roster (e ∷ past)) k ≡ Some m) (sym (eqb-true _ _ same)) (found_newest roster e past m at)
+    elim (eqb i (length past + 1)) as (λ b. eqb i (length past + 1) ≡ b → cond b (item_of roster e past) (item_at roster past i) ≡ Some m → item_among (items roster (e ∷ past)) i ≡ Some m) [
+      | true ↦ λ same at. subst (λ k. item_among (items roster (e ∷ past)) k ≡ Some m) (sym (eqb-true _ _ same)) (found_newest roster e past m at)
       | false ↦ λ other at. found_earlier roster e past i (item_below roster past i m at) ∙ item_found roster past i m at
     ] refl is
 
 -- ---- priorities
 
 -- an item as it is by now, where it is known as it was made
-found_now : (past : Trace) (made : List SentItem) (i : ℕ) (m : SentItem) → made_among made i ≡ Some m → priority_of_made (made_among (items_by_now past made) i) ≡ current_priority past m.item
+found_now : (past : Trace) (made : List SentItem) (i : ℕ) (m : SentItem) → item_among made i ≡ Some m → priority_of_made (item_among (items_by_now past made) i) ≡ current_priority past m.item
 found_now past made i m is = ap priority_of_made (among_now past made i ∙ ap (option_map (λ (m : SentItem). record { item = now past m.item; channel = m.channel })) is)
 
 pub item_priority : (roster : List Member) (past : Trace) (i : ℕ) (m : SentItem) → item_at roster past i ≡ Some m → priority_of_item roster past i ≡ current_priority past m.item
@@ -157,10 +157,10 @@ priority_newest roster e past m is = found_now (e ∷ past) (items roster (e ∷
 pub priority_earlier : (roster : List Member) (e : Event) (past : Trace) (i : ℕ) → i ≤ length past → SetsNone e past i → priority_of_item roster (e ∷ past) i ≡ priority_of_item roster past i
 priority_earlier roster e past i l none =
     ap priority_of_made (among_now (e ∷ past) (items roster (e ∷ past)) i ∙ ap (option_map (λ (m : SentItem). record { item = now (e ∷ past) m.item; channel = m.channel })) (found_earlier roster e past i l))
-    ∙ stays (made_among (items roster past) i) refl
+    ∙ stays (item_among (items roster past) i) refl
     ∙ ap priority_of_made (sym (among_now past (items roster past) i))
   where
-    stays : (o : Option SentItem) → made_among (items roster past) i ≡ o
+    stays : (o : Option SentItem) → item_among (items roster past) i ≡ o
         → priority_of_made (option_map (λ (m : SentItem). record { item = now (e ∷ past) m.item; channel = m.channel }) o) ≡ priority_of_made (option_map (λ (m : SentItem). record { item = now past m.item; channel = m.channel }) o)
     stays None is = refl
     stays (Some m) is =
@@ -206,8 +206,8 @@ abbrev pub staying : List Member → Trace → ℕ → List Item
 staying roster past h = filter (λ item. not (is_gone past item)) (items_on roster past h)
 
 -- what is pending is those, each as it is by now
-pub pending_is : (roster : List Member) (past : Trace) (h : ℕ) → pending_items roster past h ≡ cond (is_closed past h) [] (map (now past) (staying roster past h))
-pending_is roster past h = ap (cond (is_closed past h) []) (ap (filter (λ item. not (is_gone past item))) (channel_now past h (items roster past)) ∙ staying_now past (items_on roster past h))
+pub pending_is : (roster : List Member) (past : Trace) (h : ℕ) → pending_items roster past h ≡ cond (is_destroyed past h) [] (map (now past) (staying roster past h))
+pending_is roster past h = ap (cond (is_destroyed past h) []) (ap (filter (λ item. not (is_gone past item))) (channel_now past h (items roster past)) ∙ staying_now past (items_on roster past h))
 
 -- one that was made so
 pub standing_is : (roster : List Member) (past : Trace) (h : ℕ) (item : Item) → Stands roster past h item → is_gone past item ≡ false → IsPending roster past h item
@@ -223,7 +223,7 @@ staying_all roster past h =
 pub pending_each : (P : Item → Type 0) (roster : List Member) (past : Trace) (h : ℕ) → ((item : Item) → Stands roster past h item → is_gone past item ≡ false → P (now past item)) → AllByRecursion P (pending_items roster past h)
 pending_each P roster past h each =
     subst (AllByRecursion P) (sym (pending_is roster past h)) (
-    elim (is_closed past h) as (λ b. AllByRecursion P (cond b [] (map (now past) (staying roster past h)))) [
+    elim (is_destroyed past h) as (λ b. AllByRecursion P (cond b [] (map (now past) (staying roster past h)))) [
       | true ↦ tt
       | false ↦ all_map P (now past) (staying roster past h) (all_more (λ item. Stands roster past h item × (is_gone past item ≡ false)) (λ item. P (now past item)) (staying roster past h) (staying_all roster past h) (λ item k. each item k.0 k.1))
     ])

@@ -12,7 +12,7 @@ use Rattle.qrules.specs.Private.Laws.{is_for_reply}
 use Rattle.qrules.specs.Private.Past.{is_failure, is_unblock_for}
 use Rattle.qrules.specs.Private.Receiving.{sender_for}
 use Rattle.qrules.specs.Private.Effects.{asks, makes, unblocks, writes}
-use Rattle.qrules.specs.Private.Rows.{Row, Received, item_in_mark}
+use Rattle.qrules.specs.Private.Rows.{Row, Received, item_in}
 use Rattle.qmodel.specs.Trace.{SentItem}
 use Rattle.qmodel.specs.declared.call.Call.{Call}
 use Rattle.qmodel.specs.declared.call.Call.TheVariants.{ChannelDestroy, Shutdown, Unblock, ConnectDetach}
@@ -21,6 +21,7 @@ use Rattle.qmodel.specs.declared.open_call.OpenCall.{OpenCall}
 use Rattle.qmodel.specs.declared.open_call.Wait.{Wait}
 use Rattle.qmodel.specs.declared.open_call.Wait.TheVariants.{Answer, Item as ForItem}
 use Rattle.qrules.specs.Rule.{Transfer}
+use Rattle.qrules.specs.Past.{ReceivedItem}
 
 -- ---- a call by itself
 
@@ -88,12 +89,12 @@ abbrev pub IsSettled : Option OpenCall → Type 0
 IsSettled o = (w : OpenCall) → o ≡ Some w → is_settled w.wait ≡ true
 
 -- thread u receives this, by what the row says
-pub record IsReceipt (row : Row) (u : ℕ) (p : ℕ × ℕ) : Type 0 where
+pub record IsReceipt (row : Row) (u : ℕ) (p : ReceivedItem) : Type 0 where
   pub receipt : Received
   pub is : row.receipt ≡ Some receipt
   pub by : receipt.by ≡ u
-  pub item : p.0 ≡ receipt.item
-  pub copied : p.1 ≡ receipt.kept.copied
+  pub item : p.number ≡ receipt.item
+  pub copied : p.copied ≡ receipt.kept.copied
 
 -- the item that is received is the one that this call makes; only a message has a sender, which waits for its answer
 pub record IsNew (f : Facts) (t : ℕ) (c : Call) (r : Received) (item : Item) : Type 0 where
@@ -115,14 +116,14 @@ pub record IsReceived (f : Facts) (t : ℕ) (c : Call) (r : Received) : Type 0 w
   pub source : IsNew f t c r item ⊎ IsBest f r item
   pub given : Completion
   pub is_given : ending f t c r.by ≡ Some given
-  pub mark : item_in_mark given.mark ≡ Some (r.item, r.kept.copied)
+  pub mark : item_in given.mark ≡ Some (record { number = r.item; copied = r.kept.copied })
 
 pub record RowLaws (f : Facts) (t : ℕ) (c : Call) : Type 0 where
   pub owns : (y : Completion) → (row_of f t c).own ≡ Some y → IsOwn f.number t y
   pub ends_open : (u : ℕ) (y : Completion) → (row_of f t c).ends u ≡ Some y → IsOfOpen f u y
   pub ends_settled : is_forceful c ≡ false → (u : ℕ) (y : Completion) → (row_of f t c).ends u ≡ Some y → IsSettled (f.open_call u)
-  pub own_receives : (y : Completion) (p : ℕ × ℕ) → (row_of f t c).own ≡ Some y → item_in_mark y.mark ≡ Some p → IsReceipt (row_of f t c) t p
-  pub ends_receives : (u : ℕ) (y : Completion) (p : ℕ × ℕ) → (row_of f t c).ends u ≡ Some y → item_in_mark y.mark ≡ Some p → IsReceipt (row_of f t c) u p
+  pub own_receives : (y : Completion) (p : ReceivedItem) → (row_of f t c).own ≡ Some y → item_in y.mark ≡ Some p → IsReceipt (row_of f t c) t p
+  pub ends_receives : (u : ℕ) (y : Completion) (p : ReceivedItem) → (row_of f t c).ends u ≡ Some y → item_in y.mark ≡ Some p → IsReceipt (row_of f t c) u p
   pub receives : (r : Received) → (row_of f t c).receipt ≡ Some r → IsReceived f t c r
   pub sends : (m : SentItem) → makes f t c ≡ Some m → is_pulse m.item.what ≡ false → (row_of f t c).own ≡ None
   pub makes_open : (m : SentItem) → makes f t c ≡ Some m → is_some (f.channel m.channel) ≡ true

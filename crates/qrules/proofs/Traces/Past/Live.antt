@@ -8,7 +8,7 @@ use Rattle.qtables.specs.declared.member.Member.{Member}
 use Rattle.qrules.specs.Private.Answer.{Outcome}
 use Rattle.qrules.specs.Private.Facts.{count_to}
 use Rattle.qrules.specs.Private.Lawful.{facts_of, IsLawful, with_event}
-use Rattle.qrules.specs.Private.Past.{is_accepted, made_at, refuses, was_accepted}
+use Rattle.qrules.specs.Private.Past.{is_accepted, accepted_at, refuses, was_done}
 use Rattle.qrules.specs.Private.Rows.{names}
 use Rattle.qrules.specs.Private.Step.{put_at, one_for}
 use Rattle.qmodel.specs.Trace.{Event, Trace}
@@ -17,33 +17,35 @@ use Rattle.qmodel.specs.declared.call.Completion.{Completion}
 use Rattle.qrules.proofs.Traces.Past.Ends.{accepted, refused}
 use Rattle.qbase.proofs.Lists.{cond_same, eqb_same}
 use Rattle.qrules.proofs.Traces.Past.Numbers.{made_beyond, made_below}
+use Rattle.qrules.specs.Rule.{Effect}
+use Rattle.qrules.specs.Rules.{effect_of}
 
 -- what is made has a number from 1 on
-pub made_above : {A : Type 0} (make : Event → Option A) (past : Trace) (i : ℕ) (x : A) → made_at make past i ≡ Some x → 1 ≤ i
+pub made_above : {A : Type 0} (make : Event → Option A) (past : Trace) (i : ℕ) (x : A) → accepted_at make past i ≡ Some x → 1 ≤ i
 made_above make [] i x e = absurd (none-some x e)
 made_above {A} make (e ∷ past) i x is =
-    elim (eqb i (length past + 1)) as (λ b. eqb i (length past + 1) ≡ b → cond b (cond (is_accepted e past) (make e) None) (made_at make past i) ≡ Some x → 1 ≤ i) [
+    elim (eqb i (length past + 1)) as (λ b. eqb i (length past + 1) ≡ b → cond b (cond (is_accepted e past) (make e) None) (accepted_at make past i) ≡ Some x → 1 ≤ i) [
       | true ↦ λ same at. let number : i ≡ length past + 1 = eqb-true _ _ same in omega arith
       | false ↦ λ other at. made_above make past i x at
     ] refl is
 
 -- nothing stands at the number of the next event
-late : {A : Type 0} (make : Event → Option A) (past : Trace) (i : ℕ) → cond (eqb i (length past + 1)) None (made_at make past i) ≡ made_at make past i
+late : {A : Type 0} (make : Event → Option A) (past : Trace) (i : ℕ) → cond (eqb i (length past + 1)) None (accepted_at make past i) ≡ accepted_at make past i
 late make past i =
-    elim (eqb i (length past + 1)) as (λ b. eqb i (length past + 1) ≡ b → cond b None (made_at make past i) ≡ made_at make past i) [
+    elim (eqb i (length past + 1)) as (λ b. eqb i (length past + 1) ≡ b → cond b None (accepted_at make past i) ≡ accepted_at make past i) [
       | true ↦ λ e. let same : i ≡ length past + 1 = eqb-true _ _ e in sym (made_beyond make past i (omega arith))
       | false ↦ λ e. refl
     ] refl
 
 -- a refused call makes nothing
-pub made_refused : {A : Type 0} (make : Event → Option A) (e : Event) (past : Trace) (i : ℕ) → refuses e.endings (length past + 1) ≡ true → made_at make (e ∷ past) i ≡ made_at make past i
+pub made_refused : {A : Type 0} (make : Event → Option A) (e : Event) (past : Trace) (i : ℕ) → refuses e.endings (length past + 1) ≡ true → accepted_at make (e ∷ past) i ≡ accepted_at make past i
 made_refused make e past i r = rw (r, late make past i) refl
 
 -- an accepted one makes what it makes, under its number
 pub made_accepted : {A : Type 0} (make : Event → Option A) (e : Event) (past : Trace) (i : ℕ) → refuses e.endings (length past + 1) ≡ false
-    → made_at make (e ∷ past) i ≡ put_at (make e) (length past + 1) (made_at make past) i
+    → accepted_at make (e ∷ past) i ≡ put_at (make e) (length past + 1) (accepted_at make past) i
 made_accepted {A} make e past i r = rw r (
-    elim (make e) as (λ (o : Option A). cond (eqb i (length past + 1)) o (made_at make past i) ≡ put_at o (length past + 1) (made_at make past) i) [
+    elim (make e) as (λ (o : Option A). cond (eqb i (length past + 1)) o (accepted_at make past i) ≡ put_at o (length past + 1) (accepted_at make past) i) [
       | None ↦ late make past i
       | Some x ↦ refl
     ])
@@ -55,22 +57,22 @@ count_same p q zero h = refl
 count_same p q (suc n) h = rw (h (n + 1) (omega arith), count_same p q n (λ k l. h k (omega arith))) refl
 
 pub count_refused : {A : Type 0} (make : Event → Option A) (e : Event) (past : Trace) → refuses e.endings (length past + 1) ≡ true
-    → count_to (made_at make (e ∷ past)) (length (e ∷ past)) ≡ count_to (made_at make past) (length past)
+    → count_to (accepted_at make (e ∷ past)) (length (e ∷ past)) ≡ count_to (accepted_at make past) (length past)
 count_refused make e past r =
     rw (
       made_refused make e past (length past + 1) r,
       made_beyond make past (length past + 1) (omega arith),
-      count_same (made_at make (e ∷ past)) (made_at make past) (length past) (λ k l. made_refused make e past k r),
+      count_same (accepted_at make (e ∷ past)) (accepted_at make past) (length past) (λ k l. made_refused make e past k r),
     ) (omega arith)
 
 pub count_accepted : {A : Type 0} (make : Event → Option A) (e : Event) (past : Trace) → refuses e.endings (length past + 1) ≡ false
-    → count_to (made_at make (e ∷ past)) (length (e ∷ past)) ≡ count_to (made_at make past) (length past) + one_for (make e)
+    → count_to (accepted_at make (e ∷ past)) (length (e ∷ past)) ≡ count_to (accepted_at make past) (length past) + one_for (make e)
 count_accepted {A} make e past r =
-    let rest : count_to (made_at make (e ∷ past)) (length past) ≡ count_to (made_at make past) (length past) =
-    count_same (made_at make (e ∷ past)) (made_at make past) (length past) (λ k l. rw (ne_eqb k (length past + 1) (λ s. omega arith)) refl) in
-    let top : made_at make (e ∷ past) (length past + 1) ≡ make e = rw (eqb_same (length past + 1), r) refl in
+    let rest : count_to (accepted_at make (e ∷ past)) (length past) ≡ count_to (accepted_at make past) (length past) =
+    count_same (accepted_at make (e ∷ past)) (accepted_at make past) (length past) (λ k l. rw (ne_eqb k (length past + 1) (λ s. omega arith)) refl) in
+    let top : accepted_at make (e ∷ past) (length past + 1) ≡ make e = rw (eqb_same (length past + 1), r) refl in
     rw (top, rest) (
-    elim (make e) as (λ (o : Option A). cond (is_some o) 1 0 + count_to (made_at make past) (length past) ≡ count_to (made_at make past) (length past) + one_for o) [
+    elim (make e) as (λ (o : Option A). cond (is_some o) 1 0 + count_to (accepted_at make past) (length past) ≡ count_to (accepted_at make past) (length past) + one_for o) [
       | None ↦ omega arith
       | Some x ↦ omega arith
     ])
@@ -112,15 +114,15 @@ one_fewer x y z same less = omega (arith, same, less)
 
 -- ---- what is live
 
--- what a call of a member makes, and what a call ends
-module _ {A : Type 0} (roster : List Member) (make : Option Member → Call → Option A) (ends : Call → Option ℕ) where
+-- what a call of a member makes, and what an effect ends
+module _ {A : Type 0} (roster : List Member) (make : Option Member → Call → Option A) (ends : Effect → Option ℕ) where
   -- what was made under number i, ended or not
   abbrev pub made : Trace → ℕ → Option A
-  made past i = made_at (λ e. make (member_at roster e.thread) e.call) past i
+  made past i = accepted_at (λ e. make (member_at roster e.thread) e.call) past i
 
   -- number i is ended
   abbrev pub is_gone : Trace → ℕ → Bool
-  is_gone past i = was_accepted (λ c. names (ends c) i) past
+  is_gone past i = was_done (λ f. names (ends f) i) past
 
   -- what was made and isn't ended
   abbrev pub live : Trace → ℕ → Option A
@@ -129,7 +131,7 @@ module _ {A : Type 0} (roster : List Member) (make : Option Member → Call → 
   pub gone_refused : (e : Event) (past : Trace) (i : ℕ) → refuses e.endings (length past + 1) ≡ true → is_gone (e ∷ past) i ≡ is_gone past i
   gone_refused e past i r = rw r refl
 
-  pub gone_accepted : (e : Event) (past : Trace) (i : ℕ) → refuses e.endings (length past + 1) ≡ false → is_gone (e ∷ past) i ≡ (names (ends e.call) i || is_gone past i)
+  pub gone_accepted : (e : Event) (past : Trace) (i : ℕ) → refuses e.endings (length past + 1) ≡ false → is_gone (e ∷ past) i ≡ (names (ends (effect_of e.call)) i || is_gone past i)
   gone_accepted e past i r = rw r refl
 
   -- what is live was made, and isn't ended
@@ -162,14 +164,14 @@ module _ {A : Type 0} (roster : List Member) (make : Option Member → Call → 
       rw (live_refused e past (length past + 1) r ∙ live_beyond past, count_same (live (e ∷ past)) (live past) (length past) (λ k l. live_refused e past k r)) (omega arith)
 
   -- an accepted call ends what is live, and then makes nothing
-  module _ (ends_live : (past : Trace) (t : ℕ) (c : Call) (X : List Completion) → Outcome true (facts_of roster past) t c X → (i : ℕ) → names (ends c) i ≡ true → is_some (live past i) ≡ true)
-      (ends_alone : (m : Option Member) (c : Call) (i : ℕ) → ends c ≡ Some i → make m c ≡ None) where
+  module _ (ends_live : (past : Trace) (t : ℕ) (c : Call) (X : List Completion) → Outcome true (facts_of roster past) t c X → (i : ℕ) → names (ends (effect_of c)) i ≡ true → is_some (live past i) ≡ true)
+      (ends_alone : (m : Option Member) (c : Call) (i : ℕ) → ends (effect_of c) ≡ Some i → make m c ≡ None) where
     -- what is ended has the number of an event
     pub gone_below : (past : Trace) (i : ℕ) → IsLawful roster past → is_gone past i ≡ true → i ≤ length past
     gone_below [] i l e = absurd (true≢false (sym e))
     gone_below (e ∷ past) i l is = elim (l.2) [
       | inl a ↦
-          elim (or_cases (names (ends e.call) i) (is_gone past i) (sym (gone_accepted e past i (accepted roster past e.thread e.call e.endings a)) ∙ is)) [
+          elim (or_cases (names (ends (effect_of e.call)) i) (is_gone past i) (sym (gone_accepted e past i (accepted roster past e.thread e.call e.endings a)) ∙ is)) [
             | inl now ↦
                 let o = live_parts past i (ends_live past e.thread e.call e.endings a i now) in
                 let below : i ≤ length past = made_below _ past i o.it o.is_made in
@@ -193,23 +195,23 @@ module _ {A : Type 0} (roster : List Member) (make : Option Member → Call → 
         ] refl
 
     pub live_accepted : (past : Trace) (t : ℕ) (c : Call) (X : List Completion) (i : ℕ) → IsLawful roster past → Outcome true (facts_of roster past) t c X
-        → live (with_event t c X past) i ≡ cond (names (ends c) i) None (put_at (make (member_at roster t) c) (length past + 1) (live past) i)
+        → live (with_event t c X past) i ≡ cond (names (ends (effect_of c)) i) None (put_at (make (member_at roster t) c) (length past + 1) (live past) i)
     live_accepted past t c X i l a =
         let e : Event = record { thread = t; call = c; endings = X } in
         let r : refuses X (length past + 1) ≡ false = accepted roster past t c X a in
         ap (λ b. cond b None (made (e ∷ past) i)) (gone_accepted e past i r)
-        ∙ ap (cond (names (ends c) i || is_gone past i) None) (made_accepted (λ e. make (member_at roster e.thread) e.call) e past i r)
-        ∙ (elim (names (ends c) i) as (λ d. cond (d || is_gone past i) None (put_at (make (member_at roster t) c) (length past + 1) (made past) i) ≡ cond d None (put_at (make (member_at roster t) c) (length past + 1) (live past) i)) [
+        ∙ ap (cond (names (ends (effect_of c)) i || is_gone past i) None) (made_accepted (λ e. make (member_at roster e.thread) e.call) e past i r)
+        ∙ (elim (names (ends (effect_of c)) i) as (λ d. cond (d || is_gone past i) None (put_at (make (member_at roster t) c) (length past + 1) (made past) i) ≡ cond d None (put_at (make (member_at roster t) c) (length past + 1) (live past) i)) [
           | true ↦ refl
           | false ↦ unended past i l (make (member_at roster t) c)
         ])
 
     pub count_live_accepted : (past : Trace) (t : ℕ) (c : Call) (X : List Completion) → IsLawful roster past → Outcome true (facts_of roster past) t c X
-        → count_to (live (with_event t c X past)) (length (with_event t c X past)) + one_for (ends c) ≡ count_to (live past) (length past) + one_for (make (member_at roster t) c)
+        → count_to (live (with_event t c X past)) (length (with_event t c X past)) + one_for (ends (effect_of c)) ≡ count_to (live past) (length past) + one_for (make (member_at roster t) c)
     count_live_accepted past t c X l a =
         let after = live (with_event t c X past) in
         let new = make (member_at roster t) c in
-        elim (ends c) as (λ o. ends c ≡ o → count_to after (suc (length past)) + one_for o ≡ count_to (live past) (length past) + one_for new) [
+        elim (ends (effect_of c)) as (λ o. ends (effect_of c) ≡ o → count_to after (suc (length past)) + one_for o ≡ count_to (live past) (length past) + one_for new) [
           | None ↦ λ none.
               let put : count_to after (suc (length past)) ≡ count_to (live past) (length past) + one_for new =
               count_put after (live past) new (length past) (live_beyond past) (λ k _. live_accepted past t c X k l a ∙ ap (λ o. cond (names o k) None (put_at new (length past + 1) (live past) k)) none) in
@@ -218,7 +220,7 @@ module _ {A : Type 0} (roster : List Member) (make : Option Member → Call → 
               let made_none : new ≡ None = ends_alone (member_at roster t) c i some in
               let at = λ (k : ℕ). live_accepted past t c X k l a ∙ ap (λ o. cond (names o k) None (put_at new (length past + 1) (live past) k)) some
               ∙ ap (λ o. cond (eqb i k) None (put_at o (length past + 1) (live past) k)) made_none in
-              let named : names (ends c) i ≡ true = ap (λ o. names o i) some ∙ eqb_same i in
+              let named : names (ends (effect_of c)) i ≡ true = ap (λ o. names o i) some ∙ eqb_same i in
               let there : is_some (live past i) ≡ true = ends_live past t c X a i named in
               let o = live_parts past i there in
               let below : i ≤ length past = made_below (λ e. make (member_at roster e.thread) e.call) past i o.it o.is_made in

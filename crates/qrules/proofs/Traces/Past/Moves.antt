@@ -11,7 +11,7 @@ use Rattle.qrules.specs.Private.Answer.{Outcome}
 use Rattle.qrules.specs.Private.Facts.{Facts}
 use Rattle.qrules.specs.Private.Effects.{makes, sets}
 use Rattle.qrules.specs.Private.Lawful.{IsLawful, facts_of, with_event}
-use Rattle.qrules.specs.Private.Past.{is_gone, is_taken, made_on, priority_set_by, current_priority}
+use Rattle.qrules.specs.Private.Past.{is_gone, is_received, made_on, priority_set_by, current_priority}
 use Rattle.qrules.specs.Private.Rows.{Received}
 use Rattle.qrules.specs.Private.Step.{is_cancelled, uncut_items, items_with_priority_set, unreceived_items, is_unread_send}
 use Rattle.qmodel.specs.Trace.{Event, Trace}
@@ -106,7 +106,7 @@ moved_one roster past t c X h s item l a set at stays =
       | false ↦ λ message.
           let k = sent_by roster past h item l p message in
           let below : item.number ≤ length past = item_below roster past item.number _ at in
-          let unread : is_taken past item.number ≡ false = (or_parts _ _ stays).0 in
+          let unread : is_received past item.number ≡ false = (or_parts _ _ stays).0 in
           let set_it : priority_set_by e past k.sender ≡ cond (eqb s.thread k.sender) (Some s.priority) None = rw (accepted roster past t c X a, set) refl in
           let is_worth : current_priority (e ∷ past) item ≡ unwrap_or (cond (eqb s.thread k.sender) (Some s.priority) None) (current_priority past item) =
           worth_set e past item k.sender below message unread k.sent ∙ ap (λ o. unwrap_or o (current_priority past item)) set_it in

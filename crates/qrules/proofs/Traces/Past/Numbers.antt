@@ -7,7 +7,7 @@ use Rattle.std.proofs.lemmas.Option.{same_Some, none-some}
 use Rattle.qtables.specs.declared.member.Member.{Member}
 use Rattle.qrules.specs.Private.Facts.{is_for_answer}
 use Rattle.qrules.specs.Private.Headline.CopiedExactly.{call_at}
-use Rattle.qrules.specs.Private.Past.{items_by_now, call_by_now, is_accepted, is_ended, made_at, newest_block, unless_ended, with_receipt, wait_with_receipt, open_call, copied_count_of, priority_of_item, unblocked_among, items}
+use Rattle.qrules.specs.Private.Past.{items_by_now, call_by_now, is_accepted, is_ended, accepted_at, newest_block, unless_ended, with_receipt, wait_with_receipt, open_call, copied_count_of, priority_of_item, unblocked_among, items}
 use Rattle.qrules.specs.Private.Effects.{asks}
 use Rattle.qrules.specs.Private.Rows.{with_buffer}
 use Rattle.qmodel.specs.Trace.{Event, Trace}
@@ -23,17 +23,17 @@ use Rattle.qrules.proofs.Traces.Calls.{call_laws}
 -- ---- what an event makes
 
 -- nothing is made by an event to come
-pub made_beyond : {A : Type 0} (make : Event → Option A) (past : Trace) (i : ℕ) → length past < i → made_at make past i ≡ None
+pub made_beyond : {A : Type 0} (make : Event → Option A) (past : Trace) (i : ℕ) → length past < i → accepted_at make past i ≡ None
 made_beyond make [] i l = refl
 made_beyond make (e ∷ past) i l =
     let other : eqb i (length past + 1) ≡ false = ne_eqb i (length past + 1) (λ same. omega arith) in
     rw other (made_beyond make past i (omega arith))
 
 -- what is made has the number of an event
-pub made_below : {A : Type 0} (make : Event → Option A) (past : Trace) (i : ℕ) (x : A) → made_at make past i ≡ Some x → i ≤ length past
+pub made_below : {A : Type 0} (make : Event → Option A) (past : Trace) (i : ℕ) (x : A) → accepted_at make past i ≡ Some x → i ≤ length past
 made_below make [] i x e = absurd (none-some x e)
 made_below {A} make (e ∷ past) i x is =
-    elim (eqb i (length past + 1)) as (λ b. eqb i (length past + 1) ≡ b → cond b (cond (is_accepted e past) (make e) None) (made_at make past i) ≡ Some x → i ≤ length (e ∷ past)) [
+    elim (eqb i (length past + 1)) as (λ b. eqb i (length past + 1) ≡ b → cond b (cond (is_accepted e past) (make e) None) (accepted_at make past i) ≡ Some x → i ≤ length (e ∷ past)) [
       | true ↦ λ same at. let number : i ≡ length past + 1 = eqb-true _ _ same in omega arith
       | false ↦ λ other at. let below : i ≤ length past = made_below make past i x at in omega arith
     ] refl is

@@ -13,7 +13,7 @@ use Rattle.qrules.specs.Private.Answer.{Outcome}
 use Rattle.qrules.specs.Private.Calls.{row_of}
 use Rattle.qrules.specs.Private.Facts.{Facts, sender, threads_of}
 use Rattle.qrules.specs.Private.Lawful.{facts_of, IsLawful, with_event}
-use Rattle.qrules.specs.Private.Past.{call_by_now, refuses, has_ending_of, is_ended, is_taken, item_of, copied_count_of, priority_of_item, newest_block, wait_with_receipt, unless_ended, with_receipt, open_call, unblocked_among}
+use Rattle.qrules.specs.Private.Past.{call_by_now, refuses, has_ending_of, is_ended, is_received, item_of, copied_count_of, priority_of_item, newest_block, wait_with_receipt, unless_ended, with_receipt, open_call, unblocked_among}
 use Rattle.qrules.specs.Private.Receiving.{sender_for}
 use Rattle.qrules.specs.Private.Effects.{asks, makes, unblocks, writes}
 use Rattle.qrules.specs.Private.Rows.{Received, buffer_after_write}
@@ -107,7 +107,7 @@ other_holds roster past t c u b r l other is going k =
                 let found : sender f r.item ≡ Some u = sender_found f.open_call r.item (threads_of roster) u (known roster u (block_known roster past u b l is)) (rw waits sends)
                 (λ v e. let w = send_parts r.item (f.open_call v) e in open_thread roster past v u w.waiting _ w.is waits (w.number ∙ eqb-true _ _ same ∙ sym (receipt_number _ _ _ (call_by_now past b)))) in
                 let message = sym (ap is_pulse place.what) ∙ item_message roster past u _ b made is in
-                let untaken = none_of (copied_count_of past b.number) (subst (λ i. is_taken past i ≡ false) number (or_parts _ _ place.stays).0) in
+                let untaken = none_of (copied_count_of past b.number) (subst (λ i. is_received past i ≡ false) number (or_parts _ _ place.stays).0) in
                 inl (record {
                   item = same;
                   sender = rw (old.sender_is ∙ message_sender f k.item message ∙ ap (sender f) k.number ∙ found) (eqb_same u);
@@ -225,15 +225,15 @@ receipt_priority p q unblocked (Some copied) b same = ap (λ i. with_receipt i u
 
 -- a message that is received by now was so before, or the call receives it
 received_before : (roster : List Member) (past : Trace) (t : ℕ) (c : Call) (i copied : ℕ) → option_or (copied_by (row_of (facts_of roster past) t c).receipt i) (copied_count_of past i) ≡ Some copied
-    → (is_taken past i ≡ true) ⊎ (is_some (row_of (facts_of roster past) t c).receipt ≡ true)
+    → (is_received past i ≡ true) ⊎ (is_some (row_of (facts_of roster past) t c).receipt ≡ true)
 received_before roster past t c i copied is =
-    elim ((row_of (facts_of roster past) t c).receipt) as (λ o. option_or (copied_by o i) (copied_count_of past i) ≡ Some copied → (is_taken past i ≡ true) ⊎ (is_some o ≡ true)) [
+    elim ((row_of (facts_of roster past) t c).receipt) as (λ o. option_or (copied_by o i) (copied_count_of past i) ≡ Some copied → (is_received past i ≡ true) ⊎ (is_some o ≡ true)) [
       | None ↦ λ s. inl (ap is_some s)
       | Some r ↦ λ s. inr refl
     ] is
 
 -- then no priority that is set is the message's
-held_priority : (roster : List Member) (past : Trace) (t : ℕ) (c : Call) (X : List Completion) (i : ℕ) → i ≤ length past → (is_taken past i ≡ true) ⊎ (is_some (row_of (facts_of roster past) t c).receipt ≡ true)
+held_priority : (roster : List Member) (past : Trace) (t : ℕ) (c : Call) (X : List Completion) (i : ℕ) → i ≤ length past → (is_received past i ≡ true) ⊎ (is_some (row_of (facts_of roster past) t c).receipt ≡ true)
     → priority_of_item roster (with_event t c X past) i ≡ priority_of_item roster past i
 held_priority roster past t c X i below received = priority_earlier roster (record { thread = t; call = c; endings = X }) past i below (elim received [
   | inl taken ↦ taken_sets_none (record { thread = t; call = c; endings = X }) past i taken

@@ -14,7 +14,7 @@ use Rattle.qtables.specs.declared.member.Member.{Member}
 use Rattle.qrules.specs.Private.Answer.{Outcome}
 use Rattle.qrules.specs.Private.Calls.{row_of}
 use Rattle.qrules.specs.Private.Lawful.{facts_of, IsLawful, with_event}
-use Rattle.qrules.specs.Private.Past.{channel_at, has_ending_of, is_closed, is_ended, is_taken, is_gone, items, item_of, pending_items, copied_count_among, copied_count_of, open_call, made_on}
+use Rattle.qrules.specs.Private.Past.{channel_at, has_ending_of, is_destroyed, is_ended, is_received, is_gone, items, item_of, pending_items, copied_count_among, copied_count_of, open_call, made_on}
 use Rattle.qrules.specs.Private.Effects.{closes, makes, sets}
 use Rattle.qrules.specs.Private.Rows.{Received, names}
 use Rattle.qmodel.specs.Trace.{SentItem}
@@ -71,13 +71,13 @@ pending_refused roster past t c X h a =
     all_more (Stands roster past h) (λ item. stays item ≡ not (is_gone past item)) (items_on roster past h) (stands_all roster past h) (λ item at.
     let below : item.number ≤ length past = item_below roster past item.number _ at in
     rw (refused_receipts (facts_of roster past) t c X item.number a, refused_ends roster past t c X item.number a (λ s. omega arith)) refl)) in
-    let closed : is_closed (e ∷ past) h ≡ is_closed past h = closed_refused roster e past h (refused roster past t c X a) in
+    let closed : is_destroyed (e ∷ past) h ≡ is_destroyed past h = closed_refused roster e past h (refused roster past t c X a) in
     let as_before : map (now (e ∷ past)) (staying roster past h) ≡ map (now past) (staying roster past h) =
     same_now roster e past h (staying roster past h) (staying_all roster past h) (λ item at. worth_stays e past item (item_below roster past item.number _ at) (refused_sets_none e past item.number (ap not (refused roster past t c X a)))) in
     pending_is roster (e ∷ past) h
     ∙ ap (λ b. cond b [] (map (now (e ∷ past)) (staying roster (e ∷ past) h))) closed
-    ∙ ap (λ l. cond (is_closed past h) [] (map (now (e ∷ past)) l)) left
-    ∙ ap (cond (is_closed past h) []) as_before
+    ∙ ap (λ l. cond (is_destroyed past h) [] (map (now (e ∷ past)) l)) left
+    ∙ ap (cond (is_destroyed past h) []) as_before
     ∙ sym (pending_is roster past h)
 
 -- ---- after an accepted call
@@ -101,10 +101,10 @@ gone_now : (roster : List Member) (past : Trace) (t : ℕ) (c : Call) (X : List 
     → copied_count_of past item.number ≡ None → (not (is_pulse item.what) && is_ended (with_event t c X past) item.number) ≡ cancel
     → not (is_gone (with_event t c X past) item) ≡ (not cancel && leaves (row_of (facts_of roster past) t c).receipt item)
 gone_now roster past t c X item cancel l member a fresh ended =
-    let taken : is_taken (with_event t c X past) item.number ≡ is_some (copied_by (row_of (facts_of roster past) t c).receipt item.number) =
+    let taken : is_received (with_event t c X past) item.number ≡ is_some (copied_by (row_of (facts_of roster past) t c).receipt item.number) =
     ap (λ r. is_some (option_or r (copied_count_of past item.number))) (accepted_receipts roster past t c X item.number l member a)
     ∙ taken_now (copied_by (row_of (facts_of roster past) t c).receipt item.number) (copied_count_of past item.number) fresh in
-    ap (λ b. not (is_taken (with_event t c X past) item.number || b)) ended
+    ap (λ b. not (is_received (with_event t c X past) item.number || b)) ended
     ∙ ap (λ b. not (b || cancel)) taken
     ∙ neither (is_some (copied_by (row_of (facts_of roster past) t c).receipt item.number)) cancel
 
@@ -112,12 +112,12 @@ gone_now roster past t c X item cancel l member a fresh ended =
 pub stays_gone : (past : Trace) (t : ℕ) (c : Call) (X : List Completion) (item : Item) → is_gone past item ≡ true → is_gone (with_event t c X past) item ≡ true
 stays_gone past t c X item e =
     let ended_now = is_ended (with_event t c X past) item.number in
-    elim (or_cases (is_taken past item.number) (not (is_pulse item.what) && is_ended past item.number) e) [
-      | inl taken ↦ or_left (is_taken (with_event t c X past) item.number) (not (is_pulse item.what) && ended_now) (
+    elim (or_cases (is_received past item.number) (not (is_pulse item.what) && is_ended past item.number) e) [
+      | inl taken ↦ or_left (is_received (with_event t c X past) item.number) (not (is_pulse item.what) && ended_now) (
           elim (copied_count_among X item.number) as (λ r. is_some (option_or r (copied_count_of past item.number)) ≡ true) [ None ↦ taken | Some k ↦ refl ])
       | inr ended ↦
           let p = and_parts (not (is_pulse item.what)) (is_ended past item.number) ended in
-          or_right (is_taken (with_event t c X past) item.number) (not (is_pulse item.what) && ended_now)
+          or_right (is_received (with_event t c X past) item.number) (not (is_pulse item.what) && ended_now)
           (and_from (not (is_pulse item.what)) ended_now p.0 (or_right (has_ending_of X item.number) (is_ended past item.number) p.1))
     ]
 
@@ -136,7 +136,7 @@ pending_old roster past t c X h l member a =
     elim (is_gone past item) as (λ b. is_gone past item ≡ b → stays item ≡ (not b && (goes_on item && leaves R.receipt item))) [
       | true ↦ λ e. ap not (stays_gone past t c X item e)
       | false ↦ λ e.
-          let p = or_parts (is_taken past item.number) (not (is_pulse item.what) && is_ended past item.number) e in
+          let p = or_parts (is_received past item.number) (not (is_pulse item.what) && is_ended past item.number) e in
           gone_now roster past t c X item (is_cancelled f t c h item.number) l member a (none_of (copied_count_of past item.number) p.0)
           (ended_is_cancelled roster past t c X h item l a (standing_is roster past h item at e))
     ] refl))
@@ -201,7 +201,7 @@ taken_from (Some r) h L other =
     ] refl
 
 -- an accepted call makes nothing for a channel that is destroyed
-closed_makes : (roster : List Member) (past : Trace) (t : ℕ) (c : Call) (X : List Completion) (h : ℕ) → Outcome true (facts_of roster past) t c X → is_closed past h ≡ true
+closed_makes : (roster : List Member) (past : Trace) (t : ℕ) (c : Call) (X : List Completion) (h : ℕ) → Outcome true (facts_of roster past) t c X → is_destroyed past h ≡ true
     → made_on h (makes (facts_of roster past) t c) ≡ []
 closed_makes roster past t c X h a closed =
     let f = facts_of roster past in
@@ -303,10 +303,10 @@ pending_accepted roster past t c X h l member a =
     let after = λ (items : List Item). items_with_priority_set f h (sets c) (unreceived_items R.receipt h (uncut_items f t c h (items ++ M))) in
     pending_is roster (e ∷ past) h
     ∙ ap (λ b. cond b [] (map (now (e ∷ past)) (staying roster (e ∷ past) h))) (closed_accepted roster e past h (accepted roster past t c X a)) ∙ (
-    elim (names (closes c) h) as (λ d. cond (d || is_closed past h) [] (map (now (e ∷ past)) (staying roster (e ∷ past) h)) ≡ cond d [] (after (cond (is_closed past h) [] S))) [
+    elim (names (closes c) h) as (λ d. cond (d || is_destroyed past h) [] (map (now (e ∷ past)) (staying roster (e ∷ past) h)) ≡ cond d [] (after (cond (is_destroyed past h) [] S))) [
       | true ↦ refl
       | false ↦
-          elim (is_closed past h) as (λ b. is_closed past h ≡ b → cond b [] (map (now (e ∷ past)) (staying roster (e ∷ past) h)) ≡ after (cond b [] S)) [
+          elim (is_destroyed past h) as (λ b. is_destroyed past h ≡ b → cond b [] (map (now (e ∷ past)) (staying roster (e ∷ past) h)) ≡ after (cond b [] S)) [
             | true ↦ λ closed. sym (
                 ap (λ l. items_with_priority_set f h (sets c) (unreceived_items R.receipt h (uncut_items f t c h l))) (closed_makes roster past t c X h a closed)
                 ∙ ap (items_with_priority_set f h (sets c)) (none_out R.receipt h) ∙ moved_nothing f h (sets c))

@@ -11,9 +11,9 @@ use Rattle.qrules.specs.Private.Answer.{ending, Outcome}
 use Rattle.qrules.specs.Private.Calls.{row_of}
 use Rattle.qrules.specs.Private.Facts.{threads_of}
 use Rattle.qrules.specs.Private.Lawful.{facts_of, IsLawful, with_event}
-use Rattle.qrules.specs.Private.Past.{items_by_now, carried_priority, channel_at, first_among, priority_from_ending, item_of, items, made_among, priority_of_thread, refuses, current_priority}
+use Rattle.qrules.specs.Private.Past.{items_by_now, carried_priority, channel_at, first_among, priority_from_ending, item_of, items, item_among, priority_of_thread, refuses, current_priority}
 use Rattle.qrules.specs.Private.Effects.{sets}
-use Rattle.qrules.specs.Private.Rows.{Received, item_in_mark, priority_set_for}
+use Rattle.qrules.specs.Private.Rows.{Received, item_in, priority_set_for}
 use Rattle.qmodel.specs.Trace.{SentItem}
 use Rattle.qrules.specs.Private.Step.{priority_taken, priority_after}
 use Rattle.qmodel.specs.Trace.{Event, Trace}
@@ -26,6 +26,7 @@ use Rattle.qrules.proofs.Traces.Past.Receipts.{among_none, among_one, best_pendi
 use Rattle.qrules.proofs.Traces.Calls.{call_laws}
 use Rattle.qrules.proofs.Traces.Past.CurrentPriority.{among_now, now, worth_beyond}
 use Rattle.qrules.proofs.Traces.Rosters.{known}
+use Rattle.qrules.specs.Past.{ReceivedItem}
 
 -- the item that is received is among those that were made, and what it is worth
 record IsReceivedAt (roster : List Member) (past : Trace) (e : Event) (r : Received) (item : Item) : Type 0 where
@@ -66,7 +67,7 @@ ending_thread roster past t c v y laws e = elim (ending_names (facts_of roster p
 module _ (roster : List Member) (past : Trace) (t : ℕ) (c : Call) (X : List Completion) (u : ℕ) (l : IsLawful roster past) (member : is_some (member_at roster t) ≡ true) (a : Outcome true (facts_of roster past) t c X) where
   -- the priority that an item carries to its receiver
   abbrev carries : ℕ → Option ℕ
-  carries i = carried_priority (channel_at roster past) (made_among (items_by_now past (items roster (with_event t c X past))) i)
+  carries i = carried_priority (channel_at roster past) (item_among (items_by_now past (items roster (with_event t c X past))) i)
 
   laws : RowLaws (facts_of roster past) t c
   laws = laws_of (facts_of roster past) t c X a
@@ -80,18 +81,18 @@ module _ (roster : List Member) (past : Trace) (t : ℕ) (c : Call) (X : List Co
       ∙ ap (λ p. priority_taken (facts_of roster past) (Some (record { item = r.item; channel = r.channel; by = r.by; sender = r.sender; kept = record { priority = p; copied = r.kept.copied; unblocked = r.kept.unblocked } })) u) (at.is_worth ∙ k.priority)
 
   -- what an ending gives is what the row's receipt does
-  gives : (v : ℕ) (y : Completion) (q : ℕ × ℕ) → ending (facts_of roster past) t c v ≡ Some y → item_in_mark y.mark ≡ Some q → priority_from_ending carries u y ≡ priority_taken (facts_of roster past) (row_of (facts_of roster past) t c).receipt u
+  gives : (v : ℕ) (y : Completion) (q : ReceivedItem) → ending (facts_of roster past) t c v ≡ Some y → item_in y.mark ≡ Some q → priority_from_ending carries u y ≡ priority_taken (facts_of roster past) (row_of (facts_of roster past) t c).receipt u
   gives v y q e m =
       let k : IsReceipt (row_of (facts_of roster past) t c) v q = ending_receives (facts_of roster past) t c v y q laws e m in
-      ap (λ o. cond (eqb y.thread u) (option_and_then (λ r. carries r.0) o) None) m
-      ∙ ap (λ w. cond (eqb w u) (carries q.0) None) (ending_thread roster past t c v y laws e ∙ sym k.by)
+      ap (λ o. cond (eqb y.thread u) (option_and_then (λ r. carries r.number) o) None) m
+      ∙ ap (λ w. cond (eqb w u) (carries q.number) None) (ending_thread roster past t c v y laws e ∙ sym k.by)
       ∙ ap (λ i. cond (eqb k.receipt.by u) (carries i) None) k.item
       ∙ carries_it k.receipt (laws.receives k.receipt k.is)
       ∙ ap (λ o. priority_taken (facts_of roster past) o u) (sym k.is)
 
   none_or_it : (v : ℕ) (y : Completion) → ending (facts_of roster past) t c v ≡ Some y → (priority_from_ending carries u y ≡ None) ⊎ (priority_from_ending carries u y ≡ priority_taken (facts_of roster past) (row_of (facts_of roster past) t c).receipt u)
-  none_or_it v y e = elim (item_in_mark y.mark) as (λ o. item_in_mark y.mark ≡ o → (priority_from_ending carries u y ≡ None) ⊎ (priority_from_ending carries u y ≡ priority_taken (facts_of roster past) (row_of (facts_of roster past) t c).receipt u)) [
-    | None ↦ λ m. inl (ap (λ o. cond (eqb y.thread u) (option_and_then (λ r. carries r.0) o) None) m ∙ nothing (eqb y.thread u))
+  none_or_it v y e = elim (item_in y.mark) as (λ o. item_in y.mark ≡ o → (priority_from_ending carries u y ≡ None) ⊎ (priority_from_ending carries u y ≡ priority_taken (facts_of roster past) (row_of (facts_of roster past) t c).receipt u)) [
+    | None ↦ λ m. inl (ap (λ o. cond (eqb y.thread u) (option_and_then (λ r. carries r.number) o) None) m ∙ nothing (eqb y.thread u))
     | Some q ↦ λ m. inr (gives v y q e m)
   ] refl where
     nothing : (b : Bool) → cond {A = Option ℕ} b None None ≡ None
@@ -120,8 +121,8 @@ module _ (roster : List Member) (past : Trace) (t : ℕ) (c : Call) (X : List Co
 pub priority_refused : (roster : List Member) (past : Trace) (t : ℕ) (c : Call) (X : List Completion) (u : ℕ) → Outcome false (facts_of roster past) t c X
     → priority_of_thread roster (with_event t c X past) u ≡ priority_of_thread roster past u
 priority_refused roster past t c X u a =
-    ap (λ b. unwrap_or (option_or (cond (not b) (priority_set_for (sets c) u) None) (first_among (priority_from_ending (λ i. carried_priority (channel_at roster past) (made_among (items_by_now past (items roster (with_event t c X past))) i)) u) X)) (priority_of_thread roster past u)) (refused roster past t c X a)
-    ∙ ap (λ Y. unwrap_or (first_among (priority_from_ending (λ i. carried_priority (channel_at roster past) (made_among (items_by_now past (items roster (with_event t c X past))) i)) u) Y) (priority_of_thread roster past u)) (a.2)
+    ap (λ b. unwrap_or (option_or (cond (not b) (priority_set_for (sets c) u) None) (first_among (priority_from_ending (λ i. carried_priority (channel_at roster past) (item_among (items_by_now past (items roster (with_event t c X past))) i)) u) X)) (priority_of_thread roster past u)) (refused roster past t c X a)
+    ∙ ap (λ Y. unwrap_or (first_among (priority_from_ending (λ i. carried_priority (channel_at roster past) (item_among (items_by_now past (items roster (with_event t c X past))) i)) u) Y) (priority_of_thread roster past u)) (a.2)
     ∙ nothing (eqb t u) where
       nothing : (b : Bool) → unwrap_or (option_or (cond b None None) None) (priority_of_thread roster past u) ≡ priority_of_thread roster past u
       nothing true = refl

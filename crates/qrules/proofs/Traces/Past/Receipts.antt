@@ -14,7 +14,7 @@ use Rattle.qrules.specs.Private.Calls.{row_of}
 use Rattle.qrules.specs.Private.Facts.{Facts, threads_of}
 use Rattle.qrules.specs.Private.Lawful.{facts_of, IsLawful}
 use Rattle.qrules.specs.Private.Past.{copied_count_in, first_among, priority_of_item, copied_count_among, copied_count_of}
-use Rattle.qrules.specs.Private.Rows.{Received, item_in_mark}
+use Rattle.qrules.specs.Private.Rows.{Received, item_in}
 use Rattle.qmodel.specs.Trace.{Trace}
 use Rattle.qmodel.specs.declared.call.Call.{Call}
 use Rattle.qmodel.specs.declared.call.Completion.{Completion}
@@ -24,6 +24,7 @@ use Rattle.qrules.proofs.Traces.Calls.{call_laws}
 use Rattle.qrules.proofs.Traces.Past.Ends.{laws_of, ending_names, open_known}
 use Rattle.qrules.proofs.Traces.Past.Items.{IsPending, pending_all, pending_priorities, item_below}
 use Rattle.qrules.proofs.Traces.Rosters.{known}
+use Rattle.qrules.specs.Past.{ReceivedItem}
 
 -- ---- what is told of one among the endings that some threads get
 
@@ -52,7 +53,7 @@ among_one tell g (u ∷ us) k h v z m e q =
 
 -- ---- the receipt of an accepted call
 
-pub ending_receives : (f : Facts) (t : ℕ) (c : Call) (v : ℕ) (y : Completion) (p : ℕ × ℕ) → RowLaws f t c → ending f t c v ≡ Some y → item_in_mark y.mark ≡ Some p → IsReceipt (row_of f t c) v p
+pub ending_receives : (f : Facts) (t : ℕ) (c : Call) (v : ℕ) (y : Completion) (p : ReceivedItem) → RowLaws f t c → ending f t c v ≡ Some y → item_in y.mark ≡ Some p → IsReceipt (row_of f t c) v p
 ending_receives f t c v y p laws e m = elim (ending_names f t c v y laws e) [
   | inl h ↦ subst (λ u. IsReceipt (row_of f t c) u p) (sym h.thread) (laws.own_receives y p h.is m)
   | inr h ↦ laws.ends_receives v y p h.is m
@@ -63,15 +64,15 @@ abbrev pub copied_by : Option Received → ℕ → Option ℕ
 copied_by None i = None
 copied_by (Some r) i = cond (eqb r.item i) (Some r.kept.copied) None
 
-same_copied : (f : Facts) (t : ℕ) (c : Call) (v : ℕ) (p : ℕ × ℕ) (i : ℕ) → IsReceipt (row_of f t c) v p → copied_count_in i (Some p) ≡ copied_by (row_of f t c).receipt i
+same_copied : (f : Facts) (t : ℕ) (c : Call) (v : ℕ) (p : ReceivedItem) (i : ℕ) → IsReceipt (row_of f t c) v p → copied_count_in i (Some p) ≡ copied_by (row_of f t c).receipt i
 same_copied f t c v p i k =
-    ap (λ n. cond (eqb n i) (Some p.1) None) k.item ∙ ap (λ n. cond (eqb k.receipt.item i) (Some n) None) k.copied ∙ ap (λ o. copied_by o i) (sym k.is)
+    ap (λ n. cond (eqb n i) (Some p.copied) None) k.item ∙ ap (λ n. cond (eqb k.receipt.item i) (Some n) None) k.copied ∙ ap (λ o. copied_by o i) (sym k.is)
 
 -- what an ending copies of item i is what the row's receipt does
 ending_copies : (f : Facts) (t : ℕ) (c : Call) (v : ℕ) (y : Completion) (i : ℕ) → RowLaws f t c → ending f t c v ≡ Some y
-    → (copied_count_in i (item_in_mark y.mark) ≡ None) ⊎ (copied_count_in i (item_in_mark y.mark) ≡ copied_by (row_of f t c).receipt i)
+    → (copied_count_in i (item_in y.mark) ≡ None) ⊎ (copied_count_in i (item_in y.mark) ≡ copied_by (row_of f t c).receipt i)
 ending_copies f t c v y i laws e =
-    elim (item_in_mark y.mark) as (λ o. item_in_mark y.mark ≡ o → (copied_count_in i o ≡ None) ⊎ (copied_count_in i o ≡ copied_by (row_of f t c).receipt i)) [
+    elim (item_in y.mark) as (λ o. item_in y.mark ≡ o → (copied_count_in i o ≡ None) ⊎ (copied_count_in i o ≡ copied_by (row_of f t c).receipt i)) [
       | None ↦ λ m. inl refl
       | Some p ↦ λ m. inr (same_copied f t c v p i (ending_receives f t c v y p laws e m))
     ] refl
@@ -92,17 +93,17 @@ accepted_receipts roster past t c X i l member a =
     let copies = λ (v : ℕ) (y : Completion) (e : ending (facts_of roster past) t c v ≡ Some y). ending_copies (facts_of roster past) t c v y i laws e in
     rw (a.1) (
     elim ((row_of f t c).receipt) as (λ o. (row_of f t c).receipt ≡ o → copied_count_among (filter_map (ending f t c) (threads_of roster)) i ≡ copied_by o i) [
-      | None ↦ λ is. among_none (λ x. copied_count_in i (item_in_mark x.mark)) (ending f t c) (threads_of roster) (λ v y e. elim (copies v y e) [ inl h ↦ h | inr h ↦ h ∙ ap (λ o. copied_by o i) is ])
+      | None ↦ λ is. among_none (λ x. copied_count_in i (item_in x.mark)) (ending f t c) (threads_of roster) (λ v y e. elim (copies v y e) [ inl h ↦ h | inr h ↦ h ∙ ap (λ o. copied_by o i) is ])
       | Some r ↦ λ is.
           let k = laws.receives r is in
           elim (eqb r.item i) as (λ b. eqb r.item i ≡ b → copied_count_among (filter_map (ending f t c) (threads_of roster)) i ≡ cond b (Some r.kept.copied) None) [
             | true ↦ λ same.
                 let by : copied_by (row_of f t c).receipt i ≡ Some r.kept.copied = rw (is, same) refl in
-                among_one (λ x. copied_count_in i (item_in_mark x.mark)) (ending f t c) (threads_of roster) r.kept.copied (λ v y e. elim (copies v y e) [ inl h ↦ inl h | inr h ↦ inr (h ∙ by) ])
+                among_one (λ x. copied_count_in i (item_in x.mark)) (ending f t c) (threads_of roster) r.kept.copied (λ v y e. elim (copies v y e) [ inl h ↦ inl h | inr h ↦ inr (h ∙ by) ])
                 r.by k.given (known roster r.by (given_known roster past t c r.by k.given l member laws k.is_given)) k.is_given (rw (k.mark, same) refl)
             | false ↦ λ other.
                 let by : copied_by (row_of f t c).receipt i ≡ None = rw (is, other) refl in
-                among_none (λ x. copied_count_in i (item_in_mark x.mark)) (ending f t c) (threads_of roster) (λ v y e. elim (copies v y e) [ inl h ↦ h | inr h ↦ h ∙ by ])
+                among_none (λ x. copied_count_in i (item_in x.mark)) (ending f t c) (threads_of roster) (λ v y e. elim (copies v y e) [ inl h ↦ h | inr h ↦ h ∙ by ])
           ] refl
     ] refl)
 

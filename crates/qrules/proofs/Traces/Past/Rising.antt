@@ -7,7 +7,7 @@ use Rattle.qqueue.specs.Contents.{IsRising}
 use Rattle.qqueue.specs.declared.item.Item.{Item}
 use Rattle.qqueue.proofs.RisingLaws.{IsRising-push, IsRising-filter}
 use Rattle.qtables.specs.declared.member.Member.{Member}
-use Rattle.qrules.specs.Private.Past.{is_closed, is_gone, item_of, pending_items, made_on}
+use Rattle.qrules.specs.Private.Past.{is_destroyed, is_gone, item_of, pending_items, made_on}
 use Rattle.qmodel.specs.Trace.{SentItem}
 use Rattle.qmodel.specs.Trace.{Event, Trace}
 use Rattle.qbase.proofs.Lists.{all_map, all_more}
@@ -38,7 +38,7 @@ now_rises past (x ∷ items) rising = (all_map (λ y. x.number < y.number) (now 
 
 -- what is pending rises
 pub pending_rises : (roster : List Member) (past : Trace) (h : ℕ) → IsRising (pending_items roster past h)
-pending_rises roster past h = subst IsRising (sym (pending_is roster past h)) (elim (is_closed past h) as (λ b. IsRising (cond b [] (map (now past) (staying roster past h)))) [
+pending_rises roster past h = subst IsRising (sym (pending_is roster past h)) (elim (is_destroyed past h) as (λ b. IsRising (cond b [] (map (now past) (staying roster past h)))) [
   | true ↦ tt
   | false ↦ now_rises past (staying roster past h) (IsRising-filter (λ item. not (is_gone past item)) (items_on roster past h) (items_rise roster past h))
 ])

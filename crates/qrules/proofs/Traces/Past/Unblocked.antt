@@ -11,7 +11,7 @@ use Rattle.qrules.specs.Private.Facts.{is_for_answer}
 use Rattle.qrules.specs.Private.Effects.{makes, unblocks}
 use Rattle.qrules.specs.Private.Laws.{is_for_reply}
 use Rattle.qrules.specs.Private.Lawful.{facts_of}
-use Rattle.qrules.specs.Private.Past.{call_by_now, wait_with_receipt, is_taken, is_unblock_for, item_of, items, open_call, priority_of_item, copied_count_among, copied_count_of, unblocked_among, with_receipt}
+use Rattle.qrules.specs.Private.Past.{call_by_now, wait_with_receipt, is_received, is_unblock_for, item_of, items, open_call, priority_of_item, copied_count_among, copied_count_of, unblocked_among, with_receipt}
 use Rattle.qmodel.specs.Trace.{SentItem}
 use Rattle.qrules.specs.Private.Step.{after_unblock, unblocked_call, unblocked_wait}
 use Rattle.qmodel.specs.Trace.{Event, Trace}
@@ -29,7 +29,7 @@ use Rattle.qrules.proofs.Traces.Past.CurrentPriority.{unblocked_among_now}
 -- ---- what is held is taken
 
 -- an open call whose message is received: the receipt is in the past
-pub held_is_taken : (roster : List Member) (past : Trace) (u : ℕ) (o : OpenCall) (k : IsOpen roster past u o) → is_for_answer o.wait ≡ true → is_settled o.wait ≡ true → is_taken past k.block.number ≡ true
+pub held_is_taken : (roster : List Member) (past : Trace) (u : ℕ) (o : OpenCall) (k : IsOpen roster past u o) → is_for_answer o.wait ≡ true → is_settled o.wait ≡ true → is_received past k.block.number ≡ true
 held_is_taken roster past u o k w s =
     elim (copied_count_of past k.block.number) as (λ r. o ≡ with_receipt (priority_of_item roster past k.block.number) (is_unblocked roster past k.block.number) r (call_by_now past k.block) → is_some r ≡ true) [
       | None ↦ λ same.
@@ -51,7 +51,7 @@ reply_settled (ForItem chid kind buffer) e = refl
 -- message i is received, and so was sent
 pub record WasReceived (past : Trace) (i : ℕ) : Type 0 where
   pub below : i ≤ length past
-  pub taken : is_taken past i ≡ true
+  pub taken : is_received past i ≡ true
 
 -- the item is no unblock pulse, or one for what the thread that the call names is blocked in
 by_item : (roster : List Member) (past : Trace) (t : ℕ) (c : Call) (i : ℕ) (m : SentItem) → makes (facts_of roster past) t c ≡ Some m → is_unblock_for i m.item.what ≡ true → WasReceived past i
@@ -64,7 +64,7 @@ by_item roster past t c i m made is =
           let p = open_parts roster past v k.waiting k.is in
           record {
             below = subst (λ j. j ≤ length past) same (open_below roster past v k.waiting k.is);
-            taken = subst (λ j. is_taken past j ≡ true) (sym p.number ∙ same) (held_is_taken roster past v k.waiting p (reply_answer k.waiting.wait k.held) (reply_settled k.waiting.wait k.held));
+            taken = subst (λ j. is_received past j ≡ true) (sym p.number ∙ same) (held_is_taken roster past v k.waiting p (reply_answer k.waiting.wait k.held) (reply_settled k.waiting.wait k.held));
           }
     ] refl
 

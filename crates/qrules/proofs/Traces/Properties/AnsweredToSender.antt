@@ -13,7 +13,7 @@ use Rattle.qrules.proofs.Traces.Parts.{owns_end, owns_that}
 use Rattle.qrules.specs.Private.Facts.{Facts, is_for_answer, owns, threads_of}
 use Rattle.qrules.specs.Private.Headline.AnsweredToSender.{AnsweredToSender, AnswersIts, AnswersOnce, EachAnswersIts, is_answer, is_held, owns_channel_of}
 use Rattle.qrules.specs.Private.Lawful.{facts_of, IsLawful}
-use Rattle.qrules.specs.Private.Past.{connection_at, is_taken, sender_of}
+use Rattle.qrules.specs.Private.Past.{connection_at, is_received, sender_of}
 use Rattle.qmodel.specs.Trace.{Event, Trace}
 use Rattle.qmodel.specs.declared.call.Completion.{Completion}
 use Rattle.qrules.proofs.Traces.Past.Ends.{open_known, passes_of}
@@ -43,7 +43,7 @@ answers_its roster past e u y l a h =
     let number : k.block.number ≡ y.call = sym k.number ∙ h.number in
     let answer : is_for_answer o.wait ≡ true = ap is_for_answer h.held.waits in
     let began : is_for_answer k.block.wait ≡ true = sym (open_keeps is_for_answer roster past u o k held_for_answer buffer_answer) ∙ answer in
-    let taken : is_taken past k.block.number ≡ true = held_is_taken roster past u o k answer (ap is_settled h.held.waits) in
+    let taken : is_received past k.block.number ≡ true = held_is_taken roster past u o k answer (ap is_settled h.held.waits) in
     let s = open_over roster past u o k l answer in
     let connection : connection_at roster past h.held.coid ≡ Some s.connection = ap (connection_at roster past) (sym (ap over h.held.waits)) ∙ over_attached roster past u o l h.held.is_open answer ∙ s.is_connection in
     record {

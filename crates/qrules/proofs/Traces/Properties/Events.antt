@@ -7,7 +7,7 @@ use Rattle.std.proofs.lemmas.Option.{none-some}
 use Rattle.qtables.specs.declared.member.Member.{Member}
 use Rattle.qrules.specs.Private.Answer.{ending, Outcome, Answers}
 use Rattle.qrules.specs.Private.Facts.{Facts, threads_of}
-use Rattle.qrules.specs.Private.Headline.ReceivedOnce.{item_received}
+use Rattle.qrules.specs.Private.Headline.ReceivedOnce.{number_received}
 use Rattle.qrules.specs.Private.Lawful.{facts_of}
 use Rattle.qrules.specs.Private.Past.{is_accepted, item_of}
 use Rattle.qrules.specs.Private.Effects.{makes}
@@ -46,14 +46,14 @@ none_made roster e past is =
 -- ---- what the endings of an event receive
 
 each_taken : (P : Completion → ℕ → Type 0) (f : Facts) (t : ℕ) (c : Call) (X : List Completion) → Outcome true f t c X
-    → ((u : ℕ) (y : Completion) (i : ℕ) → TakesOne f t c u y i → P y i) → AllByRecursion (λ x. (i : ℕ) → item_received x ≡ Some i → P x i) X
-each_taken P f t c X a h = rw (a.1) (all_filter_map (λ x. (i : ℕ) → item_received x ≡ Some i → P x i) (ending f t c) (threads_of f.roster) (λ u y e i received_i.
+    → ((u : ℕ) (y : Completion) (i : ℕ) → TakesOne f t c u y i → P y i) → AllByRecursion (λ x. (i : ℕ) → number_received x ≡ Some i → P x i) X
+each_taken P f t c X a h = rw (a.1) (all_filter_map (λ x. (i : ℕ) → number_received x ≡ Some i → P x i) (ending f t c) (threads_of f.roster) (λ u y e i received_i.
     let p = receives_it y i received_i in
-    subst (P y) p.2 (h u y p.0.0 (takes_one f t c u y p.0 (passes_of f t c X a).row e p.1))))
+    subst (P y) p.2 (h u y p.0.number (takes_one f t c u y p.0 (passes_of f t c X a).row e p.1))))
 
 -- what is so of each item that is received: a refused call's endings receive none
 pub each_received : (P : Completion → ℕ → Type 0) (roster : List Member) (past : Trace) (t : ℕ) (c : Call) (X : List Completion) → Answers (facts_of roster past) t c X
-    → ((u : ℕ) (y : Completion) (i : ℕ) → Outcome true (facts_of roster past) t c X → TakesOne (facts_of roster past) t c u y i → P y i) → AllByRecursion (λ x. (i : ℕ) → item_received x ≡ Some i → P x i) X
+    → ((u : ℕ) (y : Completion) (i : ℕ) → Outcome true (facts_of roster past) t c X → TakesOne (facts_of roster past) t c u y i → P y i) → AllByRecursion (λ x. (i : ℕ) → number_received x ≡ Some i → P x i) X
 each_received P roster past t c X a h = elim a [
   | inl a ↦ each_taken P (facts_of roster past) t c X a (λ u y i k. h u y i a k)
   | inr a ↦ rw (a.2) ((λ i e. absurd (none-some i e)), tt)

@@ -18,8 +18,8 @@ use Rattle.qrules.specs.Private.Calls.Send.{item}
 use Rattle.qrules.specs.Private.Cancelling.{is_on}
 use Rattle.qrules.specs.Private.Facts.{Facts, message, sender, route}
 use Rattle.qrules.specs.Private.Effects.{makes, receives_on}
-use Rattle.qrules.specs.Private.Headline.ReceivedOnce.{item_received}
-use Rattle.qrules.specs.Private.Rows.{item_in_mark}
+use Rattle.qrules.specs.Private.Headline.ReceivedOnce.{number_received}
+use Rattle.qrules.specs.Private.Rows.{item_in}
 use Rattle.qmodel.specs.Trace.{SentItem}
 use Rattle.qmodel.specs.declared.call.Call.{Call}
 use Rattle.qmodel.specs.declared.call.Call.TheVariants.{Send, Receive, Reply, Error, Info, ReceivePulse, Pulse, ChannelDestroy, Shutdown, Unblock, ConnectDetach}
@@ -41,6 +41,7 @@ use Rattle.qrules.specs.Private.Calls.Pulse as pulse
 use Rattle.qrules.proofs.Traces.Calls.ConnectDetach.{detach_ends}
 use Rattle.qrules.proofs.Traces.Properties.Rows.Telling.{Tells, told_meets, unblock_ends}
 use Rattle.qrules.proofs.Traces.Calls.Delivering.{sent_way}
+use Rattle.qrules.specs.Past.{ReceivedItem}
 
 -- ---- whose ending it is
 
@@ -53,11 +54,11 @@ ending_of f t c u y e =
     ] refl e
 
 -- what an ending receives
-pub receives_it : (x : Completion) (i : ℕ) → item_received x ≡ Some i → (p : ℕ × ℕ) × (item_in_mark x.mark ≡ Some p) × (p.0 ≡ i)
+pub receives_it : (x : Completion) (i : ℕ) → number_received x ≡ Some i → (p : ReceivedItem) × (item_in x.mark ≡ Some p) × (p.number ≡ i)
 receives_it x i e =
-    elim (item_in_mark x.mark) as (λ o. option_map (λ r. r.0) o ≡ Some i → (p : ℕ × ℕ) × (o ≡ Some p) × (p.0 ≡ i)) [
+    elim (item_in x.mark) as (λ o. option_map (λ r. r.number) o ≡ Some i → (p : ReceivedItem) × (o ≡ Some p) × (p.number ≡ i)) [
       | None ↦ λ s. absurd (none-some i s)
-      | Some p ↦ λ s. (p, refl, same_Some p.0 i s)
+      | Some p ↦ λ s. (p, refl, same_Some p.number i s)
     ] e
 
 -- ---- the receipt
@@ -95,8 +96,8 @@ abbrev pub TakesOne : Facts → ℕ → Call → ℕ → Completion → ℕ → 
 TakesOne f t c u y i = TakesPending f t c u y i ⊎ TakesMade f t c u y i
 
 -- a receive that takes the best
-takes_best : (f : Facts) (t : ℕ) (c : Call) (chid : ℕ) (kind : Kind) (buffer : List ℕ) (u : ℕ) (y : Completion) (p : ℕ × ℕ) → u ≡ t → receives_on c ≡ Some (chid, kind) → makes f t c ≡ None
-    → ReceiveTakes f t chid kind buffer y → item_in_mark y.mark ≡ Some p → TakesOne f t c u y p.0
+takes_best : (f : Facts) (t : ℕ) (c : Call) (chid : ℕ) (kind : Kind) (buffer : List ℕ) (u : ℕ) (y : Completion) (p : ReceivedItem) → u ≡ t → receives_on c ≡ Some (chid, kind) → makes f t c ≡ None
+    → ReceiveTakes f t chid kind buffer y → item_in y.mark ≡ Some p → TakesOne f t c u y p.number
 takes_best f t c chid kind buffer u y p same receives none r m = inl (record {
   caller = same;
   call = sym (ap (λ x. x.call) r.ending);
@@ -106,23 +107,23 @@ takes_best f t c chid kind buffer u y p same receives none r m = inl (record {
   receives = receives;
   makes_none = none;
   best = r.best;
-  number = ap (λ q. q.0) (same_Some (r.item.number, (given_received r.item (message f r.item.number) buffer).0) p (sym (given_received r.item (message f r.item.number) buffer).1 ∙ ap (λ x. item_in_mark x.mark) r.ending ∙ m));
+  number = ap (λ q. q.number) (same_Some (record { number = r.item.number; copied = (given_received r.item (message f r.item.number) buffer).0 }) p (sym (given_received r.item (message f r.item.number) buffer).1 ∙ ap (λ x. item_in x.mark) r.ending ∙ m));
 })
 
-own_takes : (f : Facts) (t : ℕ) (c : Call) (u : ℕ) (y : Completion) (p : ℕ × ℕ) → u ≡ t → (row_of f t c).own ≡ Some y → item_in_mark y.mark ≡ Some p → TakesOne f t c u y p.0
+own_takes : (f : Facts) (t : ℕ) (c : Call) (u : ℕ) (y : Completion) (p : ReceivedItem) → u ≡ t → (row_of f t c).own ≡ Some y → item_in y.mark ≡ Some p → TakesOne f t c u y p.number
 own_takes f t (Send coid message reply_buffer) u y p same e m = absurd (none-some y e)
 own_takes f t (Info rcvid) u y p same e m = absurd (none-some p (sym (plain f.number t (info_of f (sender f rcvid)) y e).mark ∙ m))
 own_takes f t (Receive chid buffer) u y p same e m = takes_best f t (Receive chid buffer) chid Any buffer u y p same refl refl (receive_takes f t chid Any buffer y e) m
 own_takes f t (ReceivePulse chid) u y p same e m = takes_best f t (ReceivePulse chid) chid PulseOnly [] u y p same refl refl (receive_takes f t chid PulseOnly [] y e) m
-own_takes f t c u y p same e m = absurd (none-some p (ap (λ x. item_in_mark x.mark) (same_Some _ y e) ∙ m))
+own_takes f t c u y p same e m = absurd (none-some p (ap (λ x. item_in x.mark) (same_Some _ y e) ∙ m))
 
 -- a receiver that takes what is delivered
-takes_met : (f : Facts) (t : ℕ) (c : Call) (o : Option ℕ) (item : Item) (message : List ℕ) (u : ℕ) (y : Completion) (p : ℕ × ℕ) → Delivers f o item message u y → ((h : ℕ) → o ≡ Some h → makes f t c ≡ Some (record { item = item; channel = h }))
-    → item_in_mark y.mark ≡ Some p → TakesOne f t c u y p.0
+takes_met : (f : Facts) (t : ℕ) (c : Call) (o : Option ℕ) (item : Item) (message : List ℕ) (u : ℕ) (y : Completion) (p : ReceivedItem) → Delivers f o item message u y → ((h : ℕ) → o ≡ Some h → makes f t c ≡ Some (record { item = item; channel = h }))
+    → item_in y.mark ≡ Some p → TakesOne f t c u y p.number
 takes_met f t c o item message u y p s made m = inr (record {
   made = record { item = item; channel = s.channel };
   is_made = made s.channel s.leads;
-  number = ap (λ q. q.0) (same_Some (item.number, (given_received item message s.buffer).0) p (sym (given_received item message s.buffer).1 ∙ ap (λ x. item_in_mark x.mark) s.ending ∙ m));
+  number = ap (λ q. q.number) (same_Some (record { number = item.number; copied = (given_received item message s.buffer).0 }) p (sym (given_received item message s.buffer).1 ∙ ap (λ x. item_in x.mark) s.ending ∙ m));
   waiting = s.waiting;
   is_open = s.is_open;
   call = sym (ap (λ x. x.call) s.ending);
@@ -132,22 +133,22 @@ takes_met f t c o item message u y p s made m = inr (record {
 })
 
 -- a receiver that takes a pulse which is due
-takes_told : (f : Facts) (t : ℕ) (c : Call) (o : Option SentItem) (u : ℕ) (y : Completion) (p : ℕ × ℕ) → makes f t c ≡ o → Tells f o u y → item_in_mark y.mark ≡ Some p → TakesOne f t c u y p.0
+takes_told : (f : Facts) (t : ℕ) (c : Call) (o : Option SentItem) (u : ℕ) (y : Completion) (p : ReceivedItem) → makes f t c ≡ o → Tells f o u y → item_in y.mark ≡ Some p → TakesOne f t c u y p.number
 takes_told f t c o u y p made k m =
     takes_met f t c (Some k.made.channel) k.made.item [] u y p k.delivers (λ h s. made ∙ k.is_due ∙ ap (λ n. Some (record { item = k.made.item; channel = n })) (same_Some k.made.channel h s)) m
 
-ends_takes : (f : Facts) (t : ℕ) (c : Call) (u : ℕ) (y : Completion) (p : ℕ × ℕ) → (row_of f t c).refusal ≡ None → (row_of f t c).ends u ≡ Some y → item_in_mark y.mark ≡ Some p → TakesOne f t c u y p.0
+ends_takes : (f : Facts) (t : ℕ) (c : Call) (u : ℕ) (y : Completion) (p : ReceivedItem) → (row_of f t c).refusal ≡ None → (row_of f t c).ends u ≡ Some y → item_in y.mark ≡ Some p → TakesOne f t c u y p.number
 ends_takes f t (Reply rcvid status bytes) u y p r e m =
     absurd (none-some p (sym (answer_receives f t rcvid (reply_finish status bytes) u y (λ buffer. refl) (sender_ends f t rcvid (reply_finish status bytes) u y r e)) ∙ m))
 ends_takes f t (Error rcvid code) u y p r e m = absurd (none-some p (sym (answer_receives f t rcvid (error_finish code) u y (λ buffer. no_receipt code) (sender_ends f t rcvid (error_finish code) u y r e)) ∙ m))
-ends_takes f t (ChannelDestroy chid) u y p r e m = absurd (none-some p (ap (λ x. item_in_mark x.mark) (cancel_parts (is_on f.connection chid) Srch u (f.open_call u) y e).ending ∙ m))
-ends_takes f t Shutdown u y p r e m = absurd (none-some p (ap (λ x. item_in_mark x.mark) (cancel_parts (λ wait. true) Srch u (f.open_call u) y e).ending ∙ m))
+ends_takes f t (ChannelDestroy chid) u y p r e m = absurd (none-some p (ap (λ x. item_in x.mark) (cancel_parts (is_on f.connection chid) Srch u (f.open_call u) y e).ending ∙ m))
+ends_takes f t Shutdown u y p r e m = absurd (none-some p (ap (λ x. item_in x.mark) (cancel_parts (λ wait. true) Srch u (f.open_call u) y e).ending ∙ m))
 ends_takes f t (Unblock thread) u y p r e m = elim (unblock_ends f thread u y (unblock.due_pulse f thread) e) [
-  | inl cancel ↦ absurd (none-some p (ap (λ x. item_in_mark x.mark) cancel.ending ∙ m))
+  | inl cancel ↦ absurd (none-some p (ap (λ x. item_in x.mark) cancel.ending ∙ m))
   | inr k ↦ takes_told f t (Unblock thread) (unblock.due_pulse f thread) u y p refl k m
 ]
 ends_takes f t (ConnectDetach coid) u y p r e m = elim (detach_ends f coid (connect_detach.due_pulse f t coid) u y e) [
-  | inl cancel ↦ absurd (none-some p (ap (λ x. item_in_mark x.mark) cancel.ending ∙ m))
+  | inl cancel ↦ absurd (none-some p (ap (λ x. item_in x.mark) cancel.ending ∙ m))
   | inr s ↦ takes_told f t (ConnectDetach coid) (connect_detach.due_pulse f t coid) u y p refl (told_meets f (connect_detach.due_pulse f t coid) u y s) m
 ]
 ends_takes f t (Send coid message reply_buffer) u y p r e m =
@@ -157,7 +158,7 @@ ends_takes f t (Pulse coid level code value) u y p r e m =
 ends_takes f t c u y p r e m = absurd (none-some y e)
 
 -- each ending that receives an item takes it so
-pub takes_one : (f : Facts) (t : ℕ) (c : Call) (u : ℕ) (y : Completion) (p : ℕ × ℕ) → (row_of f t c).refusal ≡ None → ending f t c u ≡ Some y → item_in_mark y.mark ≡ Some p → TakesOne f t c u y p.0
+pub takes_one : (f : Facts) (t : ℕ) (c : Call) (u : ℕ) (y : Completion) (p : ReceivedItem) → (row_of f t c).refusal ≡ None → ending f t c u ≡ Some y → item_in y.mark ≡ Some p → TakesOne f t c u y p.number
 takes_one f t c u y p r e m = elim (ending_of f t c u y e) [
   | inl o ↦ own_takes f t c u y p o.0 o.1 m
   | inr o ↦ ends_takes f t c u y p r o.1 m

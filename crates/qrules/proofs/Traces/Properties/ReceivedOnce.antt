@@ -12,10 +12,11 @@ use Rattle.qtables.specs.declared.member.Member.{Member}
 use Rattle.qtables.specs.Members.{IsRoster}
 use Rattle.qrules.specs.Private.Answer.{ending, Answers, Outcome}
 use Rattle.qrules.specs.Private.Facts.{Facts, threads_of}
-use Rattle.qrules.specs.Private.Headline.ReceivedOnce.{AllDifferent, NoneEarly, ReceivedOnce, endings_of, calls_ended, item_received, items_received, is_made}
+use Rattle.qrules.specs.Private.Headline.ReceivedOnce.{AllDifferent, NoneEarly, ReceivedOnce, calls_ended, number_received, items_received, is_made}
+use Rattle.qrules.specs.Trace.{endings_of}
 use Rattle.qrules.specs.Private.Lawful.{facts_of, IsLawful}
-use Rattle.qrules.specs.Private.Past.{copied_count_in, has_ending_of, is_ended, is_taken, item_of, items, copied_count_among, copied_count_of}
-use Rattle.qrules.specs.Private.Rows.{item_in_mark}
+use Rattle.qrules.specs.Private.Past.{copied_count_in, has_ending_of, is_ended, is_received, item_of, items, copied_count_among, copied_count_of}
+use Rattle.qrules.specs.Private.Rows.{item_in}
 use Rattle.qmodel.specs.Trace.{SentItem}
 use Rattle.qmodel.specs.Trace.{Trace}
 use Rattle.qmodel.specs.declared.call.Call.{Call}
@@ -108,21 +109,21 @@ all_kept {Y} {Z} P k (x ∷ xs) a =
 
 -- what an event receives wasn't taken before
 untaken_yet : (roster : List Member) (past : Trace) (t : ℕ) (c : Call) (X : List Completion) → IsLawful roster past → Answers (facts_of roster past) t c X
-    → AllByRecursion (λ i. is_taken past i ≡ false) (items_received X)
-untaken_yet roster past t c X l a = all_kept (λ i. is_taken past i ≡ false) item_received X (each_received (λ x i. is_taken past i ≡ false) roster past t c X a (λ u y i _ k.
-    elim k as (λ _. is_taken past i ≡ false) [
-      | inl k ↦ let b = pending_taken roster past t c u y i k in subst (λ j. is_taken past j ≡ false) k.number (or_parts _ _ b.stays).0
-      | inr k ↦ subst (λ j. is_taken past j ≡ false) (sym (made_number (facts_of roster past) t c u y i k)) (ap is_some (receipt_beyond roster past (length past + 1) l (omega arith)))
+    → AllByRecursion (λ i. is_received past i ≡ false) (items_received X)
+untaken_yet roster past t c X l a = all_kept (λ i. is_received past i ≡ false) number_received X (each_received (λ x i. is_received past i ≡ false) roster past t c X a (λ u y i _ k.
+    elim k as (λ _. is_received past i ≡ false) [
+      | inl k ↦ let b = pending_taken roster past t c u y i k in subst (λ j. is_received past j ≡ false) k.number (or_parts _ _ b.stays).0
+      | inr k ↦ subst (λ j. is_received past j ≡ false) (sym (made_number (facts_of roster past) t c u y i k)) (ap is_some (receipt_beyond roster past (length past + 1) l (omega arith)))
     ]))
 
 -- the endings of one event receive different items: there is one receipt at most
 event_items : (roster : List Member) (past : Trace) (t : ℕ) (c : Call) (X : List Completion) → IsRoster roster → Answers (facts_of roster past) t c X → AllDifferent (items_received X)
 event_items roster past t c X r a = elim a [
-  | inl a ↦ rw (a.1) (different_kept item_received (ending (facts_of roster past) t c) roster r (λ u v i j less eu ev.
+  | inl a ↦ rw (a.1) (different_kept number_received (ending (facts_of roster past) t c) roster r (λ u v i j less eu ev.
       let f = facts_of roster past in
       let laws = laws_of (facts_of roster past) t c X a in
-      option_and_then_some item_received (ending (facts_of roster past) t c u) i eu (λ y yis yi.
-      option_and_then_some item_received (ending (facts_of roster past) t c v) j ev (λ z zis zj.
+      option_and_then_some number_received (ending (facts_of roster past) t c u) i eu (λ y yis yi.
+      option_and_then_some number_received (ending (facts_of roster past) t c v) j ev (λ z zis zj.
       let first = ending_receives f t c u y (receives_it y i yi).0 laws yis (receives_it y i yi).1 in
       let second = ending_receives f t c v z (receives_it z j zj).0 laws zis (receives_it z j zj).1 in
       let one : u ≡ v = sym first.by ∙ ap (λ q. q.by) (same_Some first.receipt second.receipt (sym first.is ∙ second.is)) ∙ second.by in
@@ -133,21 +134,21 @@ event_items roster past t c X r a = elim a [
 none_received : (X : List Completion) (i : ℕ) → is_some (copied_count_among X i) ≡ false → IsNoneOf i (items_received X)
 none_received [] i e = tt
 none_received (x ∷ X) i e =
-    elim (item_in_mark x.mark) as (λ o. is_some (option_or (copied_count_in i o) (copied_count_among X i)) ≡ false → IsNoneOf i (cons_option (option_map (λ r. r.0) o) (items_received X))) [
+    elim (item_in x.mark) as (λ o. is_some (option_or (copied_count_in i o) (copied_count_among X i)) ≡ false → IsNoneOf i (cons_option (option_map (λ r. r.number) o) (items_received X))) [
       | None ↦ λ h. none_received X i h
       | Some r ↦ λ h.
-          elim (eqb r.0 i) as (λ b. eqb r.0 i ≡ b → is_some (option_or (cond b (Some r.1) None) (copied_count_among X i)) ≡ false → IsNoneOf i (r.0 ∷ items_received X)) [
+          elim (eqb r.number i) as (λ b. eqb r.number i ≡ b → is_some (option_or (cond b (Some r.copied) None) (copied_count_among X i)) ≡ false → IsNoneOf i (r.number ∷ items_received X)) [
             | true ↦ λ same s. absurd (true≢false s)
-            | false ↦ λ other s. (eqb_flip r.0 i other, none_received X i s)
+            | false ↦ λ other s. (eqb_flip r.number i other, none_received X i s)
           ] refl h
     ] e
 
 -- an item that isn't taken is none of those that are
-untaken : (past : Trace) (i : ℕ) → is_taken past i ≡ false → IsNoneOf i (items_received (endings_of past))
+untaken : (past : Trace) (i : ℕ) → is_received past i ≡ false → IsNoneOf i (items_received (endings_of past))
 untaken [] i e = tt
 untaken (e ∷ past) i is =
     elim (copied_count_among e.endings i) as (λ o. copied_count_among e.endings i ≡ o → is_some (option_or o (copied_count_of past i)) ≡ false → IsNoneOf i (items_received (e.endings ++ endings_of past))) [
-      | None ↦ λ none s. rw (filter_map-append item_received e.endings (endings_of past))
+      | None ↦ λ none s. rw (filter_map-append number_received e.endings (endings_of past))
           (all_append (λ m. eqb i m ≡ false) (items_received e.endings) (items_received (endings_of past)) (none_received e.endings i (ap is_some none)) (untaken past i s))
       | Some copied ↦ λ some s. absurd (true≢false s)
     ] refl is
@@ -155,11 +156,11 @@ untaken (e ∷ past) i is =
 pub each_item : (roster : List Member) (past : Trace) → IsRoster roster → IsLawful roster past → AllDifferent (items_received (endings_of past))
 each_item roster [] r l = tt
 each_item roster (e ∷ past) r l =
-    rw (filter_map-append item_received e.endings (endings_of past))
+    rw (filter_map-append number_received e.endings (endings_of past))
     (different_append (items_received e.endings) (items_received (endings_of past))
     (event_items roster past e.thread e.call e.endings r l.2)
     (each_item roster past r l.0)
-    (all_more (λ i. is_taken past i ≡ false) (λ i. IsNoneOf i (items_received (endings_of past))) (items_received e.endings)
+    (all_more (λ i. is_received past i ≡ false) (λ i. IsNoneOf i (items_received (endings_of past))) (items_received e.endings)
     (untaken_yet roster past e.thread e.call e.endings l.0 l.2) (λ i is. untaken past i is)))
 
 -- ---- none before it was made
@@ -185,7 +186,7 @@ is_made_at roster (e ∷ past) i m is =
 none_early : (roster : List Member) (past : Trace) → IsLawful roster past → NoneEarly roster past
 none_early roster [] l = tt
 none_early roster (e ∷ past) l = (
-  all_kept (λ i. is_made roster (e ∷ past) i ≡ true) item_received e.endings (each_received (λ x i. is_made roster (e ∷ past) i ≡ true) roster past e.thread e.call e.endings l.2 (λ u y i a k.
+  all_kept (λ i. is_made roster (e ∷ past) i ≡ true) number_received e.endings (each_received (λ x i. is_made roster (e ∷ past) i ≡ true) roster past e.thread e.call e.endings l.2 (λ u y i a k.
       elim k as (λ _. is_made roster (e ∷ past) i ≡ true) [
         | inl k ↦
             let b = pending_taken roster past e.thread e.call u y i k in

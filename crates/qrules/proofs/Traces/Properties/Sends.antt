@@ -11,7 +11,7 @@ use Rattle.qrules.specs.Private.Facts.{is_for_answer}
 use Rattle.qrules.specs.Private.Headline.AnsweredToSender.{channel_among}
 use Rattle.qrules.specs.Private.Lawful.{facts_of, IsLawful}
 use Rattle.qrules.specs.Private.Effects.{asks, thread_of_send}
-use Rattle.qrules.specs.Private.Past.{call_by_now, is_accepted, item_of, items, made_at, newest_block, priority_of_item, copied_count_of, sender_of, with_receipt, with_writes, wait_with_receipt, attached_connection}
+use Rattle.qrules.specs.Private.Past.{call_by_now, is_accepted, item_of, items, accepted_at, newest_block, priority_of_item, copied_count_of, sender_of, with_receipt, with_writes, wait_with_receipt, attached_connection}
 use Rattle.qrules.specs.Private.Rows.{with_buffer}
 use Rattle.qmodel.specs.Trace.{SentItem}
 use Rattle.qmodel.specs.Trace.{Event, Trace}
@@ -31,14 +31,14 @@ use Rattle.qrules.proofs.Traces.Past.Connections.{live_attached}
 -- ---- what events made
 
 -- a later event changes nothing of what an earlier one made
-pub made_earlier : {A : Type 0} (make : Event → Option A) (e : Event) (past : Trace) (i : ℕ) → i ≤ length past → made_at make (e ∷ past) i ≡ made_at make past i
+pub made_earlier : {A : Type 0} (make : Event → Option A) (e : Event) (past : Trace) (i : ℕ) → i ≤ length past → accepted_at make (e ∷ past) i ≡ accepted_at make past i
 made_earlier make e past i l = rw (ne_eqb i (length past + 1) (λ same. omega arith)) refl
 
-pub made_newest : {A : Type 0} (make : Event → Option A) (e : Event) (past : Trace) → is_accepted e past ≡ true → made_at make (e ∷ past) (length past + 1) ≡ make e
+pub made_newest : {A : Type 0} (make : Event → Option A) (e : Event) (past : Trace) → is_accepted e past ≡ true → accepted_at make (e ∷ past) (length past + 1) ≡ make e
 made_newest make e past is = rw (eqb_same (length past + 1), is) refl
 
 -- what is made stays made
-pub made_stays : {A : Type 0} (make : Event → Option A) (e : Event) (past : Trace) (i : ℕ) (x : A) → made_at make past i ≡ Some x → made_at make (e ∷ past) i ≡ Some x
+pub made_stays : {A : Type 0} (make : Event → Option A) (e : Event) (past : Trace) (i : ℕ) (x : A) → accepted_at make past i ≡ Some x → accepted_at make (e ∷ past) i ≡ Some x
 made_stays make e past i x is = made_earlier make e past i (made_below make past i x is) ∙ is
 
 -- ---- the newest blocking call

@@ -14,7 +14,7 @@ use Rattle.qtables.specs.Members.{IsRoster}
 use Rattle.qtables.specs.declared.member.Member.{Member}
 use Rattle.qrules.specs.Private.Effects.{receives_on}
 use Rattle.qrules.specs.Private.Headline.BestFirst.{BestFirst, TakesBest, takeable}
-use Rattle.qrules.specs.Private.Headline.ReceivedOnce.{item_received}
+use Rattle.qrules.specs.Private.Headline.ReceivedOnce.{number_received}
 use Rattle.qrules.specs.Private.Headline.SentOrder.{IsEarliest, SentOrder, TakesSent, connection_of}
 use Rattle.qrules.specs.Private.Lawful.{IsLawful}
 use Rattle.qrules.specs.Private.Past.{priority_before}
@@ -69,7 +69,7 @@ is_earliest roster past e y j k plain b h =
 order_from : (roster : List Member) (past : Trace) → BestFirst roster past → SentOrder roster past
 order_from roster [] b = tt
 order_from roster (e ∷ past) b = (
-  all_more (λ x. (i : ℕ) → item_received x ≡ Some i → TakesBest roster past e x i)
+  all_more (λ x. (i : ℕ) → number_received x ≡ Some i → TakesBest roster past e x i)
       (λ x. (j k : ℕ) → TakesSent (e ∷ past) x j k → IsEarliest roster past e j k) e.endings b.0
       (λ x takes j k sent. is_earliest roster past e x j k sent (takes j sent.item)),
   order_from roster past b.1,

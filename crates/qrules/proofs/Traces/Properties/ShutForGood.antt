@@ -17,7 +17,7 @@ use Rattle.qrules.specs.Private.Headline.AnsweredToSender.{channel_among}
 use Rattle.qrules.specs.Private.Effects.{asks, attaches, closes, detaches, makes, receives_on, unblocks, writes}
 use Rattle.qrules.specs.Private.Headline.ShutForGood.{NoneBlockedOn, NoneReceivedFrom, ShutForGood}
 use Rattle.qrules.specs.Private.Lawful.{facts_of, IsLawful}
-use Rattle.qrules.specs.Private.Past.{attached_connection, connection_at, wait_with_receipt, is_closed, items, open_call}
+use Rattle.qrules.specs.Private.Past.{attached_connection, connection_at, wait_with_receipt, is_destroyed, items, open_call}
 use Rattle.qrules.specs.Private.Rows.{names, with_buffer}
 use Rattle.qrules.specs.Private.Step.{after_receipt, after_write, channel_after, connection_after, open_call_after, put_at, unless, after_unblock, unblocked_wait}
 use Rattle.qmodel.specs.Trace.{Event, Trace}
@@ -180,7 +180,7 @@ waits_on_open roster (e ∷ past) r l u o h is on =
 
 -- an item that an accepted call's endings receive is of a channel that isn't destroyed
 taken_is_open : (roster : List Member) (e : Event) (past : Trace) (u i h : ℕ) (y : Completion) → Outcome true (facts_of roster past) e.thread e.call e.endings → TakesOne (facts_of roster past) e.thread e.call u y i
-    → channel_among (items roster (e ∷ past)) i ≡ Some h → (names (closes e.call) h || is_closed past h) ≡ true → ⊥
+    → channel_among (items roster (e ∷ past)) i ≡ Some h → (names (closes e.call) h || is_destroyed past h) ≡ true → ⊥
 taken_is_open roster e past u i h y a k is closed =
     let f = facts_of roster past in
     elim k [
@@ -188,7 +188,7 @@ taken_is_open roster e past u i h y a k is closed =
           let b = best_pending roster past p.channel p.kind p.item p.best in
           let made = subst (λ j. item_at roster past j ≡ Some (record { item = b.first; channel = p.channel })) p.number b.made in
           let at : p.channel ≡ h = same_Some p.channel h (sym (item_channel roster (e ∷ past) i _ (item_earlier roster e past i (item_below roster past i _ made) ∙ made)) ∙ is) in
-          elim (or_cases (names (closes e.call) h) (is_closed past h) closed) [
+          elim (or_cases (names (closes e.call) h) (is_destroyed past h) closed) [
             | inl now ↦ none-some (p.channel, p.kind) (sym (destroys_alone e.call h now).receives_none ∙ p.receives)
             | inr before ↦
                 let none : f.pending p.channel ≡ [] = ap f.pending at ∙ rw before refl in
@@ -201,13 +201,13 @@ taken_is_open roster e past u i h y a k is closed =
           let newest : item_at roster (e ∷ past) (length past + 1) ≡ Some m.made = item_newest roster e past ∙ now in
           let made = subst (λ j. item_at roster (e ∷ past) j ≡ Some m.made) (sym ((made_by roster e past m.made now).number) ∙ m.number) newest in
           let at : m.made.channel ≡ h = same_Some m.made.channel h (sym (item_channel roster (e ∷ past) i m.made made) ∙ is) in
-          elim (or_cases (names (closes e.call) h) (is_closed past h) closed) [
+          elim (or_cases (names (closes e.call) h) (is_destroyed past h) closed) [
             | inl now ↦ none-some m.made (sym ((destroys_alone e.call h now).makes_none f e.thread) ∙ m.is_made)
-            | inr before ↦ true≢false (sym before ∙ ap (is_closed past) (sym at) ∙ open_there.standing)
+            | inr before ↦ true≢false (sym before ∙ ap (is_destroyed past) (sym at) ∙ open_there.standing)
           ]
     ]
 
-none_received : (roster : List Member) (e : Event) (past : Trace) (h : ℕ) → IsLawful roster (e ∷ past) → is_closed (e ∷ past) h ≡ true → NoneReceivedFrom roster (e ∷ past) h e.endings
+none_received : (roster : List Member) (e : Event) (past : Trace) (h : ℕ) → IsLawful roster (e ∷ past) → is_destroyed (e ∷ past) h ≡ true → NoneReceivedFrom roster (e ∷ past) h e.endings
 none_received roster e past h l closed =
     each_received (λ x i. channel_among (items roster (e ∷ past)) i ≡ Some h → ⊥) roster past e.thread e.call e.endings l.2
     (λ u y i a k is. taken_is_open roster e past u i h y a k is (sym (closed_accepted roster e past h (accepted roster past e.thread e.call e.endings a)) ∙ closed))
@@ -218,7 +218,7 @@ on_attached : (roster : List Member) (past : Trace) (h : ℕ) (w : Wait) → (is
 on_attached roster past h (Answer coid message reply_buffer receipt) same = ap (is_to h) (sym (same refl))
 on_attached roster past h (ForItem chid kind buffer) same = refl
 
-none_blocked : (roster : List Member) (past : Trace) (h : ℕ) → IsRoster roster → IsLawful roster past → is_closed past h ≡ true → NoneBlockedOn roster past h
+none_blocked : (roster : List Member) (past : Trace) (h : ℕ) → IsRoster roster → IsLawful roster past → is_destroyed past h ≡ true → NoneBlockedOn roster past h
 none_blocked roster past h r l closed u o is =
     on_attached roster past h o.wait (over_attached roster past u o l is) ∙ elim (is_on (λ k. connection_at roster past k) h o.wait) as (λ b. is_on (λ k. connection_at roster past k) h o.wait ≡ b → b ≡ false) [
       | true ↦ λ on.

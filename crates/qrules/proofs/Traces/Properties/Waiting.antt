@@ -93,11 +93,11 @@ pub record IsReceivedAtOnce (f : Facts) (t : ℕ) (c : Call) (m : SentItem) : Ty
 
 -- the receipt of an item by the newest receiver
 delivered_receipt : (f : Facts) (sender : Option ℕ) (item : Item) (message : List ℕ) (w : Option ℕ) (h r : ℕ) (v : WaitsOn h item (f.open_call r)) → w ≡ Some h → newest_receiver f h item ≡ Some r
-    → receipt_when_sent f sender item message w (receiver f item w) ≡ Some (receipt_from h sender item.priority r (item.number, (given_received item message v.buffer).0))
+    → receipt_when_sent f sender item message w (receiver f item w) ≡ Some (receipt_from h sender item.priority r (record { number = item.number; copied = (given_received item message v.buffer).0 }))
 delivered_receipt f sender item message w h r v is_way is_newest =
     let takes_it : takes item message r (f.open_call r) ≡ Some (receipt_ending item message r v.waiting.number v.buffer) = rw (v.is_open, v.waits) refl in
     ap (λ o. receipt_when_sent f sender item message o (receiver f item o)) is_way ∙ ap (receipt_when_sent f sender item message (Some h)) is_newest
-    ∙ receipt_in_at h sender item.priority (takes item message r (f.open_call r)) (receipt_ending item message r v.waiting.number v.buffer) (item.number, (given_received item message v.buffer).0) takes_it (given_received item message v.buffer).1
+    ∙ receipt_in_at h sender item.priority (takes item message r (f.open_call r)) (receipt_ending item message r v.waiting.number v.buffer) (record { number = item.number; copied = (given_received item message v.buffer).0 }) takes_it (given_received item message v.buffer).1
 
 delivered_at_once : (f : Facts) (t : ℕ) (c : Call) (w : Option ℕ) (item : Item) (message : List ℕ) (sender : Option ℕ) (m : SentItem) (u : ℕ) (o : OpenCall) (kind : Kind) → w ≡ Some m.channel → m.item ≡ item
     → (row_of f t c).receipt ≡ receipt_when_sent f sender item message w (receiver f item w) → is_among (threads_of f.roster) u ≡ true → f.open_call u ≡ Some o
@@ -108,7 +108,7 @@ delivered_at_once f t c w item message sender m u o kind is_way it receipt among
     let r = some_of (newest_receiver f m.channel item) (newest_some f m.channel item u among on) in
     let v = newest_waits f m.channel item r.0 r.1 in
     record {
-      receipt = receipt_from m.channel sender item.priority r.0 (item.number, (given_received item message v.buffer).0);
+      receipt = receipt_from m.channel sender item.priority r.0 (record { number = item.number; copied = (given_received item message v.buffer).0 });
       is = receipt ∙ delivered_receipt f sender item message w m.channel r.0 v is_way r.1;
       channel = refl;
       item = ap (λ x. x.number) (sym it);

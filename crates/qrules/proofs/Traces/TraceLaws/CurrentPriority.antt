@@ -15,7 +15,7 @@ use Rattle.qrules.specs.Private.Effects.{makes, sets, thread_of_send}
 use Rattle.qrules.specs.Private.Facts.{Facts, is_fixed, is_for_receipt}
 use Rattle.qrules.specs.Private.Laws.{PendingFollowsItsSender}
 use Rattle.qrules.specs.Private.Lawful.{IsLawful, facts_of}
-use Rattle.qrules.specs.Private.Past.{is_accepted, is_gone, is_taken, item_of, priority_of_thread, sender_of, current_priority}
+use Rattle.qrules.specs.Private.Past.{is_accepted, is_gone, is_received, item_of, priority_of_thread, sender_of, current_priority}
 use Rattle.qrules.specs.Private.Rows.{Received, item_sent_over, priority_set_for}
 use Rattle.qmodel.specs.Trace.{SentItem}
 use Rattle.qrules.specs.Private.Step.{priority_taken}
@@ -43,7 +43,7 @@ none_taken f t c X u a never = by (row_of f t c).receipt refl where
   by (Some r) is =
       let k = (laws_of f t c X a).receives r is in
       elim (eqb r.by u) as (λ b. eqb r.by u ≡ b → cond b (cond (is_fixed (f.channel r.channel)) None (Some r.kept.priority)) None ≡ None) [
-        | true ↦ λ same. absurd (never k.given r.item (subst (λ v. TakesOne f t c v k.given r.item) (eqb-true r.by u same) (takes_one f t c r.by k.given (r.item, r.kept.copied) (passes_of f t c X a).row k.is_given k.mark)))
+        | true ↦ λ same. absurd (never k.given r.item (subst (λ v. TakesOne f t c v k.given r.item) (eqb-true r.by u same) (takes_one f t c r.by k.given (record { number = r.item; copied = r.kept.copied }) (passes_of f t c X a).row k.is_given k.mark)))
         | false ↦ λ other. refl
       ] refl
 
@@ -105,7 +105,7 @@ is_senders roster (e ∷ past) l h item t at stays message sent =
           let by : sender_of past item.number ≡ Some t = ap (λ b. cond b (cond (is_accepted e past) (thread_of_send e.thread e.call) None) (sender_of past item.number)) (sym other) ∙ sent in
           let going : is_gone past item ≡ false = false_from_ne_true _ (λ gone. true≢false (sym (stays_gone past e.thread e.call e.endings item gone) ∙ stays)) in
           let below : item.number ≤ length past = item_below roster past item.number _ before in
-          let unread : is_taken past item.number ≡ false = (or_parts _ _ going).0 in
+          let unread : is_received past item.number ≡ false = (or_parts _ _ going).0 in
           let earlier : current_priority past item ≡ priority_of_thread roster past t = is_senders roster past l.0 h item t before going message by in
           let s = sent_by roster past h item l.0 (standing_is roster past h item before going) message in
           let sender : s.sender ≡ t = same_Some s.sender t (sym s.sent ∙ by) in

@@ -11,12 +11,12 @@ use Rattle.qrules.specs.Private.Calls.{row_of}
 use Rattle.qrules.specs.Private.Facts.{is_for_answer, is_send, sender, threads_of}
 use Rattle.qrules.specs.Private.Headline.AnsweredToSender.{is_held}
 use Rattle.qrules.specs.Private.Headline.BestFirst.{TakesBest}
-use Rattle.qrules.specs.Private.Headline.ReceivedOnce.{item_received}
+use Rattle.qrules.specs.Private.Headline.ReceivedOnce.{number_received}
 use Rattle.qrules.specs.Private.Laws.{HeldIsHeldSend, IsHeldSend, blocker, is_for_reply}
 use Rattle.qrules.specs.Private.Lawful.{IsLawful, facts_of}
-use Rattle.qrules.specs.Private.Past.{copied_count_in, has_ending_of, call_by_now, wait_with_receipt, is_ended, is_taken, item_of, made_at, open_call, priority_of_item, copied_count_among, copied_count_of, with_receipt}
+use Rattle.qrules.specs.Private.Past.{copied_count_in, has_ending_of, call_by_now, wait_with_receipt, is_ended, is_received, item_of, accepted_at, open_call, priority_of_item, copied_count_among, copied_count_of, with_receipt}
 use Rattle.qrules.specs.Private.Effects.{asks}
-use Rattle.qrules.specs.Private.Rows.{item_in_mark}
+use Rattle.qrules.specs.Private.Rows.{item_in}
 use Rattle.qmodel.specs.Trace.{SentItem}
 use Rattle.qmodel.specs.Trace.{Trace}
 use Rattle.qmodel.specs.declared.call.Completion.{Completion}
@@ -37,23 +37,24 @@ use Rattle.qrules.proofs.Traces.Rosters.{known}
 use Rattle.qrules.proofs.Traces.TraceLaws.Pending.{reply_parts}
 use Rattle.qrules.proofs.Traces.TraceLaws.Sent.{taken_stands}
 use Rattle.qrules.proofs.Traces.TraceLaws.Unended.{asks_any, unended_newest}
+use Rattle.qrules.specs.Past.{ReceivedItem}
 
 -- ---- what is taken was made
 
 -- what is so of each item that these endings receive is so of this one
-of_received : (P : ℕ → Type 0) (X : List Completion) (i copied : ℕ) → AllByRecursion (λ x. (j : ℕ) → item_received x ≡ Some j → P j) X → copied_count_among X i ≡ Some copied → P i
+of_received : (P : ℕ → Type 0) (X : List Completion) (i copied : ℕ) → AllByRecursion (λ x. (j : ℕ) → number_received x ≡ Some j → P j) X → copied_count_among X i ≡ Some copied → P i
 of_received P [] i copied all e = absurd (none-some copied e)
 of_received P (x ∷ X) i copied all e =
-    elim (item_in_mark x.mark) as (λ o. item_in_mark x.mark ≡ o → option_or (copied_count_in i o) (copied_count_among X i) ≡ Some copied → P i) [
+    elim (item_in x.mark) as (λ o. item_in x.mark ≡ o → option_or (copied_count_in i o) (copied_count_among X i) ≡ Some copied → P i) [
       | None ↦ λ is s. of_received P X i copied all.1 s
       | Some r ↦ λ is s.
-          elim (eqb r.0 i) as (λ b. eqb r.0 i ≡ b → option_or (cond b (Some r.1) None) (copied_count_among X i) ≡ Some copied → P i) [
-            | true ↦ λ same _. subst P (eqb-true r.0 i same) (all.0 r.0 (ap (option_map (λ (q : ℕ × ℕ). q.0)) is))
+          elim (eqb r.number i) as (λ b. eqb r.number i ≡ b → option_or (cond b (Some r.copied) None) (copied_count_among X i) ≡ Some copied → P i) [
+            | true ↦ λ same _. subst P (eqb-true r.number i same) (all.0 r.number (ap (option_map (λ (q : ReceivedItem). q.number)) is))
             | false ↦ λ other s. of_received P X i copied all.1 s
           ] refl s
     ] refl e
 
-taken_made : (roster : List Member) (past : Trace) (i : ℕ) → IsRoster roster → IsLawful roster past → is_taken past i ≡ true → (m : SentItem) × (item_at roster past i ≡ Some m)
+taken_made : (roster : List Member) (past : Trace) (i : ℕ) → IsRoster roster → IsLawful roster past → is_received past i ≡ true → (m : SentItem) × (item_at roster past i ≡ Some m)
 taken_made roster [] i r l e = absurd (true≢false (sym e))
 taken_made roster (e ∷ past) i r l taken =
     elim (copied_count_among e.endings i) as (λ o. copied_count_among e.endings i ≡ o → is_some (option_or o (copied_count_of past i)) ≡ true → (m : SentItem) × (item_at roster (e ∷ past) i ≡ Some m)) [
@@ -63,8 +64,8 @@ taken_made roster (e ∷ past) i r l taken =
           (all_of e.endings (best_first roster (e ∷ past) r l).0) some
     ] refl taken
   where
-    all_of : (X : List Completion) → AllByRecursion (λ x. (j : ℕ) → item_received x ≡ Some j → TakesBest roster past e x j) X
-        → AllByRecursion (λ x. (j : ℕ) → item_received x ≡ Some j → (m : SentItem) × (item_at roster (e ∷ past) j ≡ Some m)) X
+    all_of : (X : List Completion) → AllByRecursion (λ x. (j : ℕ) → number_received x ≡ Some j → TakesBest roster past e x j) X
+        → AllByRecursion (λ x. (j : ℕ) → number_received x ≡ Some j → (m : SentItem) × (item_at roster (e ∷ past) j ≡ Some m)) X
     all_of [] all = tt
     all_of (x ∷ X) all = (λ j is. let s = taken_stands roster past e x j (all.0 j is) in (s.0, s.1), all_of X all.1)
 
@@ -74,23 +75,23 @@ no_own : (o : Option Completion) → is_some o ≡ false → o ≡ None
 no_own None h = refl
 no_own (Some y) h = absurd (true≢false h)
 
-made_waits : (roster : List Member) (past : Trace) (i : ℕ) (m : SentItem) → IsLawful roster past → item_at roster past i ≡ Some m → is_ended past i ≡ false → (t : ℕ) × (made_at blocker past i ≡ Some t)
+made_waits : (roster : List Member) (past : Trace) (i : ℕ) (m : SentItem) → IsLawful roster past → item_at roster past i ≡ Some m → is_ended past i ≡ false → (t : ℕ) × (accepted_at blocker past i ≡ Some t)
 made_waits roster [] i m l is going = absurd (none-some m is)
 made_waits roster (e ∷ past) i m l is going =
     let p = or_parts (has_ending_of e.endings i) (is_ended past i) going in
-    elim (eqb i (length past + 1)) as (λ b. eqb i (length past + 1) ≡ b → cond b (item_of roster e past) (item_at roster past i) ≡ Some m → (t : ℕ) × (made_at blocker (e ∷ past) i ≡ Some t)) [
+    elim (eqb i (length past + 1)) as (λ b. eqb i (length past + 1) ≡ b → cond b (item_of roster e past) (item_at roster past i) ≡ Some m → (t : ℕ) × (accepted_at blocker (e ∷ past) i ≡ Some t)) [
       | true ↦ λ same at. let number : i ≡ length past + 1 = eqb-true _ _ same in now number at (subst (λ j. has_ending_of e.endings j ≡ false) number p.0)
       | false ↦ λ other at. let k = made_waits roster past i m l.0 at p.1 in (k.0, made_stays blocker e past i k.0 k.1)
     ] refl is
   where
-    now : i ≡ length past + 1 → item_of roster e past ≡ Some m → has_ending_of e.endings (length past + 1) ≡ false → (t : ℕ) × (made_at blocker (e ∷ past) i ≡ Some t)
+    now : i ≡ length past + 1 → item_of roster e past ≡ Some m → has_ending_of e.endings (length past + 1) ≡ false → (t : ℕ) × (accepted_at blocker (e ∷ past) i ≡ Some t)
     now number at unended =
         let f = facts_of roster past in
         let a = item_accepted roster e past m at in
         let o = outcome_of roster e past l.2 a.0 in
         let none : (row_of f e.thread e.call).own ≡ None = no_own ((row_of f e.thread e.call).own) (sym (ends_own roster past e.thread e.call e.endings l.1 o) ∙ unended) in
         let waits : is_some (asks 0 e.call) ≡ true = sym (asks_any (length past + 1) e.call) ∙ waits_or_ends f e.thread e.call (passes_of f e.thread e.call e.endings o) none in
-        (e.thread, subst (λ j. made_at blocker (e ∷ past) j ≡ Some e.thread) (sym number) (made_newest blocker e past a.0 ∙ rw waits refl))
+        (e.thread, subst (λ j. accepted_at blocker (e ∷ past) j ≡ Some e.thread) (sym number) (made_newest blocker e past a.0 ∙ rw waits refl))
 
 -- ---- a receipt
 
@@ -114,7 +115,7 @@ found_sender roster past i u o l is number answer =
 
 held_to_send : (roster : List Member) (past : Trace) (i : ℕ) → IsRoster roster → IsLawful roster past → is_held past i ≡ true → IsHeldSend roster past i
 held_to_send roster past i r l held =
-    let p = and_parts (is_taken past i) (not (is_ended past i)) held in
+    let p = and_parts (is_received past i) (not (is_ended past i)) held in
     let going : is_ended past i ≡ false = not-true (is_ended past i) p.1 in
     let m = taken_made roster past i r l p.0 in
     let t = made_waits roster past i m.0 l m.1 going in
@@ -126,7 +127,7 @@ held_to_send roster past i r l held =
     let is_open : open_call roster past t.0 ≡ Some waiting = open_from roster past t.0 k.block k.is (subst (λ j. is_ended past j ≡ false) (sym k.number) going) in
     let number : waiting.number ≡ i = receipt_number (priority_of_item roster past n) (is_unblocked roster past n) (copied_count_of past n) (call_by_now past k.block) ∙ k.number in
     let reply : is_for_reply waiting.wait ≡ true = received_for_reply (priority_of_item roster past n) (is_unblocked roster past n) (copied_count_of past n) (call_by_now past k.block)
-    (subst (λ j. is_taken past j ≡ true) (sym k.number) p.0) (filled_answer past k.block ∙ answer) in
+    (subst (λ j. is_received past j ≡ true) (sym k.number) p.0) (filled_answer past k.block ∙ answer) in
     record {
       thread = t.0;
       waiting = waiting;
@@ -143,7 +144,7 @@ send_to_held roster past i h =
     let k = open_parts roster past h.thread h.waiting h.is_open in
     let w = reply_parts h.waiting.wait h.received in
     let at : k.block.number ≡ i = sym k.number ∙ number in
-    and_from (is_taken past i) (not (is_ended past i)) (subst (λ j. is_taken past j ≡ true) at (held_is_taken roster past h.thread h.waiting k w.0 w.1))
+    and_from (is_received past i) (not (is_ended past i)) (subst (λ j. is_received past j ≡ true) at (held_is_taken roster past h.thread h.waiting k w.0 w.1))
     (not_from_false (is_ended past i) (subst (λ j. is_ended past j ≡ false) at k.going))
 
 pub held_is_held_send : HeldIsHeldSend

@@ -16,9 +16,9 @@ use Rattle.qqueue.proofs.OrderLaws.{best-at, best_is_first}
 use Rattle.qtables.specs.declared.member.Member.{Member}
 use Rattle.qrules.specs.Private.Effects.{receives_on}
 use Rattle.qrules.specs.Private.Headline.BestFirst.{TakesBest, takeable}
-use Rattle.qrules.specs.Private.Headline.ReceivedOnce.{item_received}
+use Rattle.qrules.specs.Private.Headline.ReceivedOnce.{number_received}
 use Rattle.qrules.specs.Private.Laws.{FirstGoesFirst, HasPriority, TakesBeside}
-use Rattle.qrules.specs.Private.Past.{is_closed, is_gone, item_of, made_on, pending_items, priority_before}
+use Rattle.qrules.specs.Private.Past.{is_destroyed, is_gone, item_of, made_on, pending_items, priority_before}
 use Rattle.qmodel.specs.Trace.{SentItem}
 use Rattle.qmodel.specs.Trace.{Event, Trace}
 use Rattle.qmodel.specs.declared.call.Completion.{Completion}
@@ -89,8 +89,8 @@ module _ (roster : List Member) (past : Trace) (e : Event) (h : ℕ) (kind : Kin
   was_priority = best-at (λ (v : Item). priority_before roster e past v.number ≡ v.priority) kind (takeable roster past e h) b (takeable_priorities roster past e h) best
 
   -- the channel isn't destroyed, where it was made before the event
-  standing : b.number ≤ length past → is_closed past h ≡ false
-  standing below = elim (is_closed past h) as (λ d. is_closed past h ≡ d → d ≡ false) [
+  standing : b.number ≤ length past → is_destroyed past h ≡ false
+  standing below = elim (is_destroyed past h) as (λ d. is_destroyed past h ≡ d → d ≡ false) [
     | false ↦ λ _. refl
     | true ↦ λ closed.
         let nothing : pending_items roster past h ≡ [] = pending_is roster past h ∙ ap (λ d. cond d [] (map (now past) (staying roster past h))) closed in
@@ -102,7 +102,7 @@ module _ (roster : List Member) (past : Trace) (e : Event) (h : ℕ) (kind : Kin
   ] refl
 
   -- an item that was made for the channel and isn't gone is behind it
-  behind_one : (i : ℕ) (first : Item) → item_at roster past i ≡ Some (record { item = first; channel = h }) → is_gone past first ≡ false → is_closed past h ≡ false
+  behind_one : (i : ℕ) (first : Item) → item_at roster past i ≡ Some (record { item = first; channel = h }) → is_gone past first ≡ false → is_destroyed past h ≡ false
       → may_take kind first ≡ true → now past first ≢ b → comes_before b (now past first) ≡ true
   behind_one i first at stays open_still may other =
       let P = λ (v : Item). may_take kind v ≡ true → v ≢ b → comes_before b v ≡ true in
@@ -156,5 +156,5 @@ first_goes_first roster past later e r l h =
     → AllByRecursion (λ z. TakesBeside (e ∷ L) z y.number h x → is_gone L x ≡ true) e.endings) (pending_items roster past h)) (pending_items roster past h) (pending_all roster past h) (λ x px.
     all_more (IsPending roster past h) (λ y. comes_before x y ≡ true → HasPriority roster L x → HasPriority roster L y
     → AllByRecursion (λ z. TakesBeside (e ∷ L) z y.number h x → is_gone L x ≡ true) e.endings) (pending_items roster past h) (pending_all roster past h) (λ y py before has_x has_y.
-    all_more (λ z. (i : ℕ) → item_received z ≡ Some i → TakesBest roster L e z i) (λ z. TakesBeside (e ∷ L) z y.number h x → is_gone L x ≡ true) e.endings (best_first roster (e ∷ L) r l).0 (λ z best t.
+    all_more (λ z. (i : ℕ) → number_received z ≡ Some i → TakesBest roster L e z i) (λ z. TakesBeside (e ∷ L) z y.number h x → is_gone L x ≡ true) e.endings (best_first roster (e ∷ L) r l).0 (λ z best t.
     gone_first roster past later e h x y z px py before has_x has_y (best y.number t.item) t)))

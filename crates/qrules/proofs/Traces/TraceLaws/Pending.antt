@@ -8,7 +8,7 @@ use Rattle.qtables.specs.declared.member.Member.{Member}
 use Rattle.qrules.specs.Private.Facts.{is_for_answer}
 use Rattle.qrules.specs.Private.Laws.{is_for_reply, IsNotHeld, IsOpenSend, NonePendingIsHeld, PendingIsOpen, PendingRises}
 use Rattle.qrules.specs.Private.Lawful.{IsLawful}
-use Rattle.qrules.specs.Private.Past.{call_by_now, is_ended, is_taken, pending_items, priority_of_item, copied_count_of, with_receipt}
+use Rattle.qrules.specs.Private.Past.{call_by_now, is_ended, is_received, pending_items, priority_of_item, copied_count_of, with_receipt}
 use Rattle.qmodel.specs.Trace.{Trace}
 use Rattle.qmodel.specs.declared.open_call.OpenCall.{OpenCall}
 use Rattle.qmodel.specs.declared.open_call.Wait.{Wait}
@@ -31,11 +31,11 @@ reply_parts (ForItem chid kind buffer) e = absurd (true≢false (sym e))
 -- ---- a pending item
 
 -- no receipt of it is in the past
-unread : (roster : List Member) (past : Trace) (h : ℕ) (item : Item) → IsPending roster past h item → is_taken past item.number ≡ false
+unread : (roster : List Member) (past : Trace) (h : ℕ) (item : Item) → IsPending roster past h item → is_received past item.number ≡ false
 unread roster past h item p = (or_parts _ _ p.stays).0
 
 -- an open call of the number of an item that isn't received is as it began
-as_begun : (roster : List Member) (past : Trace) (u : ℕ) (o : OpenCall) (k : IsOpen roster past u o) → is_taken past k.block.number ≡ false → o ≡ call_by_now past k.block
+as_begun : (roster : List Member) (past : Trace) (u : ℕ) (o : OpenCall) (k : IsOpen roster past u o) → is_received past k.block.number ≡ false → o ≡ call_by_now past k.block
 as_begun roster past u o k e = k.same ∙ ap (λ r. with_receipt (priority_of_item roster past k.block.number) (is_unblocked roster past k.block.number) r (call_by_now past k.block)) (none_of (copied_count_of past k.block.number) e)
 
 not_held : (roster : List Member) (past : Trace) (h : ℕ) (item : Item) → IsPending roster past h item → IsNotHeld roster past item.number
@@ -43,7 +43,7 @@ not_held roster past h item p = record {
   unread = ap (λ b. b && not (is_ended past item.number)) (unread roster past h item p);
   unkept = λ u o is held. ne_eqb o.number item.number (λ same.
       let k = open_parts roster past u o is in
-      let begun : o ≡ call_by_now past k.block = as_begun roster past u o k (subst (λ i. is_taken past i ≡ false) (sym same ∙ k.number) (unread roster past h item p)) in
+      let begun : o ≡ call_by_now past k.block = as_begun roster past u o k (subst (λ i. is_received past i ≡ false) (sym same ∙ k.number) (unread roster past h item p)) in
       let w = reply_parts (call_by_now past k.block).wait (subst (λ (x : OpenCall). is_for_reply x.wait ≡ true) begun held) in
       true≢false (sym w.1 ∙ filled_settled past k.block ∙ block_fresh past u k.block k.is ∙ ap not (sym (filled_answer past k.block) ∙ w.0)));
 }

@@ -9,7 +9,7 @@ use Rattle.qqueue.specs.Best.{best_of}
 use Rattle.qqueue.proofs.OrderLaws.{best-at}
 use Rattle.qtables.specs.declared.member.Member.{Member}
 use Rattle.qrules.specs.Private.Headline.BestFirst.{TakesBest, takeable}
-use Rattle.qrules.specs.Private.Headline.ReceivedOnce.{item_received}
+use Rattle.qrules.specs.Private.Headline.ReceivedOnce.{number_received}
 use Rattle.qrules.specs.Private.Headline.SentOrder.{connection_of}
 use Rattle.qrules.specs.Private.Laws.{LeadsTo, ReceivedWasSent, WasSent}
 use Rattle.qrules.specs.Private.Past.{item_of, items}
@@ -68,5 +68,5 @@ was_sent roster past e x i k =
 
 pub received_was_sent : ReceivedWasSent
 received_was_sent roster past e r l =
-    all_more (λ x. (i : ℕ) → item_received x ≡ Some i → TakesBest roster past e x i) (λ x. (i : ℕ) → item_received x ≡ Some i → WasSent roster (e ∷ past) x i) e.endings (best_first roster (e ∷ past) r l).0
+    all_more (λ x. (i : ℕ) → number_received x ≡ Some i → TakesBest roster past e x i) (λ x. (i : ℕ) → number_received x ≡ Some i → WasSent roster (e ∷ past) x i) e.endings (best_first roster (e ∷ past) r l).0
     (λ x h i is. was_sent roster past e x i (h i is))

@@ -7,7 +7,7 @@ use Rattle.std.proofs.lemmas.Option.{none-some, same_Some}
 use Rattle.qtables.specs.declared.member.Member.{Member}
 use Rattle.qrules.specs.Private.Laws.{blocker, IsUnended, AtMostOneOpen, OpenIsUnended}
 use Rattle.qrules.specs.Private.Lawful.{IsLawful}
-use Rattle.qrules.specs.Private.Past.{call_by_now, has_ending_of, is_accepted, is_ended, made_at, newest_block, open_call, priority_of_item, copied_count_of}
+use Rattle.qrules.specs.Private.Past.{call_by_now, has_ending_of, is_accepted, is_ended, accepted_at, newest_block, open_call, priority_of_item, copied_count_of}
 use Rattle.qrules.specs.Private.Effects.{asks}
 use Rattle.qmodel.specs.Trace.{Event, Trace}
 use Rattle.qmodel.specs.declared.call.Call.{Call}
@@ -65,10 +65,10 @@ pub record IsBlock (past : Trace) (t i : ℕ) : Type 0 where
   pub is : newest_block past t ≡ Some block
   pub number : block.number ≡ i
 
-pub unended_newest : (roster : List Member) (past : Trace) (t i : ℕ) → IsLawful roster past → made_at blocker past i ≡ Some t → is_ended past i ≡ false → IsBlock past t i
+pub unended_newest : (roster : List Member) (past : Trace) (t i : ℕ) → IsLawful roster past → accepted_at blocker past i ≡ Some t → is_ended past i ≡ false → IsBlock past t i
 unended_newest roster [] t i l is going = absurd (none-some t is)
 unended_newest roster (e ∷ past) t i l is going =
-    elim (eqb i (length past + 1)) as (λ b. eqb i (length past + 1) ≡ b → cond b (cond (is_accepted e past) (blocker e) None) (made_at blocker past i) ≡ Some t → IsBlock (e ∷ past) t i) [
+    elim (eqb i (length past + 1)) as (λ b. eqb i (length past + 1) ≡ b → cond b (cond (is_accepted e past) (blocker e) None) (accepted_at blocker past i) ≡ Some t → IsBlock (e ∷ past) t i) [
       | true ↦ λ same at.
           let k = begins e past t at in
           record { block = k.block; is = begun_newest e past t k; number = ((call_laws e.call).asks_one (length past + 1) k.block k.asked).number ∙ sym (eqb-true _ _ same) }
@@ -79,13 +79,13 @@ unended_newest roster (e ∷ past) t i l is going =
     ] refl is
 
 -- it is an accepted call of its thread that may wait
-block_began : (past : Trace) (u : ℕ) (b : OpenCall) → newest_block past u ≡ Some b → made_at blocker past b.number ≡ Some u
+block_began : (past : Trace) (u : ℕ) (b : OpenCall) → newest_block past u ≡ Some b → accepted_at blocker past b.number ≡ Some u
 block_began [] u b is = absurd (none-some b is)
 block_began (e ∷ past) u b is = elim (begins_now e past u b is) [
   | inl h ↦
       let waits : is_some (asks 0 e.call) ≡ true = sym (asks_any (length past + 1) e.call) ∙ ap is_some h.asked in
       let blocks : blocker e ≡ Some u = rw (waits, h.thread) refl in
-      subst (λ i. made_at blocker (e ∷ past) i ≡ Some u) (sym h.number) (made_newest blocker e past h.accepted ∙ blocks)
+      subst (λ i. accepted_at blocker (e ∷ past) i ≡ Some u) (sym h.number) (made_newest blocker e past h.accepted ∙ blocks)
   | inr h ↦ made_stays blocker e past b.number u (block_began past u b h)
 ]
 
@@ -104,7 +104,7 @@ unended_open roster past t i is =
       | Some o ↦ λ e at.
           let k = open_parts roster past t o e in
           let number : k.block.number ≡ i = sym k.number ∙ same_Some o.number i at in
-          record { blocks = subst (λ j. made_at blocker past j ≡ Some t) number (block_began past t k.block k.is); going = subst (λ j. is_ended past j ≡ false) number k.going }
+          record { blocks = subst (λ j. accepted_at blocker past j ≡ Some t) number (block_began past t k.block k.is); going = subst (λ j. is_ended past j ≡ false) number k.going }
     ] refl is
 
 open_unended : (roster : List Member) (past : Trace) (t i : ℕ) → IsLawful roster past → IsUnended past t i → option_map (λ o. o.number) (open_call roster past t) ≡ Some i

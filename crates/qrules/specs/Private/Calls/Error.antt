@@ -1,5 +1,5 @@
 -- Error: an answer without bytes.
-use Rattle.std.specs.Prelude.{ℤ, pos, [], None, Some, if◌then◌else◌}
+use Rattle.std.specs.Prelude.{ℤ, pos, if◌then◌else◌}
 use Rattle.std.specs.Ordering.{int_eq}
 use Rattle.qmodel.specs.declared.call.Mark.{Mark}
 use Rattle.qmodel.specs.declared.call.Mark.TheVariants as mark

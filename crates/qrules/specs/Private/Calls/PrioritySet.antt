@@ -4,7 +4,7 @@ use Rattle.std.specs.Prelude.{Option, None, Some, if◌then◌else◌}
 use Rattle.qbase.specs.declared.errno.Errno.{Errno}
 use Rattle.qbase.specs.declared.errno.Errno.TheVariants.{Srch}
 use Rattle.qmodel.specs.declared.call.Mark.TheVariants as mark
-use Rattle.qmodel.specs.Trace.{Priority, ThreadNo}
+use Rattle.qmodel.specs.Trace.{ThreadNo}
 use Rattle.qrules.specs.Private.Facts.{Facts, is_fellow}
 use Rattle.qrules.specs.Private.Rows.{Row, plain_row}
 

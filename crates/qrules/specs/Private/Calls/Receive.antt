@@ -1,11 +1,10 @@
 -- Receive: the best item of the channel, or a wait for one.
-use Rattle.std.specs.Prelude.{ℕ, List, Some}
+use Rattle.std.specs.Prelude.{ℕ, List}
 use Rattle.qqueue.specs.declared.item.Kind.TheVariants.{Any}
 use Rattle.qmodel.specs.Trace.{ChannelId, ThreadNo}
 use Rattle.qrules.specs.Private.Facts.{Facts}
 use Rattle.qrules.specs.Private.Receiving.{receive_row}
 use Rattle.qrules.specs.Private.Rows.{Row}
-use Rattle.qmodel.specs.declared.open_call.Wait.TheVariants.{Item as ForItem}
 
 -- it takes messages and pulses
 abbrev pub row : Facts → ThreadNo → ChannelId → List ℕ → Row

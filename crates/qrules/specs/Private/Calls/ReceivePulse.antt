@@ -1,11 +1,10 @@
 -- ReceivePulse: the best pulse of the channel, or a wait for one.
-use Rattle.std.specs.Prelude.{[], Some}
+use Rattle.std.specs.Prelude.{[]}
 use Rattle.qqueue.specs.declared.item.Kind.TheVariants.{PulseOnly}
 use Rattle.qmodel.specs.Trace.{ChannelId, ThreadNo}
 use Rattle.qrules.specs.Private.Facts.{Facts}
 use Rattle.qrules.specs.Private.Receiving.{receive_row}
 use Rattle.qrules.specs.Private.Rows.{Row}
-use Rattle.qmodel.specs.declared.open_call.Wait.TheVariants.{Item as ForItem}
 
 -- it takes only pulses, and has no buffer
 abbrev pub row : Facts → ThreadNo → ChannelId → Row

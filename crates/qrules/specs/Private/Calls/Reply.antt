@@ -1,5 +1,5 @@
 -- Reply: the answer to a message that was received and not yet answered.
-use Rattle.std.specs.Prelude.{ℕ, ℤ, List, Some}
+use Rattle.std.specs.Prelude.{ℕ, ℤ, List}
 use Rattle.qbase.specs.Laying.{laid_count, lay_over}
 use Rattle.qmodel.specs.declared.call.Mark.TheVariants as mark
 use Rattle.qmodel.specs.Trace.{ReceiveId, ThreadNo}

@@ -6,8 +6,7 @@ use Rattle.qqueue.specs.declared.item.Item.{Item}
 use Rattle.qmodel.specs.Trace.{ConnectionId, ThreadNo}
 use Rattle.qrules.specs.Private.Delivering.{receiver, delivers, receipt_when_sent, wants_room}
 use Rattle.qrules.specs.Private.Facts.{Facts, route}
-use Rattle.qrules.specs.Private.Rows.{Row, message_item, item_sent_over, empty_row}
-use Rattle.qmodel.specs.declared.open_call.Wait.TheVariants.{Answer}
+use Rattle.qrules.specs.Private.Rows.{Row, message_item, empty_row}
 
 -- Badf if the thread's process hasn't this connection, or its channel isn't open
 abbrev pub refusal : Facts → ThreadNo → ConnectionId → Option Errno

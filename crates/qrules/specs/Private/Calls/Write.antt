@@ -1,5 +1,5 @@
 -- Write: bytes over the reply buffer of a held message's sender, from an offset on.
-use Rattle.std.specs.Prelude.{ℕ, List, Some}
+use Rattle.std.specs.Prelude.{ℕ, List}
 use Rattle.qbase.specs.Laying.{laid_count}
 use Rattle.qmodel.specs.declared.call.Mark.TheVariants as mark
 use Rattle.qmodel.specs.Trace.{ReceiveId, ThreadNo}

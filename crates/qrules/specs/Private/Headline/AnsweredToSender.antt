@@ -10,14 +10,14 @@ use Rattle.qmodel.specs.declared.call.Mark.TheVariants as mark
 use Rattle.qmodel.specs.Trace.{CallNo, ChannelId, ReceiveId, ThreadNo}
 use Rattle.qrules.specs.Private.Facts.{owns}
 use Rattle.qrules.specs.Private.Lawful.{facts_of}
-use Rattle.qrules.specs.Private.Past.{is_accepted, is_ended, is_taken, items, sender_of}
+use Rattle.qrules.specs.Private.Past.{is_accepted, is_ended, is_received, items, sender_of}
 use Rattle.qmodel.specs.Trace.{SentItem}
 use Rattle.qmodel.specs.Trace.{Event, Trace}
 use Rattle.qrules.specs.Private.Effects.{answered_by}
 
 -- message i is received, and its Send isn't ended
 abbrev pub is_held : Trace → ReceiveId → Bool
-is_held past i = is_taken past i && not (is_ended past i)
+is_held past i = is_received past i && not (is_ended past i)
 
 -- the channel of the one of these items that has number i
 abbrev pub channel_among : List SentItem → CallNo → Option ChannelId

@@ -10,7 +10,7 @@ use Rattle.qmodel.specs.declared.call.Call.{Call}
 use Rattle.qmodel.specs.declared.call.Completion.{Completion}
 use Rattle.qmodel.specs.Trace.{CallNo, ChannelId}
 use Rattle.qrules.specs.Private.Headline.CopiedExactly.{call_at}
-use Rattle.qrules.specs.Private.Headline.ReceivedOnce.{item_received}
+use Rattle.qrules.specs.Private.Headline.ReceivedOnce.{number_received}
 use Rattle.qrules.specs.Private.Past.{pending_items, item_of, made_on}
 use Rattle.qmodel.specs.Trace.{Event, Trace}
 use Rattle.qrules.specs.Private.Effects.{receives_on}
@@ -34,5 +34,5 @@ pub record TakesBest (roster : List Member) (past : Trace) (e : Event) (x : Comp
 abbrev pub BestFirst : List Member → Trace → Type 0
 BestFirst roster [] = Unit {0}
 BestFirst roster (e ∷ past) =
-    AllByRecursion (λ x. (i : CallNo) → item_received x ≡ Some i → TakesBest roster past e x i) e.endings
+    AllByRecursion (λ x. (i : CallNo) → number_received x ≡ Some i → TakesBest roster past e x i) e.endings
     × BestFirst roster past

@@ -1,31 +1,17 @@
 -- Each item is received at most once, and each call ended at most once.
-use Rattle.std.specs.Prelude.{◌≡◌, ℕ, ◌==◌, Bool, true, false, List, [], ◌∷◌, ◌++◌, map, Option}
+use Rattle.std.specs.Prelude.{◌≡◌, ◌==◌, Bool, true, List, [], ◌∷◌, map}
 use Rattle.std.specs.List.{AllByRecursion, filter_map, list_any}
-use Rattle.std.specs.Option.{option_map}
 use Rattle.qtables.specs.declared.member.Member.{Member}
 use Rattle.qmodel.specs.declared.call.Completion.{Completion}
 use Rattle.qmodel.specs.Trace.{CallNo}
 use Rattle.qrules.specs.Private.Past.{items}
-use Rattle.qrules.specs.Private.Rows.{item_in_mark}
 use Rattle.qmodel.specs.Trace.{Trace}
-
--- no two of these numbers are equal
-abbrev pub AllDifferent : List ℕ → Type 0
-AllDifferent [] = Unit {0}
-AllDifferent (n ∷ ns) = AllByRecursion (λ m. (n == m) ≡ false) ns × AllDifferent ns
-
--- all endings so far
-abbrev pub endings_of : Trace → List Completion
-endings_of [] = []
-endings_of (e ∷ past) = e.endings ++ endings_of past
-
--- the number of the item that an ending receives
-abbrev pub item_received : Completion → Option CallNo
-item_received x = option_map (λ r. r.0) (item_in_mark x.mark)
+use Rattle.qrules.specs.Trace.{endings_of}
+pub use Rattle.qrules.specs.Properties.{number_received, AllDifferent}
 
 -- the items that these endings receive
 abbrev pub items_received : List Completion → List CallNo
-items_received endings = filter_map item_received endings
+items_received endings = filter_map number_received endings
 
 -- the calls that these endings end
 abbrev pub calls_ended : List Completion → List CallNo

@@ -9,7 +9,7 @@ use Rattle.qmodel.specs.declared.call.Completion.{Completion}
 use Rattle.qmodel.specs.Trace.{CallNo, ChannelId, ConnectionId}
 use Rattle.qrules.specs.Private.Headline.BestFirst.{takeable}
 use Rattle.qrules.specs.Private.Headline.CopiedExactly.{call_at}
-use Rattle.qrules.specs.Private.Headline.ReceivedOnce.{item_received}
+use Rattle.qrules.specs.Private.Headline.ReceivedOnce.{number_received}
 use Rattle.qrules.specs.Private.Past.{priority_before}
 use Rattle.qmodel.specs.Trace.{Event, Trace}
 use Rattle.qrules.specs.Private.Effects.{sends_over}
@@ -24,7 +24,7 @@ pub record TakesSent (past : Trace) (x : Completion) (j : CallNo) (k : Connectio
   pub channel : ChannelId
   pub buffer : List ℕ
   pub call : call_at past x.call ≡ Some (Receive channel buffer)
-  pub item : item_received x ≡ Some j
+  pub item : number_received x ≡ Some j
   pub connection : connection_of past j ≡ Some k
 
 -- no item that could be taken from any channel, was sent over connection k and had the priority of item j

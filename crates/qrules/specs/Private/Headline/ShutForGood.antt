@@ -7,14 +7,14 @@ use Rattle.qmodel.specs.declared.open_call.OpenCall.{OpenCall}
 use Rattle.qmodel.specs.Trace.{CallNo, ChannelId, ThreadNo}
 use Rattle.qrules.specs.Private.Cancelling.{is_on}
 use Rattle.qrules.specs.Private.Headline.AnsweredToSender.{channel_among}
-use Rattle.qrules.specs.Private.Headline.ReceivedOnce.{item_received}
-use Rattle.qrules.specs.Private.Past.{attached_connection, is_closed, items, open_call}
+use Rattle.qrules.specs.Private.Headline.ReceivedOnce.{number_received}
+use Rattle.qrules.specs.Private.Past.{attached_connection, is_destroyed, items, open_call}
 use Rattle.qmodel.specs.Trace.{Trace}
 
 -- none of these endings receives an item of channel h
 abbrev pub NoneReceivedFrom : List Member → Trace → ChannelId → List Completion → Type 0
 NoneReceivedFrom roster past h endings =
-    AllByRecursion (λ x. (i : CallNo) → item_received x ≡ Some i
+    AllByRecursion (λ x. (i : CallNo) → number_received x ≡ Some i
     → channel_among (items roster past) i ≡ Some h → ⊥) endings
 
 -- no open call is blocked on channel h; a Send is blocked on the channel that its connection was attached to,
@@ -29,6 +29,6 @@ NoneBlockedOn roster past h =
 abbrev pub ShutForGood : List Member → Trace → Type 0
 ShutForGood roster [] = Unit {0}
 ShutForGood roster (e ∷ past) =
-    ((h : ChannelId) → is_closed (e ∷ past) h ≡ true
+    ((h : ChannelId) → is_destroyed (e ∷ past) h ≡ true
     → NoneReceivedFrom roster (e ∷ past) h e.endings × NoneBlockedOn roster (e ∷ past) h)
     × ShutForGood roster past
