@@ -18,7 +18,8 @@ use Rattle.qrules.specs.View.{receive_in, receive_view, send_in, send_view}
 use Rattle.qrules.proofs.Same.{facts_view}
 use Rattle.qrules.proofs.Rows.Plain.{state_same}
 use Rattle.qrules.proofs.View.{receive_found, send_found, IsKnown}
-use Rattle.qkernel.specs.Blocked.{blocked_threads, number_of}
+use Rattle.qrules.specs.Facts.{waiting_number}
+use Rattle.qkernel.specs.Blocked.{blocked_threads}
 use Rattle.qkernel.specs.Blocked as told
 use Rattle.qkernel.specs.Stands.{StandsAt}
 use Rattle.qkernel.specs.Kernel.{State}
@@ -52,7 +53,7 @@ same_told connection open_call (t ∷ threads) h = rw (h.0, same_told connection
 -- ---- what is told by the rules
 
 module _ (f : Facts) (known : IsKnown f) where
-  number_same : (u : ℕ) → number_of (facts_view f) u ≡ option_map (λ o. o.number) (f.open_call u)
+  number_same : (u : ℕ) → waiting_number (facts_view f) u ≡ option_map (λ o. o.number) (f.open_call u)
   number_same u = rw (send_found f u known, receive_found f u known) (
       elim (f.open_call u) as (λ o. option_or (option_map (λ s. s.number) (send_view u o)) (option_map (λ r. r.number) (receive_view u o)) ≡ option_map (λ o. o.number) o) [
         | None ↦ refl
@@ -64,7 +65,7 @@ module _ (f : Facts) (known : IsKnown f) where
 
   told_same : (u : ℕ) → blocked_thread f.connection u (f.open_call u) ≡ told.blocked_thread (facts_view f) u
   told_same u = sym (
-      ap (λ s. option_map (λ n. record { number = n; thread = u; state = s }) (number_of (facts_view f) u)) (state_same f u known)
+      ap (λ s. option_map (λ n. record { number = n; thread = u; state = s }) (waiting_number (facts_view f) u)) (state_same f u known)
       ∙ ap (option_map (λ n. record { number = n; thread = u; state = state_in f.connection (f.open_call u) })) (number_same u)
       ∙ elim (f.open_call u) as (λ o. option_map (λ n. record { number = n; thread = u; state = state_in f.connection o }) (option_map (λ o. o.number) o) ≡ blocked_thread f.connection u o) [ None ↦ refl | Some o ↦ refl ])
 

@@ -23,7 +23,7 @@ use Rattle.qrules.specs.View.{receive_in, receive_view, send_in, send_view}
 use Rattle.qrules.proofs.Same.{facts_view, AreOfRoster}
 use Rattle.qrules.specs.Trace.{Trace}
 use Rattle.qrules.proofs.Past.Facts.{facts_known, same_facts}
-use Rattle.qrules.proofs.View.{receive_found, send_found, IsKnown}
+use Rattle.qrules.proofs.View.{one_view}
 
 -- ---- the open calls, by threads
 
@@ -72,54 +72,12 @@ open_among (t ∷ threads) u e =
       | false ↦ λ e. open_among threads u e
     ] e
 
--- ---- an open call, read off its views
-
-abbrev receipt_back : Receipt → OldReceipt
-receipt_back r = record { priority = r.priority; unblocked = r.unblocked; copied = r.copied }
-
-abbrev back : Option OpenSend → Option OpenReceive → Option OpenCall
-back (Some s) r = Some (record { number = s.number; wait = Answer s.connection s.message s.reply_buffer (option_map receipt_back s.receipt) })
-back None (Some r) = Some (record { number = r.number; wait = ForItem r.channel r.kind r.buffer })
-back None None = None
-
-back_in : (u n : ℕ) (w : Wait) → back (send_in u n w) (receive_in u n w) ≡ Some (record { number = n; wait = w })
-back_in u n (Answer coid message reply_buffer None) = refl
-back_in u n (Answer coid message reply_buffer (Some receipt)) = refl
-back_in u n (ForItem chid kind buffer) = refl
-
-back_view : (u : ℕ) (o : Option OpenCall) → back (send_view u o) (receive_view u o) ≡ o
-back_view u None = refl
-back_view u (Some o) = back_in u o.number o.wait
-
-pub same_open : (f g : OldFacts) (u : ℕ) → IsKnown f → IsKnown g → facts_view f ≡ facts_view g → f.open_call u ≡ g.open_call u
-same_open f g u of og same =
-    let sends : send_view u (f.open_call u) ≡ send_view u (g.open_call u) = sym (send_found f u of) ∙ ap (λ h. send_of h u) same ∙ send_found g u og in
-    let receives : receive_view u (f.open_call u) ≡ receive_view u (g.open_call u) = sym (receive_found f u of) ∙ ap (λ h. receive_of h u) same ∙ receive_found g u og in
-    sym (back_view u (f.open_call u)) ∙ ap (λ s. back s (receive_view u (f.open_call u))) sends ∙ ap (back (send_view u (g.open_call u))) receives ∙ back_view u (g.open_call u)
-
--- facts are told by their view
-same_view : (f g : OldFacts) → IsKnown f → IsKnown g → facts_view f ≡ facts_view g → f ≡ g
-same_view f g of og view =
-    let open_call = λ (u : ℕ). same_open f g u of og view in
-    λ i. record {
-      roster = (view i).roster;
-      number = (view i).number;
-      down = (view i).down;
-      channel = (view i).channel;
-      open_channels = (view i).open_channels;
-      connection = (view i).connection;
-      live_connections = (view i).live_connections;
-      open_call = λ u. open_call u i;
-      pending = (view i).pending;
-      priority = (view i).priority;
-    }
-
 -- ---- at a trace
 
 module _ (roster : List Member) (s : State) (past : Trace) (rises : IsRoster (members_of s.threads)) (of : AreOfRoster roster past) where
   -- a kernel that stands at a trace contains what its inner functions find in it
   pub content_at : StandsAt roster s past → facts_in s ≡ old_lawful.facts_of roster past
-  content_at stands = same_view (facts_in s) (old_lawful.facts_of roster past) (open_among s.threads) (facts_known roster past of) (sym (content_same s rises) ∙ stands ∙ same_facts roster past of)
+  content_at stands = one_view (facts_in s) (old_lawful.facts_of roster past) (open_among s.threads) (facts_known roster past of) (sym (content_same s rises) ∙ stands ∙ same_facts roster past of)
 
   pub stands_by : facts_in s ≡ old_lawful.facts_of roster past → StandsAt roster s past
   stands_by same = content_same s rises ∙ ap facts_view same ∙ sym (same_facts roster past of)

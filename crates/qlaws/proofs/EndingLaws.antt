@@ -47,19 +47,11 @@ pub endings_name_own_calls : Endings.EndingsNameOwnCalls
 endings_name_own_calls roster past e r l =
     all_more _ _ e.endings (ending.endings_name_own_calls roster past e r (before roster (e ∷ past) l)) (λ x is. same_thread_at (e ∷ past) x.call ∙ is)
 
-rise_same : (endings : List Completion) → old_laws.RiseByThread endings → Endings.RiseByThread endings
-rise_same [] h = tt
-rise_same (x ∷ endings) h = (h.0, rise_same endings h.1)
-
 pub endings_rise_by_thread : Endings.EndingsRiseByThread
-endings_rise_by_thread roster past e r l = rise_same e.endings (ending.endings_rise_by_thread roster past e r (before roster (e ∷ past) l))
-
-apart_same : (endings : List Completion) → old_endings.AreApart endings → Endings.AreApart endings
-apart_same [] h = tt
-apart_same (x ∷ endings) h = (h.0, apart_same endings h.1)
+endings_rise_by_thread roster past e r l = ending.endings_rise_by_thread roster past e r (before roster (e ∷ past) l)
 
 pub endings_are_apart : Endings.EndingsAreApart
-endings_are_apart roster past e r l = apart_same e.endings (blocked.endings_are_apart roster past e r (before roster (e ∷ past) l))
+endings_are_apart roster past e r l = blocked.endings_are_apart roster past e r (before roster (e ∷ past) l)
 
 pub endings_go_to_blocked : Endings.EndingsGoToBlocked
 endings_go_to_blocked roster past e r l =

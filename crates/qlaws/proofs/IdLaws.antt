@@ -122,7 +122,7 @@ module _ {A : Type 0} where
       counted (λ i. cond (eqb h i) None (at i)) n (λ i is. within i (was_there at h i is)) ids different.1 (still_there at h ids different.0 there.1) in
       omega (arith, less, rest)
 
-  at_most : (roster : List Member) (make : Option Member → Call → Option A) (ends : Call → Option ℕ) (past : Trace) (n : ℕ) → count_to (live roster make ends past) (length past) ≤ n → laws.AtMost n (live roster make ends past)
+  at_most : (roster : List Member) (make : Option Member → Call → Option A) (ends : Effect → Option ℕ) (past : Trace) (n : ℕ) → count_to (live roster make ends past) (length past) ≤ n → laws.AtMost n (live roster make ends past)
   at_most roster make ends past n few ids different there =
       let made = λ (e : Event). make (member_at roster e.thread) e.call in
       let all : length ids ≤ count_to (live roster make ends past) (length past) =

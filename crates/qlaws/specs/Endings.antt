@@ -14,6 +14,7 @@ use Rattle.qrules.specs.Lawful.{facts_of}
 use Rattle.qrules.specs.Properties.{connection_of, items, number_received, request_of}
 use Rattle.qlaws.specs.Lawful.{InEachNewest}
 use Rattle.qlaws.specs.OpenCalls.{waiting_number}
+pub use Rattle.qrules.specs.Trace.{AreApart, gets, RiseByThread}
 
 -- P holds of each ending of each event
 abbrev pub OfEachEnding : (List Member → Trace → Event → Completion → Type 0) → Type 0
@@ -30,23 +31,9 @@ thread_at (e ∷ past) i = if i == length past + 1 then Some e.thread else threa
 abbrev pub EndingsNameOwnCalls : Type 0
 EndingsNameOwnCalls = OfEachEnding (λ roster past e x. thread_at (e ∷ past) x.call ≡ Some x.thread)
 
--- the thread numbers of these endings rise, so each goes to a different thread
-abbrev pub RiseByThread : List Completion → Type 0
-RiseByThread [] = Unit {0}
-RiseByThread (x ∷ endings) = AllByRecursion (λ y. x.thread < y.thread) endings × RiseByThread endings
-
 -- the thread numbers of the endings rise in each event
 abbrev pub EndingsRiseByThread : Type 0
 EndingsRiseByThread = InEachNewest (λ roster past e. RiseByThread e.endings)
-
--- one of these endings goes to thread t
-abbrev pub gets : List Completion → ThreadNo → Bool
-gets endings t = list_any (λ x. x.thread == t) endings
-
--- each of these endings goes to a different thread
-abbrev pub AreApart : List Completion → Type 0
-AreApart [] = Unit {0}
-AreApart (x ∷ endings) = (gets endings x.thread ≡ false) × AreApart endings
 
 -- in each event, each ending goes to a different thread
 abbrev pub EndingsAreApart : Type 0

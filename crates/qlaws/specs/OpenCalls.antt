@@ -11,6 +11,7 @@ use Rattle.qrules.specs.Delivery.{newest_receiver}
 use Rattle.qrules.specs.Past.{accepted_at, is_ended, is_received, was_done}
 use Rattle.qrules.specs.Lawful.{facts_of}
 use Rattle.qlaws.specs.Lawful.{AfterEach}
+pub use Rattle.qrules.specs.Facts.{waiting_number}
 
 -- ---- at most one for each thread
 
@@ -28,11 +29,6 @@ pub record IsUnended (past : Trace) (t : ThreadNo) (i : CallNo) : Type 0 where
 abbrev pub AtMostOneOpen : Type 0
 AtMostOneOpen = AfterEach (λ roster past. (t : ThreadNo) (i j : CallNo)
     → IsUnended past t i → IsUnended past t j → i ≡ j)
-
--- the number of the call that thread t waits in
-abbrev pub waiting_number : Facts → ThreadNo → Option CallNo
-waiting_number f t =
-    option_or (option_map (λ s. s.number) (send_of f t)) (option_map (λ r. r.number) (receive_of f t))
 
 -- a thread waits in exactly that call
 abbrev pub OpenIsUnended : Type 0

@@ -12,13 +12,12 @@ use Rattle.qqueue.specs.declared.item.What.TheVariants.{User}
 use Rattle.qrules.specs.Private.Facts.{threads_of, Facts as OldFacts}
 use Rattle.qrules.specs.Private.Receivers.{wait_for, wait_on}
 use Rattle.qmodel.specs.declared.open_call.OpenCall.{OpenCall}
-use Rattle.qmodel.specs.declared.open_call.Receipt.{Receipt as KeptReceipt}
 use Rattle.qmodel.specs.declared.open_call.Wait.{Wait}
 use Rattle.qmodel.specs.declared.open_call.Wait.TheVariants.{Answer, Item as ForItem}
-use Rattle.qrules.specs.Facts.{receive_of, send_of, OpenReceive, OpenSend, Receipt}
+use Rattle.qrules.specs.Facts.{receive_of, send_of, OpenReceive, OpenSend}
 use Rattle.qrules.specs.View.{receive_in, receive_view, send_in, send_view}
 use Rattle.qrules.proofs.Same.{facts_view}
-use Rattle.qrules.proofs.View.{receive_found, send_found, IsKnown}
+use Rattle.qrules.proofs.View.{receive_found, IsKnown}
 use Rattle.qrenaming.specs.Laws.{KeepsReceivers}
 use Rattle.qrenaming.specs.Renaming.{facts_as, receive_as, send_as, Renaming}
 use Rattle.qrenaming.specs.Private.Laws.{KeepsReceivers as KeepsWaits}
@@ -49,45 +48,6 @@ view_as r f = λ i. record (facts_as r (facts_view f)) {
 
 pub known_as : (r : Renaming) (f : OldFacts) → IsKnown f → IsKnown (old_facts_as r f)
 known_as r f known u e = known u (sym (blocked_as r (f.open_call u)) ∙ e)
-
--- ---- facts with one view are one
-
-abbrev kept_of : Receipt → KeptReceipt
-kept_of r = record { priority = r.priority; copied = r.copied; unblocked = r.unblocked }
-
-abbrev call_of : Option OpenSend → Option OpenReceive → Option OpenCall
-call_of (Some s) q = Some (record { number = s.number; wait = Answer s.connection s.message s.reply_buffer (option_map kept_of s.receipt) })
-call_of None (Some q) = Some (record { number = q.number; wait = ForItem q.channel q.kind q.buffer })
-call_of None None = None
-
-call_back : (u : ℕ) (o : Option OpenCall) → call_of (send_view u o) (receive_view u o) ≡ o
-call_back u None = refl
-call_back u (Some o) = by_wait o.wait where
-  by_wait : (w : Wait) → call_of (send_in u o.number w) (receive_in u o.number w) ≡ Some (record { number = o.number; wait = w })
-  by_wait (Answer coid message reply_buffer None) = refl
-  by_wait (Answer coid message reply_buffer (Some receipt)) = refl
-  by_wait (ForItem chid kind buffer) = refl
-
-module _ (f g : OldFacts) (of_f : IsKnown f) (of_g : IsKnown g) (same : facts_view f ≡ facts_view g) where
-  same_call : (u : ℕ) → f.open_call u ≡ g.open_call u
-  same_call u =
-      let sends : send_view u (f.open_call u) ≡ send_view u (g.open_call u) = sym (send_found f u of_f) ∙ ap (λ x. send_of x u) same ∙ send_found g u of_g in
-      let receives : receive_view u (f.open_call u) ≡ receive_view u (g.open_call u) = sym (receive_found f u of_f) ∙ ap (λ x. receive_of x u) same ∙ receive_found g u of_g in
-      sym (call_back u (f.open_call u)) ∙ (λ i. call_of (sends i) (receives i)) ∙ call_back u (g.open_call u)
-
-  pub one_view : f ≡ g
-  one_view = λ i. record {
-    roster = (same i).roster;
-    number = (same i).number;
-    down = (same i).down;
-    channel = (same i).channel;
-    open_channels = (same i).open_channels;
-    connection = (same i).connection;
-    live_connections = (same i).live_connections;
-    open_call = λ u. same_call u i;
-    pending = (same i).pending;
-    priority = (same i).priority;
-  }
 
 -- ---- who waits to receive
 

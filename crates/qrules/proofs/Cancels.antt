@@ -16,7 +16,7 @@ use Rattle.qqueue.specs.declared.item.Kind.{Kind}
 use Rattle.qrules.specs.Facts.{OpenReceive, OpenSend}
 use Rattle.qrules.specs.Delivery.{cancel, cancel_receive, cancel_send}
 use Rattle.qrules.proofs.Lists.{filter-filter_map, found, map-filter_map}
-use Rattle.qrules.specs.View.{receipt_view, receive_in, receive_view, send_in, send_view}
+use Rattle.qrules.specs.View.{receive_in, receive_view, send_in, send_view}
 use Rattle.qrules.proofs.Same.{facts_view}
 use Rattle.qrules.proofs.View.{receive_thread, send_thread, unknown, IsKnown}
 
@@ -43,7 +43,7 @@ cancelled thread k p g ts u keeps its known =
 
 module _ (f : OldFacts) (sends : OpenSend → Bool) (receives : OpenReceive → Bool) (is_cancelled : ℕ → Wait → Bool) (e : Errno) where
   pub cancel_same : (u : ℕ) → IsKnown f
-      → ((v n k : ℕ) (m b : List ℕ) (r : Option OldReceipt) → sends (record { number = n; thread = v; connection = k; message = m; reply_buffer = b; receipt = option_map receipt_view r }) ≡ is_cancelled v (Answer k m b r))
+      → ((v n k : ℕ) (m b : List ℕ) (r : Option OldReceipt) → sends (record { number = n; thread = v; connection = k; message = m; reply_buffer = b; receipt = r }) ≡ is_cancelled v (Answer k m b r))
       → ((v n h : ℕ) (kind : Kind) (b : List ℕ) → receives (record { number = n; thread = v; channel = h; kind = kind; buffer = b }) ≡ is_cancelled v (ForItem h kind b))
       → find (λ x. eqb x.thread u) (cancel (facts_view f) sends receives e) ≡ cancels f is_cancelled e u
   cancel_same u known of_send of_receive =
@@ -57,7 +57,7 @@ module _ (f : OldFacts) (sends : OpenSend → Bool) (receives : OpenReceive → 
         | None ↦ refl
         | Some o ↦ elim (o.wait) as (λ w. option_or (option_map (cancel_send e) (pass sends (send_in u o.number w))) (option_map (cancel_receive e) (pass receives (receive_in u o.number w))) ≡ cancel_where (is_cancelled u) e u (Some (record { number = o.number; wait = w }))) [
           | Answer coid message reply_buffer receipt ↦
-              let s : OpenSend = record { number = o.number; thread = u; connection = coid; message = message; reply_buffer = reply_buffer; receipt = option_map receipt_view receipt } in
+              let s : OpenSend = record { number = o.number; thread = u; connection = coid; message = message; reply_buffer = reply_buffer; receipt = receipt } in
               rw (of_send u o.number coid message reply_buffer receipt) (
               elim (is_cancelled u (Answer coid message reply_buffer receipt)) as (λ b. option_or (option_map (cancel_send e) (cond b (Some s) None)) None ≡ cond b (Some (cancel_send e s)) None) [ true ↦ refl | false ↦ refl ])
           | ForItem chid kind buffer ↦

@@ -11,7 +11,7 @@ use Rattle.qmodel.specs.declared.open_call.Wait.{Wait}
 use Rattle.qmodel.specs.declared.open_call.Wait.TheVariants.{Answer, Item as ForItem}
 use Rattle.qrules.proofs.Traces.Past.Senders.{sender_sends}
 use Rattle.qrules.specs.Facts.{OpenSend, open_send}
-use Rattle.qrules.specs.View.{receipt_view, send_in, send_view}
+use Rattle.qrules.specs.View.{send_in, send_view}
 use Rattle.qrules.proofs.Same.{facts_view}
 
 module _ (open_call : ℕ → Option OpenCall) (i : ℕ) where
@@ -25,7 +25,7 @@ module _ (open_call : ℕ → Option OpenCall) (i : ℕ) where
         | Some o ↦ λ e.
             elim (o.wait) as (λ w. o.wait ≡ w → find (λ s. eqb s.number i) (cons_option (send_in t o.number w) (filter_map g ts)) ≡ option_and_then g (cond (eqb o.number i && is_for_answer w) (Some t) (sender_among open_call i ts))) [
               | Answer coid message reply_buffer receipt ↦ λ w.
-                  let s : OpenSend = record { number = o.number; thread = t; connection = coid; message = message; reply_buffer = reply_buffer; receipt = option_map receipt_view receipt } in
+                  let s : OpenSend = record { number = o.number; thread = t; connection = coid; message = message; reply_buffer = reply_buffer; receipt = receipt } in
                   elim (eqb o.number i) as (λ b. cond b (Some s) (find (λ s. eqb s.number i) (filter_map g ts)) ≡ option_and_then g (cond (b && true) (Some t) (sender_among open_call i ts))) [
                     | true ↦ sym (ap (send_view t) e ∙ ap (send_in t o.number) w)
                     | false ↦ rest
@@ -49,7 +49,7 @@ pub record OneSend (f : OldFacts) (i : ℕ) : Type 0 where
   pub receipt : Option OldReceipt
   pub sent : sender f i ≡ Some thread
   pub is : f.open_call thread ≡ Some (record { number = number; wait = Answer connection message reply_buffer receipt })
-  pub new : open_send (facts_view f) i ≡ Some (record { number = number; thread = thread; connection = connection; message = message; reply_buffer = reply_buffer; receipt = option_map receipt_view receipt })
+  pub new : open_send (facts_view f) i ≡ Some (record { number = number; thread = thread; connection = connection; message = message; reply_buffer = reply_buffer; receipt = receipt })
 
 one_send : (f : OldFacts) (i s n : ℕ) (w : Wait) → sender f i ≡ Some s → f.open_call s ≡ Some (record { number = n; wait = w }) → is_for_answer w ≡ true → open_send (facts_view f) i ≡ send_in s n w → OneSend f i
 one_send f i s n (Answer coid message reply_buffer receipt) sent is answer new = record { thread = s; number = n; connection = coid; message = message; reply_buffer = reply_buffer; receipt = receipt; sent = sent; is = is; new = new }

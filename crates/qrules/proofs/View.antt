@@ -9,6 +9,7 @@ use Rattle.std.proofs.lemmas.Option.{none-some, same_Some}
 use Rattle.qbase.proofs.Lists.{is_among}
 use Rattle.qrules.specs.Private.Facts.{threads_of, Facts as OldFacts}
 use Rattle.qmodel.specs.declared.open_call.OpenCall.{OpenCall}
+use Rattle.qmodel.specs.declared.open_call.Wait.{Wait}
 use Rattle.qmodel.specs.declared.open_call.Wait.TheVariants.{Answer, Item as ForItem}
 use Rattle.qrules.specs.Facts.{is_blocked, is_of_process, is_of_same_process, owns, receive_of, route, send_of, OpenReceive, OpenSend}
 use Rattle.qrules.specs.View.{receive_in, receive_view, send_in, send_view}
@@ -70,3 +71,38 @@ owns_same f t h = elim (f.channel h) as (λ c. option_map_or (λ c. is_of_proces
 pub route_same : (f : OldFacts) (t k : ℕ) → route (facts_view f) t k ≡ old.route f t k
 route_same f t k = elim (f.connection k) as (λ c. option_and_then (λ c. cond (is_of_process (facts_view f) t c.process && is_some (f.channel c.channel)) (Some c.channel) None) c
     ≡ option_and_then (λ c. cond (old.is_of_process f t c.process && is_some (f.channel c.channel)) (Some c.channel) None) c) [ None ↦ refl | Some c ↦ ap (λ b. cond (b && is_some (f.channel c.channel)) (Some c.channel) None) (process_same f t c.process) ]
+
+-- ---- facts with one view are one
+
+abbrev call_of : Option OpenSend → Option OpenReceive → Option OpenCall
+call_of (Some s) q = Some (record { number = s.number; wait = Answer s.connection s.message s.reply_buffer s.receipt })
+call_of None (Some q) = Some (record { number = q.number; wait = ForItem q.channel q.kind q.buffer })
+call_of None None = None
+
+call_back : (u : ℕ) (o : Option OpenCall) → call_of (send_view u o) (receive_view u o) ≡ o
+call_back u None = refl
+call_back u (Some o) = by_wait o.wait where
+  by_wait : (w : Wait) → call_of (send_in u o.number w) (receive_in u o.number w) ≡ Some (record { number = o.number; wait = w })
+  by_wait (Answer coid message reply_buffer receipt) = refl
+  by_wait (ForItem chid kind buffer) = refl
+
+module _ (f g : OldFacts) (of_f : IsKnown f) (of_g : IsKnown g) (same : facts_view f ≡ facts_view g) where
+  same_call : (u : ℕ) → f.open_call u ≡ g.open_call u
+  same_call u =
+      let sends : send_view u (f.open_call u) ≡ send_view u (g.open_call u) = sym (send_found f u of_f) ∙ ap (λ x. send_of x u) same ∙ send_found g u of_g in
+      let receives : receive_view u (f.open_call u) ≡ receive_view u (g.open_call u) = sym (receive_found f u of_f) ∙ ap (λ x. receive_of x u) same ∙ receive_found g u of_g in
+      sym (call_back u (f.open_call u)) ∙ (λ i. call_of (sends i) (receives i)) ∙ call_back u (g.open_call u)
+
+  pub one_view : f ≡ g
+  one_view = λ i. record {
+    roster = (same i).roster;
+    number = (same i).number;
+    down = (same i).down;
+    channel = (same i).channel;
+    open_channels = (same i).open_channels;
+    connection = (same i).connection;
+    live_connections = (same i).live_connections;
+    open_call = λ u. same_call u i;
+    pending = (same i).pending;
+    priority = (same i).priority;
+  }

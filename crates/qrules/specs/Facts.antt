@@ -1,17 +1,12 @@
 -- The facts of the past that a rule may read.
 use Rattle.std.specs.Prelude.{◌&&◌, ◌+◌, ◌==◌, ◌||◌, if◌then◌else◌}
 use Rattle.qrules.specs.Words.{[], bit_and, false, find, is_some, map, member_at, option_and_then}
-use Rattle.qrules.specs.Words.{option_map_or, Bool, Connection, Item, Kind, List, Member, None, Option, Some}
-use Rattle.qrules.specs.Words.{ℕ}
+use Rattle.qrules.specs.Words.{option_map, option_map_or, option_or, Bool, Connection, Item, Kind, List}
+use Rattle.qrules.specs.Words.{Member, None, Option, Some, ℕ}
 use Rattle.qrules.specs.Trace.{Bytes, CallNo, ChannelId, ConnectionId, Priority, ProcessNo, ReceiveId}
 use Rattle.qrules.specs.Trace.{ThreadNo}
 pub use Rattle.qmodel.specs.Trace.{OpenChannel}
-
--- the receipt of a message
-pub record Receipt : Type 0 where
-  pub priority : Priority  -- the message's, as it was received
-  pub copied : ℕ  -- how many of its bytes
-  pub unblocked : Bool  -- an unblock pulse was made for it
+pub use Rattle.qmodel.specs.declared.open_call.Receipt.{Receipt}
 
 -- a Send that isn't ended: SEND-blocked without a receipt, REPLY-blocked with one
 pub record OpenSend : Type 0 where
@@ -87,6 +82,11 @@ module _ (f : Facts) where
   -- the Receive or ReceivePulse that thread t waits in
   abbrev pub receive_of : ThreadNo → Option OpenReceive
   receive_of t = find (λ r. r.thread == t) f.open_receives
+
+  -- the number of the call that thread t waits in
+  abbrev pub waiting_number : ThreadNo → Option CallNo
+  waiting_number t =
+      option_or (option_map (λ s. s.number) (send_of t)) (option_map (λ r. r.number) (receive_of t))
 
   -- thread t waits in an open call
   abbrev pub is_blocked : ThreadNo → Bool

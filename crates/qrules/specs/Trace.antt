@@ -1,6 +1,7 @@
 -- The list of all past calls, and definitions that depend only on it.
-use Rattle.std.specs.Prelude.{◌+◌, ◌==◌, ◌∷◌, if◌then◌else◌}
-use Rattle.qrules.specs.Words.{[], flat_map, length, Call, Completion, List, None, Option, Some, ℕ}
+use Rattle.std.specs.Prelude.{◌+◌, ◌<◌, ◌==◌, ◌∷◌, ◌≡◌, if◌then◌else◌}
+use Rattle.qrules.specs.Words.{[], false, flat_map, length, list_any, AllByRecursion, Bool, Call, Completion}
+use Rattle.qrules.specs.Words.{List, None, Option, Some, ℕ}
 pub use Rattle.qmodel.specs.Trace.{CallNo, ChannelId, ConnectionId, Event, OpenChannel, Priority, ProcessNo}
 pub use Rattle.qmodel.specs.Trace.{ReceiveId, SentItem, ThreadNo, Trace}
 
@@ -26,3 +27,19 @@ call_at (e ∷ past) i = if i == length past + 1 then Some e.call else call_at p
 -- all endings so far
 abbrev pub endings_of : Trace → List Completion
 endings_of past = flat_map (λ e. e.endings) past
+
+-- ---- the endings of one event
+
+-- thread t gets one of these endings
+abbrev pub gets : List Completion → ThreadNo → Bool
+gets endings t = list_any (λ x. x.thread == t) endings
+
+-- no thread gets two of these endings
+abbrev pub AreApart : List Completion → Type 0
+AreApart [] = Unit {0}
+AreApart (x ∷ endings) = (gets endings x.thread ≡ false) × AreApart endings
+
+-- these endings are in rising thread number
+abbrev pub RiseByThread : List Completion → Type 0
+RiseByThread [] = Unit {0}
+RiseByThread (x ∷ endings) = AllByRecursion (λ y. x.thread < y.thread) endings × RiseByThread endings

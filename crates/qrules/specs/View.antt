@@ -1,15 +1,10 @@
 -- A thread's open call, as the kernel keeps it, seen as an open Send or an open receive.
-use Rattle.qrules.specs.Words.{option_and_then, option_map, None, Option, Some}
+use Rattle.qrules.specs.Words.{option_and_then, None, Option, Some}
 use Rattle.qrules.specs.Trace.{CallNo, ThreadNo}
-use Rattle.qrules.specs.Facts.{OpenReceive, OpenSend, Receipt}
+use Rattle.qrules.specs.Facts.{OpenReceive, OpenSend}
 use Rattle.qmodel.specs.declared.open_call.OpenCall.{OpenCall}
-use Rattle.qmodel.specs.declared.open_call.Receipt.{Receipt as KeptReceipt}
 use Rattle.qmodel.specs.declared.open_call.Wait.{Wait}
 use Rattle.qmodel.specs.declared.open_call.Wait.TheVariants.{Answer, Item as ForItem}
-
--- the receipt of a kept record
-abbrev pub receipt_view : KeptReceipt → Receipt
-receipt_view r = record { priority = r.priority; copied = r.copied; unblocked = r.unblocked }
 
 -- call n of thread u, if it waits for an answer
 abbrev pub send_in : ThreadNo → CallNo → Wait → Option OpenSend
@@ -19,7 +14,7 @@ send_in u n (Answer coid message reply_buffer receipt) = Some (record {
   connection = coid;
   message = message;
   reply_buffer = reply_buffer;
-  receipt = option_map receipt_view receipt;
+  receipt = receipt;
 })
 send_in u n (ForItem chid kind buffer) = None
 

@@ -6,6 +6,7 @@ use Rattle.qpast.specs.History.{Extends}
 use Rattle.qrules.specs.Words.{[], list_any, AllByRecursion, Bool, Completion, List}
 use Rattle.qrules.specs.Past.{was_done}
 use Rattle.qrules.specs.Trace.{CallNo, Trace}
+pub use Rattle.qrules.specs.Trace.{RiseByThread}
 
 -- true if the kernel is shut down
 abbrev pub is_down : Trace → Bool
@@ -14,11 +15,6 @@ is_down past = was_done (λ e. e.shuts_down) past
 -- true if one of these endings is that of call i
 abbrev pub has_ending_of : List Completion → CallNo → Bool
 has_ending_of endings i = list_any (λ x. x.call == i) endings
-
--- the thread numbers of these endings rise, so each ending is for another thread
-abbrev pub RiseByThread : List Completion → Type 0
-RiseByThread [] = Unit {0}
-RiseByThread (x ∷ endings) = AllByRecursion (λ y. x.thread < y.thread) endings × RiseByThread endings
 
 -- this past goes on from each of those that were seen
 abbrev pub AreSeen : Trace → List Trace → Type 0

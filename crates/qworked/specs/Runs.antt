@@ -11,7 +11,7 @@ use Rattle.qmodel.specs.declared.call.Completion.{Completion}
 use Rattle.qmodel.specs.declared.call.Mark.{Mark}
 use Rattle.qmodel.specs.declared.call.Mark.TheVariants as mark
 use Rattle.qmodel.specs.declared.open_call.Blocked.{Blocked}
-use Rattle.qrules.specs.Facts.{receive_of, send_of, threads_of, Facts}
+use Rattle.qrules.specs.Facts.{threads_of, waiting_number, Facts}
 use Rattle.qrules.specs.Rules.Threads.{state_of}
 use Rattle.qrules.specs.Rule.{buffer_of}
 use Rattle.qrules.specs.Rules.{effect_of}
@@ -49,8 +49,7 @@ IsUnlawfulRun roster events = IsLawfulRun roster events → ⊥
 
 -- the record of thread t as blocked, if it waits in an open call
 abbrev pub blocked_in : Facts → ℕ → Option Blocked
-blocked_in f t = option_map (λ n. blocked n t (state_of f t))
-    (option_or (option_map (λ s. s.number) (send_of f t)) (option_map (λ r. r.number) (receive_of f t)))
+blocked_in f t = option_map (λ n. blocked n t (state_of f t)) (waiting_number f t)
 
 -- the threads that are blocked after the events
 abbrev pub blocked_after : List Member → List Event → List Blocked

@@ -25,7 +25,6 @@ use Rattle.qrules.specs.Facts.{open_send, owns, OpenSend}
 use Rattle.qrules.specs.Rules.Held.{info_of, refusal_unless_held}
 use Rattle.qrules.proofs.Messages.{send_cases, NoSend}
 use Rattle.qrules.proofs.Rows.Same.{after_own, alone, ending_of, own_alone, SameRow}
-use Rattle.qrules.specs.View.{receipt_view}
 use Rattle.qrules.proofs.Same.{facts_view}
 use Rattle.qrules.proofs.View.{owns_same, IsKnown}
 
@@ -35,7 +34,7 @@ owns_over f t k = elim (f.connection k) as (λ c. option_map_or (λ c. owns (fac
 pub held_same : (f : OldFacts) (t i : ℕ) → refusal_unless_held (facts_view f) t i ≡ refusal f t i
 held_same f t i = elim (send_cases f i) [
   | inl k ↦ rw (k.none, k.new) refl
-  | inr k ↦ rw (k.sent, k.new, k.is) (elim (k.receipt) as (λ r. cond (is_some (option_map receipt_view r) && option_map_or (λ c. owns (facts_view f) t c.channel) (f.connection k.connection) false) None (Some Srch)
+  | inr k ↦ rw (k.sent, k.new, k.is) (elim (k.receipt) as (λ r. cond (is_some r && option_map_or (λ c. owns (facts_view f) t c.channel) (f.connection k.connection) false) None (Some Srch)
       ≡ cond (is_held_by f t (Answer k.connection k.message k.reply_buffer r)) None (Some Srch)) [ None ↦ refl | Some r ↦ ap (λ b. cond b None (Some Srch)) (owns_over f t k.connection) ])
 ]
 

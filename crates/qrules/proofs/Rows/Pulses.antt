@@ -28,7 +28,7 @@ use Rattle.qrules.specs.Rules.Unblock.{unblock_channel, unblock_pulse}
 use Rattle.qrules.proofs.Cancels.{cancel_same}
 use Rattle.qrules.proofs.Deliveries.{deliver_same, memory_same}
 use Rattle.qrules.proofs.Rows.Same.{after_own, ending_of, SameRow}
-use Rattle.qrules.specs.View.{receipt_view, send_in, send_view}
+use Rattle.qrules.specs.View.{send_in, send_view}
 use Rattle.qrules.proofs.Same.{facts_view}
 use Rattle.qrules.proofs.View.{fellow_same, process_same, route_same, send_found, IsKnown}
 
@@ -100,7 +100,7 @@ unblock_same f u known =
     ap (unblock_pulse_of f) (send_found f u known)
     ∙ elim (f.open_call u) as (λ o. unblock_pulse_of f (send_view u o) ≡ option_and_then (λ o. due_pulse_of_wait f o.number o.wait) o) [ None ↦ refl | Some o ↦ unblock_in f u o.number o.wait ]
 
-guard_same : (f : OldFacts) (n v k : ℕ) (m b : List ℕ) (r : Option OldReceipt) → unblock_channel (facts_view f) (record { number = n; thread = v; connection = k; message = m; reply_buffer = b; receipt = option_map receipt_view r }) ≡ guard f (Answer k m b r)
+guard_same : (f : OldFacts) (n v k : ℕ) (m b : List ℕ) (r : Option OldReceipt) → unblock_channel (facts_view f) (record { number = n; thread = v; connection = k; message = m; reply_buffer = b; receipt = r }) ≡ guard f (Answer k m b r)
 guard_same f n v k m b None = elim (f.connection k) as (λ c. option_and_then (λ c. cond (false && has_flag 2 (f.channel c.channel)) (Some c.channel) None) c ≡ None) [ None ↦ refl | Some c ↦ refl ]
 guard_same f n v k m b (Some r) = refl
 

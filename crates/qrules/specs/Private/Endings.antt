@@ -16,17 +16,9 @@ use Rattle.qrules.specs.Private.Headline.CopiedExactly.{call_at}
 use Rattle.qrules.specs.Private.Lawful.{IsLawful}
 use Rattle.qrules.specs.Private.Past.{has_ending_of, open_call}
 use Rattle.qmodel.specs.Trace.{Event, Trace}
+pub use Rattle.qrules.specs.Trace.{AreApart, gets}
 
 -- ---- the threads that get them
-
--- one of these endings goes to thread t
-abbrev pub gets : List Completion → ThreadNo → Bool
-gets endings t = list_any (λ x. x.thread == t) endings
-
--- each of these endings goes to a different thread
-abbrev pub AreApart : List Completion → Type 0
-AreApart [] = Unit {0}
-AreApart (x ∷ endings) = (gets endings x.thread ≡ false) × AreApart endings
 
 -- in each event, each ending goes to a different thread
 abbrev pub EndingsAreApart : Type 0

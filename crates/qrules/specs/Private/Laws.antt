@@ -39,6 +39,7 @@ use Rattle.qrules.specs.Private.Past.{priority_of_thread, sender_of}
 use Rattle.qrules.specs.Private.Receivers.{newest_receiver, wait_on}
 use Rattle.qrules.specs.Private.Rows.{names}
 use Rattle.qmodel.specs.Trace.{Event, Trace}
+pub use Rattle.qrules.specs.Trace.{RiseByThread}
 
 -- ---- receipts
 
@@ -305,11 +306,6 @@ abbrev pub EndingsNameOwnCalls : Type 0
 EndingsNameOwnCalls = (roster : List Member) (past : Trace) (e : Event) → IsRoster roster
     → IsLawful roster (e ∷ past)
     → AllByRecursion (λ x. thread_at (e ∷ past) x.call ≡ Some x.thread) e.endings
-
--- the thread numbers of these endings rise, so each goes to a different thread
-abbrev pub RiseByThread : List Completion → Type 0
-RiseByThread [] = Unit {0}
-RiseByThread (x ∷ endings) = AllByRecursion (λ y. x.thread < y.thread) endings × RiseByThread endings
 
 -- the thread numbers of the endings rise in each event
 abbrev pub EndingsRiseByThread : Type 0
