@@ -3,7 +3,7 @@ use Rattle.std.specs.Prelude.{◌+◌, ◌≤◌, ◌<◌}
 use Rattle.std.specs.List.{AllByRecursion}
 use Rattle.qrules.specs.Words.{filter_map, length, Bool, Connection, List, ℕ}
 use Rattle.qrules.specs.Facts.{Facts}
-use Rattle.qrules.specs.View.{receive_view, send_view}
+use Rattle.qrules.specs.Facts.{receive_view, send_view}
 use Rattle.qtables.specs.Entries.{entry_at, IsRising}
 use Rattle.qtables.specs.Members.{IsRoster}
 use Rattle.qstate.specs.Channel.{ids_of}

@@ -28,12 +28,11 @@ use Rattle.qrules.specs.Lawful.{IsLawful}
 use Rattle.qrules.specs.Past.{item_among}
 use Rattle.qrules.specs.Rule.{buffer_of, ReceiveRequest}
 use Rattle.qrules.specs.Rules.{effect_of}
-use Rattle.qrules.proofs.Same.{facts_view}
 use Rattle.qrules.proofs.Lawful.{of_roster}
 use Rattle.qrules.proofs.Outcomes.{same_buffer}
 use Rattle.qrules.proofs.Properties.BestFirst.{request_from}
 use Rattle.qrules.proofs.Properties.Calls.{same_connection_of}
-use Rattle.qrules.proofs.Properties.Items.{same_channel_among, same_items}
+use Rattle.qrules.proofs.Properties.Items.{same_channel_among}
 use Rattle.qlaws.specs.Endings
 use Rattle.qlaws.proofs.Waits.{place_of, before, blocked_at, buffer_at, facts_at, number_at}
 
@@ -101,7 +100,7 @@ module _ (roster : List Member) (past : Trace) (l : IsLawful roster past) where
       record {
         request = request;
         call = request_from past x.call c request is asks;
-        made = ap (list_any (λ m. eqb m.item.number i && eqb m.channel request.channel)) (same_items roster past (of_roster roster past l)) ∙ subst (λ h. list_any (λ m. eqb m.item.number i && eqb m.channel h) (old_items roster past) ≡ true) on made;
+        made = ap (list_any (λ m. eqb m.item.number i && eqb m.channel request.channel)) subst (λ h. list_any (λ m. eqb m.item.number i && eqb m.channel h) (old_items roster past) ≡ true) on made;
         sent = λ k sent. subst (Endings.LeadsTo roster past k) on (leads k channel (over k (sym (same_connection_of past i) ∙ sent)));
       }
 
@@ -120,7 +119,7 @@ nothing_from_destroyed roster past e r l =
     let of = of_roster roster (e ∷ past) l in
     all_more _ _ e.endings (all_for _ _ e.endings (ending.nothing_from_destroyed roster past e r (before roster (e ∷ past) l))) (λ x none h i destroyed is on.
     none h destroyed i is
-    (sym (ap (λ (made : List SentItem). option_map (λ m. m.channel) (item_among made i)) (same_items roster (e ∷ past) of) ∙ same_channel_among (old_items roster (e ∷ past)) i) ∙ on))
+    (sym (ap (λ (made : List SentItem). option_map (λ m. m.channel) (item_among made i)) same_channel_among (old_items roster (e ∷ past)) i) ∙ on))
 
 -- ---- refusals
 
@@ -141,5 +140,5 @@ same_but_counted f g k = λ i. record {
 pub refused_changes_nothing : Endings.RefusedChangesNothing
 refused_changes_nothing roster past e r l is =
     facts_at roster (e ∷ past) l
-    ∙ ap facts_view (same_but_counted (old.facts_of roster past) (old.facts_of roster (e ∷ past)) (refused.refused_changes_nothing roster past e r (before roster (e ∷ past) l) is))
+    ∙ ap (same_but_counted (old.facts_of roster past) (old.facts_of roster (e ∷ past)) (refused.refused_changes_nothing roster past e r (before roster (e ∷ past) l) is))
     ∙ ap (λ (f : Facts). record f { number = f.number + 1 }) (sym (facts_at roster past l.0))

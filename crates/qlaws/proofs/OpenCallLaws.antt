@@ -35,7 +35,6 @@ use Rattle.qrules.specs.Delivery.{newer}
 use Rattle.qrules.specs.Facts.{open_send, receive_of, Facts, OpenReceive, OpenSend}
 use Rattle.qrules.specs.Lawful.{facts_of}
 use Rattle.qrules.specs.Rules.{effect_of}
-use Rattle.qrules.proofs.Same.{facts_view}
 use Rattle.qrules.proofs.Messages.{send_cases, NoSend, OneSend}
 use Rattle.qrules.proofs.Outcomes.{same_buffer}
 use Rattle.qrules.proofs.Properties.Calls.{same_call_at}
@@ -108,7 +107,7 @@ pub held_is_open_send : laws.HeldIsOpenSend
 held_is_open_send roster past r l i =
     let law = held.held_is_held_send roster past r (before roster past l) i in
     let f : OldFacts = old.facts_of roster past in
-    elim (send_cases f i) as (λ k. was_held past i ≡ has_receipt (facts_view f) i) [
+    elim (send_cases f i) as (λ k. was_held past i ≡ has_receipt f i) [
       | inl k ↦ no_send roster past i law k ∙ ap (λ o. option_map_or (λ (s : OpenSend). is_some s.receipt) o false) (sym k.new)
       | inr k ↦ one_send roster past i law k.receipt k refl ∙ ap (λ o. option_map_or (λ (s : OpenSend). is_some s.receipt) o false) (sym k.new)
     ]

@@ -27,12 +27,10 @@ use Rattle.qrules.proofs.Traces.TraceLaws.CurrentPriority as current_priority
 use Rattle.qrules.specs.Lawful.{facts_of, IsLawful}
 use Rattle.qrules.specs.Past.{is_ended, is_gone, is_number, item_among, items_by_now, priority_of_item, sender_of}
 use Rattle.qrules.specs.Properties.{items}
-use Rattle.qrules.specs.View.{send_view}
+use Rattle.qrules.specs.Facts.{send_view}
 use Rattle.qrules.proofs.Same.{AreOfRoster}
 use Rattle.qrules.proofs.Lawful.{of_roster}
-use Rattle.qrules.proofs.Past.Facts.{same_facts}
 use Rattle.qrules.proofs.Properties.BestFirst.{asks_of}
-use Rattle.qrules.proofs.Properties.Items.{same_items}
 use Rattle.qlaws.specs.OpenCalls.{is_held}
 use Rattle.qlaws.specs.Pending as laws
 use Rattle.qlaws.proofs.Waits.{place_of, before, facts_at, send_at}
@@ -88,7 +86,7 @@ earlier_of_roster roster past (e ∷ later) l = earlier_of_roster roster past la
 
 same_now : (roster : List Member) (past : Trace) (x : Item) → AreOfRoster roster past → priority_of_item (item_among (items_by_now past (items roster past)) x.number) ≡ old.priority_of_item roster past x.number
 same_now roster past x l =
-    ap (λ made. priority_of_item (item_among (items_by_now past made) x.number)) (same_items roster past l)
+    refl
 
 takes_before : (past : Trace) (z : Completion) (i h : ℕ) (x : Item) → laws.TakesBeside past z i h x → old_laws.TakesBeside past z i h x
 takes_before past z i h x k =
@@ -109,10 +107,7 @@ first_by_rules : (past : Trace) (roster : List Member) (later : Trace) (e : Even
 first_by_rules past roster later e r l h =
     let of : AreOfRoster roster (later ++ past) = of_roster roster (later ++ past) l.0 in
     let after : Trace = later ++ past in
-    subst (λ f. AllByRecursion (λ x. AllByRecursion (λ y. comes_before x y ≡ true → laws.HasPriority roster after x → laws.HasPriority roster after y
-    → AllByRecursion (λ z. laws.TakesBeside (e ∷ after) z y.number h x → is_gone after x ≡ true) e.endings)
-    (f.pending h)) (f.pending h)) (sym (same_facts roster past (earlier_of_roster roster past later of)))
-    (all_more _ _ (old.pending_items roster past h) (order.first_goes_first roster past later e r (before roster (e ∷ later ++ past) l) h) (λ x all.
+        (all_more _ _ (old.pending_items roster past h) (order.first_goes_first roster past later e r (before roster (e ∷ later ++ past) l) h) (λ x all.
     all_more _ _ (old.pending_items roster past h) all (λ y k first of_x of_y.
     all_more _ _ e.endings (k first (sym (same_now roster after x of) ∙ of_x) (sym (same_now roster after y of) ∙ of_y)) (λ z gone takes.
     gone (takes_before (e ∷ after) z y.number h x takes)))))

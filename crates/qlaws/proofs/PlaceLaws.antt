@@ -20,7 +20,6 @@ use Rattle.qrules.proofs.Traces.Past.Pending.{items_more, stays_gone}
 use Rattle.qrules.specs.Lawful.{facts_of, item_made_by}
 use Rattle.qrules.specs.Past as new
 use Rattle.qrules.proofs.Lawful.{of_roster}
-use Rattle.qrules.proofs.Past.Effects.{same_makes}
 use Rattle.qrules.proofs.Past.Facts.{facts_known}
 use Rattle.qlaws.specs.Pending as laws
 use Rattle.qlaws.proofs.Waits.{before, facts_at}
@@ -171,7 +170,7 @@ places_fall roster past e r l h x none =
     let of = of_roster roster past l.0 in
     let f = old.facts_of roster past in
     let made : item_made_by (facts_of roster past) e past ≡ item_of roster e past =
-    ap (λ f. item_made_by f e past) (facts_at roster past l.0) ∙ ap (λ o. cond (new.is_accepted e past) o None) (same_makes f e.thread e.call (facts_known roster past of)) in
+    ap (λ f. item_made_by f e past) (facts_at roster past l.0) in
     let put = all_more _ _ (pending_items roster past h) (subst (λ f. AllByRecursion (λ y. comes_before (laws.as_set_by e past y) x ≡ true → comes_before y x ≡ true) (f.pending h)) (facts_at roster past l.0) none.set)
     (λ y k first. k first) in
     subst (λ f. laws.place x (f.pending h) + laws.place x (filter (new.is_gone (e ∷ past)) ((facts_of roster past).pending h)) ≤ laws.place x ((facts_of roster past).pending h)) (sym (facts_at roster (e ∷ past) l)) (

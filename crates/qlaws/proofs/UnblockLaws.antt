@@ -29,7 +29,6 @@ use Rattle.qrules.proofs.Traces.Past.Unblocked.{none_unblocked}
 use Rattle.qrules.specs.Past as new
 use Rattle.qrules.specs.Properties.{items}
 use Rattle.qrules.proofs.Lawful.{of_roster}
-use Rattle.qrules.proofs.Properties.Items.{same_items}
 use Rattle.qlaws.specs.Pending as laws
 
 -- the receipt doesn't tell that no unblock pulse was made
@@ -100,5 +99,4 @@ same_unblock i _ = refl
 pub one_unblock_pulse : laws.OneUnblockPulse
 one_unblock_pulse roster past r l i =
     subst (λ n. n ≤ 1) (sym (
-    ap (count_by (λ m. new.is_unblock_for i m.item.what)) (same_items roster past (of_roster roster past l))
-    ∙ ap (λ (is : What → Bool). count_by (λ m. is m.item.what) (old_items roster past)) (fun_ext (same_unblock i)))) (at_most_one roster past i)
+    ap (count_by (λ m. new.is_unblock_for i m.item.what)) ap (λ (is : What → Bool). count_by (λ m. is m.item.what) (old_items roster past)) (fun_ext (same_unblock i)))) (at_most_one roster past i)

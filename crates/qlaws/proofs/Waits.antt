@@ -19,11 +19,10 @@ use Rattle.qmodel.specs.declared.open_call.Wait.TheVariants.{Answer, Item as For
 use Rattle.qrules.specs.Facts.{is_blocked, receive_of, send_of, OpenReceive, OpenSend}
 use Rattle.qrules.specs.Lawful.{facts_of, IsLawful}
 use Rattle.qrules.specs.Rule.{ReceiveRequest}
-use Rattle.qrules.specs.View.{receive_view, receive_in, send_view, send_in}
-use Rattle.qrules.proofs.Same.{facts_view}
+use Rattle.qrules.specs.Facts.{receive_view, receive_in, send_view, send_in}
 use Rattle.qrules.proofs.Lawful.{same_lawful, of_roster}
-use Rattle.qrules.proofs.Past.Facts.{facts_known, same_facts}
-use Rattle.qrules.proofs.View.{blocked_same, receive_found, send_found}
+use Rattle.qrules.proofs.Past.Facts.{facts_known}
+use Rattle.qrules.proofs.View.{blocked_same}
 use Rattle.qlaws.specs.OpenCalls.{waiting_number}
 use Rattle.qlaws.specs.Endings.{waiting_buffer}
 
@@ -39,17 +38,17 @@ module _ (roster : List Member) (past : Trace) (l : IsLawful roster past) where
   abbrev facts : OldFacts
   facts = old.facts_of roster past
 
-  pub facts_at : facts_of roster past ≡ facts_view (old.facts_of roster past)
-  facts_at = same_facts roster past (of_roster roster past l)
+  pub facts_at : facts_of roster past ≡ (old.facts_of roster past)
+  facts_at = refl
 
   pub blocked_at : (u : ℕ) → is_blocked (facts_of roster past) u ≡ is_some (open_call roster past u)
   blocked_at u = ap (λ f. is_blocked f u) facts_at ∙ blocked_same facts u (facts_known roster past (of_roster roster past l))
 
   pub send_at : (u : ℕ) → send_of (facts_of roster past) u ≡ send_view u (open_call roster past u)
-  send_at u = ap (λ f. send_of f u) facts_at ∙ send_found facts u (facts_known roster past (of_roster roster past l))
+  send_at u = ap (λ f. send_of f u) facts_at
 
   pub receive_at : (u : ℕ) → receive_of (facts_of roster past) u ≡ receive_view u (open_call roster past u)
-  receive_at u = ap (λ f. receive_of f u) facts_at ∙ receive_found facts u (facts_known roster past (of_roster roster past l))
+  receive_at u = ap (λ f. receive_of f u) facts_at
 
   pub number_at : (u : ℕ) → waiting_number (facts_of roster past) u ≡ option_map (λ o. o.number) (open_call roster past u)
   number_at u = rw (send_at u, receive_at u) (elim (open_call roster past u) as (λ o. option_or (option_map (λ s. s.number) (send_view u o)) (option_map (λ r. r.number) (receive_view u o)) ≡ option_map (λ o. o.number) o) [

@@ -4,7 +4,7 @@ use Rattle.qrules.specs.Words.{false, is_some, length, may_take, not, option_map
 use Rattle.qrules.specs.Words.{true}
 use Rattle.qrules.specs.Words.{AllByRecursion, Bool, Call, Connection, None, Option, Some}
 use Rattle.qrules.specs.Trace.{call_at, Bytes, CallNo, Event, ReceiveId, ThreadNo, Trace}
-use Rattle.qrules.specs.Facts.{is_blocked, open_send, receive_of, send_of, Facts, OpenReceive, OpenSend}
+use Rattle.qrules.specs.Facts.{is_blocked, open_receives, open_send, open_sends, receive_of, send_of, Facts, OpenReceive, OpenSend}
 use Rattle.qrules.specs.Rule.{buffer_of, SentItem}
 use Rattle.qrules.specs.Rules.{effect_of}
 use Rattle.qrules.specs.Delivery.{newest_receiver}
@@ -47,7 +47,7 @@ pub record IsRouted (f : Facts) (s : OpenSend) : Type 0 where
 abbrev pub OpenSendsAreRouted : Type 0
 OpenSendsAreRouted =
     AfterEach (λ roster past. AllByRecursion (IsRouted (facts_of roster past))
-    (facts_of roster past).open_sends)
+    (open_sends (facts_of roster past)))
 
 -- message i is received, and its Send isn't ended
 abbrev pub is_held : Trace → ReceiveId → Bool
@@ -68,7 +68,7 @@ may_receive m r = (r.channel == m.channel) && may_take r.kind m.item
 pub record IsNewest (f : Facts) (m : SentItem) (r : OpenReceive) : Type 0 where
   pub is_open : receive_of f r.thread ≡ Some r
   pub may : may_receive m r ≡ true
-  pub last : AllByRecursion (λ s. may_receive m s ≡ true → s.number ≤ r.number) f.open_receives
+  pub last : AllByRecursion (λ s. may_receive m s ≡ true → s.number ≤ r.number) (open_receives f)
 
 -- the newest receiver of an item is such a receive
 abbrev pub NewestIsLast : Type 0
@@ -79,13 +79,13 @@ NewestIsLast = AfterEach (λ roster past. (m : SentItem) (r : OpenReceive)
 abbrev pub NoneIsNewest : Type 0
 NoneIsNewest = AfterEach (λ roster past. (m : SentItem)
     → (newest_receiver (facts_of roster past) m ≡ None)
-    ↔ AllByRecursion (λ r. may_receive m r ≡ false) (facts_of roster past).open_receives)
+    ↔ AllByRecursion (λ r. may_receive m r ≡ false) (open_receives (facts_of roster past)))
 
 -- no item that an open receive may take is pending on its channel
 abbrev pub NothingPendingForWaiting : Type 0
 NothingPendingForWaiting = AfterEach (λ roster past. AllByRecursion
     (λ r. AllByRecursion (λ item. may_take r.kind item ≡ false) ((facts_of roster past).pending r.channel))
-    (facts_of roster past).open_receives)
+    (open_receives (facts_of roster past)))
 
 -- ---- buffers
 
@@ -98,12 +98,12 @@ pub record IsAsLong (past : Trace) (i : CallNo) (buffer : Bytes) : Type 0 where
 -- the reply buffer of each open Send keeps its length
 abbrev pub ReplyBuffersKeepLength : Type 0
 ReplyBuffersKeepLength = AfterEach (λ roster past.
-    AllByRecursion (λ s. IsAsLong past s.number s.reply_buffer) (facts_of roster past).open_sends)
+    AllByRecursion (λ s. IsAsLong past s.number s.reply_buffer) (open_sends (facts_of roster past)))
 
 -- the buffer of each open receive keeps its length
 abbrev pub ReceiveBuffersKeepLength : Type 0
 ReceiveBuffersKeepLength = AfterEach (λ roster past.
-    AllByRecursion (λ r. IsAsLong past r.number r.buffer) (facts_of roster past).open_receives)
+    AllByRecursion (λ r. IsAsLong past r.number r.buffer) (open_receives (facts_of roster past)))
 
 -- ---- after a shutdown
 

@@ -15,9 +15,8 @@ use Rattle.qmodel.specs.declared.open_call.OpenCall.{OpenCall}
 use Rattle.qmodel.specs.declared.open_call.Wait.{Wait}
 use Rattle.qmodel.specs.declared.open_call.Wait.TheVariants.{Answer, Item as ForItem}
 use Rattle.qrules.specs.Facts.{receive_of, send_of, OpenReceive, OpenSend}
-use Rattle.qrules.specs.View.{receive_in, receive_view, send_in, send_view}
-use Rattle.qrules.proofs.Same.{facts_view}
-use Rattle.qrules.proofs.View.{receive_found, IsKnown}
+use Rattle.qrules.specs.Facts.{receive_in, receive_view, send_in, send_view}
+use Rattle.qrules.proofs.View.{IsKnown}
 use Rattle.qrenaming.specs.Laws.{KeepsReceivers}
 use Rattle.qrenaming.specs.Renaming.{facts_as, receive_as, send_as, Renaming}
 use Rattle.qrenaming.specs.Private.Laws.{KeepsReceivers as KeepsWaits}
@@ -40,8 +39,8 @@ receive_view_as r u (Some o) = by_wait o.wait where
   by_wait (Answer coid message reply_buffer receipt) = refl
   by_wait (ForItem chid kind buffer) = refl
 
-pub view_as : (r : Renaming) (f : OldFacts) → facts_view (old_facts_as r f) ≡ facts_as r (facts_view f)
-view_as r f = λ i. record (facts_as r (facts_view f)) {
+pub view_as : (r : Renaming) (f : OldFacts) → (old_facts_as r f) ≡ facts_as r f
+view_as r f = λ i. record (facts_as r f) {
   open_sends = filter_map_as (send_as r) (λ u. send_view u (f.open_call u)) (λ u. send_view u (option_map (open_as r) (f.open_call u))) (λ u. send_view_as r u (f.open_call u)) (threads_of f.roster) i;
   open_receives = filter_map_as (receive_as r) (λ u. receive_view u (f.open_call u)) (λ u. receive_view u (option_map (open_as r) (f.open_call u))) (λ u. receive_view_as r u (f.open_call u)) (threads_of f.roster) i;
 }
@@ -77,12 +76,12 @@ waiting f h x u n e = by_call (f.open_call u) refl e where
   by_call None at found = absurd (none-some n found)
   by_call (Some o) at found = by_wait o o.wait at found
 
-pub keeps_waits : (r : Renaming) (f : OldFacts) → IsKnown f → KeepsReceivers r (facts_view f) → KeepsWaits r f
+pub keeps_waits : (r : Renaming) (f : OldFacts) → IsKnown f → KeepsReceivers r f → KeepsWaits r f
 keeps_waits r f known keeps h x u v m n em en =
     let a = waiting f h x u m em in
     let b = waiting f h x v n en in
     (λ i. nat_lt (r.to (sym a.number i)) (r.to (sym b.number i)))
-    ∙ keeps u v a.receive b.receive (receive_found f u known ∙ a.is) (receive_found f v known ∙ b.is) (a.channel ∙ sym b.channel)
+    ∙ keeps u v a.receive b.receive (a.is) (b.is) (a.channel ∙ sym b.channel)
     ∙ (λ i. nat_lt (a.number i) (b.number i))
 
 -- a pulse, which every receive may take
@@ -103,9 +102,9 @@ waits_for_pulse u (Some o) a e = by_wait o.wait e where
       subst (λ b. wait_for b.channel pulse o.number (ForItem chid kind buffer) ≡ Some b.number) same
       (ap (λ b. cond (b && may_take kind pulse) (Some o.number) None) (eq-eqb chid chid refl) ∙ ap (λ b. cond b (Some o.number) None) (takes_pulse kind))
 
-pub keeps_receivers : (r : Renaming) (f : OldFacts) → IsKnown f → KeepsWaits r f → KeepsReceivers r (facts_view f)
+pub keeps_receivers : (r : Renaming) (f : OldFacts) → IsKnown f → KeepsWaits r f → KeepsReceivers r f
 keeps_receivers r f known keeps t u a b is_a is_b channel =
-    let first : receive_view t (f.open_call t) ≡ Some a = sym (receive_found f t known) ∙ is_a in
-    let second : receive_view u (f.open_call u) ≡ Some b = sym (receive_found f u known) ∙ is_b in
+    let first : receive_view t (f.open_call t) ≡ Some a = is_a in
+    let second : receive_view u (f.open_call u) ≡ Some b = is_b in
     keeps a.channel pulse t u a.number b.number (waits_for_pulse t (f.open_call t) a first)
     (subst (λ h. wait_on h pulse (f.open_call u) ≡ Some b.number) (sym channel) (waits_for_pulse u (f.open_call u) b second))

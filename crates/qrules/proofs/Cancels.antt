@@ -16,9 +16,9 @@ use Rattle.qqueue.specs.declared.item.Kind.{Kind}
 use Rattle.qrules.specs.Facts.{OpenReceive, OpenSend}
 use Rattle.qrules.specs.Delivery.{cancel, cancel_receive, cancel_send}
 use Rattle.qrules.proofs.Lists.{filter-filter_map, found, map-filter_map}
-use Rattle.qrules.specs.View.{receive_in, receive_view, send_in, send_view}
-use Rattle.qrules.proofs.Same.{facts_view}
+use Rattle.qrules.specs.Facts.{receive_in, receive_view, send_in, send_view}
 use Rattle.qrules.proofs.View.{receive_thread, send_thread, unknown, IsKnown}
+use Rattle.qrules.specs.Facts.{open_receives, open_sends}
 
 -- what passes a test
 abbrev pub pass : {X : Type 0} → (X → Bool) → Option X → Option X
@@ -45,11 +45,11 @@ module _ (f : OldFacts) (sends : OpenSend → Bool) (receives : OpenReceive → 
   pub cancel_same : (u : ℕ) → IsKnown f
       → ((v n k : ℕ) (m b : List ℕ) (r : Option OldReceipt) → sends (record { number = n; thread = v; connection = k; message = m; reply_buffer = b; receipt = r }) ≡ is_cancelled v (Answer k m b r))
       → ((v n h : ℕ) (kind : Kind) (b : List ℕ) → receives (record { number = n; thread = v; channel = h; kind = kind; buffer = b }) ≡ is_cancelled v (ForItem h kind b))
-      → find (λ x. eqb x.thread u) (cancel (facts_view f) sends receives e) ≡ cancels f is_cancelled e u
+      → find (λ x. eqb x.thread u) (cancel f sends receives e) ≡ cancels f is_cancelled e u
   cancel_same u known of_send of_receive =
       let ts : List ℕ = threads_of f.roster in
-      find-append (λ x. eqb x.thread u) (map (cancel_send e) (filter sends (facts_view f).open_sends)) (map (cancel_receive e) (filter receives (facts_view f).open_receives))
-      ∙ ap (λ o. option_or o (find (λ x. eqb x.thread u) (map (cancel_receive e) (filter receives (facts_view f).open_receives))))
+      find-append (λ x. eqb x.thread u) (map (cancel_send e) (filter sends (open_sends f))) (map (cancel_receive e) (filter receives (open_receives f)))
+      ∙ ap (λ o. option_or o (find (λ x. eqb x.thread u) (map (cancel_receive e) (filter receives (open_receives f)))))
       (cancelled (λ s. s.thread) (cancel_send e) sends (λ v. send_view v (f.open_call v)) ts u (λ s. refl) (λ v s is. send_thread v (f.open_call v) s is) (λ none. ap (send_view u) (unknown f u known none)))
       ∙ ap (option_or (option_map (cancel_send e) (pass sends (send_view u (f.open_call u)))))
       (cancelled (λ r. r.thread) (cancel_receive e) receives (λ v. receive_view v (f.open_call v)) ts u (λ r. refl) (λ v r is. receive_thread v (f.open_call v) r is) (λ none. ap (receive_view u) (unknown f u known none)))

@@ -23,13 +23,12 @@ use Rattle.qrules.specs.Rule.{SentItem}
 use Rattle.qrules.specs.Delivery.{deliver, delivery, has_to_wait, newest_receiver}
 use Rattle.qrules.proofs.Cancels.{pass}
 use Rattle.qrules.proofs.Newest.{newest_same, taker, waits_same}
-use Rattle.qrules.specs.View.{receive_in, receive_view}
-use Rattle.qrules.proofs.Same.{facts_view}
+use Rattle.qrules.specs.Facts.{receive_in, receive_view}
 
 -- no thread takes the item
 pub record NoReceiver (f : OldFacts) (m : SentItem) : Type 0 where
   pub none : old_newest f m.channel m.item ≡ None
-  pub new : newest_receiver (facts_view f) m ≡ None
+  pub new : newest_receiver f m ≡ None
 
 -- a thread takes the item
 pub record OneReceiver (f : OldFacts) (m : SentItem) : Type 0 where
@@ -40,7 +39,7 @@ pub record OneReceiver (f : OldFacts) (m : SentItem) : Type 0 where
   pub buffer : List ℕ
   pub receiver : old_newest f m.channel m.item ≡ Some thread
   pub is : f.open_call thread ≡ Some (record { number = number; wait = ForItem channel kind buffer })
-  pub new : newest_receiver (facts_view f) m ≡ Some (record { number = number; thread = thread; channel = channel; kind = kind; buffer = buffer })
+  pub new : newest_receiver f m ≡ Some (record { number = number; thread = thread; channel = channel; kind = kind; buffer = buffer })
 
 where_is : (p : ℕ → Bool) (ts : List ℕ) (u : ℕ) → first_where p ts ≡ Some u → p u ≡ true
 where_is p [] u e = absurd (none-some u e)
@@ -59,22 +58,22 @@ map_some k None = refl
 map_some k (Some x) = refl
 
 -- what a thread waits in, where it takes the item
-one : (f : OldFacts) (m : SentItem) (u n : ℕ) (w : Wait) → old_newest f m.channel m.item ≡ Some u → f.open_call u ≡ Some (record { number = n; wait = w }) → newest_receiver (facts_view f) m ≡ pass (λ r. eqb r.channel m.channel && may_take r.kind m.item) (receive_in u n w)
+one : (f : OldFacts) (m : SentItem) (u n : ℕ) (w : Wait) → old_newest f m.channel m.item ≡ Some u → f.open_call u ≡ Some (record { number = n; wait = w }) → newest_receiver f m ≡ pass (λ r. eqb r.channel m.channel && may_take r.kind m.item) (receive_in u n w)
     → is_some (pass (λ r. eqb r.channel m.channel && may_take r.kind m.item) (receive_in u n w)) ≡ true → OneReceiver f m
 one f m u n (Answer coid message reply_buffer receipt) e is new some = absurd (true≢false (sym some))
 one f m u n (ForItem chid kind buffer) e is new some =
     let r : OpenReceive = record { number = n; thread = u; channel = chid; kind = kind; buffer = buffer } in
-    elim (eqb chid m.channel && may_take kind m.item) as (λ b. newest_receiver (facts_view f) m ≡ cond b (Some r) None → is_some (cond b (Some r) None) ≡ true → OneReceiver f m) [
+    elim (eqb chid m.channel && may_take kind m.item) as (λ b. newest_receiver f m ≡ cond b (Some r) None → is_some (cond b (Some r) None) ≡ true → OneReceiver f m) [
       | true ↦ λ new some. record { thread = u; number = n; channel = chid; kind = kind; buffer = buffer; receiver = e; is = is; new = new }
       | false ↦ λ new some. absurd (true≢false (sym some))
     ] new some
 
 -- the thread that is found waits so
-taker_waits : (f : OldFacts) (m : SentItem) (u : ℕ) → old_newest f m.channel m.item ≡ Some u → newest_receiver (facts_view f) m ≡ taker f m u → OneReceiver f m
+taker_waits : (f : OldFacts) (m : SentItem) (u : ℕ) → old_newest f m.channel m.item ≡ Some u → newest_receiver f m ≡ taker f m u → OneReceiver f m
 taker_waits f m u e new =
     let newest : is_newest f.open_call m.channel m.item (threads_of f.roster) u ≡ true = where_is _ (threads_of f.roster) u e in
     let waits : is_some (taker f m u) ≡ true = sym (map_some _ (taker f m u)) ∙ ap is_some (sym (waits_same f m u)) ∙ some_if _ (wait_on m.channel m.item (f.open_call u)) newest in
-    elim (f.open_call u) as (λ o. f.open_call u ≡ o → newest_receiver (facts_view f) m ≡ option_and_then (λ r. cond (eqb r.channel m.channel && may_take r.kind m.item) (Some r) None) (receive_view u o)
+    elim (f.open_call u) as (λ o. f.open_call u ≡ o → newest_receiver f m ≡ option_and_then (λ r. cond (eqb r.channel m.channel && may_take r.kind m.item) (Some r) None) (receive_view u o)
     → is_some (option_and_then (λ r. cond (eqb r.channel m.channel && may_take r.kind m.item) (Some r) None) (receive_view u o)) ≡ true → OneReceiver f m) [
       | None ↦ λ is new some. absurd (true≢false (sym some))
       | Some o ↦ λ is new some. one f m u o.number o.wait e is new some
@@ -106,7 +105,7 @@ old_ending item message r b = record { call = r.number; thread = r.thread; mark 
 pub delivery_same : (item : Item) (message : List ℕ) (r : OpenReceive) → delivery item message r ≡ receipt_ending item message r.thread r.number r.buffer
 delivery_same item message r = elim (is_pulse item.what) as (λ b. new_ending item message r b ≡ old_ending item message r b) [ true ↦ refl | false ↦ refl ]
 
-pub deliver_same : (f : OldFacts) (m : SentItem) (message : List ℕ) (u : ℕ) → find (λ x. eqb x.thread u) (deliver (facts_view f) (Some m) message) ≡ delivers f m.item message (receiver f m.item (Some m.channel)) u
+pub deliver_same : (f : OldFacts) (m : SentItem) (message : List ℕ) (u : ℕ) → find (λ x. eqb x.thread u) (deliver f (Some m) message) ≡ delivers f m.item message (receiver f m.item (Some m.channel)) u
 deliver_same f m message u = elim (receiver_cases f m) [
   | inl k ↦ rw (k.none, k.new) refl
   | inr k ↦
@@ -117,7 +116,7 @@ deliver_same f m message u = elim (receiver_cases f m) [
       ] refl)
 ]
 
-pub memory_same : (f : OldFacts) (m : SentItem) → has_to_wait (facts_view f) (Some m) ≡ wants_room f m.item (Some m.channel)
+pub memory_same : (f : OldFacts) (m : SentItem) → has_to_wait f (Some m) ≡ wants_room f m.item (Some m.channel)
 memory_same f m = elim (receiver_cases f m) [
   | inl k ↦ rw (k.none, k.new) refl
   | inr k ↦ rw (k.receiver, k.new) refl

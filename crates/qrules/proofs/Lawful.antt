@@ -5,10 +5,9 @@ use Rattle.qrules.specs.Private.Lawful as old
 use Rattle.qrules.specs.Private.OnlyRun as old_only
 use Rattle.qmodel.specs.Trace.{Event, Trace}
 use Rattle.qrules.specs.Lawful.{IsLawful, IsOnlyRun}
-use Rattle.qrules.specs.Outcome.{Answers}
 use Rattle.qrules.specs.Trace.{followed_by}
 use Rattle.qrules.proofs.Outcomes.{same_answers}
-use Rattle.qrules.proofs.Past.Facts.{facts_known, same_facts}
+use Rattle.qrules.proofs.Past.Facts.{facts_known}
 use Rattle.qrules.proofs.Same.{AreOfRoster}
 
 pub of_roster : (roster : List Member) (past : Trace) → IsLawful roster past → AreOfRoster roster past
@@ -25,7 +24,7 @@ lawful_as_before roster (e ∷ past) l =
     let of : AreOfRoster roster past = of_roster roster past l.0 in (
       lawful_as_before roster past l.0,
       l.1.0,
-      (same_answers (old.facts_of roster past) e.thread e.call (facts_known roster past of) e.endings).0 (subst (λ f. Answers f e.thread e.call e.endings) (same_facts roster past of) l.1.1),
+      (same_answers (old.facts_of roster past) e.thread e.call (facts_known roster past of) e.endings).0 l.1.1,
     )
 
 lawful_by_rules : (roster : List Member) (past : Trace) → old.IsLawful roster past → IsLawful roster past
@@ -35,7 +34,7 @@ lawful_by_rules roster (e ∷ past) l =
       lawful_by_rules roster past l.0,
       (
         l.1,
-        subst (λ f. Answers f e.thread e.call e.endings) (sym (same_facts roster past of)) ((same_answers (old.facts_of roster past) e.thread e.call (facts_known roster past of) e.endings).1 l.2),
+        ((same_answers (old.facts_of roster past) e.thread e.call (facts_known roster past of) e.endings).1 l.2),
       ),
     )
 

@@ -1,6 +1,6 @@
 -- The open Send of a number.
 use Rattle.std.proofs.Common.{◌≡◌, ◌∙◌, ◌⊎◌, inl, inr, ℕ, List, [], ◌∷◌, refl, ap, sym, cond, true, false, eqb}
-use Rattle.std.specs.Prelude.{Option, None, Some, ◌&&◌, find, filter_map, option_map, option_and_then}
+use Rattle.std.specs.Prelude.{Option, None, Some, ◌&&◌, find, filter_map, option_and_then}
 use Rattle.std.specs.List.{cons_option}
 use Rattle.std.proofs.lemmas.Bool.{true≢false}
 use Rattle.std.proofs.Math.Bool.{and-false}
@@ -11,8 +11,7 @@ use Rattle.qmodel.specs.declared.open_call.Wait.{Wait}
 use Rattle.qmodel.specs.declared.open_call.Wait.TheVariants.{Answer, Item as ForItem}
 use Rattle.qrules.proofs.Traces.Past.Senders.{sender_sends}
 use Rattle.qrules.specs.Facts.{OpenSend, open_send}
-use Rattle.qrules.specs.View.{send_in, send_view}
-use Rattle.qrules.proofs.Same.{facts_view}
+use Rattle.qrules.specs.Facts.{send_in, send_view}
 
 module _ (open_call : ℕ → Option OpenCall) (i : ℕ) where
   open_among : (ts : List ℕ) → find (λ s. eqb s.number i) (filter_map (λ u. send_view u (open_call u)) ts) ≡ option_and_then (λ u. send_view u (open_call u)) (sender_among open_call i ts)
@@ -37,7 +36,7 @@ module _ (open_call : ℕ → Option OpenCall) (i : ℕ) where
 -- no Send of number i is open
 pub record NoSend (f : OldFacts) (i : ℕ) : Type 0 where
   pub none : sender f i ≡ None
-  pub new : open_send (facts_view f) i ≡ None
+  pub new : open_send f i ≡ None
 
 -- a Send of number i is open
 pub record OneSend (f : OldFacts) (i : ℕ) : Type 0 where
@@ -49,9 +48,9 @@ pub record OneSend (f : OldFacts) (i : ℕ) : Type 0 where
   pub receipt : Option OldReceipt
   pub sent : sender f i ≡ Some thread
   pub is : f.open_call thread ≡ Some (record { number = number; wait = Answer connection message reply_buffer receipt })
-  pub new : open_send (facts_view f) i ≡ Some (record { number = number; thread = thread; connection = connection; message = message; reply_buffer = reply_buffer; receipt = receipt })
+  pub new : open_send f i ≡ Some (record { number = number; thread = thread; connection = connection; message = message; reply_buffer = reply_buffer; receipt = receipt })
 
-one_send : (f : OldFacts) (i s n : ℕ) (w : Wait) → sender f i ≡ Some s → f.open_call s ≡ Some (record { number = n; wait = w }) → is_for_answer w ≡ true → open_send (facts_view f) i ≡ send_in s n w → OneSend f i
+one_send : (f : OldFacts) (i s n : ℕ) (w : Wait) → sender f i ≡ Some s → f.open_call s ≡ Some (record { number = n; wait = w }) → is_for_answer w ≡ true → open_send f i ≡ send_in s n w → OneSend f i
 one_send f i s n (Answer coid message reply_buffer receipt) sent is answer new = record { thread = s; number = n; connection = coid; message = message; reply_buffer = reply_buffer; receipt = receipt; sent = sent; is = is; new = new }
 one_send f i s n (ForItem chid kind buffer) sent is answer new = absurd (true≢false (sym answer))
 

@@ -13,8 +13,7 @@ use Rattle.qrules.specs.Facts.{OpenReceive}
 use Rattle.qrules.specs.Rule.{SentItem}
 use Rattle.qrules.specs.Delivery.{newer, newest_receiver}
 use Rattle.qrules.proofs.Lists.{filter-filter_map}
-use Rattle.qrules.specs.View.{receive_in, receive_view}
-use Rattle.qrules.proofs.Same.{facts_view}
+use Rattle.qrules.specs.Facts.{receive_in, receive_view}
 
 -- ---- the newest of a list
 
@@ -151,7 +150,7 @@ map_or_same : (p : OpenReceive → Bool) (q : ℕ → Bool) (o : Option OpenRece
 map_or_same p q None h = refl
 map_or_same p q (Some r) h = h r
 
-pub newest_same : (f : OldFacts) (m : SentItem) → newest_receiver (facts_view f) m ≡ option_and_then (taker f m) (old_newest f m.channel m.item)
+pub newest_same : (f : OldFacts) (m : SentItem) → newest_receiver f m ≡ option_and_then (taker f m) (old_newest f m.channel m.item)
 newest_same f m =
     let ts : List ℕ = threads_of f.roster in
     let w : ℕ → Option OpenReceive = taker f m in

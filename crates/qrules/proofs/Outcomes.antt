@@ -22,8 +22,7 @@ use Rattle.qrules.proofs.Rows.Items.{receive, receive_pulse, send}
 use Rattle.qrules.proofs.Rows.Plain.{channel_create, channel_destroy, connect_attach, priority_set, shutdown, state}
 use Rattle.qrules.proofs.Rows.Pulses.{connect_detach, pulse, unblock}
 use Rattle.qrules.proofs.Rows.Same.{SameRow}
-use Rattle.qrules.proofs.Same.{facts_view}
-use Rattle.qrules.proofs.View.{blocked_same, IsKnown}
+use Rattle.qrules.proofs.View.{IsKnown}
 
 pub same_row : (f : OldFacts) (t : ℕ) (c : Call) → IsKnown f → SameRow f t c
 same_row f t (calls.ChannelCreate flags) k = channel_create f t flags
@@ -64,33 +63,32 @@ same_buffer (calls.Unblock thread) = refl
 same_buffer (calls.ConnectDetach coid) = refl
 
 module _ (f : OldFacts) (t : ℕ) (c : Call) (known : IsKnown f) where
-  pub same_refusal : first_refusal (facts_view f) t c ≡ old.refusal f t c
+  pub same_refusal : first_refusal f t c ≡ old.refusal f t c
   same_refusal =
-      ap (λ blocked. cond f.down (Some Down) (cond blocked (Some Busy) (row (facts_view f) t c).refusal)) (blocked_same f t known)
-      ∙ ap (λ own. cond f.down (Some Down) (cond (is_some (f.open_call t)) (Some Busy) own)) (same_row f t c known).refusal
+      ap (λ own. cond f.down (Some Down) (cond (is_some (f.open_call t)) (Some Busy) own)) (same_row f t c known).refusal
 
-  pub same_memory : old.refusal f t c ≡ None → (row (facts_view f) t c).takes_memory ≡ (row_of f t c).takes_memory
+  pub same_memory : old.refusal f t c ≡ None → (row f t c).takes_memory ≡ (row_of f t c).takes_memory
   same_memory p = (same_row f t c known).memory (row_passes f t c p).row
 
-  pub same_endings : old.refusal f t c ≡ None → filter_map (λ u. find (λ x. eqb x.thread u) (row (facts_view f) t c).endings) (threads_of f.roster) ≡ filter_map (old.ending f t c) (threads_of f.roster)
+  pub same_endings : old.refusal f t c ≡ None → filter_map (λ u. find (λ x. eqb x.thread u) (row f t c).endings) (threads_of f.roster) ≡ filter_map (old.ending f t c) (threads_of f.roster)
   same_endings p = filter_map_same _ (old.ending f t c) (threads_of f.roster) (λ u. (same_row f t c known).endings (row_passes f t c p).row (row_passes f t c p).idle u)
 
   abbrev refusal_with : List ℕ → Errno → Completion
   refusal_with buffer e = record { call = f.number; thread = t; mark = mark.Failed e; buffer = buffer }
 
-  may_refuse : (e : Errno) → MayRefuse (facts_view f) t c e → old.MayRefuse f t c e
+  may_refuse : (e : Errno) → MayRefuse f t c e → old.MayRefuse f t c e
   may_refuse e h = elim h [
     | inl p ↦ inl (sym same_refusal ∙ p)
     | inr p ↦ let none : old.refusal f t c ≡ None = sym same_refusal ∙ p.0 in inr (none, sym (same_memory none) ∙ p.1, p.2)
   ]
 
-  may_refuse_new : (e : Errno) → old.MayRefuse f t c e → MayRefuse (facts_view f) t c e
+  may_refuse_new : (e : Errno) → old.MayRefuse f t c e → MayRefuse f t c e
   may_refuse_new e h = elim h [
     | inl p ↦ inl (same_refusal ∙ p)
     | inr p ↦ inr (same_refusal ∙ p.0, same_memory p.0 ∙ p.1, p.2)
   ]
 
-  pub same_outcome : (accepted : Bool) (X : List Completion) → Outcome (facts_view f) t c accepted X ↔ old.Outcome accepted f t c X
+  pub same_outcome : (accepted : Bool) (X : List Completion) → Outcome f t c accepted X ↔ old.Outcome accepted f t c X
   same_outcome true X = (
     λ a. let none : old.refusal f t c ≡ None = sym same_refusal ∙ a.0 in (none, a.1 ∙ same_endings none),
     λ a. (same_refusal ∙ a.0, a.1 ∙ sym (same_endings a.0)),
@@ -100,7 +98,7 @@ module _ (f : OldFacts) (t : ℕ) (c : Call) (known : IsKnown f) where
     λ a. (a.0, may_refuse_new a.0 a.1, a.2 ∙ ap (λ buffer. refusal_with buffer a.0 ∷ []) (sym (same_buffer c))),
   )
 
-  pub same_answers : (X : List Completion) → Answers (facts_view f) t c X ↔ old.Answers f t c X
+  pub same_answers : (X : List Completion) → Answers f t c X ↔ old.Answers f t c X
   same_answers X = (
     λ h. elim h [ inl a ↦ inl ((same_outcome true X).0 a) | inr a ↦ inr ((same_outcome false X).0 a) ],
     λ h. elim h [ inl a ↦ inl ((same_outcome true X).1 a) | inr a ↦ inr ((same_outcome false X).1 a) ],

@@ -1,4 +1,2 @@
--- Searches in the past, in both models.
-pub mod Effects
-pub mod Waits
+-- Searches in the past.
 pub mod Facts

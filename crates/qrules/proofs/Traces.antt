@@ -1,3 +1,4 @@
+pub mod Due
 pub mod Laying
 pub mod Parts
 pub mod Routes

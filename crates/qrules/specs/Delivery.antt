@@ -6,7 +6,7 @@ use Rattle.qrules.specs.Words.{may_take, nat_lt, not, option_and_then, option_ma
 use Rattle.qrules.specs.Words.{option_to_list, reduce, Again, Bool, Completion, Errno, Item, List, None}
 use Rattle.qrules.specs.Words.{Option, Some}
 use Rattle.qrules.specs.Trace.{Bytes, ThreadNo}
-use Rattle.qrules.specs.Facts.{message, Facts, OpenReceive, OpenSend}
+use Rattle.qrules.specs.Facts.{message, open_receives, open_sends, Facts, OpenReceive, OpenSend}
 use Rattle.qrules.specs.Rule.{plain_row, with_endings, Row, SentItem}
 use Rattle.qrules.specs.Words.mark
 
@@ -36,7 +36,7 @@ module _ (f : Facts) where
   -- the newest of the receives on the item's channel that may take it
   abbrev pub newest_receiver : SentItem → Option OpenReceive
   newest_receiver m =
-      reduce newer (filter (λ r. (r.channel == m.channel) && may_take r.kind m.item) f.open_receives)
+      reduce newer (filter (λ r. (r.channel == m.channel) && may_take r.kind m.item) (open_receives f))
 
   -- the ending of the receive that takes the item that is sent
   abbrev pub deliver : Option SentItem → Bytes → List Completion
@@ -57,8 +57,8 @@ module _ (f : Facts) where
   -- error
   abbrev pub cancel : (OpenSend → Bool) → (OpenReceive → Bool) → Errno → List Completion
   cancel sends receives e =
-      map (cancel_send e) (filter sends f.open_sends)
-      ++ map (cancel_receive e) (filter receives f.open_receives)
+      map (cancel_send e) (filter sends (open_sends f))
+      ++ map (cancel_receive e) (filter receives (open_receives f))
 
   -- the row of a call that ends with Ok, cancels these calls, and may send a pulse
   abbrev pub pulse_row : ThreadNo → Option Errno → List Completion → Option SentItem → Row

@@ -1,12 +1,15 @@
 -- The facts of the past that a rule may read.
-use Rattle.std.specs.Prelude.{◌&&◌, ◌+◌, ◌==◌, ◌||◌, if◌then◌else◌}
-use Rattle.qrules.specs.Words.{[], bit_and, false, find, is_some, map, member_at, option_and_then}
-use Rattle.qrules.specs.Words.{option_map, option_map_or, option_or, Bool, Connection, Item, Kind, List}
+use Rattle.std.specs.Prelude.{◌&&◌, ◌+◌, ◌==◌, if◌then◌else◌}
+use Rattle.qrules.specs.Words.{[], bit_and, false, filter_map, find, is_some, map, member_at, option_and_then}
+use Rattle.qrules.specs.Words.{option_map, option_map_or, Bool, Connection, Item, Kind, List}
 use Rattle.qrules.specs.Words.{Member, None, Option, Some, ℕ}
 use Rattle.qrules.specs.Trace.{Bytes, CallNo, ChannelId, ConnectionId, Priority, ProcessNo, ReceiveId}
 use Rattle.qrules.specs.Trace.{ThreadNo}
 pub use Rattle.qmodel.specs.Trace.{OpenChannel}
 pub use Rattle.qmodel.specs.declared.open_call.Receipt.{Receipt}
+use Rattle.qmodel.specs.declared.open_call.OpenCall.{OpenCall}
+use Rattle.qmodel.specs.declared.open_call.Wait.{Wait}
+use Rattle.qmodel.specs.declared.open_call.Wait.TheVariants.{Answer, Item as ForItem}
 
 -- a Send that isn't ended: SEND-blocked without a receipt, REPLY-blocked with one
 pub record OpenSend : Type 0 where
@@ -34,10 +37,35 @@ pub record Facts : Type 0 where
   pub open_channels : ℕ  -- how many there are
   pub connection : ConnectionId → Option Connection  -- the live connection of this id
   pub live_connections : ℕ  -- how many there are
-  pub open_sends : List OpenSend  -- the open Sends, in rising thread number
-  pub open_receives : List OpenReceive  -- the open receives, in rising thread number
+  pub open_call : ThreadNo → Option OpenCall  -- that the thread waits in
   pub pending : ChannelId → List Item  -- what waits on a channel to be received, in rising number
   pub priority : ThreadNo → Priority  -- of each thread
+
+-- call n of thread t, if it waits for an answer
+abbrev pub send_in : ThreadNo → CallNo → Wait → Option OpenSend
+send_in t n (Answer coid message reply_buffer receipt) = Some (record {
+  number = n;
+  thread = t;
+  connection = coid;
+  message = message;
+  reply_buffer = reply_buffer;
+  receipt = receipt;
+})
+send_in t n (ForItem chid kind buffer) = None
+
+-- the open Send of thread t, if its open call is one
+abbrev pub send_view : ThreadNo → Option OpenCall → Option OpenSend
+send_view t call = option_and_then (λ o. send_in t o.number o.wait) call
+
+-- call n of thread t, if it waits for an item
+abbrev pub receive_in : ThreadNo → CallNo → Wait → Option OpenReceive
+receive_in t n (Answer coid message reply_buffer receipt) = None
+receive_in t n (ForItem chid kind buffer) =
+    Some (record { number = n; thread = t; channel = chid; kind = kind; buffer = buffer })
+
+-- the open receive of thread t, if its open call is one
+abbrev pub receive_view : ThreadNo → Option OpenCall → Option OpenReceive
+receive_view t call = option_and_then (λ o. receive_in t o.number o.wait) call
 
 -- the threads of a roster
 abbrev pub threads_of : List Member → List ThreadNo
@@ -77,24 +105,31 @@ module _ (f : Facts) where
 
   -- the Send that thread t waits in
   abbrev pub send_of : ThreadNo → Option OpenSend
-  send_of t = find (λ s. s.thread == t) f.open_sends
+  send_of t = send_view t (f.open_call t)
 
   -- the Receive or ReceivePulse that thread t waits in
   abbrev pub receive_of : ThreadNo → Option OpenReceive
-  receive_of t = find (λ r. r.thread == t) f.open_receives
+  receive_of t = receive_view t (f.open_call t)
+
+  -- the open Sends, in rising thread number
+  abbrev pub open_sends : List OpenSend
+  open_sends = filter_map send_of (threads_of f.roster)
+
+  -- the open receives, in rising thread number
+  abbrev pub open_receives : List OpenReceive
+  open_receives = filter_map receive_of (threads_of f.roster)
 
   -- the number of the call that thread t waits in
   abbrev pub waiting_number : ThreadNo → Option CallNo
-  waiting_number t =
-      option_or (option_map (λ s. s.number) (send_of t)) (option_map (λ r. r.number) (receive_of t))
+  waiting_number t = option_map (λ o. o.number) (f.open_call t)
 
   -- thread t waits in an open call
   abbrev pub is_blocked : ThreadNo → Bool
-  is_blocked t = is_some (send_of t) || is_some (receive_of t)
+  is_blocked t = is_some (f.open_call t)
 
   -- the open Send of number i
   abbrev pub open_send : ReceiveId → Option OpenSend
-  open_send i = find (λ s. s.number == i) f.open_sends
+  open_send i = find (λ s. s.number == i) open_sends
 
   -- the bytes of message i
   abbrev pub message : ReceiveId → Bytes

@@ -1,15 +1,15 @@
 -- Lawful traces: the endings of each event are the ones that the rules require after the events before it.
 use Rattle.std.specs.Prelude.{◌++◌, ◌+◌, ◌==◌, ◌∷◌, ◌≡◌, if◌then◌else◌}
-use Rattle.qrules.specs.Words.{[], filter_map, is_some, length, map, member_at, option_and_then}
+use Rattle.qrules.specs.Words.{[], is_some, length, map, member_at, option_and_then}
 use Rattle.qrules.specs.Words.{option_map_or, option_or, option_to_list, unwrap_or, AllByRecursion}
 use Rattle.qrules.specs.Words.{Call, IsTrue, List, Member, NoMemory, None, Option, Some}
 use Rattle.qrules.specs.Trace.{followed_by, CallNo, Event, InEachEvent, Priority, ThreadNo, Trace}
-use Rattle.qrules.specs.Facts.{count_to, has_flag, threads_of, Facts}
+use Rattle.qrules.specs.Facts.{count_to, has_flag, Facts}
 use Rattle.qrules.specs.Rule.{SentItem}
 use Rattle.qrules.specs.Rules.{effect_of}
 use Rattle.qrules.specs.Outcome.{Answers}
 use Rattle.qrules.specs.Past.{channel_at, connection_at, first_among, is_accepted, item_among, item_in}
-use Rattle.qrules.specs.Past.{items_by_now, pending_among, priority_set_by, receive_after, send_after, was_done}
+use Rattle.qrules.specs.Past.{items_by_now, open_call_by, pending_among, priority_set_by, was_done}
 use Rattle.qrules.specs.Words.mark
 
 -- all items made so far, each as it was made, in rising number, and each thread's priority
@@ -32,8 +32,7 @@ module _ (roster : List Member) where
     open_channels = count_to (channel_at roster past) (length past);
     connection = connection_at roster past;
     live_connections = count_to (connection_at roster past) (length past);
-    open_sends = filter_map (send_after past items) (threads_of roster);
-    open_receives = filter_map (receive_after past) (threads_of roster);
+    open_call = open_call_by past items;
     pending = pending_among past items;
     priority = known.priority;
   }

@@ -8,5 +8,4 @@ pub mod Outcome
 pub mod Past
 pub mod Lawful
 pub mod Properties
-pub mod View
 pub mod Private

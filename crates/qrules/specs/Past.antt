@@ -3,10 +3,13 @@ use Rattle.std.specs.Prelude.{◌&&◌, ◌+◌, ◌==◌, ◌||◌, ◌∷◌, 
 use Rattle.qrules.specs.Words.{[], false, filter, find, is_pulse, is_some, lay_over, length}
 use Rattle.qrules.specs.Words.{list_any, map, member_at, not, option_and_then, option_map, option_map_or}
 use Rattle.qrules.specs.Words.{option_or, true, unwrap_or, with_priority, Bool, Connection, Item}
-use Rattle.qrules.specs.Words.{Completion, List, Mark, Member, None, Option, Some, What, ℕ}
+use Rattle.qrules.specs.Words.{Call, Completion, List, Mark, Member, None, Option, Some, What, ℕ}
 use Rattle.qrules.specs.Trace.{Bytes, CallNo, ChannelId, ConnectionId, Event, Priority, ReceiveId}
 use Rattle.qrules.specs.Trace.{ThreadNo, Trace}
-use Rattle.qrules.specs.Facts.{OpenChannel, OpenReceive, OpenSend}
+use Rattle.qrules.specs.Facts.{OpenChannel, Receipt}
+use Rattle.qmodel.specs.declared.open_call.OpenCall.{OpenCall}
+use Rattle.qmodel.specs.declared.open_call.Wait.{Wait}
+use Rattle.qmodel.specs.declared.open_call.Wait.TheVariants.{Answer, Item as ForItem}
 use Rattle.qrules.specs.Rule.{Effect, SentItem, Transfer}
 use Rattle.qrules.specs.Rules.{effect_of}
 use Rattle.qrules.specs.Words.mark
@@ -154,25 +157,6 @@ pending_among past items h = if is_destroyed past h then []
 
 -- ---- open calls
 
--- an accepted call
-pub record AcceptedCall : Type 0 where
-  pub number : CallNo
-  pub thread : ThreadNo
-  pub effect : Effect
-
--- all accepted calls, the newest first
-abbrev pub accepted_calls : Trace → List AcceptedCall
-accepted_calls [] = []
-accepted_calls (e ∷ past) = let call : AcceptedCall =
-    record { number = length past + 1; thread = e.thread; effect = effect_of e.call } in
-    if is_accepted e past then call ∷ accepted_calls past else accepted_calls past
-
--- the call that thread t waits in: its newest accepted call that may wait, unless that is ended
-abbrev pub waiting_call : Trace → ThreadNo → Option AcceptedCall
-waiting_call past t = option_and_then (λ c. if is_ended past c.number then None else Some c)
-    (find (λ c. (c.thread == t) && (is_some c.effect.sends || is_some c.effect.receives))
-    (accepted_calls past))
-
 -- the reply buffer of message i with what is written over it
 abbrev pub buffer_after_write : Option Transfer → ReceiveId → Bytes → Bytes
 buffer_after_write written i b =
@@ -190,27 +174,56 @@ abbrev pub is_unblock_for : ReceiveId → What → Bool
 is_unblock_for i (what.Unblock rcvid) = rcvid == i
 is_unblock_for i other = false
 
--- the open Send of thread t, given all items with their present priorities
-abbrev pub send_after : Trace → List SentItem → ThreadNo → Option OpenSend
-send_after past items t = option_and_then (λ c. option_map (λ s. record {
-  number = c.number;
-  thread = t;
-  connection = s.connection;
-  message = s.message;
-  reply_buffer = with_writes past c.number s.reply_buffer;
-  receipt = option_map (λ copied. record {
-    priority = priority_of_item (item_among items c.number);
-    copied = copied;
-    unblocked = list_any (λ m. is_unblock_for c.number m.item.what) items;
-  }) (copied_count_of past c.number);
-}) c.effect.sends) (waiting_call past t)
+-- what a call waits for, if it doesn't end in its own event
+abbrev pub waits : Call → Option Wait
+waits c = option_or (option_map (λ s. Answer s.connection s.message s.reply_buffer None) (effect_of c).sends)
+    (option_map (λ r. ForItem r.channel r.kind r.buffer) (effect_of c).receives)
 
--- the open Receive or ReceivePulse of thread t
-abbrev pub receive_after : Trace → ThreadNo → Option OpenReceive
-receive_after past t = option_and_then (λ c. option_map (λ r. record {
-  number = c.number;
-  thread = t;
-  channel = r.channel;
-  kind = r.kind;
-  buffer = r.buffer;
-}) c.effect.receives) (waiting_call past t)
+-- the open call that a call leaves if it doesn't end in its own event
+abbrev pub asks : CallNo → Call → Option OpenCall
+asks n c = option_map (λ wait. record { number = n; wait = wait }) (waits c)
+
+-- the newest accepted blocking call of thread t
+abbrev pub newest_block : Trace → ThreadNo → Option OpenCall
+newest_block [] t = None
+newest_block (e ∷ past) t =
+    if (e.thread == t) && is_accepted e past && is_some (asks (length past + 1) e.call)
+    then asks (length past + 1) e.call else newest_block past t
+
+-- a wait for an answer, with the record of the message's receipt
+abbrev pub wait_with_receipt : Receipt → Wait → Wait
+wait_with_receipt receipt (Answer coid message reply_buffer before) =
+    Answer coid message reply_buffer (Some receipt)
+wait_with_receipt receipt wait = wait
+
+-- a wait with its reply buffer changed
+abbrev pub with_buffer : (Bytes → Bytes) → Wait → Wait
+with_buffer f (Answer coid message reply_buffer receipt) = Answer coid message (f reply_buffer) receipt
+with_buffer f (ForItem chid kind buffer) = ForItem chid kind buffer
+
+-- a call with the present content of its reply buffer
+abbrev pub call_by_now : Trace → OpenCall → OpenCall
+call_by_now past o = record o { wait = with_buffer (with_writes past o.number) o.wait }
+
+-- a call, unless it is ended
+abbrev pub unless_ended : Trace → Option OpenCall → Option OpenCall
+unless_ended past call = option_and_then (λ o. if is_ended past o.number then None else Some o) call
+
+-- a call with the record of its message's receipt, if there was one
+abbrev pub with_receipt : Priority → Bool → Option ℕ → OpenCall → OpenCall
+with_receipt priority unblocked copied o =
+    option_map_or (λ n. record o
+    { wait = wait_with_receipt (record { priority = priority; copied = n; unblocked = unblocked }) o.wait })
+    copied o
+
+-- one of these items is an unblock pulse for message i
+abbrev pub unblocked_among : List SentItem → ReceiveId → Bool
+unblocked_among made i = list_any (λ m. is_unblock_for i m.item.what) made
+
+-- the open call of thread t, given all items with their present priorities
+abbrev pub open_call_by : Trace → List SentItem → ThreadNo → Option OpenCall
+open_call_by past made t =
+    option_map
+    (λ o. with_receipt (priority_of_item (item_among made o.number)) (unblocked_among made o.number)
+    (copied_count_of past o.number) (call_by_now past o))
+    (unless_ended past (newest_block past t))

@@ -1,12 +1,12 @@
 -- The six properties of a lawful trace on which the kernel's users rely.
 use Rattle.std.specs.Prelude.{◌&&◌, ◌++◌, ◌==◌, ◌∷◌, ◌≡◌, ◌≤◌, if◌then◌else◌}
-use Rattle.qrules.specs.Words.{[], best_of, count_by, drop, false, filter, filter_map, is_some, laid_count}
+use Rattle.qrules.specs.Words.{[], best_of, count_by, drop, false, filter_map, is_some, laid_count}
 use Rattle.qrules.specs.Words.{lay_over, map, not, option_and_then, option_map, option_map_or, option_or}
-use Rattle.qrules.specs.Words.{option_to_list, true, AllByRecursion, Any, Bool, Completion, Item, List}
+use Rattle.qrules.specs.Words.{true, AllByRecursion, Any, Bool, Completion, Item, List}
 use Rattle.qrules.specs.Words.{Mark, Member, None, Option, Some, ℕ}
 use Rattle.qrules.specs.Trace.{call_at, endings_of, Bytes, CallNo, ChannelId, ConnectionId, Event}
 use Rattle.qrules.specs.Trace.{InEachEvent, Priority, ReceiveId, Trace}
-use Rattle.qrules.specs.Facts.{owns}
+use Rattle.qrules.specs.Facts.{open_receives, open_sends, owns}
 use Rattle.qrules.specs.Rule.{buffer_of, ReceiveRequest, SentItem, Transfer}
 use Rattle.qrules.specs.Rules.{effect_of}
 use Rattle.qrules.specs.Past.{attached_connection, is_accepted, is_destroyed, is_ended, is_received}
@@ -74,7 +74,7 @@ AnsweredToSender roster = InEachEvent (λ past e.
 -- the bytes of message i
 abbrev pub message_at : Trace → ReceiveId → Bytes
 message_at past i =
-    option_map_or (λ s. s.message) (option_and_then (λ c. (effect_of c).sends) (call_at past i)) []
+    option_map_or (λ c. option_map_or (λ s. s.message) (effect_of c).sends []) (call_at past i) []
 
 -- the buffer of call i: a Send's with the bytes that were written over it, any other as the call brought it
 abbrev pub buffer_at : Trace → CallNo → Bytes
@@ -117,8 +117,9 @@ CopiedExactly = InEachEnding (λ past e x. IsCopied past e x x.mark)
 -- the items that could be taken from channel h in this event: those pending before it, and the one that it
 -- makes
 abbrev pub takeable : List Member → Trace → Event → ChannelId → List Item
-takeable roster past e h = (facts_of roster past).pending h ++ map (λ m. m.item)
-    (filter (λ m. m.channel == h) (option_to_list (item_made_by (facts_of roster past) e past)))
+takeable roster past e h = (facts_of roster past).pending h
+    ++ option_map_or (λ m. if m.channel == h then m.item ∷ [] else [])
+    (item_made_by (facts_of roster past) e past) []
 
 -- the request of call i, if it is a receive
 abbrev pub request_of : Trace → CallNo → Option ReceiveRequest
@@ -179,8 +180,8 @@ pub record IsShut
       → option_map (λ m. m.channel) (item_among (items roster past) i) ≡ Some h → ⊥) endings
   pub no_send : AllByRecursion
       (λ s. option_map (λ c. c.channel) (attached_connection roster past s.connection) ≡ Some h → ⊥)
-      (facts_of roster past).open_sends
-  pub no_receive : AllByRecursion (λ r. r.channel ≡ h → ⊥) (facts_of roster past).open_receives
+      (open_sends (facts_of roster past))
+  pub no_receive : AllByRecursion (λ r. r.channel ≡ h → ⊥) (open_receives (facts_of roster past))
 
 -- after each event, each channel that is destroyed by then is shut
 abbrev pub ShutForGood : List Member → Trace → Type 0

@@ -15,20 +15,17 @@ use Rattle.qrules.specs.Facts.{owns}
 use Rattle.qrules.specs.Lawful.{facts_of}
 use Rattle.qrules.specs.Past.{item_among}
 use Rattle.qrules.specs.Properties.{items, AnsweredToSender, AnswersIts}
-use Rattle.qrules.proofs.Past.Facts.{same_facts}
-use Rattle.qrules.proofs.Properties.Items.{same_channel_among, same_items}
-use Rattle.qrules.proofs.Same.{facts_view, AreOfRoster}
-use Rattle.qrules.proofs.View.{owns_same}
+use Rattle.qrules.proofs.Properties.Items.{same_channel_among}
+use Rattle.qrules.proofs.Same.{AreOfRoster}
 
-owner_of : (f : OldFacts) (t : ℕ) (m : Option SentItem) → option_map_or (λ m. owns (facts_view f) t m.channel) m false ≡ option_map_or (λ h. old_owns f t h) (option_map (λ m. m.channel) m) false
+owner_of : (f : OldFacts) (t : ℕ) (m : Option SentItem) → option_map_or (λ m. owns f t m.channel) m false ≡ option_map_or (λ h. old_owns f t h) (option_map (λ m. m.channel) m) false
 owner_of f t None = refl
-owner_of f t (Some m) = owns_same f t m.channel
+owner_of f t (Some m) = refl
 
 same_owner : (roster : List Member) (past : Trace) (t i : ℕ) → AreOfRoster roster past → option_map_or (λ m. owns (facts_of roster past) t m.channel) (item_among (items roster past) i) false ≡ old.owns_channel_of roster past t i
 same_owner roster past t i l =
-    ap (λ f. option_map_or (λ m. owns f t m.channel) (item_among (items roster past) i) false) (same_facts roster past l)
-    ∙ owner_of (old_lawful.facts_of roster past) t (item_among (items roster past) i)
-    ∙ ap (λ h. option_map_or (λ h. old_owns (old_lawful.facts_of roster past) t h) h false) (ap (λ (made : List SentItem). option_map (λ m. m.channel) (item_among made i)) (same_items roster past l) ∙ same_channel_among (past_of.items roster past) i)
+    owner_of (old_lawful.facts_of roster past) t (item_among (items roster past) i)
+    ∙ ap (λ h. option_map_or (λ h. old_owns (old_lawful.facts_of roster past) t h) h false) (same_channel_among (past_of.items roster past) i)
 
 answers_as_before : (roster : List Member) (past : Trace) (e : Event) (x : Completion) → AreOfRoster roster past → AnswersIts roster past e x → old.AnswersIts roster past e x
 answers_as_before roster past e x l h = record {

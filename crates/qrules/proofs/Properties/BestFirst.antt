@@ -1,5 +1,5 @@
 -- A receipt takes the best item.
-use Rattle.std.proofs.Common.{◌≡◌, ◌∙◌, ◌↔◌, ℕ, List, [], ◌∷◌, refl, ap, sym}
+use Rattle.std.proofs.Common.{◌≡◌, ◌∙◌, ◌↔◌, ℕ, List, [], ◌∷◌, refl, ap}
 use Rattle.std.specs.Prelude.{Option, None, Some, option_map, option_and_then}
 use Rattle.std.proofs.lemmas.Option.{none-some, same_Some}
 use Rattle.qbase.proofs.Lists.{all_more}
@@ -7,7 +7,6 @@ use Rattle.qqueue.specs.Best.{best_of}
 use Rattle.qqueue.specs.declared.item.Kind.{Kind}
 use Rattle.qtables.specs.declared.member.Member.{Member}
 use Rattle.qrules.specs.Private.Headline.BestFirst as old
-use Rattle.qrules.specs.Private.Headline.CopiedExactly.{call_at as old_call_at}
 use Rattle.qmodel.specs.Trace.{Event, Trace}
 use Rattle.qmodel.specs.declared.call.Call.{Call}
 use Rattle.qmodel.specs.declared.call.Completion.{Completion}
@@ -15,27 +14,25 @@ use Rattle.qrules.specs.Properties.{request_of, takeable, BestFirst, TakesBest}
 use Rattle.qrules.specs.Rule.{ReceiveRequest}
 use Rattle.qrules.specs.Rules.{effect_of}
 use Rattle.qrules.proofs.Same.{AreOfRoster}
-use Rattle.qrules.proofs.Properties.Calls.{same_call_at}
-use Rattle.qrules.proofs.Properties.Items.{same_takeable}
+use Rattle.qrules.specs.Trace.{call_at}
 
 -- ---- what a call asks to receive
 
 -- the call that asks so
 pub record Asks (past : Trace) (i : ℕ) (request : ReceiveRequest) : Type 0 where
   pub call : Call
-  pub is : old_call_at past i ≡ Some call
+  pub is : call_at past i ≡ Some call
   pub receives : (effect_of call).receives ≡ Some request
 
 pub asks_of : (past : Trace) (i : ℕ) (request : ReceiveRequest) → request_of past i ≡ Some request → Asks past i request
 asks_of past i request e =
-    let known : option_and_then (λ c. (effect_of c).receives) (old_call_at past i) ≡ Some request = sym (ap (option_and_then (λ c. (effect_of c).receives)) (same_call_at past i)) ∙ e in
-    elim (old_call_at past i) as (λ call. old_call_at past i ≡ call → option_and_then (λ c. (effect_of c).receives) call ≡ Some request → Asks past i request) [
+    elim (call_at past i) as (λ call. call_at past i ≡ call → option_and_then (λ c. (effect_of c).receives) call ≡ Some request → Asks past i request) [
       | None ↦ λ is e. absurd (none-some request e)
       | Some c ↦ λ is e. record { call = c; is = is; receives = e }
-    ] refl known
+    ] refl e
 
-pub request_from : (past : Trace) (i : ℕ) (c : Call) (request : ReceiveRequest) → old_call_at past i ≡ Some c → (effect_of c).receives ≡ Some request → request_of past i ≡ Some request
-request_from past i c request is receives = ap (option_and_then (λ c. (effect_of c).receives)) (same_call_at past i ∙ is) ∙ receives
+pub request_from : (past : Trace) (i : ℕ) (c : Call) (request : ReceiveRequest) → call_at past i ≡ Some c → (effect_of c).receives ≡ Some request → request_of past i ≡ Some request
+request_from past i c request is receives = ap (option_and_then (λ c. (effect_of c).receives)) is ∙ receives
 
 -- ---- the best
 
@@ -44,9 +41,6 @@ best_number roster past e on = option_map (λ item. item.number) (best_of on.1 (
 
 abbrev place_of : ReceiveRequest → ℕ × Kind
 place_of r = (r.channel, r.kind)
-
-same_best : (roster : List Member) (past : Trace) (e : Event) (r : ReceiveRequest) → AreOfRoster roster past → option_map (λ item. item.number) (best_of r.kind (takeable roster past e r.channel)) ≡ best_number roster past e (place_of r)
-same_best roster past e r l = ap (λ items. option_map (λ item. item.number) (best_of r.kind items)) (same_takeable roster past e r.channel l)
 
 best_as_before : (roster : List Member) (past : Trace) (e : Event) (x : Completion) (i : ℕ) → AreOfRoster roster past → TakesBest roster past e x i → old.TakesBest roster past e x i
 best_as_before roster past e x i l h =
@@ -57,16 +51,16 @@ best_as_before roster past e x i l h =
       kind = h.request.kind;
       is_call = asks.is;
       receives = ap (option_map place_of) asks.receives;
-      best = sym (same_best roster past e h.request l) ∙ h.best;
+      best = h.best;
     }
 
-best_from : (roster : List Member) (past : Trace) (e : Event) (x : Completion) (i : ℕ) (c : Call) (on : ℕ × Kind) (receives : Option ReceiveRequest) → AreOfRoster roster past → old_call_at (e ∷ past) x.call ≡ Some c
+best_from : (roster : List Member) (past : Trace) (e : Event) (x : Completion) (i : ℕ) (c : Call) (on : ℕ × Kind) (receives : Option ReceiveRequest) → AreOfRoster roster past → call_at (e ∷ past) x.call ≡ Some c
     → (effect_of c).receives ≡ receives → option_map place_of receives ≡ Some on → best_number roster past e on ≡ Some i → TakesBest roster past e x i
 best_from roster past e x i c on None l is receives place best = absurd (none-some on place)
 best_from roster past e x i c on (Some r) l is receives place best = record {
   request = r;
   call = request_from (e ∷ past) x.call c r is receives;
-  best = same_best roster past e r l ∙ ap (best_number roster past e) (same_Some (place_of r) on place) ∙ best;
+  best = ap (best_number roster past e) (same_Some (place_of r) on place) ∙ best;
 }
 
 best_by_rules : (roster : List Member) (past : Trace) (e : Event) (x : Completion) (i : ℕ) → AreOfRoster roster past → old.TakesBest roster past e x i → TakesBest roster past e x i

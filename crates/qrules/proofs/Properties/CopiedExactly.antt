@@ -1,5 +1,5 @@
 -- Every buffer and every count is what was to be copied.
-use Rattle.std.proofs.Common.{◌≡◌, ◌∙◌, ◌↔◌, ℕ, List, [], ◌∷◌, drop, refl, ap, sym, subst}
+use Rattle.std.proofs.Common.{◌∙◌, ◌↔◌, ℕ, List, [], ◌∷◌, ap, sym, subst}
 use Rattle.std.specs.Prelude.{Option, None, Some}
 use Rattle.qbase.proofs.Lists.{all_more}
 use Rattle.qbase.specs.Laying.{laid_count}
@@ -11,14 +11,12 @@ use Rattle.qmodel.specs.declared.call.Mark.TheVariants as mark
 use Rattle.qrules.specs.Properties.{buffer_at, message_at, CopiedExactly, IsCopied, IsCounted, IsLaid}
 use Rattle.qrules.specs.Rule.{Transfer}
 use Rattle.qrules.specs.Rules.{effect_of}
-use Rattle.qrules.proofs.Properties.Calls.{same_buffer_at, same_message_at}
+use Rattle.qrules.proofs.Properties.Calls.{same_buffer_at}
 
 -- ---- what is counted
 
 same_counted : (past : Trace) (reads writes : Option Transfer) (x : Completion) (copied : ℕ) → IsCounted past reads writes x copied ↔ old.IsCountOf past reads writes x copied
-same_counted past (Some r) writes x copied =
-    let same = same_message_at past r.rcvid in
-    (λ h. subst (λ m. IsLaid r.bytes 0 (drop r.offset m) x.buffer copied) same h, λ h. subst (λ m. IsLaid r.bytes 0 (drop r.offset m) x.buffer copied) (sym same) h)
+same_counted past (Some r) writes x copied = (λ h. h, λ h. h)
 same_counted past None (Some w) x copied =
     let same = same_buffer_at past w.rcvid in
     (λ h. (h.0, h.1 ∙ ap (λ b. laid_count b w.offset w.bytes) same), λ h. (h.0, h.1 ∙ ap (λ b. laid_count b w.offset w.bytes) (sym same)))
@@ -26,16 +24,16 @@ same_counted past None None x copied = (λ h. h, λ h. h)
 
 -- ---- each ending
 
-laid_as_before : (past : Trace) (x : Completion) (a b : List ℕ) (copied : ℕ) → a ≡ b → IsLaid (buffer_at past x.call) 0 a x.buffer copied → IsLaid (old.buffer_at past x.call) 0 b x.buffer copied
-laid_as_before past x a b copied same h = subst (λ buffer. IsLaid buffer 0 b x.buffer copied) (same_buffer_at past x.call) (subst (λ m. IsLaid (buffer_at past x.call) 0 m x.buffer copied) same h)
+laid_as_before : (past : Trace) (x : Completion) (a : List ℕ) (copied : ℕ) → IsLaid (buffer_at past x.call) 0 a x.buffer copied → IsLaid (old.buffer_at past x.call) 0 a x.buffer copied
+laid_as_before past x a copied h = subst (λ buffer. IsLaid buffer 0 a x.buffer copied) (same_buffer_at past x.call) h
 
-laid_by_rules : (past : Trace) (x : Completion) (a b : List ℕ) (copied : ℕ) → a ≡ b → IsLaid (old.buffer_at past x.call) 0 b x.buffer copied → IsLaid (buffer_at past x.call) 0 a x.buffer copied
-laid_by_rules past x a b copied same h = subst (λ buffer. IsLaid buffer 0 a x.buffer copied) (sym (same_buffer_at past x.call)) (subst (λ m. IsLaid (old.buffer_at past x.call) 0 m x.buffer copied) (sym same) h)
+laid_by_rules : (past : Trace) (x : Completion) (a : List ℕ) (copied : ℕ) → IsLaid (old.buffer_at past x.call) 0 a x.buffer copied → IsLaid (buffer_at past x.call) 0 a x.buffer copied
+laid_by_rules past x a copied h = subst (λ buffer. IsLaid buffer 0 a x.buffer copied) (sym (same_buffer_at past x.call)) h
 
 copied_as_before : (past : Trace) (e : Event) (x : Completion) (m : Mark) → IsCopied past e x m → old.IsCopied past e x m
-copied_as_before past e x (mark.Message rcvid copied) h = laid_as_before (e ∷ past) x (message_at (e ∷ past) rcvid) (old.message_at (e ∷ past) rcvid) copied (same_message_at (e ∷ past) rcvid) h
+copied_as_before past e x (mark.Message rcvid copied) h = laid_as_before (e ∷ past) x (message_at (e ∷ past) rcvid) copied h
 copied_as_before past e x (mark.Replied status copied) h =
-    let laid = laid_as_before (e ∷ past) x h.0 h.0 copied refl h.2 in
+    let laid = laid_as_before (e ∷ past) x h.0 copied h.2 in
     (h.0, h.1, laid.0, laid.1)
 copied_as_before past e x (mark.Count copied) h =
     (same_counted past (effect_of e.call).reads (effect_of e.call).writes x copied).0 h
@@ -43,8 +41,8 @@ copied_as_before past e x mark.Ok h = h ∙ same_buffer_at (e ∷ past) x.call
 copied_as_before past e x _ h = h ∙ same_buffer_at (e ∷ past) x.call
 
 copied_by_rules : (past : Trace) (e : Event) (x : Completion) (m : Mark) → old.IsCopied past e x m → IsCopied past e x m
-copied_by_rules past e x (mark.Message rcvid copied) h = laid_by_rules (e ∷ past) x (message_at (e ∷ past) rcvid) (old.message_at (e ∷ past) rcvid) copied (same_message_at (e ∷ past) rcvid) h
-copied_by_rules past e x (mark.Replied status copied) h = (h.0, h.1, laid_by_rules (e ∷ past) x h.0 h.0 copied refl (h.2, h.3))
+copied_by_rules past e x (mark.Message rcvid copied) h = laid_by_rules (e ∷ past) x (message_at (e ∷ past) rcvid) copied h
+copied_by_rules past e x (mark.Replied status copied) h = (h.0, h.1, laid_by_rules (e ∷ past) x h.0 copied (h.2, h.3))
 copied_by_rules past e x (mark.Count copied) h =
     (same_counted past (effect_of e.call).reads (effect_of e.call).writes x copied).1 h
 copied_by_rules past e x mark.Ok h = h ∙ sym (same_buffer_at (e ∷ past) x.call)

@@ -1,19 +1,18 @@
 -- Each item is received once, and each call ended once.
-use Rattle.std.proofs.Common.{◌≡◌, ◌∙◌, ◌↔◌, ℕ, List, [], ◌∷◌, ap, sym, true, eqb}
+use Rattle.std.proofs.Common.{◌≡◌, ◌∙◌, ◌↔◌, ℕ, List, [], ◌∷◌, sym, true, eqb}
 use Rattle.std.specs.Prelude.{is_some}
 use Rattle.std.specs.List.{filter_map, AllByRecursion}
 use Rattle.qtables.specs.declared.member.Member.{Member}
 use Rattle.qrules.specs.Private.Headline.ReceivedOnce as old
-use Rattle.qmodel.specs.Trace.{SentItem}
 use Rattle.qmodel.specs.Trace.{Event, Trace}
 use Rattle.qrules.specs.Past.{item_among}
 use Rattle.qrules.specs.Properties.{items, number_received, ReceivedOnce}
 use Rattle.qrules.specs.Trace.{InEachEvent}
 use Rattle.qrules.proofs.Same.{AreOfRoster}
-use Rattle.qrules.proofs.Properties.Items.{found_any, same_items}
+use Rattle.qrules.proofs.Properties.Items.{found_any}
 
 same_made : (roster : List Member) (past : Trace) (i : ℕ) → AreOfRoster roster past → is_some (item_among (items roster past) i) ≡ old.is_made roster past i
-same_made roster past i l = ap (λ (made : List SentItem). is_some (item_among made i)) (same_items roster past l) ∙ found_any (λ m. eqb m.item.number i) _
+same_made roster past i l = found_any (λ m. eqb m.item.number i) _
 
 -- what event e receives is made by then
 abbrev early : List Member → Trace → Event → List ℕ → Type 0

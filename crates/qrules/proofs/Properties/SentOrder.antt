@@ -1,25 +1,20 @@
 -- Of equals over one connection the first that was sent is received first.
-use Rattle.std.proofs.Common.{◌≡◌, ◌∙◌, ◌↔◌, ◌≤◌, ℕ, List, [], ◌∷◌, refl, ap, sym, subst}
+use Rattle.std.proofs.Common.{◌≡◌, ◌∙◌, ◌↔◌, ℕ, List, [], ◌∷◌, refl, ap}
 use Rattle.std.specs.Prelude.{Some}
-use Rattle.std.specs.List.{AllByRecursion}
 use Rattle.std.proofs.lemmas.Option.{none-some, same_Some}
 use Rattle.qbase.proofs.Lists.{all_more}
-use Rattle.qqueue.specs.declared.item.Item.{Item}
 use Rattle.qqueue.specs.declared.item.Kind.TheVariants.{Any, PulseOnly}
 use Rattle.qtables.specs.declared.member.Member.{Member}
-use Rattle.qrules.specs.Private.Headline.BestFirst.{takeable as old_takeable}
 use Rattle.qrules.specs.Private.Headline.SentOrder as old
-use Rattle.qmodel.specs.Trace.{Event, Trace}
+use Rattle.qmodel.specs.Trace.{Trace}
 use Rattle.qmodel.specs.declared.call.Call.{Call}
 use Rattle.qmodel.specs.declared.call.Call.TheVariants as calls
 use Rattle.qmodel.specs.declared.call.Completion.{Completion}
-use Rattle.qrules.specs.Properties.{connection_of, priority_before, IsEarliest, SentOrder, TakesSent}
+use Rattle.qrules.specs.Properties.{SentOrder, TakesSent}
 use Rattle.qrules.specs.Rule.{ReceiveRequest}
 use Rattle.qrules.specs.Rules.{effect_of}
 use Rattle.qrules.proofs.Same.{AreOfRoster}
 use Rattle.qrules.proofs.Properties.BestFirst.{asks_of, request_from}
-use Rattle.qrules.proofs.Properties.Calls.{same_connection_of}
-use Rattle.qrules.proofs.Properties.Items.{same_priority_before, same_takeable}
 
 -- ---- a call that takes messages and pulses is a Receive
 
@@ -39,7 +34,7 @@ sent_as_before past x j k h =
       buffer = h.request.buffer;
       call = asks.is ∙ ap Some (any_receive asks.call h.request asks.receives h.any);
       item = h.item;
-      connection = sym (same_connection_of past j) ∙ h.connection;
+      connection = h.connection;
     }
 
 sent_by_rules : (past : Trace) (x : Completion) (j k : ℕ) → old.TakesSent past x j k → TakesSent past x j k
@@ -50,31 +45,16 @@ sent_by_rules past x j k h =
       call = request_from past x.call (calls.Receive h.channel h.buffer) request h.call refl;
       any = refl;
       item = h.item;
-      connection = same_connection_of past j ∙ h.connection;
+      connection = h.connection;
     }
-
--- ---- nothing that could be taken is earlier
-
-module _ (roster : List Member) (past : Trace) (e : Event) (l : AreOfRoster roster (e ∷ past)) (j k : ℕ) where
-  earliest_as_before : IsEarliest roster past e j k → old.IsEarliest roster past e j k
-  earliest_as_before h channel =
-      all_more (λ (item : Item). connection_of (e ∷ past) item.number ≡ Some k → item.priority ≡ priority_before roster past e j → j ≤ item.number) _ (old_takeable roster past e channel)
-      (subst (λ items. AllByRecursion (λ (item : Item). connection_of (e ∷ past) item.number ≡ Some k → item.priority ≡ priority_before roster past e j → j ≤ item.number) items) (same_takeable roster past e channel l.0) (h channel))
-      (λ item it over priority. it (same_connection_of (e ∷ past) item.number ∙ over) (priority ∙ sym (same_priority_before roster past e j l)))
-
-  earliest_by_rules : old.IsEarliest roster past e j k → IsEarliest roster past e j k
-  earliest_by_rules h channel =
-      subst (λ items. AllByRecursion (λ (item : Item). connection_of (e ∷ past) item.number ≡ Some k → item.priority ≡ priority_before roster past e j → j ≤ item.number) items) (sym (same_takeable roster past e channel l.0))
-      (all_more _ (λ (item : Item). connection_of (e ∷ past) item.number ≡ Some k → item.priority ≡ priority_before roster past e j → j ≤ item.number) (old_takeable roster past e channel) (h channel)
-      (λ item it over priority. it (sym (same_connection_of (e ∷ past) item.number) ∙ over) (priority ∙ same_priority_before roster past e j l)))
 
 as_before : (roster : List Member) (past : Trace) → AreOfRoster roster past → SentOrder roster past → old.SentOrder roster past
 as_before roster [] l h = tt
-as_before roster (e ∷ past) l h = (all_more _ _ e.endings h.1 (λ x first j k sent. earliest_as_before roster past e l j k (first j k (sent_by_rules (e ∷ past) x j k sent))), as_before roster past l.0 h.0)
+as_before roster (e ∷ past) l h = (all_more _ _ e.endings h.1 (λ x first j k sent. first j k (sent_by_rules (e ∷ past) x j k sent)), as_before roster past l.0 h.0)
 
 by_rules : (roster : List Member) (past : Trace) → AreOfRoster roster past → old.SentOrder roster past → SentOrder roster past
 by_rules roster [] l h = tt
-by_rules roster (e ∷ past) l h = (by_rules roster past l.0 h.1, all_more _ _ e.endings h.0 (λ x first j k sent. earliest_by_rules roster past e l j k (first j k (sent_as_before (e ∷ past) x j k sent))))
+by_rules roster (e ∷ past) l h = (by_rules roster past l.0 h.1, all_more _ _ e.endings h.0 (λ x first j k sent. first j k (sent_as_before (e ∷ past) x j k sent)))
 
 pub same_sent_order : (roster : List Member) (past : Trace) → AreOfRoster roster past → SentOrder roster past ↔ old.SentOrder roster past
 same_sent_order roster past l = (as_before roster past l, by_rules roster past l)

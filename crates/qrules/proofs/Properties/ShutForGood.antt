@@ -14,7 +14,6 @@ use Rattle.qrules.specs.Private.Headline.AnsweredToSender.{channel_among as old_
 use Rattle.qrules.specs.Private.Headline.ShutForGood as old
 use Rattle.qrules.specs.Private.Lawful as old_lawful
 use Rattle.qrules.specs.Private.Past as past_of
-use Rattle.qmodel.specs.Trace.{SentItem}
 use Rattle.qmodel.specs.Trace.{Trace}
 use Rattle.qmodel.specs.declared.call.Completion.{Completion}
 use Rattle.qmodel.specs.declared.open_call.OpenCall.{OpenCall}
@@ -24,10 +23,11 @@ use Rattle.qrules.specs.Facts.{OpenReceive, OpenSend}
 use Rattle.qrules.specs.Lawful.{facts_of}
 use Rattle.qrules.specs.Past.{attached_connection, item_among}
 use Rattle.qrules.specs.Properties.{items, number_received, IsShut, ShutForGood}
-use Rattle.qrules.proofs.Past.Facts.{facts_known, same_facts}
-use Rattle.qrules.proofs.Properties.Items.{same_channel_among, same_items}
-use Rattle.qrules.specs.View.{receive_in, receive_view, send_in, send_view}
+use Rattle.qrules.proofs.Past.Facts.{facts_known}
+use Rattle.qrules.proofs.Properties.Items.{same_channel_among}
+use Rattle.qrules.specs.Facts.{receive_in, receive_view, send_in, send_view}
 use Rattle.qrules.proofs.Same.{AreOfRoster}
+use Rattle.qrules.specs.Facts.{open_receives, open_sends}
 
 -- ---- what is so of each, is so of what one thread has
 
@@ -79,13 +79,13 @@ module _ (roster : List Member) (past : Trace) (h : ℕ) where
   receives_elsewhere u n (Answer coid message reply_buffer receipt) r off is on = none-some r is
   receives_elsewhere u n (ForItem chid kind buffer) r off is on = true≢false (sym (eq-eqb chid h (ap (λ (r : OpenReceive). r.channel) (same_Some _ r is) ∙ on)) ∙ off)
 
-  none_as_before : AreOfRoster roster past → AllByRecursion (send_elsewhere roster past h) (facts_of roster past).open_sends → AllByRecursion (receive_elsewhere h) (facts_of roster past).open_receives → old.NoneBlockedOn roster past h
+  none_as_before : AreOfRoster roster past → AllByRecursion (send_elsewhere roster past h) (open_sends (facts_of roster past)) → AllByRecursion (receive_elsewhere h) (open_receives (facts_of roster past)) → old.NoneBlockedOn roster past h
   none_as_before l sends receives u o is =
       let f : OldFacts = old_lawful.facts_of roster past in
       let among : is_among (threads_of roster) u ≡ true = facts_known roster past l u (ap is_some is) in
       elsewhere u o.number o.wait
-      (λ s sent. all_at (send_elsewhere roster past h) (λ v. send_view v (f.open_call v)) (threads_of roster) u s (subst (λ g. AllByRecursion (send_elsewhere roster past h) g.open_sends) (same_facts roster past l) sends) among (ap (send_view u) is ∙ sent))
-      (λ r taken. all_at (receive_elsewhere h) (λ v. receive_view v (f.open_call v)) (threads_of roster) u r (subst (λ g. AllByRecursion (receive_elsewhere h) g.open_receives) (same_facts roster past l) receives) among (ap (receive_view u) is ∙ taken))
+      (λ s sent. all_at (send_elsewhere roster past h) (λ v. send_view v (f.open_call v)) (threads_of roster) u s sends among (ap (send_view u) is ∙ sent))
+      (λ r taken. all_at (receive_elsewhere h) (λ v. receive_view v (f.open_call v)) (threads_of roster) u r receives among (ap (receive_view u) is ∙ taken))
 
   send_off : old.NoneBlockedOn roster past h → (u : ℕ) (s : OpenSend) (o : Option OpenCall) → past_of.open_call roster past u ≡ o → send_view u o ≡ Some s → send_elsewhere roster past h s
   send_off none u s None is e = absurd (none-some s e)
@@ -101,7 +101,7 @@ module _ (roster : List Member) (past : Trace) (h : ℕ) where
   from_elsewhere x = (i : ℕ) → number_received x ≡ Some i → option_map (λ m. m.channel) (item_among (items roster past) i) ≡ Some h → ⊥
 
   same_channel_of : AreOfRoster roster past → (i : ℕ) → option_map (λ m. m.channel) (item_among (items roster past) i) ≡ old_channel_among (past_of.items roster past) i
-  same_channel_of l i = ap (λ (made : List SentItem). option_map (λ m. m.channel) (item_among made i)) (same_items roster past l) ∙ same_channel_among (past_of.items roster past) i
+  same_channel_of l i = same_channel_among (past_of.items roster past) i
 
   shut_as_before : (endings : List Completion) → AreOfRoster roster past → IsShut roster past endings h → old.NoneReceivedFrom roster past h endings × old.NoneBlockedOn roster past h
   shut_as_before endings l shut = (
@@ -114,10 +114,8 @@ module _ (roster : List Member) (past : Trace) (h : ℕ) where
       let f : OldFacts = old_lawful.facts_of roster past in
       record {
         none_received = all_more _ from_elsewhere endings shut.0 (λ x off i is from. off i is (sym (same_channel_of l i) ∙ from));
-        no_send = subst (λ g. AllByRecursion (send_elsewhere roster past h) g.open_sends) (sym (same_facts roster past l))
-            (all_filter_map (send_elsewhere roster past h) (λ v. send_view v (f.open_call v)) (threads_of roster) (λ u s e. send_off shut.1 u s (f.open_call u) refl e));
-        no_receive = subst (λ g. AllByRecursion (receive_elsewhere h) g.open_receives) (sym (same_facts roster past l))
-            (all_filter_map (receive_elsewhere h) (λ v. receive_view v (f.open_call v)) (threads_of roster) (λ u r e. receive_off shut.1 u r (f.open_call u) refl e));
+        no_send = all_filter_map (send_elsewhere roster past h) (λ v. send_view v (f.open_call v)) (threads_of roster) (λ u s e. send_off shut.1 u s (f.open_call u) refl e);
+        no_receive = all_filter_map (receive_elsewhere h) (λ v. receive_view v (f.open_call v)) (threads_of roster) (λ u r e. receive_off shut.1 u r (f.open_call u) refl e);
       }
 
 as_before : (roster : List Member) (past : Trace) → AreOfRoster roster past → ShutForGood roster past → old.ShutForGood roster past

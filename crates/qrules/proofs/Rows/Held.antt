@@ -25,16 +25,15 @@ use Rattle.qrules.specs.Facts.{open_send, owns, OpenSend}
 use Rattle.qrules.specs.Rules.Held.{info_of, refusal_unless_held}
 use Rattle.qrules.proofs.Messages.{send_cases, NoSend}
 use Rattle.qrules.proofs.Rows.Same.{after_own, alone, ending_of, own_alone, SameRow}
-use Rattle.qrules.proofs.Same.{facts_view}
-use Rattle.qrules.proofs.View.{owns_same, IsKnown}
+use Rattle.qrules.proofs.View.{IsKnown}
 
-owns_over : (f : OldFacts) (t k : ℕ) → option_map_or (λ c. owns (facts_view f) t c.channel) (f.connection k) false ≡ option_map_or (λ c. old_owns f t c.channel) (f.connection k) false
-owns_over f t k = elim (f.connection k) as (λ c. option_map_or (λ c. owns (facts_view f) t c.channel) c false ≡ option_map_or (λ c. old_owns f t c.channel) c false) [ None ↦ refl | Some c ↦ owns_same f t c.channel ]
+owns_over : (f : OldFacts) (t k : ℕ) → option_map_or (λ c. owns f t c.channel) (f.connection k) false ≡ option_map_or (λ c. old_owns f t c.channel) (f.connection k) false
+owns_over f t k = elim (f.connection k) as (λ c. option_map_or (λ c. owns f t c.channel) c false ≡ option_map_or (λ c. old_owns f t c.channel) c false) [ None ↦ refl | Some c ↦ refl ]
 
-pub held_same : (f : OldFacts) (t i : ℕ) → refusal_unless_held (facts_view f) t i ≡ refusal f t i
+pub held_same : (f : OldFacts) (t i : ℕ) → refusal_unless_held f t i ≡ refusal f t i
 held_same f t i = elim (send_cases f i) [
   | inl k ↦ rw (k.none, k.new) refl
-  | inr k ↦ rw (k.sent, k.new, k.is) (elim (k.receipt) as (λ r. cond (is_some r && option_map_or (λ c. owns (facts_view f) t c.channel) (f.connection k.connection) false) None (Some Srch)
+  | inr k ↦ rw (k.sent, k.new, k.is) (elim (k.receipt) as (λ r. cond (is_some r && option_map_or (λ c. owns f t c.channel) (f.connection k.connection) false) None (Some Srch)
       ≡ cond (is_held_by f t (Answer k.connection k.message k.reply_buffer r)) None (Some Srch)) [ None ↦ refl | Some r ↦ ap (λ b. cond b None (Some Srch)) (owns_over f t k.connection) ])
 ]
 
@@ -47,7 +46,7 @@ no_send f t i k p = none-some Srch (sym (subst (λ s. cond (option_map_or (λ o.
 abbrev answer_of : Finish → OpenSend → Completion
 answer_of finish s = record { call = s.number; thread = s.thread; mark = (finish s.reply_buffer).0; buffer = (finish s.reply_buffer).1 }
 
-answer_same : (f : OldFacts) (finish : Finish) (i u : ℕ) → ending_of (option_to_list (option_map (answer_of finish) (open_send (facts_view f) i))) u ≡ ends_sender f finish (sender f i) u
+answer_same : (f : OldFacts) (finish : Finish) (i u : ℕ) → ending_of (option_to_list (option_map (answer_of finish) (open_send f i))) u ≡ ends_sender f finish (sender f i) u
 answer_same f finish i u = elim (send_cases f i) [
   | inl k ↦ rw (k.none, k.new) refl
   | inr k ↦
@@ -104,12 +103,12 @@ member_thread (x ∷ roster) t m e =
       | false ↦ λ is e. member_thread roster t m e
     ] refl e
 
-pub info_same : (f : OldFacts) (i : ℕ) → IsKnown f → info_of (facts_view f) i ≡ old_info_of f (sender f i)
+pub info_same : (f : OldFacts) (i : ℕ) → IsKnown f → info_of f i ≡ old_info_of f (sender f i)
 info_same f i known = elim (send_cases f i) [
   | inl k ↦ rw (k.none, k.new) refl
   | inr k ↦
       let m = some_of (member_at f.roster k.thread) (among_member f.roster k.thread (known k.thread (ap is_some k.is))) in
-      elim (k.receipt) as (λ r. k.receipt ≡ r → info_of (facts_view f) i ≡ old_info_of f (sender f i)) [
+      elim (k.receipt) as (λ r. k.receipt ≡ r → info_of f i ≡ old_info_of f (sender f i)) [
         | None ↦ λ e. rw (k.sent, k.new, k.is, e, m.1) refl
         | Some r ↦ λ e. rw (k.sent, k.new, k.is, e, m.1, member_thread f.roster k.thread m.0 m.1) refl
       ] refl

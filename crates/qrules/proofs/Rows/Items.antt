@@ -5,7 +5,7 @@ use Rattle.std.specs.Option.{option_map_or}
 use Rattle.std.proofs.lemmas.Bool.{eqb-true}
 use Rattle.std.proofs.lemmas.Option.{none-some}
 use Rattle.qbase.proofs.Lists.{cond_same}
-use Rattle.qbase.specs.declared.errno.Errno.TheVariants.{Badf, Srch}
+use Rattle.qbase.specs.declared.errno.Errno.TheVariants.{Badf}
 use Rattle.qqueue.specs.Best.{best_of}
 use Rattle.qqueue.specs.declared.item.Item.{Item}
 use Rattle.qqueue.specs.declared.item.Kind.{Kind}
@@ -22,8 +22,6 @@ use Rattle.qrules.specs.Rule.{SentItem}
 use Rattle.qrules.proofs.Deliveries.{deliver_same, delivery_same, idle_takes_none, memory_same}
 use Rattle.qrules.proofs.Messages.{send_cases}
 use Rattle.qrules.proofs.Rows.Same.{alone, ending_of, SameRow}
-use Rattle.qrules.proofs.Same.{facts_view}
-use Rattle.qrules.proofs.View.{owns_same, route_same}
 
 -- ---- Send
 
@@ -36,27 +34,27 @@ module _ (f : OldFacts) (t : ℕ) (bytes : List ℕ) where
   abbrev message_to : Option Connection → Option SentItem
   message_to connection = option_map (λ c. record { item = item f t; channel = c.channel }) connection
 
-  sent_memory : (connection : Option Connection) → cond (is_some (route_over connection)) None (Some Badf) ≡ None → has_to_wait (facts_view f) (message_to connection) ≡ wants_room f (item f t) (route_over connection)
+  sent_memory : (connection : Option Connection) → cond (is_some (route_over connection)) None (Some Badf) ≡ None → has_to_wait f (message_to connection) ≡ wants_room f (item f t) (route_over connection)
   sent_memory None p = absurd (none-some Badf (sym p))
   sent_memory (Some c) p =
-      elim (is_of_process f t c.process && is_some (f.channel c.channel)) as (λ b. cond (is_some (cond b (Some c.channel) None)) None (Some Badf) ≡ None → has_to_wait (facts_view f) (message_to (Some c)) ≡ wants_room f (item f t) (cond b (Some c.channel) None)) [
+      elim (is_of_process f t c.process && is_some (f.channel c.channel)) as (λ b. cond (is_some (cond b (Some c.channel) None)) None (Some Badf) ≡ None → has_to_wait f (message_to (Some c)) ≡ wants_room f (item f t) (cond b (Some c.channel) None)) [
         | true ↦ λ p. memory_same f (record { item = item f t; channel = c.channel })
         | false ↦ λ p. absurd (none-some Badf (sym p))
       ] p
 
   sent_delivery : (connection : Option Connection) (u : ℕ) → cond (is_some (route_over connection)) None (Some Badf) ≡ None
-      → ending_of (deliver (facts_view f) (message_to connection) bytes) u ≡ delivers f (item f t) bytes (receiver f (item f t) (route_over connection)) u
+      → ending_of (deliver f (message_to connection) bytes) u ≡ delivers f (item f t) bytes (receiver f (item f t) (route_over connection)) u
   sent_delivery None u p = absurd (none-some Badf (sym p))
   sent_delivery (Some c) u p =
       elim (is_of_process f t c.process && is_some (f.channel c.channel)) as (λ b. cond (is_some (cond b (Some c.channel) None)) None (Some Badf) ≡ None
-      → ending_of (deliver (facts_view f) (message_to (Some c)) bytes) u ≡ delivers f (item f t) bytes (receiver f (item f t) (cond b (Some c.channel) None)) u) [
+      → ending_of (deliver f (message_to (Some c)) bytes) u ≡ delivers f (item f t) bytes (receiver f (item f t) (cond b (Some c.channel) None)) u) [
         | true ↦ λ p. deliver_same f (record { item = item f t; channel = c.channel }) bytes u
         | false ↦ λ p. absurd (none-some Badf (sym p))
       ] p
 
 pub send : (f : OldFacts) (t coid : ℕ) (message reply_buffer : List ℕ) → SameRow f t (calls.Send coid message reply_buffer)
 send f t coid message reply_buffer = record {
-  refusal = ap (λ route. cond (is_some route) None (Some Badf)) (route_same f t coid);
+  refusal = refl;
   memory = λ p. sent_memory f t message (f.connection coid) p;
   endings = λ p idle u.
       sent_delivery f t message (f.connection coid) u p
@@ -68,31 +66,31 @@ send f t coid message reply_buffer = record {
 
 -- ---- Receive
 
-message_same : (f : OldFacts) (i : ℕ) → option_map_or (λ s. s.message) (open_send (facts_view f) i) [] ≡ message f i
+message_same : (f : OldFacts) (i : ℕ) → option_map_or (λ s. s.message) (open_send f i) [] ≡ message f i
 message_same f i = elim (send_cases f i) [
   | inl k ↦ rw (k.none, k.new) refl
   | inr k ↦ rw (k.sent, k.new, k.is) refl
 ]
 
 received_same : (f : OldFacts) (t chid : ℕ) (kind : Kind) (buffer : List ℕ) (best : Option Item) (u : ℕ)
-    → ending_of (option_to_list (option_map (λ item. delivery item (option_map_or (λ s. s.message) (open_send (facts_view f) item.number) []) (record { number = f.number; thread = t; channel = chid; kind = kind; buffer = buffer })) best)) u
+    → ending_of (option_to_list (option_map (λ item. delivery item (option_map_or (λ s. s.message) (open_send f item.number) []) (record { number = f.number; thread = t; channel = chid; kind = kind; buffer = buffer })) best)) u
     ≡ cond (eqb u t) (own_receipt f t buffer best) None
 received_same f t chid kind buffer None u = sym (cond_same (eqb u t) None)
 received_same f t chid kind buffer (Some item) u =
     let r : OpenReceive = record { number = f.number; thread = t; channel = chid; kind = kind; buffer = buffer } in
-    alone (delivery item (option_map_or (λ s. s.message) (open_send (facts_view f) item.number) []) r) t u refl
+    alone (delivery item (option_map_or (λ s. s.message) (open_send f item.number) []) r) t u refl
     ∙ ap (λ x. cond (eqb u t) (Some x) None) (ap (λ bytes. delivery item bytes r) (message_same f item.number) ∙ delivery_same item (message f item.number) r)
 
 pub receive : (f : OldFacts) (t chid : ℕ) (buffer : List ℕ) → SameRow f t (calls.Receive chid buffer)
 receive f t chid buffer = record {
-  refusal = ap (λ b. cond b None (Some Srch)) (owns_same f t chid);
+  refusal = refl;
   memory = λ p. refl;
   endings = λ p idle u. received_same f t chid Any buffer (best_of Any (f.pending chid)) u;
 }
 
 pub receive_pulse : (f : OldFacts) (t chid : ℕ) → SameRow f t (calls.ReceivePulse chid)
 receive_pulse f t chid = record {
-  refusal = ap (λ b. cond b None (Some Srch)) (owns_same f t chid);
+  refusal = refl;
   memory = λ p. refl;
   endings = λ p idle u. received_same f t chid PulseOnly [] (best_of PulseOnly (f.pending chid)) u;
 }

@@ -2,7 +2,7 @@
 use Rattle.std.proofs.Common.{◌≡◌, ◌∙◌, ℕ, refl, ap, cond, true, eqb}
 use Rattle.std.specs.Prelude.{None, Some, ◌==◌, option_map, unwrap_or}
 use Rattle.std.specs.Option.{option_or}
-use Rattle.qbase.specs.declared.errno.Errno.TheVariants.{Inval, Srch}
+use Rattle.qbase.specs.declared.errno.Errno.TheVariants.{Srch}
 use Rattle.qbase.specs.declared.flags.ChannelFlags.{ChannelFlags}
 use Rattle.qbase.specs.declared.state.ThreadState.TheVariants.{Ready, ReceiveBlocked}
 use Rattle.qrules.specs.Private.Cancelling.{is_on}
@@ -16,9 +16,8 @@ use Rattle.qrules.specs.Facts.{leads_to}
 use Rattle.qrules.specs.Rules.Threads.{state_of, state_of_send}
 use Rattle.qrules.proofs.Cancels.{cancel_same}
 use Rattle.qrules.proofs.Rows.Same.{after_own, alone, SameRow}
-use Rattle.qrules.specs.View.{receive_in, receive_view, send_in, send_view}
-use Rattle.qrules.proofs.Same.{facts_view}
-use Rattle.qrules.proofs.View.{fellow_same, owns_same, receive_found, send_found, IsKnown}
+use Rattle.qrules.specs.Facts.{receive_in, receive_view, send_in, send_view}
+use Rattle.qrules.proofs.View.{IsKnown}
 
 pub channel_create : (f : OldFacts) (t : ℕ) (flags : ChannelFlags) → SameRow f t (calls.ChannelCreate flags)
 channel_create f t flags = record { refusal = refl; memory = λ p. refl; endings = λ p idle u. alone (ends_with f.number t (mark.Channel f.number)) t u refl }
@@ -27,14 +26,14 @@ pub connect_attach : (f : OldFacts) (t chid : ℕ) → SameRow f t (calls.Connec
 connect_attach f t chid = record { refusal = refl; memory = λ p. refl; endings = λ p idle u. alone (ends_with f.number t (mark.Connection f.number)) t u refl }
 
 pub priority_set : (f : OldFacts) (t thread priority : ℕ) → SameRow f t (calls.PrioritySet thread priority)
-priority_set f t thread priority = record { refusal = ap (λ b. cond b None (Some Srch)) (fellow_same f t thread); memory = λ p. refl; endings = λ p idle u. alone (ends_with f.number t mark.Ok) t u refl }
+priority_set f t thread priority = record { refusal = refl; memory = λ p. refl; endings = λ p idle u. alone (ends_with f.number t mark.Ok) t u refl }
 
 pub channel_destroy : (f : OldFacts) (t chid : ℕ) → IsKnown f → SameRow f t (calls.ChannelDestroy chid)
 channel_destroy f t chid known = record {
-  refusal = ap (λ b. cond b None (Some Inval)) (owns_same f t chid);
+  refusal = refl;
   memory = λ p. refl;
   endings = λ p idle u. after_own (ends_with f.number t mark.Ok) _ _ t u refl
-      (cancel_same f (λ s. leads_to (facts_view f) s.connection chid) (λ r. r.channel == chid) (λ v. is_on f.connection chid) Srch u known (λ v n k m b r. refl) (λ v n h kind b. refl));
+      (cancel_same f (λ s. leads_to f s.connection chid) (λ r. r.channel == chid) (λ v. is_on f.connection chid) Srch u known (λ v n k m b r. refl) (λ v n h kind b. refl));
 }
 
 pub shutdown : (f : OldFacts) (t : ℕ) → IsKnown f → SameRow f t calls.Shutdown
@@ -47,21 +46,21 @@ shutdown f t known = record {
 
 -- ---- a thread's state
 
-pub state_same : (f : OldFacts) (u : ℕ) → IsKnown f → state_of (facts_view f) u ≡ state_in f.connection (f.open_call u)
-state_same f u known = rw (send_found f u known, receive_found f u known) (
-    elim (f.open_call u) as (λ o. unwrap_or (option_or (option_map (state_of_send (facts_view f)) (send_view u o)) (option_map (λ r. ReceiveBlocked r.channel) (receive_view u o))) Ready ≡ state_in f.connection o) [
+pub state_same : (f : OldFacts) (u : ℕ) → IsKnown f → state_of f u ≡ state_in f.connection (f.open_call u)
+state_same f u known =
+    elim (f.open_call u) as (λ o. unwrap_or (option_or (option_map (state_of_send f) (send_view u o)) (option_map (λ r. ReceiveBlocked r.channel) (receive_view u o))) Ready ≡ state_in f.connection o) [
       | None ↦ refl
-      | Some o ↦ elim (o.wait) as (λ w. unwrap_or (option_or (option_map (state_of_send (facts_view f)) (send_in u o.number w)) (option_map (λ r. ReceiveBlocked r.channel) (receive_in u o.number w))) Ready ≡ state_in f.connection (Some (record { number = o.number; wait = w }))) [
+      | Some o ↦ elim (o.wait) as (λ w. unwrap_or (option_or (option_map (state_of_send f) (send_in u o.number w)) (option_map (λ r. ReceiveBlocked r.channel) (receive_in u o.number w))) Ready ≡ state_in f.connection (Some (record { number = o.number; wait = w }))) [
         | Answer coid message reply_buffer None ↦ refl
         | Answer coid message reply_buffer (Some receipt) ↦ refl
         | ForItem chid kind buffer ↦ refl
       ]
-    ])
+    ]
 
 pub state : (f : OldFacts) (t u : ℕ) → IsKnown f → SameRow f t (calls.State u)
 state f t u known = record {
   refusal = refl;
   memory = λ p. refl;
-  endings = λ p idle v. alone (ends_with f.number t (mark.State (state_of (facts_view f) u) (f.priority u))) t v refl
+  endings = λ p idle v. alone (ends_with f.number t (mark.State (state_of f u) (f.priority u))) t v refl
       ∙ ap (λ s. cond (eqb v t) (Some (ends_with f.number t (mark.State s (f.priority u)))) None) (state_same f u known);
 }

@@ -1,6 +1,6 @@
 -- The calls that may make a pulse.
 use Rattle.std.proofs.Common.{◌≡◌, ◌∙◌, ℕ, ℤ, pos, negsuc, List, [], ◌++◌, refl, ap, sym, cond, arith, Bool, true, false, eqb}
-use Rattle.std.specs.Prelude.{Option, None, Some, is_some, not, int_lt, nat_lt, ◌&&◌, ◌==◌, option_map, option_and_then}
+use Rattle.std.specs.Prelude.{Option, None, Some, is_some, not, int_lt, nat_lt, ◌&&◌, ◌==◌, option_and_then}
 use Rattle.std.specs.Option.{option_map_or, option_or}
 use Rattle.std.proofs.lemmas.Bool.{eqb-true, le-ltb}
 use Rattle.std.proofs.lemmas.List.Folds.{find-append}
@@ -22,21 +22,20 @@ use Rattle.qmodel.specs.declared.open_call.Receipt.{Receipt as OldReceipt}
 use Rattle.qmodel.specs.declared.open_call.Wait.{Wait}
 use Rattle.qmodel.specs.declared.open_call.Wait.TheVariants.{Answer, Item as ForItem}
 use Rattle.qrules.specs.Delivery.{cancel, deliver, has_to_wait}
-use Rattle.qrules.specs.Facts.{is_of_process as is_of_process_by, is_of_same_process, OpenSend}
+use Rattle.qrules.specs.Facts.{is_of_process as is_of_process_by, is_of_same_process}
 use Rattle.qrules.specs.Rule.{SentItem}
-use Rattle.qrules.specs.Rules.Unblock.{unblock_channel, unblock_pulse}
+use Rattle.qrules.specs.Rules.Unblock.{unblock_channel}
 use Rattle.qrules.proofs.Cancels.{cancel_same}
 use Rattle.qrules.proofs.Deliveries.{deliver_same, memory_same}
 use Rattle.qrules.proofs.Rows.Same.{after_own, ending_of, SameRow}
-use Rattle.qrules.specs.View.{send_in, send_view}
-use Rattle.qrules.proofs.Same.{facts_view}
-use Rattle.qrules.proofs.View.{fellow_same, process_same, route_same, send_found, IsKnown}
+use Rattle.qrules.proofs.View.{IsKnown}
+use Rattle.qrules.proofs.Traces.Due.{unblock_same}
 
-pulse_memory : (f : OldFacts) (pulse : Option SentItem) → has_to_wait (facts_view f) pulse ≡ wants_room_for f pulse
+pulse_memory : (f : OldFacts) (pulse : Option SentItem) → has_to_wait f pulse ≡ wants_room_for f pulse
 pulse_memory f None = refl
 pulse_memory f (Some m) = memory_same f m
 
-pulse_delivery : (f : OldFacts) (pulse : Option SentItem) (u : ℕ) → ending_of (deliver (facts_view f) pulse []) u ≡ ends_receiver f pulse u
+pulse_delivery : (f : OldFacts) (pulse : Option SentItem) (u : ℕ) → ending_of (deliver f pulse []) u ≡ ends_receiver f pulse u
 pulse_delivery f None u = refl
 pulse_delivery f (Some m) u = deliver_same f m [] u
 
@@ -59,48 +58,31 @@ pulse_refused f t coid priority code value (Some c) e =
 
 pub pulse : (f : OldFacts) (t coid priority : ℕ) (code value : ℤ) → SameRow f t (calls.Pulse coid priority code value)
 pulse f t coid priority code value = record {
-  refusal = ap (λ route. option_map_or (λ h. cond (int_lt code (pos 0)) (Some Inval) (refusal_if_full_for f (sent_pulse f coid priority code value))) route (Some Badf)) (route_same f t coid)
-      ∙ pulse_refused f t coid priority code value (f.connection coid) refl;
+  refusal = pulse_refused f t coid priority code value (f.connection coid) refl;
   memory = λ p. pulse_memory f (sent_pulse f coid priority code value);
   endings = λ p idle u. after_own (ends_with f.number t mark.Ok) _ _ t u refl (pulse_delivery f (sent_pulse f coid priority code value) u);
 }
 
 -- ---- ConnectDetach
 
-owner_same : (f : OldFacts) (t : ℕ) (connection : Option Connection) → option_map_or (λ c. is_of_process_by (facts_view f) t c.process) connection false ≡ option_map_or (λ c. is_of_process f t c.process) connection false
+owner_same : (f : OldFacts) (t : ℕ) (connection : Option Connection) → option_map_or (λ c. is_of_process_by f t c.process) connection false ≡ option_map_or (λ c. is_of_process f t c.process) connection false
 owner_same f t None = refl
-owner_same f t (Some c) = process_same f t c.process
+owner_same f t (Some c) = refl
 
 pub connect_detach : (f : OldFacts) (t coid : ℕ) → IsKnown f → SameRow f t (calls.ConnectDetach coid)
 connect_detach f t coid known = record {
   refusal = ap (λ b. cond b (refusal_if_full_for f (last_pulse f t coid)) (Some Inval)) (owner_same f t (f.connection coid));
   memory = λ p. pulse_memory f (last_pulse f t coid);
   endings = λ p idle u. after_own (ends_with f.number t mark.Ok) _ _ t u refl
-      (find-append (λ x. eqb x.thread u) (cancel (facts_view f) (λ s. s.connection == coid) (λ r. false) Badf) (deliver (facts_view f) (last_pulse f t coid) [])
-      ∙ ap (λ o. option_or o (ending_of (deliver (facts_view f) (last_pulse f t coid) []) u))
+      (find-append (λ x. eqb x.thread u) (cancel f (λ s. s.connection == coid) (λ r. false) Badf) (deliver f (last_pulse f t coid) [])
+      ∙ ap (λ o. option_or o (ending_of (deliver f (last_pulse f t coid) []) u))
       (cancel_same f (λ s. s.connection == coid) (λ r. false) (λ v. is_over coid) Badf u known (λ v n k m b r. refl) (λ v n h kind b. refl))
       ∙ ap (option_or (cancels f (λ v. is_over coid) Badf u)) (pulse_delivery f (last_pulse f t coid) u));
 }
 
 -- ---- Unblock
 
--- the pulse that is due for an open Send
-abbrev unblock_pulse_of : OldFacts → Option OpenSend → Option SentItem
-unblock_pulse_of f send = option_and_then (λ s. option_and_then (λ receipt. option_and_then
-    (λ h. cond receipt.unblocked None (Some (record { item = record { number = f.number; priority = receipt.priority; what = what.Unblock s.number }; channel = h })))
-    (unblock_channel (facts_view f) s)) s.receipt) send
-
-unblock_in : (f : OldFacts) (u n : ℕ) (w : Wait) → unblock_pulse_of f (send_in u n w) ≡ due_pulse_of_wait f n w
-unblock_in f u n (Answer coid message reply_buffer None) = refl
-unblock_in f u n (Answer coid message reply_buffer (Some receipt)) = refl
-unblock_in f u n (ForItem chid kind buffer) = refl
-
-pub unblock_same : (f : OldFacts) (u : ℕ) → IsKnown f → unblock_pulse (facts_view f) u ≡ due_pulse f u
-unblock_same f u known =
-    ap (unblock_pulse_of f) (send_found f u known)
-    ∙ elim (f.open_call u) as (λ o. unblock_pulse_of f (send_view u o) ≡ option_and_then (λ o. due_pulse_of_wait f o.number o.wait) o) [ None ↦ refl | Some o ↦ unblock_in f u o.number o.wait ]
-
-guard_same : (f : OldFacts) (n v k : ℕ) (m b : List ℕ) (r : Option OldReceipt) → unblock_channel (facts_view f) (record { number = n; thread = v; connection = k; message = m; reply_buffer = b; receipt = r }) ≡ guard f (Answer k m b r)
+guard_same : (f : OldFacts) (n v k : ℕ) (m b : List ℕ) (r : Option OldReceipt) → unblock_channel f (record { number = n; thread = v; connection = k; message = m; reply_buffer = b; receipt = r }) ≡ guard f (Answer k m b r)
 guard_same f n v k m b None = elim (f.connection k) as (λ c. option_and_then (λ c. cond (false && has_flag 2 (f.channel c.channel)) (Some c.channel) None) c ≡ None) [ None ↦ refl | Some c ↦ refl ]
 guard_same f n v k m b (Some r) = refl
 
@@ -133,16 +115,15 @@ none_cancelled f thread m u due =
 
 pub unblock : (f : OldFacts) (t thread : ℕ) → IsKnown f → SameRow f t (calls.Unblock thread)
 unblock f t thread known = record {
-  refusal = ap (λ pulse. cond (is_of_same_process (facts_view f) t thread) (refusal_if_full_for f pulse) (Some Srch)) (unblock_same f thread known)
-      ∙ ap (λ b. cond b (refusal_if_full_for f (due_pulse f thread)) (Some Srch)) (fellow_same f t thread);
-  memory = λ p. ap (has_to_wait (facts_view f)) (unblock_same f thread known) ∙ pulse_memory f (due_pulse f thread);
+  refusal = ap (λ pulse. cond (is_of_same_process f t thread) (refusal_if_full_for f pulse) (Some Srch)) (unblock_same f thread);
+  memory = λ p. ap (has_to_wait f) (unblock_same f thread) ∙ pulse_memory f (due_pulse f thread);
   endings = λ p idle u. after_own (ends_with f.number t mark.Ok) _ _ t u refl (
-      ap (λ pulse. ending_of (cancel (facts_view f) (λ s. (s.thread == thread) && not (is_some (unblock_channel (facts_view f) s))) (λ r. r.thread == thread) Intr ++ deliver (facts_view f) pulse []) u) (unblock_same f thread known)
-      ∙ find-append (λ x. eqb x.thread u) (cancel (facts_view f) (λ s. (s.thread == thread) && not (is_some (unblock_channel (facts_view f) s))) (λ r. r.thread == thread) Intr) (deliver (facts_view f) (due_pulse f thread) [])
-      ∙ ap (λ o. option_or o (ending_of (deliver (facts_view f) (due_pulse f thread) []) u))
-      (cancel_same f (λ s. (s.thread == thread) && not (is_some (unblock_channel (facts_view f) s))) (λ r. r.thread == thread) (λ v wait. (v == thread) && not (is_some (guard f wait))) Intr u known
+      ap (λ pulse. ending_of (cancel f (λ s. (s.thread == thread) && not (is_some (unblock_channel f s))) (λ r. r.thread == thread) Intr ++ deliver f pulse []) u) (unblock_same f thread)
+      ∙ find-append (λ x. eqb x.thread u) (cancel f (λ s. (s.thread == thread) && not (is_some (unblock_channel f s))) (λ r. r.thread == thread) Intr) (deliver f (due_pulse f thread) [])
+      ∙ ap (λ o. option_or o (ending_of (deliver f (due_pulse f thread) []) u))
+      (cancel_same f (λ s. (s.thread == thread) && not (is_some (unblock_channel f s))) (λ r. r.thread == thread) (λ v wait. (v == thread) && not (is_some (guard f wait))) Intr u known
       (λ v n k m b r. ap (λ o. (v == thread) && not (is_some o)) (guard_same f n v k m b r)) (λ v n h kind b. and_true (eqb v thread)))
-      ∙ elim (due_pulse f thread) as (λ o. due_pulse f thread ≡ o → option_or (cancels f (λ v wait. (v == thread) && not (is_some (guard f wait))) Intr u) (ending_of (deliver (facts_view f) o []) u) ≡ other_ending f thread o u) [
+      ∙ elim (due_pulse f thread) as (λ o. due_pulse f thread ≡ o → option_or (cancels f (λ v wait. (v == thread) && not (is_some (guard f wait))) Intr u) (ending_of (deliver f o []) u) ≡ other_ending f thread o u) [
         | None ↦ λ e. or_none (cancels f (λ v wait. (v == thread) && not (is_some (guard f wait))) Intr u)
         | Some m ↦ λ e. rw (none_cancelled f thread m u e) (pulse_delivery f (Some m) u)
       ] refl);

@@ -8,7 +8,6 @@ use Rattle.qrules.specs.Private.Facts.{Facts as OldFacts}
 use Rattle.qmodel.specs.declared.call.Call.{Call}
 use Rattle.qmodel.specs.declared.call.Completion.{Completion}
 use Rattle.qrules.specs.Outcome.{row}
-use Rattle.qrules.proofs.Same.{facts_view}
 
 -- the ending of thread u
 abbrev pub ending_of : List Completion → ℕ → Option Completion
@@ -16,9 +15,9 @@ ending_of endings u = find (λ x. eqb x.thread u) endings
 
 -- one refusal, one want of memory, and each thread's ending
 pub record SameRow (f : OldFacts) (t : ℕ) (c : Call) : Type 0 where
-  pub refusal : (row (facts_view f) t c).refusal ≡ (row_of f t c).refusal
-  pub memory : (row_of f t c).refusal ≡ None → (row (facts_view f) t c).takes_memory ≡ (row_of f t c).takes_memory
-  pub endings : (row_of f t c).refusal ≡ None → f.open_call t ≡ None → (u : ℕ) → ending_of (row (facts_view f) t c).endings u ≡ ending f t c u
+  pub refusal : (row f t c).refusal ≡ (row_of f t c).refusal
+  pub memory : (row_of f t c).refusal ≡ None → (row f t c).takes_memory ≡ (row_of f t c).takes_memory
+  pub endings : (row_of f t c).refusal ≡ None → f.open_call t ≡ None → (u : ℕ) → ending_of (row f t c).endings u ≡ ending f t c u
 
 pub alone : (x : Completion) (t u : ℕ) → x.thread ≡ t → ending_of (x ∷ []) u ≡ cond (eqb u t) (Some x) None
 alone x t u e = rw (e, eqb_either t u) refl

@@ -6,29 +6,11 @@ use Rattle.qtables.specs.declared.connection.Connection.{Connection}
 use Rattle.qtables.specs.declared.member.Member.{Member}
 use Rattle.qmodel.specs.declared.call.Call.{Call}
 use Rattle.qmodel.specs.declared.call.Call.TheVariants as calls
-use Rattle.qmodel.specs.declared.open_call.OpenCall.{OpenCall}
-use Rattle.qmodel.specs.declared.open_call.Wait.{Wait}
-use Rattle.qmodel.specs.declared.open_call.Wait.TheVariants.{Answer, Item as ForItem}
-use Rattle.qmodel.specs.Trace.{CallNo, ChannelId, ConnectionId, OpenChannel, ReceiveId, SentItem, ThreadNo}
+use Rattle.qmodel.specs.Trace.{ChannelId, ConnectionId, OpenChannel, ReceiveId, SentItem, ThreadNo}
 use Rattle.qrules.specs.Rule.{PriorityChange, Transfer}
 use Rattle.qrules.specs.Rules.{effect_of}
 use Rattle.qrules.specs.Private.Facts.{Facts}
-use Rattle.qrules.specs.Private.Rows.{item_sent_over}
-use Rattle.qrules.specs.Private.Calls.ConnectDetach as connect_detach
-use Rattle.qrules.specs.Private.Calls.Pulse as pulse
-use Rattle.qrules.specs.Private.Calls.Send as send
-use Rattle.qrules.specs.Private.Calls.Unblock as unblock
-
--- ---- waiting
-
--- what a call waits for, if it doesn't end in its own event
-abbrev pub waits : Call → Option Wait
-waits c = option_or (option_map (λ s. Answer s.connection s.message s.reply_buffer None) (effect_of c).sends)
-    (option_map (λ r. ForItem r.channel r.kind r.buffer) (effect_of c).receives)
-
--- the open call that a call leaves if it doesn't end in its own event
-abbrev pub asks : CallNo → Call → Option OpenCall
-asks n c = option_map (λ wait. record { number = n; wait = wait }) (waits c)
+pub use Rattle.qrules.specs.Past.{asks, waits}
 
 -- ---- channels and connections
 
@@ -60,11 +42,7 @@ shuts_down c = (effect_of c).shuts_down
 
 -- the item that a call of thread t makes, given the facts before it
 abbrev pub makes : Facts → ThreadNo → Call → Option SentItem
-makes f t (calls.Send coid message reply_buffer) = item_sent_over (f.connection coid) (send.item f t)
-makes f t (calls.Pulse coid priority code value) = pulse.sent_pulse f coid priority code value
-makes f t (calls.Unblock thread) = unblock.due_pulse f thread
-makes f t (calls.ConnectDetach coid) = connect_detach.due_pulse f t coid
-makes f t c = None
+makes f t c = (effect_of c).makes f t
 
 -- the connection that a call sends over
 abbrev pub sends_over : Call → Option ConnectionId

@@ -2,7 +2,7 @@
 -- buffers, and the threads that are blocked afterwards.
 use Rattle.std.specs.Prelude.{◌≡◌, ◌↔◌, ℕ, ◌+◌, ◌==◌, ◌||◌, Bool, true, false, is_some, length, List, [], ◌∷◌}
 use Rattle.std.specs.Prelude.{Option, None, Some, if◌then◌else◌}
-use Rattle.std.specs.List.{AllByRecursion, list_any}
+use Rattle.std.specs.List.{AllByRecursion}
 use Rattle.std.specs.Option.{option_map}
 use Rattle.qtables.specs.Members.{IsRoster, member_at}
 use Rattle.qtables.specs.declared.member.Member.{Member}

@@ -1,60 +1,23 @@
 -- The facts of the past that the answer to a call may depend on.
-use Rattle.std.specs.Prelude.{ℕ, ◌==◌, ◌&&◌, Bool, true, false, is_some, List, [], ◌∷◌, Option}
+use Rattle.std.specs.Prelude.{ℕ, ◌==◌, ◌&&◌, Bool, true, false, List, [], ◌∷◌, Option}
 use Rattle.std.specs.Prelude.{None, Some, if◌then◌else◌}
 use Rattle.std.specs.Option.{option_and_then, option_map_or}
-use Rattle.qqueue.specs.declared.item.Item.{Item}
-use Rattle.qtables.specs.declared.connection.Connection.{Connection}
 use Rattle.qtables.specs.declared.member.Member.{Member}
-use Rattle.qtables.specs.Members.{member_at}
 use Rattle.qmodel.specs.declared.open_call.OpenCall.{OpenCall}
 use Rattle.qmodel.specs.declared.open_call.Wait.{Wait}
 use Rattle.qmodel.specs.declared.open_call.Wait.TheVariants.{Answer, Item as ForItem}
 use Rattle.qmodel.specs.Trace.{OpenChannel}
-use Rattle.qmodel.specs.Trace.{CallNo, ChannelId, ConnectionId, Priority, ProcessNo, ReceiveId, ThreadNo}
-pub use Rattle.qrules.specs.Facts.{count_to, has_flag, threads_of}
-
--- the threads, the number of the call that is answered, whether the kernel is shut down, the open channels
--- and their number, the live connections and their number, each thread's open call, the pending items of each
--- channel in rising number, and each thread's priority
-pub record Facts : Type 0 where
-  pub roster : List Member
-  pub number : CallNo
-  pub down : Bool
-  pub channel : ChannelId → Option OpenChannel
-  pub open_channels : ℕ
-  pub connection : ConnectionId → Option Connection
-  pub live_connections : ℕ
-  pub open_call : ThreadNo → Option OpenCall
-  pub pending : ChannelId → List Item
-  pub priority : ThreadNo → Priority
+use Rattle.qmodel.specs.Trace.{ProcessNo, ReceiveId, ThreadNo}
+pub use Rattle.qrules.specs.Facts.{count_to, has_flag, is_of_process, is_of_same_process, owns, route, threads_of}
+pub use Rattle.qrules.specs.Facts.{Facts}
 
 -- ---- threads and processes
 
 -- the member is of this process
 abbrev pub is_in_process : ProcessNo → Option Member → Bool
-is_in_process p None = false
-is_in_process p (Some m) = m.process == p
-
--- the thread is one of this process
-abbrev pub is_of_process : Facts → ThreadNo → ProcessNo → Bool
-is_of_process f t p = is_in_process p (member_at f.roster t)
-
--- both threads are of one process
-abbrev pub is_fellow : Facts → ThreadNo → ThreadNo → Bool
-is_fellow f t u = option_map_or (λ m. is_of_process f u m.process) (member_at f.roster t) false
+is_in_process p m = option_map_or (λ m. m.process == p) m false
 
 -- ---- channels and connections
-
--- the channel is open, and of the thread's process
-abbrev pub owns : Facts → ThreadNo → ChannelId → Bool
-owns f t h = option_map_or (λ c. is_of_process f t c.owner) (f.channel h) false
-
--- the channel that the thread may send to over connection k: the one that the connection leads to, if the
--- thread's process attached it and the channel is open
-abbrev pub route : Facts → ThreadNo → ConnectionId → Option ChannelId
-route f t k =
-    option_and_then (λ c. if is_of_process f t c.process && is_some (f.channel c.channel) then Some c.channel
-    else None) (f.connection k)
 
 -- the channel has the flag that leaves its receivers' priorities as they are
 abbrev pub is_fixed : Option OpenChannel → Bool

@@ -6,13 +6,9 @@ use Rattle.qmodel.specs.declared.call.Call.{Call}
 use Rattle.qmodel.specs.declared.call.Completion.{Completion}
 use Rattle.qmodel.specs.Trace.{ThreadNo}
 use Rattle.qrules.specs.Private.Answer.{Answers}
-use Rattle.qrules.specs.Private.Facts.{Facts}
-use Rattle.qrules.specs.Private.Past.{facts_by, knowledge_of}
-use Rattle.qmodel.specs.Trace.{Event, Trace}
-
--- the facts that a row may read, searched for in the past
-abbrev pub facts_of : List Member → Trace → Facts
-facts_of roster past = facts_by roster past (knowledge_of roster past)
+pub use Rattle.qrules.specs.Lawful.{facts_of}
+pub use Rattle.qrules.specs.Trace.{followed_by}
+use Rattle.qmodel.specs.Trace.{Trace}
 
 -- each event is a call of a thread of the roster, and its endings answer the events before it
 abbrev pub IsLawful : List Member → Trace → Type 0
@@ -20,11 +16,6 @@ IsLawful roster [] = Unit {0}
 IsLawful roster (e ∷ past) =
     IsLawful roster past × IsTrue (is_some (member_at roster e.thread))
     × Answers (facts_of roster past) e.thread e.call e.endings
-
--- the past followed by these events, which are given with the oldest first
-abbrev pub followed_by : Trace → List Event → Trace
-followed_by past [] = past
-followed_by past (e ∷ events) = followed_by (e ∷ past) events
 
 -- the past with one more event
 abbrev pub with_event : ThreadNo → Call → List Completion → Trace → Trace

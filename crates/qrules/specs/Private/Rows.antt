@@ -17,7 +17,7 @@ use Rattle.qmodel.specs.declared.open_call.Wait.{Wait}
 use Rattle.qmodel.specs.declared.open_call.Wait.TheVariants.{Answer, Item as ForItem}
 use Rattle.qmodel.specs.Trace.{SentItem}
 use Rattle.qrules.specs.Rule.{PriorityChange}
-pub use Rattle.qrules.specs.Past.{buffer_after_write, item_in}
+pub use Rattle.qrules.specs.Past.{buffer_after_write, item_in, with_buffer}
 use Rattle.qmodel.specs.Trace.{CallNo, ChannelId, Priority, ProcessNo, ReceiveId, ThreadNo}
 
 -- a receipt: the item's number and channel, the thread that takes it, the thread that waits for its answer,
@@ -87,11 +87,6 @@ abbrev pub names : Option ℕ → ℕ → Bool
 names number h = option_map_or (λ k. k == h) number false
 
 -- ---- buffers
-
--- a wait with its reply buffer changed
-abbrev pub with_buffer : (List ℕ → List ℕ) → Wait → Wait
-with_buffer f (Answer coid message reply_buffer receipt) = Answer coid message (f reply_buffer) receipt
-with_buffer f (ForItem chid kind buffer) = ForItem chid kind buffer
 
 -- ---- receipts
 

@@ -9,7 +9,7 @@ use Rattle.qtables.specs.declared.connection.Connection.{Connection}
 use Rattle.qrules.specs.Private.Calls.{row_of}
 use Rattle.qrules.specs.Private.Calls.Unblock.{due_pulse, due_pulse_of_wait, other_ending, guard, guard_over, refusal}
 use Rattle.qrules.proofs.Traces.Parts.{due_pulse_on, due_pulse_of_open}
-use Rattle.qrules.specs.Private.Facts.{Facts, is_fellow, tells_unblock}
+use Rattle.qrules.specs.Private.Facts.{Facts, is_of_same_process, tells_unblock}
 use Rattle.qmodel.specs.Trace.{OpenChannel}
 use Rattle.qrules.specs.Private.Pulses.{refusal_if_full_for, pulse_receipt}
 use Rattle.qrules.specs.Private.Rows.{Received, item_in, unblock_item}
@@ -24,6 +24,7 @@ use Rattle.qrules.proofs.Traces.Past.Laws.{CallLaws, IsOfOpen, IsOwn, IsReceipt,
 use Rattle.qrules.proofs.Traces.Calls.Cancelling.{cancel_parts}
 use Rattle.qrules.proofs.Traces.Calls.Delivering.{delivers_open, delivers_receipt, delivers_received}
 use Rattle.qrules.specs.Past.{ReceivedItem}
+use Rattle.qrules.proofs.Traces.Due.{unblock_same}
 
 -- ---- the pulse that is due
 
@@ -104,7 +105,7 @@ due_is_pulse f thread m e = ap (λ x. is_pulse x.item.what) (sym (due_parts f (f
 
 -- an accepted Unblock is of a thread of the caller's process, and finds room for its pulse
 pub fellow_passes : (f : Facts) (t thread : ℕ) → refusal f t thread ≡ None → refusal_if_full_for f (due_pulse f thread) ≡ None
-fellow_passes f t thread r = elim (is_fellow f t thread) as (λ b. cond b (refusal_if_full_for f (due_pulse f thread)) (Some Srch) ≡ None → refusal_if_full_for f (due_pulse f thread) ≡ None) [
+fellow_passes f t thread r = elim (is_of_same_process f t thread) as (λ b. cond b (refusal_if_full_for f (due_pulse f thread)) (Some Srch) ≡ None → refusal_if_full_for f (due_pulse f thread) ≡ None) [
   | true ↦ λ s. s
   | false ↦ λ s. absurd (none-some Srch (sym s))
 ] r
@@ -115,14 +116,14 @@ pub call_laws : (thread : ℕ) → CallLaws (Unblock thread)
 call_laws thread = record {
   asks_one = λ n o e. absurd (none-some o e);
   makes_one = λ f t m e. record {
-    number = ap (λ x. x.item.number) (sym (due_parts f (f.open_call thread) m e).made);
+    number = ap (λ x. x.item.number) (sym (due_parts f (f.open_call thread) m (sym (unblock_same f thread) ∙ e)).made);
     waits = λ o a. absurd (none-some o a);
     message = λ o a. absurd (none-some o a);
   };
   waits_write = λ n o e. refl;
   unblocks_none = λ none. absurd (none-some thread (sym none));
   unblocks_one = λ v is f t m e.
-      let k = due_parts f (f.open_call thread) m e in
+      let k = due_parts f (f.open_call thread) m (sym (unblock_same f thread) ∙ e) in
       record {
         waiting = k.waiting;
         is = ap f.open_call (sym (same_Some thread v is)) ∙ k.is;
@@ -152,7 +153,7 @@ module _ (f : Facts) (t thread : ℕ) (p : Passes f t (Unblock thread)) where
 
     told_received : (q : Received) → pulse_receipt f (due_pulse f thread) ≡ Some q → IsReceived f t (Unblock thread) q
     told_received = delivers_received f t (Some m.channel) (Unblock thread) m.item [] None (λ u. ap (λ d. other_ending f thread d u) is) (ap (pulse_receipt f) is) p.idle
-        (λ h s. subst (λ k. due_pulse f thread ≡ Some (record { item = m.item; channel = k })) (same_Some m.channel h s) is) refl
+        (λ h s. unblock_same f thread ∙ subst (λ k. due_pulse f thread ≡ Some (record { item = m.item; channel = k })) (same_Some m.channel h s) is) refl
 
   pub row_laws : RowLaws f t (Unblock thread)
   row_laws =
@@ -172,7 +173,7 @@ module _ (f : Facts) (t thread : ℕ) (p : Passes f t (Unblock thread)) where
           | None ↦ λ none q e. absurd (none-some q (ap (pulse_receipt f) (sym none) ∙ e))
           | Some m ↦ λ is. told_received m is
         ] refl;
-        sends = λ m e sent. absurd (true≢false (sym (due_is_pulse f thread m e) ∙ sent));
-        makes_open = λ m e. let k = (due_parts f (f.open_call thread) m e).guard in tells_open (f.channel m.channel) k.tells;
+        sends = λ m e sent. absurd (true≢false (sym (due_is_pulse f thread m (sym (unblock_same f thread) ∙ e)) ∙ sent));
+        makes_open = λ m e. let k = (due_parts f (f.open_call thread) m (sym (unblock_same f thread) ∙ e)).guard in tells_open (f.channel m.channel) k.tells;
         writes_sent = λ w e. absurd (none-some w e);
       }

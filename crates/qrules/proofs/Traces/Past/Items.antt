@@ -168,14 +168,14 @@ priority_earlier roster e past i l none =
         worth_stays e past m.item (let below : m.item.number ≤ length past = omega (arith, number, l) in below) (subst (SetsNone e past) (sym number) none)
 
 -- the priority of an item before the event
-pub before_earlier : (roster : List Member) (e : Event) (past : Trace) (i : ℕ) → i ≤ length past → priority_before roster e past i ≡ priority_of_item roster past i
+pub before_earlier : (roster : List Member) (e : Event) (past : Trace) (i : ℕ) → i ≤ length past → priority_before roster past e i ≡ priority_of_item roster past i
 before_earlier roster e past i l =
     ap priority_of_made (among_now past (items roster (e ∷ past)) i ∙ ap (option_map (λ (m : SentItem). record { item = now past m.item; channel = m.channel })) (found_earlier roster e past i l) ∙ sym (among_now past (items roster past) i))
 
-pub before_newest : (roster : List Member) (e : Event) (past : Trace) (m : SentItem) → item_of roster e past ≡ Some m → priority_before roster e past m.item.number ≡ m.item.priority
+pub before_newest : (roster : List Member) (e : Event) (past : Trace) (m : SentItem) → item_of roster e past ≡ Some m → priority_before roster past e m.item.number ≡ m.item.priority
 before_newest roster e past m is =
     let number : m.item.number ≡ length past + 1 = (made_by roster e past m is).number in
-    ap (priority_before roster e past) number ∙ found_now past (items roster (e ∷ past)) (length past + 1) m (found_newest roster e past m is) ∙ worth_beyond past m.item (omega (arith, number))
+    ap (priority_before roster past e) number ∙ found_now past (items roster (e ∷ past)) (length past + 1) m (found_newest roster e past m is) ∙ worth_beyond past m.item (omega (arith, number))
 
 -- ---- the items of a channel, and those that are pending
 

@@ -43,9 +43,9 @@ takeable_made roster past e h =
     )))
 
 -- each has the priority that its number had before the event
-pub takeable_priorities : (roster : List Member) (past : Trace) (e : Event) (h : ℕ) → AllByRecursion (λ w. priority_before roster e past w.number ≡ w.priority) (takeable roster past e h)
+pub takeable_priorities : (roster : List Member) (past : Trace) (e : Event) (h : ℕ) → AllByRecursion (λ w. priority_before roster past e w.number ≡ w.priority) (takeable roster past e h)
 takeable_priorities roster past e h =
-    let P = λ (w : Item). priority_before roster e past w.number ≡ w.priority in
+    let P = λ (w : Item). priority_before roster past e w.number ≡ w.priority in
     all_append P (pending_items roster past h) (made_on h (item_of roster e past))
     (pending_each P roster past h (λ item at stays. before_earlier roster e past item.number (item_below roster past item.number _ at) ∙ item_priority roster past item.number _ at))
     (made_all P h (item_of roster e past) (λ m is on. before_newest roster e past m is))

@@ -36,6 +36,7 @@ use Rattle.qrules.proofs.Traces.Properties.Sends.{open_filled, open_keeps}
 use Rattle.qrules.proofs.Traces.Calls.ConnectDetach as detaching
 use Rattle.qrules.proofs.Traces.Calls.Unblock.{due_is_pulse}
 use Rattle.qrules.proofs.Traces.Rosters.{known}
+use Rattle.qrules.proofs.Traces.Due.{unblock_same}
 
 -- ---- what a call brings is what it waits with
 
@@ -85,7 +86,7 @@ pub record IsMessage (n : ℕ) (c : Call) (m : SentItem) : Type 0 where
   pub answer : is_for_answer begins.wait ≡ true
 
 pub makes_message : (f : Facts) (t : ℕ) (c : Call) (m : SentItem) → makes f t c ≡ Some m → is_pulse m.item.what ≡ false → IsMessage f.number c m
-makes_message f t (Unblock thread) m e message = absurd (true≢false (sym (due_is_pulse f thread m e) ∙ message))
+makes_message f t (Unblock thread) m e message = absurd (true≢false (sym (due_is_pulse f thread m (sym (unblock_same f thread) ∙ e)) ∙ message))
 makes_message f t (ConnectDetach coid) m e message = absurd (true≢false (sym (detaching.due_is_pulse f t coid m e) ∙ message))
 makes_message f t (Pulse coid level code value) m e message =
     absurd (true≢false (ap (λ x. is_pulse x.what) (sym (sent_item (f.connection coid) (pulse_item f.number level code value) m e)) ∙ message))

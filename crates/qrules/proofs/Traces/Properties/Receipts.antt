@@ -42,6 +42,7 @@ use Rattle.qrules.proofs.Traces.Calls.ConnectDetach.{detach_ends}
 use Rattle.qrules.proofs.Traces.Properties.Rows.Telling.{Tells, told_meets, unblock_ends}
 use Rattle.qrules.proofs.Traces.Calls.Delivering.{sent_way}
 use Rattle.qrules.specs.Past.{ReceivedItem}
+use Rattle.qrules.proofs.Traces.Due.{unblock_same}
 
 -- ---- whose ending it is
 
@@ -145,7 +146,7 @@ ends_takes f t (ChannelDestroy chid) u y p r e m = absurd (none-some p (ap (λ x
 ends_takes f t Shutdown u y p r e m = absurd (none-some p (ap (λ x. item_in x.mark) (cancel_parts (λ wait. true) Srch u (f.open_call u) y e).ending ∙ m))
 ends_takes f t (Unblock thread) u y p r e m = elim (unblock_ends f thread u y (unblock.due_pulse f thread) e) [
   | inl cancel ↦ absurd (none-some p (ap (λ x. item_in x.mark) cancel.ending ∙ m))
-  | inr k ↦ takes_told f t (Unblock thread) (unblock.due_pulse f thread) u y p refl k m
+  | inr k ↦ takes_told f t (Unblock thread) (unblock.due_pulse f thread) u y p (unblock_same f thread) k m
 ]
 ends_takes f t (ConnectDetach coid) u y p r e m = elim (detach_ends f coid (connect_detach.due_pulse f t coid) u y e) [
   | inl cancel ↦ absurd (none-some p (ap (λ x. item_in x.mark) cancel.ending ∙ m))

@@ -41,25 +41,25 @@ first_of_equals kind items x rising best may =
 
 -- of what could be taken from one channel, nothing is earlier
 abbrev IsEarliestOn : List Member → Trace → Event → ℕ → ℕ → ℕ → Type 0
-IsEarliestOn roster past e j k h = AllByRecursion (λ w. connection_of (e ∷ past) w.number ≡ Some k → w.priority ≡ priority_before roster e past j → j ≤ w.number) (takeable roster past e h)
+IsEarliestOn roster past e j k h = AllByRecursion (λ w. connection_of (e ∷ past) w.number ≡ Some k → w.priority ≡ priority_before roster past e j → j ≤ w.number) (takeable roster past e h)
 
 is_earliest : (roster : List Member) (past : Trace) (e : Event) (y : Completion) (j k : ℕ) → TakesSent (e ∷ past) y j k → TakesBest roster past e y j → IsEarliest roster past e j k
 is_earliest roster past e y j k plain b h =
     let x = some_number (best_of b.kind (takeable roster past e b.channel)) j b.best in
     let at : IsMadeFor roster (e ∷ past) b.channel x.0 = best-at (IsMadeFor roster (e ∷ past) b.channel) b.kind (takeable roster past e b.channel) x.0 (takeable_made roster past e b.channel) x.1 in
     let from = item_over roster (e ∷ past) x.0.number k (record { item = at.0; channel = b.channel }) at.1 (ap (connection_of (e ∷ past)) x.2 ∙ plain.connection) in
-    let priority : priority_before roster e past j ≡ x.0.priority =
-    ap (priority_before roster e past) (sym x.2)
-    ∙ best-at (λ (w : Item). priority_before roster e past w.number ≡ w.priority) b.kind (takeable roster past e b.channel) x.0 (takeable_priorities roster past e b.channel) x.1 in
+    let priority : priority_before roster past e j ≡ x.0.priority =
+    ap (priority_before roster past e) (sym x.2)
+    ∙ best-at (λ (w : Item). priority_before roster past e w.number ≡ w.priority) b.kind (takeable roster past e b.channel) x.0 (takeable_priorities roster past e b.channel) x.1 in
     elim (cases_eq h b.channel) as (λ _. IsEarliestOn roster past e j k h) [
       | inl same ↦
           subst (IsEarliestOn roster past e j k) (sym same)
-          (all_more (λ w. w.priority ≡ x.0.priority → x.0.number ≤ w.number) (λ w. connection_of (e ∷ past) w.number ≡ Some k → w.priority ≡ priority_before roster e past j → j ≤ w.number)
+          (all_more (λ w. w.priority ≡ x.0.priority → x.0.number ≤ w.number) (λ w. connection_of (e ∷ past) w.number ≡ Some k → w.priority ≡ priority_before roster past e j → j ≤ w.number)
           (takeable roster past e b.channel)
           (first_of_equals b.kind (takeable roster past e b.channel) x.0 (takeable_rises roster e past b.channel) x.1 (λ w. plain_takes b.call plain.channel plain.buffer (b.channel, b.kind) w (same_Some b.call (Receive plain.channel plain.buffer) (sym b.is_call ∙ plain.call)) b.receives))
           (λ w first _ equal. let no_earlier : x.0.number ≤ w.number = first (equal ∙ priority) in omega (arith, x.2)))
       | inr other ↦
-          all_more (IsMadeFor roster (e ∷ past) h) (λ w. connection_of (e ∷ past) w.number ≡ Some k → w.priority ≡ priority_before roster e past j → j ≤ w.number)
+          all_more (IsMadeFor roster (e ∷ past) h) (λ w. connection_of (e ∷ past) w.number ≡ Some k → w.priority ≡ priority_before roster past e j → j ≤ w.number)
           (takeable roster past e h) (takeable_made roster past e h)
           (λ w made along _.
           let to = item_over roster (e ∷ past) w.number k (record { item = made.0; channel = h }) made.1 along in

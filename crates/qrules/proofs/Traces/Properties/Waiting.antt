@@ -43,6 +43,7 @@ use Rattle.qrules.proofs.Traces.Routes.{has_way}
 use Rattle.qrules.proofs.Traces.Rosters.{known}
 use Rattle.qrules.proofs.Traces.Calls.Delivering.{sent_way}
 use Rattle.qrules.specs.Private.Pulses.{pulse_receipt}
+use Rattle.qrules.proofs.Traces.Due.{unblock_same}
 
 -- ---- what a thread waits for
 
@@ -125,7 +126,7 @@ received_at_once : (f : Facts) (t : ℕ) (c : Call) (m : SentItem) (u : ℕ) (o 
 received_at_once f t (ConnectDetach coid) m u o kind p made among is waits may =
     delivered_at_once f t (ConnectDetach coid) (Some m.channel) m.item [] None m u o kind refl refl (ap (pulse_receipt f) made) among is waits may
 received_at_once f t (Unblock thread) m u o kind p made among is waits may =
-    delivered_at_once f t (Unblock thread) (Some m.channel) m.item [] None m u o kind refl refl (ap (pulse_receipt f) made) among is waits may
+    delivered_at_once f t (Unblock thread) (Some m.channel) m.item [] None m u o kind refl refl (ap (pulse_receipt f) (sym (unblock_same f thread) ∙ made)) among is waits may
 received_at_once f t (Send coid message reply_buffer) m u o kind p made among is waits may =
     let h = has_way f t coid p.row in
     let s = sent_is f t coid (item f t) m h.0 h.1 made in

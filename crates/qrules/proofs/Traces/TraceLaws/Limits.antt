@@ -33,6 +33,7 @@ use Rattle.qrules.proofs.Traces.Calls.Delivering.{sent_way}
 use Rattle.qrules.proofs.Traces.Calls.ConnectDetach as detaching
 use Rattle.qrules.proofs.Traces.Calls.Unblock as unblocking
 use Rattle.qrules.specs.Rule.{PriorityChange}
+use Rattle.qrules.proofs.Traces.Due.{unblock_same}
 
 -- ---- counts
 
@@ -133,7 +134,9 @@ due_more f h items (Some m) pulse r less few = pulse_more f h items m (pulse m r
 
 limited : (f : Facts) (t : ℕ) (c : Call) (h : ℕ) → Passes f t c → (items : List Item) → pulses_among items ≤ pulses_among (f.pending h) → pulses_among (f.pending h) ≤ 1024
     → pulses_among (items ++ made_on h (makes f t c)) ≤ 1024
-limited f t (Unblock thread) h p items less few = due_more f h items (unblock.due_pulse f thread) (unblocking.due_is_pulse f thread) (unblocking.fellow_passes f t thread p.row) less few
+limited f t (Unblock thread) h p items less few =
+    subst (λ o. pulses_among (items ++ made_on h o) ≤ 1024) (sym (unblock_same f thread))
+    (due_more f h items (unblock.due_pulse f thread) (unblocking.due_is_pulse f thread) (unblocking.fellow_passes f t thread p.row) less few)
 limited f t (ConnectDetach coid) h p items less few =
     due_more f h items (connect_detach.due_pulse f t coid) (detaching.due_is_pulse f t coid) (detaching.own_passes f t coid p.row) less few
 limited f t (Send coid message reply_buffer) h p items less few = message_more h f.number (f.priority t) (f.connection coid) items (omega (arith, less, few))

@@ -85,8 +85,8 @@ module _ (roster : List Member) (past : Trace) (e : Event) (h : ℕ) (kind : Kin
   behind = recursion_from_All (λ v. may_take kind v ≡ true → v ≢ b → comes_before b v ≡ true) (takeable roster past e h) (best_is_first kind (takeable roster past e h) b (takeable_rises roster e past h) best).first
 
   -- it has the priority that its number had
-  was_priority : priority_before roster e past b.number ≡ b.priority
-  was_priority = best-at (λ (v : Item). priority_before roster e past v.number ≡ v.priority) kind (takeable roster past e h) b (takeable_priorities roster past e h) best
+  was_priority : priority_before roster past e b.number ≡ b.priority
+  was_priority = best-at (λ (v : Item). priority_before roster past e v.number ≡ v.priority) kind (takeable roster past e h) b (takeable_priorities roster past e h) best
 
   -- the channel isn't destroyed, where it was made before the event
   standing : b.number ≤ length past → is_destroyed past h ≡ false
@@ -127,7 +127,7 @@ gone_first roster past later e h x y z px py before has_x has_y b t =
     let y_at : item_at roster L y.number ≡ Some (record { item = py.first; channel = h }) = item_later roster past later y.number _ py.made in
     let number : px.first.number ≡ x.number = (item_made roster L x.number _ at).makes_it.number in
     let below : y.number ≤ length L = item_below roster L y.number _ y_at in
-    let w_priority : w.0.priority ≡ y.priority = sym (was_priority roster L e h t.kind w.0 w.1) ∙ ap (priority_before roster e L) w.2 ∙ before_earlier roster e L y.number below ∙ has_y in
+    let w_priority : w.0.priority ≡ y.priority = sym (was_priority roster L e h t.kind w.0 w.1) ∙ ap (priority_before roster L e) w.2 ∙ before_earlier roster e L y.number below ∙ has_y in
     let v = now L px.first in
     let v_priority : v.priority ≡ x.priority = sym (item_priority roster L x.number _ at) ∙ has_x in
     let may : may_take t.kind px.first ≡ true = kind_of t.kind px.first x px.what ∙ t.may in

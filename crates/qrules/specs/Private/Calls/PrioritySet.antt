@@ -5,12 +5,12 @@ use Rattle.qbase.specs.declared.errno.Errno.{Errno}
 use Rattle.qbase.specs.declared.errno.Errno.TheVariants.{Srch}
 use Rattle.qmodel.specs.declared.call.Mark.TheVariants as mark
 use Rattle.qmodel.specs.Trace.{ThreadNo}
-use Rattle.qrules.specs.Private.Facts.{Facts, is_fellow}
+use Rattle.qrules.specs.Private.Facts.{Facts, is_of_same_process}
 use Rattle.qrules.specs.Private.Rows.{Row, plain_row}
 
 -- Srch if the thread isn't in the roster, or is of another process
 abbrev pub refusal : Facts → ThreadNo → ThreadNo → Option Errno
-refusal f t thread = if is_fellow f t thread then None else Some Srch
+refusal f t thread = if is_of_same_process f t thread then None else Some Srch
 
 -- the new priority of the thread and of its pending message follows from the past calls
 abbrev pub row : Facts → ThreadNo → ThreadNo → Row

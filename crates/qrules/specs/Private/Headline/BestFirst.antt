@@ -1,9 +1,8 @@
 -- A receipt takes the item of greatest priority, and among equals the one that was made first.
-use Rattle.std.specs.Prelude.{◌≡◌, List, [], ◌∷◌, ◌++◌, Some}
+use Rattle.std.specs.Prelude.{◌≡◌, List, [], ◌∷◌, Some}
 use Rattle.std.specs.List.{AllByRecursion}
 use Rattle.std.specs.Option.{option_map}
 use Rattle.qqueue.specs.Best.{best_of}
-use Rattle.qqueue.specs.declared.item.Item.{Item}
 use Rattle.qqueue.specs.declared.item.Kind.{Kind}
 use Rattle.qtables.specs.declared.member.Member.{Member}
 use Rattle.qmodel.specs.declared.call.Call.{Call}
@@ -11,14 +10,9 @@ use Rattle.qmodel.specs.declared.call.Completion.{Completion}
 use Rattle.qmodel.specs.Trace.{CallNo, ChannelId}
 use Rattle.qrules.specs.Private.Headline.CopiedExactly.{call_at}
 use Rattle.qrules.specs.Private.Headline.ReceivedOnce.{number_received}
-use Rattle.qrules.specs.Private.Past.{pending_items, item_of, made_on}
 use Rattle.qmodel.specs.Trace.{Event, Trace}
 use Rattle.qrules.specs.Private.Effects.{receives_on}
-
--- the items that could be taken from channel h in this event: those pending before it, and the one that it
--- makes
-abbrev pub takeable : List Member → Trace → Event → ChannelId → List Item
-takeable roster past e h = pending_items roster past h ++ made_on h (item_of roster e past)
+pub use Rattle.qrules.specs.Properties.{takeable}
 
 -- the ending receives item i, which is the best that its call may take
 pub record TakesBest (roster : List Member) (past : Trace) (e : Event) (x : Completion) (i : CallNo) : Type

@@ -1,5 +1,5 @@
 -- Every buffer and every count is exactly as the copying requires.
-use Rattle.std.specs.Prelude.{◌≡◌, ℕ, ◌+◌, ◌==◌, List, [], ◌∷◌, length, drop, Option, None, Some}
+use Rattle.std.specs.Prelude.{◌≡◌, ℕ, List, [], ◌∷◌, drop, Option, None, Some}
 use Rattle.std.specs.Prelude.{if◌then◌else◌, is_some}
 use Rattle.std.specs.List.{AllByRecursion}
 use Rattle.std.specs.Option.{option_map_or}
@@ -8,18 +8,15 @@ use Rattle.qmodel.specs.declared.call.Call.{Call}
 use Rattle.qmodel.specs.declared.call.Completion.{Completion}
 use Rattle.qmodel.specs.declared.call.Mark.{Mark}
 use Rattle.qmodel.specs.declared.call.Mark.TheVariants as mark
-use Rattle.qmodel.specs.Trace.{CallNo, ReceiveId}
+use Rattle.qmodel.specs.Trace.{CallNo}
 use Rattle.qrules.specs.Private.Past.{with_writes}
 use Rattle.qmodel.specs.Trace.{Event, Trace}
 use Rattle.qmodel.specs.Buffers.{buffer_of}
-use Rattle.qrules.specs.Private.Effects.{message_sent, replies_with}
+use Rattle.qrules.specs.Private.Effects.{replies_with}
 use Rattle.qrules.specs.Rule.{Transfer}
 use Rattle.qrules.specs.Rules.{effect_of}
-
--- the call of number i
-abbrev pub call_at : Trace → CallNo → Option Call
-call_at [] i = None
-call_at (e ∷ past) i = if i == length past + 1 then Some e.call else call_at past i
+pub use Rattle.qrules.specs.Trace.{call_at}
+pub use Rattle.qrules.specs.Properties.{message_at}
 
 -- the buffer of call i: a Send's with the bytes that were written over it, any other as the call brought it
 abbrev pub buffer_by : Trace → CallNo → Call → List ℕ
@@ -28,10 +25,6 @@ buffer_by past i c = if is_some (effect_of c).sends then with_writes past i (buf
 -- the buffer of the call of number i; empty if there is none
 abbrev pub buffer_at : Trace → CallNo → List ℕ
 buffer_at past i = option_map_or (buffer_by past i) (call_at past i) []
-
--- the bytes of message i
-abbrev pub message_at : Trace → ReceiveId → List ℕ
-message_at past i = option_map_or message_sent (call_at past i) []
 
 -- a call that reads counts the bytes of the message, from the offset on, that it copies over its buffer; a
 -- call that writes counts those that it copies over the reply buffer from the offset on; no other call counts

@@ -1,22 +1,15 @@
 -- Items that were sent over one connection and have one priority as they are received are received in the
 -- order in which they were sent.
-use Rattle.std.specs.Prelude.{◌≡◌, ℕ, ◌≤◌, List, [], ◌∷◌, Option, Some}
+use Rattle.std.specs.Prelude.{◌≡◌, ℕ, List, [], ◌∷◌, Some}
 use Rattle.std.specs.List.{AllByRecursion}
-use Rattle.std.specs.Option.{option_and_then}
 use Rattle.qtables.specs.declared.member.Member.{Member}
 use Rattle.qmodel.specs.declared.call.Call.TheVariants.{Receive}
 use Rattle.qmodel.specs.declared.call.Completion.{Completion}
 use Rattle.qmodel.specs.Trace.{CallNo, ChannelId, ConnectionId}
-use Rattle.qrules.specs.Private.Headline.BestFirst.{takeable}
 use Rattle.qrules.specs.Private.Headline.CopiedExactly.{call_at}
 use Rattle.qrules.specs.Private.Headline.ReceivedOnce.{number_received}
-use Rattle.qrules.specs.Private.Past.{priority_before}
-use Rattle.qmodel.specs.Trace.{Event, Trace}
-use Rattle.qrules.specs.Private.Effects.{sends_over}
-
--- the connection over which item i was sent
-abbrev pub connection_of : Trace → CallNo → Option ConnectionId
-connection_of past i = option_and_then sends_over (call_at past i)
+use Rattle.qmodel.specs.Trace.{Trace}
+pub use Rattle.qrules.specs.Properties.{connection_of, IsEarliest}
 
 -- the ending is one of a Receive, which takes messages and pulses; it takes item j, which was sent over
 -- connection k
@@ -26,14 +19,6 @@ pub record TakesSent (past : Trace) (x : Completion) (j : CallNo) (k : Connectio
   pub call : call_at past x.call ≡ Some (Receive channel buffer)
   pub item : number_received x ≡ Some j
   pub connection : connection_of past j ≡ Some k
-
--- no item that could be taken from any channel, was sent over connection k and had the priority of item j
--- before the event is earlier than j
-abbrev pub IsEarliest : List Member → Trace → Event → CallNo → ConnectionId → Type 0
-IsEarliest roster past e j k = (h : ChannelId) → AllByRecursion
-    (λ item. connection_of (e ∷ past) item.number ≡ Some k → item.priority ≡ priority_before roster e past j
-    → j ≤ item.number)
-    (takeable roster past e h)
 
 -- each receipt by a Receive of an item that was sent over a connection takes the earliest item of its
 -- priority
