@@ -19,10 +19,10 @@ use Rattle.qkernel.specs.Kernel.{facts_in as content_of, State}
 use Rattle.qkernel.specs.Private.Steps.{facts_in}
 use Rattle.qkernel.specs.Stands.{StandsAt}
 use Rattle.qrules.specs.Facts.{receive_of, send_of, OpenReceive, OpenSend, Receipt}
-use Rattle.qrules.specs.Facts.{receive_in, receive_view, send_in, send_view}
-use Rattle.qrules.proofs.Same.{AreOfRoster}
+use Rattle.qrules.specs.View.{receive_in, receive_view, send_in, send_view}
+use Rattle.qrules.proofs.Same.{facts_view, AreOfRoster}
 use Rattle.qrules.specs.Trace.{Trace}
-use Rattle.qrules.proofs.Past.Facts.{facts_known}
+use Rattle.qrules.proofs.Past.Facts.{facts_known, same_facts}
 use Rattle.qrules.proofs.View.{one_view}
 
 -- ---- the open calls, by threads
@@ -46,7 +46,7 @@ module _ {X : Type 0} (g : ℕ → Option OpenCall → Option X) where
       ∙ ap (λ o. cons_option (g t.member.thread o) (filter_map (λ u. g u (open_in (t ∷ threads) u)) (threads_of (members_of threads)))) (sym (open_first t threads))
 
 -- one content
-pub content_same : (s : State) → IsRoster (members_of s.threads) → content_of s ≡ (facts_in s)
+pub content_same : (s : State) → IsRoster (members_of s.threads) → content_of s ≡ facts_view (facts_in s)
 content_same s r =
     let sends = by_thread send_view s.threads r in
     let receives = by_thread receive_view s.threads r in
@@ -77,7 +77,7 @@ open_among (t ∷ threads) u e =
 module _ (roster : List Member) (s : State) (past : Trace) (rises : IsRoster (members_of s.threads)) (of : AreOfRoster roster past) where
   -- a kernel that stands at a trace contains what its inner functions find in it
   pub content_at : StandsAt roster s past → facts_in s ≡ old_lawful.facts_of roster past
-  content_at stands = one_view (facts_in s) (old_lawful.facts_of roster past) (open_among s.threads) (facts_known roster past of) (sym (content_same s rises) ∙ stands)
+  content_at stands = one_view (facts_in s) (old_lawful.facts_of roster past) (open_among s.threads) (facts_known roster past of) (sym (content_same s rises) ∙ stands ∙ same_facts roster past of)
 
   pub stands_by : facts_in s ≡ old_lawful.facts_of roster past → StandsAt roster s past
-  stands_by same = content_same s rises ∙ ap same
+  stands_by same = content_same s rises ∙ ap facts_view same ∙ sym (same_facts roster past of)

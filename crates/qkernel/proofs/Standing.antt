@@ -17,10 +17,10 @@ use Rattle.qrules.specs.Private.Laws.{IsOnlyCounted}
 use Rattle.qrules.specs.Private.Lawful.{facts_of, with_event}
 use Rattle.qrules.specs.Facts as rules
 use Rattle.qrules.specs.Outcome.{Answers}
-use Rattle.qrules.proofs.Same.{AreOfRoster}
+use Rattle.qrules.proofs.Same.{facts_view, AreOfRoster}
 use Rattle.qrules.proofs.Lawful.{of_roster, same_lawful}
 use Rattle.qrules.proofs.Outcomes.{same_answers, same_buffer}
-use Rattle.qrules.proofs.Past.Facts.{facts_known}
+use Rattle.qrules.proofs.Past.Facts.{facts_known, same_facts}
 use Rattle.qrules.specs.Private.Past.{is_failure, priority_in}
 use Rattle.qkernel.specs.Stands.{StandsAt, AnswersAtTraces, LeavesIfRefused}
 use Rattle.qkernel.specs.Kernel.{State, IsSound}
@@ -78,7 +78,7 @@ step_at_traces old t c X new rises known step roster past lawful stands =
     let after : facts_in new ≡ facts_of roster (with_event t c X past) =
     follows_once _ _ _ t c accept now (past_follows accept roster past t c X is_roster ((same_lawful roster past).0 lawful) is_known outcome) in
     let still : IsRoster (members_of new.threads) = subst IsRoster (sym (steps_roster old t c X new step)) rises in (
-      ((same_answers (facts_of roster past) t c (facts_known roster past of) X).1 (answer_of accept _ t c X outcome)),
+      subst (λ f. Answers f t c X) (sym (same_facts roster past of)) ((same_answers (facts_of roster past) t c (facts_known roster past of) X).1 (answer_of accept _ t c X outcome)),
       stands_by roster new (with_event t c X past) still (of, is_known) after,
     )
 
@@ -117,7 +117,7 @@ pub refused_leaves : (old : State) (t : ℕ) (c : Call) (X : List Completion) (n
 refused_leaves old t c X new rises step e is =
     let still : IsRoster (members_of new.threads) = subst IsRoster (sym (steps_roster old t c X new step)) rises in
     let ends : X ≡ refusal_ending (facts_in old) t c e ∷ [] = is ∙ ap (λ buffer. record { call = old.made + 1; thread = t; mark = mark.Failed e; buffer = buffer } ∷ []) (same_buffer c) in
-    content_same new still ∙ ap (counted_by (facts_in old) (facts_in new) (refused_counts old t c X new step e ends)) ∙ ap counted_in_rules (sym (content_same old rises))
+    content_same new still ∙ ap facts_view (counted_by (facts_in old) (facts_in new) (refused_counts old t c X new step e ends)) ∙ ap counted_in_rules (sym (content_same old rises))
 
 -- one more call was made
 pub steps_made : (old : State) (t : ℕ) (c : Call) (X : List Completion) (new : State) → Steps old t c X new → new.made ≡ old.made + 1

@@ -31,10 +31,9 @@ use Rattle.qrules.specs.Rules.{effect_of}
 use Rattle.qrules.proofs.Lawful.{of_roster}
 use Rattle.qrules.proofs.Outcomes.{same_buffer}
 use Rattle.qrules.proofs.Properties.BestFirst.{request_from}
-use Rattle.qrules.proofs.Properties.Calls.{same_connection_of}
 use Rattle.qrules.proofs.Properties.Items.{same_channel_among}
 use Rattle.qlaws.specs.Endings
-use Rattle.qlaws.proofs.Waits.{place_of, before, blocked_at, buffer_at, facts_at, number_at}
+use Rattle.qlaws.proofs.Waits.{place_of, before, buffer_at}
 
 -- ---- whose they are
 
@@ -56,21 +55,18 @@ pub endings_go_to_blocked : Endings.EndingsGoToBlocked
 endings_go_to_blocked roster past e r l =
     all_more _ _ e.endings (blocked.endings_go_to_blocked roster past e r (before roster (e ∷ past) l)) (λ x to. (
       to.known,
-      ap (λ b. eqb x.thread e.thread || b) (blocked_at roster past l.0 x.thread) ∙ to.may,
+      to.may,
     ))
 
 -- ---- who waits afterwards
 
 pub blocked_unless_ended : Endings.BlockedUnlessEnded
 blocked_unless_ended roster past e r l idle u =
-    blocked_at roster (e ∷ past) l u
-    ∙ blocked.blocked_unless_ended roster past e r (before roster (e ∷ past) l) (sym (blocked_at roster past l.0 e.thread) ∙ idle) u
-    ∙ ap (λ b. cond (Endings.gets e.endings u) false (eqb u e.thread || b)) (sym (blocked_at roster past l.0 u))
+    blocked.blocked_unless_ended roster past e r (before roster (e ∷ past) l) idle u
 
 pub ends_or_waits : Endings.EndsOrWaits
 ends_or_waits roster past e r l =
-    let both = blocked.ends_or_waits roster past e r (before roster (e ∷ past) l) in
-    (λ goes. number_at roster (e ∷ past) l e.thread ∙ both.0 goes, λ waits. both.1 (sym (number_at roster (e ∷ past) l e.thread) ∙ waits))
+    blocked.ends_or_waits roster past e r (before roster (e ∷ past) l)
 
 pub caller_gets_its_own : Endings.CallerGetsItsOwn
 caller_gets_its_own roster past e r l = blocked.caller_gets_its_own roster past e r (before roster (e ∷ past) l)
@@ -100,8 +96,8 @@ module _ (roster : List Member) (past : Trace) (l : IsLawful roster past) where
       record {
         request = request;
         call = request_from past x.call c request is asks;
-        made = ap (list_any (λ m. eqb m.item.number i && eqb m.channel request.channel)) subst (λ h. list_any (λ m. eqb m.item.number i && eqb m.channel h) (old_items roster past) ≡ true) on made;
-        sent = λ k sent. subst (Endings.LeadsTo roster past k) on (leads k channel (over k (sym (same_connection_of past i) ∙ sent)));
+        made = subst (λ h. list_any (λ m. eqb m.item.number i && eqb m.channel h) (old_items roster past) ≡ true) on made;
+        sent = λ k sent. subst (Endings.LeadsTo roster past k) on (leads k channel (over k sent));
       }
 
 pub received_was_sent : Endings.ReceivedWasSent
@@ -119,7 +115,7 @@ nothing_from_destroyed roster past e r l =
     let of = of_roster roster (e ∷ past) l in
     all_more _ _ e.endings (all_for _ _ e.endings (ending.nothing_from_destroyed roster past e r (before roster (e ∷ past) l))) (λ x none h i destroyed is on.
     none h destroyed i is
-    (sym (ap (λ (made : List SentItem). option_map (λ m. m.channel) (item_among made i)) same_channel_among (old_items roster (e ∷ past)) i) ∙ on))
+    (sym (same_channel_among (old_items roster (e ∷ past)) i) ∙ on))
 
 -- ---- refusals
 
@@ -139,6 +135,4 @@ same_but_counted f g k = λ i. record {
 
 pub refused_changes_nothing : Endings.RefusedChangesNothing
 refused_changes_nothing roster past e r l is =
-    facts_at roster (e ∷ past) l
-    ∙ ap (same_but_counted (old.facts_of roster past) (old.facts_of roster (e ∷ past)) (refused.refused_changes_nothing roster past e r (before roster (e ∷ past) l) is))
-    ∙ ap (λ (f : Facts). record f { number = f.number + 1 }) (sym (facts_at roster past l.0))
+    same_but_counted (old.facts_of roster past) (old.facts_of roster (e ∷ past)) (refused.refused_changes_nothing roster past e r (before roster (e ∷ past) l) is)

@@ -59,7 +59,7 @@ use Rattle.qrules.specs.Past.{attached_connection, channel_at, connection_at, cr
 use Rattle.qrules.specs.Rule.{Effect}
 use Rattle.qrules.specs.Trace.{endings_of}
 use Rattle.qlaws.specs.Ids as laws
-use Rattle.qlaws.proofs.Waits.{before, facts_at}
+use Rattle.qlaws.proofs.Waits.{before}
 
 -- ---- how many there are
 
@@ -131,11 +131,11 @@ module _ {A : Type 0} where
 
 pub channels_are_limited : laws.ChannelsAreLimited
 channels_are_limited roster past r l =
-    subst (λ (f : NewFacts). laws.AtMost 64 f.channel) (sym (facts_at roster past l)) (at_most roster creates (λ f. f.destroys) past 64 (are_few roster past r (before roster past l)).0)
+    at_most roster creates (λ f. f.destroys) past 64 (are_few roster past r (before roster past l)).0
 
 pub connections_are_limited : laws.ConnectionsAreLimited
 connections_are_limited roster past r l =
-    subst (λ (f : NewFacts). laws.AtMost 1024 f.connection) (sym (facts_at roster past l)) (at_most roster attaches (λ f. f.detaches) past 1024 (are_few roster past r (before roster past l)).1)
+    at_most roster attaches (λ f. f.detaches) past 1024 (are_few roster past r (before roster past l)).1
 
 -- ---- an id that an ending gives is the number of its call
 

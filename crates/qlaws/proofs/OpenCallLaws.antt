@@ -37,9 +37,9 @@ use Rattle.qrules.specs.Lawful.{facts_of}
 use Rattle.qrules.specs.Rules.{effect_of}
 use Rattle.qrules.proofs.Messages.{send_cases, NoSend, OneSend}
 use Rattle.qrules.proofs.Outcomes.{same_buffer}
-use Rattle.qrules.proofs.Properties.Calls.{same_call_at}
 use Rattle.qlaws.specs.OpenCalls as laws
-use Rattle.qlaws.proofs.Waits.{all_receives, all_sends, before, blocked_at, facts_at, number_at, receive_at, receive_parts, send_parts}
+use Rattle.qlaws.proofs.Waits.{all_receives, all_sends, before, receive_parts, send_parts}
+use Rattle.qrules.specs.Facts.{open_receives}
 
 -- ---- at most one for each thread
 
@@ -63,7 +63,7 @@ at_most_one_open roster past r l t i j first second =
 pub open_is_unended : laws.OpenIsUnended
 open_is_unended roster past r l t i =
     let both = unended.open_is_unended roster past r (before roster past l) t i in
-    (λ is. unended_by_rules past t i (both.0 (sym (number_at roster past l t) ∙ is)), λ going. number_at roster past l t ∙ both.1 (unended_before past t i going))
+    (λ is. unended_by_rules past t i (both.0 is), λ going. both.1 (unended_before past t i going))
 
 -- ---- Sends
 
@@ -111,7 +111,6 @@ held_is_open_send roster past r l i =
       | inl k ↦ no_send roster past i law k ∙ ap (λ o. option_map_or (λ (s : OpenSend). is_some s.receipt) o false) (sym k.new)
       | inr k ↦ one_send roster past i law k.receipt k refl ∙ ap (λ o. option_map_or (λ (s : OpenSend). is_some s.receipt) o false) (sym k.new)
     ]
-    ∙ ap (λ f. has_receipt f i) (sym (facts_at roster past l))
 
 -- ---- receives
 
@@ -167,10 +166,10 @@ pub newest_is_last : laws.NewestIsLast
 newest_is_last roster past r l m x e =
     let f : Facts = facts_of roster past in
     let may : OpenReceive → Bool = laws.may_receive m in
-    let each : AllByRecursion (λ s. receive_of f s.thread ≡ Some s) f.open_receives = all_receives roster past l (λ s. receive_of f s.thread ≡ Some s) (λ u s is.
-    ap (receive_of f) (receive_parts roster past l u s is).thread ∙ receive_at roster past l u ∙ is) in
-    let k = newest_of (λ s. (receive_of f s.thread ≡ Some s) × (may s ≡ true)) (filter may f.open_receives) x (all_pass (λ s. receive_of f s.thread ≡ Some s) may f.open_receives each) e in
-    record { is_open = k.0.0; may = k.0.1; last = of_passing (λ s. s.number ≤ x.number) may f.open_receives k.1 }
+    let each : AllByRecursion (λ s. receive_of f s.thread ≡ Some s) (open_receives f) = all_receives roster past l (λ s. receive_of f s.thread ≡ Some s) (λ u s is.
+    ap (receive_of f) (receive_parts roster past l u s is).thread ∙ is) in
+    let k = newest_of (λ s. (receive_of f s.thread ≡ Some s) × (may s ≡ true)) (filter may (open_receives f)) x (all_pass (λ s. receive_of f s.thread ≡ Some s) may (open_receives f) each) e in
+    record { is_open = k.0.0; may = k.0.1; last = of_passing (λ s. s.number ≤ x.number) may (open_receives f) k.1 }
 
 nobody : (p : OpenReceive → Bool) (rs : List OpenReceive) → reduce newer (filter p rs) ≡ None → AllByRecursion (λ r. p r ≡ false) rs
 nobody p [] e = tt
@@ -186,12 +185,11 @@ none_passes p (r ∷ rs) h = rw (h.0) (none_passes p rs h.1)
 
 pub none_is_newest : laws.NoneIsNewest
 none_is_newest roster past r l m =
-    let rs : List OpenReceive = (facts_of roster past).open_receives in
+    let rs : List OpenReceive = open_receives (facts_of roster past) in
     (nobody (laws.may_receive m) rs, none_passes (laws.may_receive m) rs)
 
 pub nothing_pending_for_waiting : laws.NothingPendingForWaiting
 nothing_pending_for_waiting roster past r l = all_receives roster past l _ (λ u s e.
-    subst (λ f. AllByRecursion (λ item. may_take s.kind item ≡ false) (f.pending s.channel)) (sym (facts_at roster past l))
     (waiting.nothing_pending_for_waiting roster past r (before roster past l) u s.number s.channel s.kind s.buffer (receive_parts roster past l u s e).is))
 
 -- ---- buffers
@@ -199,12 +197,12 @@ nothing_pending_for_waiting roster past r l = all_receives roster past l _ (λ u
 pub reply_buffers_keep_length : laws.ReplyBuffersKeepLength
 reply_buffers_keep_length roster past r l = all_sends roster past l (λ s. laws.IsAsLong past s.number s.reply_buffer) (λ u s e.
     let k = lengths.open_calls_keep_length roster past r (before roster past l) u _ (send_parts roster past l u s e).is in
-    record { call = k.call; is = same_call_at past s.number ∙ k.is; same = k.same ∙ ap length (sym (same_buffer k.call)) })
+    record { call = k.call; is = k.is; same = k.same ∙ ap length (sym (same_buffer k.call)) })
 
 pub receive_buffers_keep_length : laws.ReceiveBuffersKeepLength
 receive_buffers_keep_length roster past r l = all_receives roster past l (λ s. laws.IsAsLong past s.number s.buffer) (λ u s e.
     let k = lengths.open_calls_keep_length roster past r (before roster past l) u _ (receive_parts roster past l u s e).is in
-    record { call = k.call; is = same_call_at past s.number ∙ k.is; same = k.same ∙ ap length (sym (same_buffer k.call)) })
+    record { call = k.call; is = k.is; same = k.same ∙ ap length (sym (same_buffer k.call)) })
 
 -- ---- after a shutdown
 
@@ -233,4 +231,4 @@ none_open roster (e ∷ past) r l down u =
 
 pub nobody_waits_after_shutdown : laws.NobodyWaitsAfterShutdown
 nobody_waits_after_shutdown roster past r l down t =
-    blocked_at roster past l t ∙ ap is_some (none_open roster past r (before roster past l) down t)
+    ap is_some (none_open roster past r (before roster past l) down t)

@@ -33,25 +33,20 @@ use Rattle.qrules.proofs.Lawful.{of_roster}
 use Rattle.qrules.proofs.Properties.BestFirst.{asks_of}
 use Rattle.qlaws.specs.OpenCalls.{is_held}
 use Rattle.qlaws.specs.Pending as laws
-use Rattle.qlaws.proofs.Waits.{place_of, before, facts_at, send_at}
+use Rattle.qlaws.proofs.Waits.{place_of, before}
 
 -- ---- what is pending
 
--- what is so of the items that are pending on a channel by the kernel's own records
-of_pending : (roster : List Member) (past : Trace) → IsLawful roster past → (h : ℕ) (P : List Item → Type 0) → P (old.pending_items roster past h) → P ((facts_of roster past).pending h)
-of_pending roster past l h P = subst (λ f. P (f.pending h)) (sym (facts_at roster past l))
-
 pub pending_rises : laws.PendingRises
-pending_rises roster past r l h = of_pending roster past l h IsRising (pending.rises roster past r (before roster past l) h)
+pending_rises roster past r l h = pending.rises roster past r (before roster past l) h
 
 pub pulses_are_limited : laws.PulsesAreLimited
 pulses_are_limited roster past r l h =
-    subst (λ f. count_by (λ x. is_pulse x.what) (f.pending h) ≤ 1024) (sym (facts_at roster past l)) (limits.pulses_are_limited roster past r (before roster past l) h)
+    limits.pulses_are_limited roster past r (before roster past l) h
 
 pub none_pending_is_held : laws.NonePendingIsHeld
 none_pending_is_held roster past r l h =
-    of_pending roster past l h (AllByRecursion (λ item. is_held past item.number ≡ false))
-    (all_more _ _ (old.pending_items roster past h) (pending.none_pending_is_held roster past r (before roster past l) h) (λ item k. k.unread))
+    all_more _ _ (old.pending_items roster past h) (pending.none_pending_is_held roster past r (before roster past l) h) (λ item k. k.unread)
 
 module _ (roster : List Member) (past : Trace) (l : IsLawful roster past) (i : ℕ) where
   unreceived : (t : ℕ) (o : OpenCall) (w : Wait) → old.sender_of past i ≡ Some t → old.open_call roster past t ≡ Some o → o.number ≡ i → o.wait ≡ w → is_for_receipt w ≡ true → laws.IsUnreceived roster past i
@@ -59,7 +54,7 @@ module _ (roster : List Member) (past : Trace) (l : IsLawful roster past) (i : �
     send = record { number = o.number; thread = t; connection = coid; message = message; reply_buffer = reply_buffer; receipt = None };
     number = number;
     sent = sent;
-    is_open = send_at roster past l t ∙ ap (send_view t) (is ∙ ap (λ w. Some (record { number = o.number; wait = w })) waits);
+    is_open = ap (send_view t) (is ∙ ap (λ w. Some (record { number = o.number; wait = w })) waits);
     unread = refl;
   }
   unreceived t o (Answer coid message reply_buffer (Some receipt)) sent is number waits unread = absurd (true≢false (sym unread))
@@ -67,26 +62,15 @@ module _ (roster : List Member) (past : Trace) (l : IsLawful roster past) (i : �
 
 pub pending_is_open : laws.PendingIsOpen
 pending_is_open roster past r l h =
-    of_pending roster past l h (AllByRecursion (λ item. is_pulse item.what ≡ false → laws.IsUnreceived roster past item.number))
-    (all_more _ _ (old.pending_items roster past h) (pending.pending_is_open roster past r (before roster past l) h) (λ item k message.
+    all_more _ _ (old.pending_items roster past h) (pending.pending_is_open roster past r (before roster past l) h) (λ item k message.
     let s = k message in
-    unreceived roster past l item.number s.sender s.waiting s.waiting.wait s.sent s.is_open s.number refl s.unread))
+    unreceived roster past l item.number s.sender s.waiting s.waiting.wait s.sent s.is_open s.number refl s.unread)
 
 pub pending_follows_its_sender : laws.PendingFollowsItsSender
 pending_follows_its_sender roster past r l h =
-    subst (λ f. AllByRecursion (λ item. is_pulse item.what ≡ false → (t : ℕ) → sender_of past item.number ≡ Some t → item.priority ≡ f.priority t) (f.pending h)) (sym (facts_at roster past l))
-    (all_more _ _ (old.pending_items roster past h) (current_priority.pending_follows_its_sender roster past r (before roster past l) h) (λ item k message t sent.
-    k message t sent))
+    all_more _ _ (old.pending_items roster past h) (current_priority.pending_follows_its_sender roster past r (before roster past l) h) (λ item k message t sent. k message t sent)
 
 -- ---- the order of receipt
-
-earlier_of_roster : (roster : List Member) (past later : Trace) → AreOfRoster roster (later ++ past) → AreOfRoster roster past
-earlier_of_roster roster past [] l = l
-earlier_of_roster roster past (e ∷ later) l = earlier_of_roster roster past later l.0
-
-same_now : (roster : List Member) (past : Trace) (x : Item) → AreOfRoster roster past → priority_of_item (item_among (items_by_now past (items roster past)) x.number) ≡ old.priority_of_item roster past x.number
-same_now roster past x l =
-    refl
 
 takes_before : (past : Trace) (z : Completion) (i h : ℕ) (x : Item) → laws.TakesBeside past z i h x → old_laws.TakesBeside past z i h x
 takes_before past z i h x k =
@@ -105,11 +89,10 @@ first_by_rules : (past : Trace) (roster : List Member) (later : Trace) (e : Even
     → AllByRecursion (λ z. laws.TakesBeside (e ∷ later ++ past) z y.number h x → is_gone (later ++ past) x ≡ true) e.endings)
     ((facts_of roster past).pending h)) ((facts_of roster past).pending h)
 first_by_rules past roster later e r l h =
-    let of : AreOfRoster roster (later ++ past) = of_roster roster (later ++ past) l.0 in
     let after : Trace = later ++ past in
-        (all_more _ _ (old.pending_items roster past h) (order.first_goes_first roster past later e r (before roster (e ∷ later ++ past) l) h) (λ x all.
+    (all_more _ _ (old.pending_items roster past h) (order.first_goes_first roster past later e r (before roster (e ∷ later ++ past) l) h) (λ x all.
     all_more _ _ (old.pending_items roster past h) all (λ y k first of_x of_y.
-    all_more _ _ e.endings (k first (sym (same_now roster after x of) ∙ of_x) (sym (same_now roster after y of) ∙ of_y)) (λ z gone takes.
+    all_more _ _ e.endings (k first of_x of_y) (λ z gone takes.
     gone (takes_before (e ∷ after) z y.number h x takes)))))
 
 pub first_goes_first : laws.FirstGoesFirst
@@ -123,12 +106,8 @@ first_goes_first past roster after e r l later is h =
 
 pub setting_moves_its_own : laws.SettingMovesItsOwn
 setting_moves_its_own roster past e r l accepted t priority is h =
-    ap (λ f. f.pending h) (facts_at roster (e ∷ past) l)
-    ∙ setting.setting_moves_its_own roster past e r (before roster (e ∷ past) l) accepted t priority is h
-    ∙ ap (λ f. map (λ item. cond (laws.is_message_of past t item) (with_priority priority item) item) (f.pending h)) (sym (facts_at roster past l.0))
+    setting.setting_moves_its_own roster past e r (before roster (e ∷ past) l) accepted t priority is h
 
 pub others_keep_their_order : laws.OthersKeepTheirOrder
 others_keep_their_order roster past e r l accepted t priority is h =
-    ap (λ f. filter (λ item. not (laws.is_message_of past t item)) (f.pending h)) (facts_at roster (e ∷ past) l)
-    ∙ setting.others_keep_their_order roster past e r (before roster (e ∷ past) l) accepted t priority is h
-    ∙ ap (λ f. filter (λ item. not (laws.is_message_of past t item)) (f.pending h)) (sym (facts_at roster past l.0))
+    setting.others_keep_their_order roster past e r (before roster (e ∷ past) l) accepted t priority is h

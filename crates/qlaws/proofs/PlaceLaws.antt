@@ -22,7 +22,7 @@ use Rattle.qrules.specs.Past as new
 use Rattle.qrules.proofs.Lawful.{of_roster}
 use Rattle.qrules.proofs.Past.Facts.{facts_known}
 use Rattle.qlaws.specs.Pending as laws
-use Rattle.qlaws.proofs.Waits.{before, facts_at}
+use Rattle.qlaws.proofs.Waits.{before}
 
 -- ---- counts
 
@@ -169,10 +169,4 @@ pub places_fall : laws.PlacesFall
 places_fall roster past e r l h x none =
     let of = of_roster roster past l.0 in
     let f = old.facts_of roster past in
-    let made : item_made_by (facts_of roster past) e past ≡ item_of roster e past =
-    ap (λ f. item_made_by f e past) (facts_at roster past l.0) in
-    let put = all_more _ _ (pending_items roster past h) (subst (λ f. AllByRecursion (λ y. comes_before (laws.as_set_by e past y) x ≡ true → comes_before y x ≡ true) (f.pending h)) (facts_at roster past l.0) none.set)
-    (λ y k first. k first) in
-    subst (λ f. laws.place x (f.pending h) + laws.place x (filter (new.is_gone (e ∷ past)) ((facts_of roster past).pending h)) ≤ laws.place x ((facts_of roster past).pending h)) (sym (facts_at roster (e ∷ past) l)) (
-    subst (λ f. laws.place x (pending_items roster (e ∷ past) h) + laws.place x (filter (new.is_gone (e ∷ past)) (f.pending h)) ≤ laws.place x (f.pending h)) (sym (facts_at roster past l.0)) (
-    falls roster past e (before roster past l.0) h x (λ m is on stays. none.made m (made ∙ is) on stays) put))
+    falls roster past e (before roster past l.0) h x none.made none.set

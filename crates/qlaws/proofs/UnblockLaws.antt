@@ -30,6 +30,7 @@ use Rattle.qrules.specs.Past as new
 use Rattle.qrules.specs.Properties.{items}
 use Rattle.qrules.proofs.Lawful.{of_roster}
 use Rattle.qlaws.specs.Pending as laws
+use Rattle.qrules.proofs.Traces.Due.{unblock_same}
 
 -- the receipt doesn't tell that no unblock pulse was made
 abbrev told : Wait → Bool
@@ -51,7 +52,7 @@ first_for roster past t c i m made is =
     elim (unblocks c) as (λ w. unblocks c ≡ w → is_unblocked roster past i ≡ false) [
       | None ↦ λ none. absurd (true≢false (sym is ∙ (call_laws c).unblocks_none none f t m made i))
       | Some v ↦ λ some.
-          let d = due_parts f (f.open_call v) m (subst (λ c. makes f t c ≡ Some m) (unblock_is c v some) made) in
+          let d = due_parts f (f.open_call v) m (sym (unblock_same f v) ∙ subst (λ c. makes f t c ≡ Some m) (unblock_is c v some) made) in
           let p = open_parts roster past v d.waiting d.is in
           let number : p.block.number ≡ i = sym p.number ∙ eqb-true _ _ (ap (λ (m : SentItem). is_unblock_for i m.item.what) d.made ∙ is) in
           let first : told d.waiting.wait ≡ false = ap told d.waits ∙ d.first in
@@ -98,5 +99,4 @@ same_unblock i _ = refl
 
 pub one_unblock_pulse : laws.OneUnblockPulse
 one_unblock_pulse roster past r l i =
-    subst (λ n. n ≤ 1) (sym (
-    ap (count_by (λ m. new.is_unblock_for i m.item.what)) ap (λ (is : What → Bool). count_by (λ m. is m.item.what) (old_items roster past)) (fun_ext (same_unblock i)))) (at_most_one roster past i)
+    subst (λ n. n ≤ 1) (sym (ap (λ (is : What → Bool). count_by (λ m. is m.item.what) (old_items roster past)) (fun_ext (same_unblock i)))) (at_most_one roster past i)

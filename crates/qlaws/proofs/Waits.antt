@@ -22,9 +22,9 @@ use Rattle.qrules.specs.Rule.{ReceiveRequest}
 use Rattle.qrules.specs.Facts.{receive_view, receive_in, send_view, send_in}
 use Rattle.qrules.proofs.Lawful.{same_lawful, of_roster}
 use Rattle.qrules.proofs.Past.Facts.{facts_known}
-use Rattle.qrules.proofs.View.{blocked_same}
 use Rattle.qlaws.specs.OpenCalls.{waiting_number}
 use Rattle.qlaws.specs.Endings.{waiting_buffer}
+use Rattle.qrules.specs.Facts.{open_receives, open_sends}
 
 -- where a call asks to receive, and what
 abbrev pub place_of : ReceiveRequest → ℕ × Kind
@@ -38,42 +38,21 @@ module _ (roster : List Member) (past : Trace) (l : IsLawful roster past) where
   abbrev facts : OldFacts
   facts = old.facts_of roster past
 
-  pub facts_at : facts_of roster past ≡ (old.facts_of roster past)
-  facts_at = refl
-
-  pub blocked_at : (u : ℕ) → is_blocked (facts_of roster past) u ≡ is_some (open_call roster past u)
-  blocked_at u = ap (λ f. is_blocked f u) facts_at ∙ blocked_same facts u (facts_known roster past (of_roster roster past l))
-
-  pub send_at : (u : ℕ) → send_of (facts_of roster past) u ≡ send_view u (open_call roster past u)
-  send_at u = ap (λ f. send_of f u) facts_at
-
-  pub receive_at : (u : ℕ) → receive_of (facts_of roster past) u ≡ receive_view u (open_call roster past u)
-  receive_at u = ap (λ f. receive_of f u) facts_at
-
-  pub number_at : (u : ℕ) → waiting_number (facts_of roster past) u ≡ option_map (λ o. o.number) (open_call roster past u)
-  number_at u = rw (send_at u, receive_at u) (elim (open_call roster past u) as (λ o. option_or (option_map (λ s. s.number) (send_view u o)) (option_map (λ r. r.number) (receive_view u o)) ≡ option_map (λ o. o.number) o) [
-    | None ↦ refl
-    | Some o ↦ elim (o.wait) as (λ w. option_or (option_map (λ s. s.number) (send_in u o.number w)) (option_map (λ r. r.number) (receive_in u o.number w)) ≡ Some o.number) [
-      | Answer coid message reply_buffer receipt ↦ refl
-      | ForItem chid kind buffer ↦ refl
-    ]
-  ])
-
   pub buffer_at : (u : ℕ) → waiting_buffer (facts_of roster past) u ≡ buffer_of_open (open_call roster past u)
-  buffer_at u = rw (send_at u, receive_at u) (elim (open_call roster past u) as (λ o. unwrap_or (option_or (option_map (λ s. s.reply_buffer) (send_view u o)) (option_map (λ r. r.buffer) (receive_view u o))) [] ≡ buffer_of_open o) [
+  buffer_at u = elim (open_call roster past u) as (λ o. unwrap_or (option_or (option_map (λ s. s.reply_buffer) (send_view u o)) (option_map (λ r. r.buffer) (receive_view u o))) [] ≡ buffer_of_open o) [
     | None ↦ refl
     | Some o ↦ elim (o.wait) as (λ w. unwrap_or (option_or (option_map (λ s. s.reply_buffer) (send_in u o.number w)) (option_map (λ r. r.buffer) (receive_in u o.number w))) [] ≡ buffer_of_wait w) [
       | Answer coid message reply_buffer receipt ↦ refl
       | ForItem chid kind buffer ↦ refl
     ]
-  ])
+  ]
 
   -- what is so of what each thread sends, is so of all open Sends
-  pub all_sends : (P : OpenSend → Type 0) → ((u : ℕ) (s : OpenSend) → send_view u (open_call roster past u) ≡ Some s → P s) → AllByRecursion P (facts_of roster past).open_sends
-  all_sends P h = subst (λ f. AllByRecursion P f.open_sends) (sym facts_at) (all_filter_map P (λ u. send_view u (open_call roster past u)) (threads_of roster) h)
+  pub all_sends : (P : OpenSend → Type 0) → ((u : ℕ) (s : OpenSend) → send_view u (open_call roster past u) ≡ Some s → P s) → AllByRecursion P (open_sends (facts_of roster past))
+  all_sends P h = all_filter_map P (λ u. send_view u (open_call roster past u)) (threads_of roster) h
 
-  pub all_receives : (P : OpenReceive → Type 0) → ((u : ℕ) (r : OpenReceive) → receive_view u (open_call roster past u) ≡ Some r → P r) → AllByRecursion P (facts_of roster past).open_receives
-  all_receives P h = subst (λ f. AllByRecursion P f.open_receives) (sym facts_at) (all_filter_map P (λ u. receive_view u (open_call roster past u)) (threads_of roster) h)
+  pub all_receives : (P : OpenReceive → Type 0) → ((u : ℕ) (r : OpenReceive) → receive_view u (open_call roster past u) ≡ Some r → P r) → AllByRecursion P (open_receives (facts_of roster past))
+  all_receives P h = all_filter_map P (λ u. receive_view u (open_call roster past u)) (threads_of roster) h
 
   -- an open Send as its thread's open call
   pub record SendParts (u : ℕ) (s : OpenSend) : Type 0 where

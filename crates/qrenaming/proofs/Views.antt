@@ -20,33 +20,24 @@ use Rattle.qrules.proofs.View.{IsKnown}
 use Rattle.qrenaming.specs.Laws.{KeepsReceivers}
 use Rattle.qrenaming.specs.Renaming.{facts_as, receive_as, send_as, Renaming}
 use Rattle.qrenaming.specs.Private.Laws.{KeepsReceivers as KeepsWaits}
-use Rattle.qrenaming.specs.Private.Renaming.{open_as, facts_as as old_facts_as}
+use Rattle.qrenaming.specs.Private.Renaming.{open_as, facts_as as facts_as}
 use Rattle.qrenaming.proofs.Outcomes.{blocked_as, filter_map_as}
 
 -- ---- facts with other numbers, viewed
 
-send_view_as : (r : Renaming) (u : ℕ) (o : Option OpenCall) → send_view u (option_map (open_as r) o) ≡ option_map (send_as r) (send_view u o)
+pub send_view_as : (r : Renaming) (u : ℕ) (o : Option OpenCall) → send_view u (option_map (open_as r) o) ≡ option_map (send_as r) (send_view u o)
 send_view_as r u None = refl
 send_view_as r u (Some o) = by_wait o.wait where
   by_wait : (w : Wait) → send_view u (option_map (open_as r) (Some (record { number = o.number; wait = w }))) ≡ option_map (send_as r) (send_view u (Some (record { number = o.number; wait = w })))
   by_wait (Answer coid message reply_buffer receipt) = refl
   by_wait (ForItem chid kind buffer) = refl
 
-receive_view_as : (r : Renaming) (u : ℕ) (o : Option OpenCall) → receive_view u (option_map (open_as r) o) ≡ option_map (receive_as r) (receive_view u o)
+pub receive_view_as : (r : Renaming) (u : ℕ) (o : Option OpenCall) → receive_view u (option_map (open_as r) o) ≡ option_map (receive_as r) (receive_view u o)
 receive_view_as r u None = refl
 receive_view_as r u (Some o) = by_wait o.wait where
   by_wait : (w : Wait) → receive_view u (option_map (open_as r) (Some (record { number = o.number; wait = w }))) ≡ option_map (receive_as r) (receive_view u (Some (record { number = o.number; wait = w })))
   by_wait (Answer coid message reply_buffer receipt) = refl
   by_wait (ForItem chid kind buffer) = refl
-
-pub view_as : (r : Renaming) (f : OldFacts) → (old_facts_as r f) ≡ facts_as r f
-view_as r f = λ i. record (facts_as r f) {
-  open_sends = filter_map_as (send_as r) (λ u. send_view u (f.open_call u)) (λ u. send_view u (option_map (open_as r) (f.open_call u))) (λ u. send_view_as r u (f.open_call u)) (threads_of f.roster) i;
-  open_receives = filter_map_as (receive_as r) (λ u. receive_view u (f.open_call u)) (λ u. receive_view u (option_map (open_as r) (f.open_call u))) (λ u. receive_view_as r u (f.open_call u)) (threads_of f.roster) i;
-}
-
-pub known_as : (r : Renaming) (f : OldFacts) → IsKnown f → IsKnown (old_facts_as r f)
-known_as r f known u e = known u (sym (blocked_as r (f.open_call u)) ∙ e)
 
 -- ---- who waits to receive
 
