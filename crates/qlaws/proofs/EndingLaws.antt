@@ -1,7 +1,7 @@
 -- The laws of the endings of one event.
 use mathlib.Core.Path.{fun_ext}
-use Rattle.std.proofs.Common.{◌≡◌, ◌∙◌, ℕ, ◌+◌, List, [], ◌∷◌, length, refl, ap, sym, subst, cond, true, false, eqb}
-use Rattle.std.specs.Prelude.{Option, None, Some, ◌||◌, ◌&&◌, option_map}
+use Rattle.std.proofs.Common.{◌≡◌, ◌∙◌, ℕ, ◌+◌, List, [], ◌∷◌, length, refl, ap, sym, subst, cond, true, eqb}
+use Rattle.std.specs.Prelude.{Option, None, Some, ◌&&◌, option_map}
 use Rattle.std.specs.List.{list_any, AllByRecursion}
 use Rattle.std.proofs.lemmas.Option.{none-some, same_Some}
 use Rattle.qbase.proofs.Lists.{all_more}
@@ -14,7 +14,6 @@ use Rattle.qrules.specs.Private.Headline.SentOrder.{connection_of as old_connect
 use Rattle.qrules.specs.Private.Laws as old_laws
 use Rattle.qrules.specs.Private.Lawful as old
 use Rattle.qrules.specs.Private.Past.{items as old_items, open_call}
-use Rattle.qmodel.specs.Trace.{SentItem}
 use Rattle.qmodel.specs.Trace.{Trace}
 use Rattle.qmodel.specs.declared.call.Call.{Call}
 use Rattle.qmodel.specs.declared.call.Completion.{Completion}
@@ -23,9 +22,7 @@ use Rattle.qrules.proofs.Traces.TraceLaws.Ending as ending
 use Rattle.qrules.proofs.Traces.TraceLaws.Lengths as lengths
 use Rattle.qrules.proofs.Traces.TraceLaws.Refused as refused
 use Rattle.qrules.proofs.Traces.TraceLaws.Sent as sent
-use Rattle.qrules.specs.Facts.{Facts}
 use Rattle.qrules.specs.Lawful.{IsLawful}
-use Rattle.qrules.specs.Past.{item_among}
 use Rattle.qrules.specs.Rule.{buffer_of, ReceiveRequest}
 use Rattle.qrules.specs.Rules.{effect_of}
 use Rattle.qrules.proofs.Lawful.{of_roster}

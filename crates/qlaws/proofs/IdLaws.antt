@@ -1,7 +1,7 @@
 -- The laws of ids: of the channels that are open, and of the connections that are live.
 use Rattle.std.proofs.Common.{◌≡◌, ◌∙◌, ◌<◌, ◌≤◌, ◌+◌, ◌++◌, ℕ, List, [], ◌∷◌, length, refl, ap, sym, subst, cond, arith, eqb, Bool, true, false, inl, inr}
 use Rattle.std.specs.Prelude.{pos, Option, None, Some, is_some, nat_lt, option_map}
-use Rattle.std.specs.List.{AllByRecursion, list_any}
+use Rattle.std.specs.List.{AllByRecursion}
 use Rattle.std.specs.Option.{option_map_or}
 use Rattle.std.specs.Ordering.{int_eq}
 use Rattle.std.proofs.Math.Bool.{or-true}
@@ -25,7 +25,7 @@ use Rattle.qrules.specs.Private.Calls.Reply.{reply_finish}
 use Rattle.qrules.specs.Private.Calls.Send.{item}
 use Rattle.qrules.specs.Private.Calls.Unblock as unblock
 use Rattle.qrules.specs.Private.Cancelling.{is_on}
-use Rattle.qrules.specs.Private.Effects.{attaches, closes, creates, detaches}
+use Rattle.qrules.specs.Private.Effects.{attaches, creates, detaches}
 use Rattle.qrules.specs.Private.Facts.{count_to, is_of_process, message, route, sender, threads_of, Facts}
 use Rattle.qrules.specs.Private.Lawful as old
 use Rattle.qrules.specs.Private.Past as past_of
@@ -53,7 +53,6 @@ use Rattle.qrules.proofs.Traces.Properties.Receipts.{ending_of}
 use Rattle.qrules.proofs.Traces.Properties.Rows.Delivering.{delivery_meets, Delivers}
 use Rattle.qrules.proofs.Traces.Properties.Rows.Receiving.{receive_takes, ReceiveTakes}
 use Rattle.qrules.proofs.Traces.Properties.Rows.Telling.{told_meets, unblock_ends}
-use Rattle.qrules.specs.Facts.{Facts as NewFacts}
 use Rattle.qrules.specs.Lawful.{IsLawful}
 use Rattle.qrules.specs.Past.{attached_connection, channel_at, connection_at, created_channel, is_number, was_done}
 use Rattle.qrules.specs.Rule.{Effect}

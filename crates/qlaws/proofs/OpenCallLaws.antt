@@ -1,7 +1,7 @@
 -- The laws of the calls that threads wait in.
 use mathlib.Core.Path.{fun_ext}
 use Rattle.std.proofs.Common.{◌≡◌, ◌∙◌, ◌↔◌, ◌<◌, ◌≤◌, ℕ, List, [], ◌∷◌, length, refl, ap, sym, subst, cond, arith, Bool, true, false, inl, inr, eqb}
-use Rattle.std.specs.Prelude.{Option, None, Some, is_some, not, nat_lt, ◌||◌, ◌&&◌, filter, fold, option_map, option_and_then}
+use Rattle.std.specs.Prelude.{Option, None, Some, is_some, nat_lt, ◌||◌, filter, fold}
 use Rattle.std.specs.List.{AllByRecursion, reduce}
 use Rattle.std.specs.Option.{option_map_or}
 use Rattle.std.proofs.lemmas.Bool.{false_from_ne_true, ltb-true, ltb-false, true≢false}
@@ -16,14 +16,13 @@ use Rattle.qrules.specs.Private.Facts.{Facts as OldFacts}
 use Rattle.qrules.specs.Private.Headline.AnsweredToSender.{is_held as was_held}
 use Rattle.qrules.specs.Private.Laws as old_laws
 use Rattle.qrules.specs.Private.Lawful as old
-use Rattle.qrules.specs.Private.Past.{is_down, is_received, accepted_at, open_call}
+use Rattle.qrules.specs.Private.Past.{is_down, accepted_at, open_call}
 use Rattle.qrules.specs.Private.Step.{open_call_after, unless}
 use Rattle.qmodel.specs.Trace.{Event, Trace}
 use Rattle.qmodel.specs.declared.call.Call.{Call}
 use Rattle.qmodel.specs.declared.call.Call.TheVariants as calls
 use Rattle.qmodel.specs.declared.open_call.OpenCall.{OpenCall}
 use Rattle.qmodel.specs.declared.open_call.Wait.TheVariants.{Answer}
-use Rattle.qqueue.specs.Best.{may_take}
 use Rattle.qmodel.specs.declared.open_call.Receipt.{Receipt as OldReceipt}
 use Rattle.qrules.proofs.Traces.Past.Ends.{passes_of}
 use Rattle.qrules.proofs.Traces.Past.Follows.{past_follows}

@@ -1,12 +1,9 @@
 -- The laws of the items that wait to be received.
-use mathlib.Core.Path.{fun_ext}
-use Rattle.std.proofs.Common.{◌≡◌, ◌∙◌, ℕ, List, [], ◌∷◌, ◌++◌, map, refl, ap, sym, subst, cond, Bool, true, false}
-use Rattle.std.specs.Prelude.{None, Some, not, ◌||◌, ◌&&◌, ◌≤◌, count_by, filter, option_map}
+use Rattle.std.proofs.Common.{◌≡◌, ◌∙◌, ℕ, List, ◌∷◌, ◌++◌, refl, ap, sym, subst, true}
+use Rattle.std.specs.Prelude.{None, Some, option_map}
 use Rattle.std.specs.List.{AllByRecursion}
 use Rattle.std.proofs.lemmas.Bool.{true≢false}
 use Rattle.qbase.proofs.Lists.{all_more}
-use Rattle.qqueue.specs.Best.{is_pulse, with_priority}
-use Rattle.qqueue.specs.Contents.{IsRising}
 use Rattle.qqueue.specs.Order.{comes_before}
 use Rattle.qqueue.specs.declared.item.Item.{Item}
 use Rattle.qtables.specs.Members.{IsRoster}
@@ -25,13 +22,9 @@ use Rattle.qrules.proofs.Traces.TraceLaws.Pending as pending
 use Rattle.qrules.proofs.Traces.TraceLaws.Setting as setting
 use Rattle.qrules.proofs.Traces.TraceLaws.CurrentPriority as current_priority
 use Rattle.qrules.specs.Lawful.{facts_of, IsLawful}
-use Rattle.qrules.specs.Past.{is_ended, is_gone, is_number, item_among, items_by_now, priority_of_item, sender_of}
-use Rattle.qrules.specs.Properties.{items}
+use Rattle.qrules.specs.Past.{is_gone, sender_of}
 use Rattle.qrules.specs.Facts.{send_view}
-use Rattle.qrules.proofs.Same.{AreOfRoster}
-use Rattle.qrules.proofs.Lawful.{of_roster}
 use Rattle.qrules.proofs.Properties.BestFirst.{asks_of}
-use Rattle.qlaws.specs.OpenCalls.{is_held}
 use Rattle.qlaws.specs.Pending as laws
 use Rattle.qlaws.proofs.Waits.{place_of, before}
 

@@ -1,11 +1,9 @@
 -- An item's place falls with each item before it that is gone.
-use mathlib.Core.Path.{fun_ext}
 use Rattle.std.proofs.Common.{◌≡◌, ◌∙◌, ◌≤◌, ◌+◌, ℕ, List, [], ◌∷◌, map, refl, ap, sym, subst, cond, arith, Bool, true, false, eqb}
-use Rattle.std.specs.Prelude.{Option, None, Some, not, ◌&&◌, count_by, filter, option_and_then, unwrap_or}
+use Rattle.std.specs.Prelude.{None, Some, not, ◌&&◌, count_by, filter, option_and_then, unwrap_or}
 use Rattle.std.specs.List.{AllByRecursion}
 use Rattle.std.proofs.lemmas.Bool.{eqb-true, false_from_ne_true, or_parts, true≢false}
 use Rattle.std.proofs.lemmas.List.Sums.{sum_by-append, sum_by-cons}
-use Rattle.qbase.proofs.Lists.{all_more}
 use Rattle.qqueue.specs.Best.{is_pulse, with_priority}
 use Rattle.qqueue.specs.Order.{comes_before}
 use Rattle.qqueue.specs.declared.item.Item.{Item}
@@ -17,10 +15,8 @@ use Rattle.qrules.proofs.Traces.Past.Cancels.{sent_by}
 use Rattle.qrules.proofs.Traces.Past.CurrentPriority.{now, worth_newest, worth_set}
 use Rattle.qrules.proofs.Traces.Past.Items.{item_below, items_on, made_by, pending_is, standing_is, stands_all, staying, Stands}
 use Rattle.qrules.proofs.Traces.Past.Pending.{items_more, stays_gone}
-use Rattle.qrules.specs.Lawful.{facts_of, item_made_by}
-use Rattle.qrules.specs.Past as new
+use Rattle.qrules.specs.Lawful.{facts_of}
 use Rattle.qrules.proofs.Lawful.{of_roster}
-use Rattle.qrules.proofs.Past.Facts.{facts_known}
 use Rattle.qlaws.specs.Pending as laws
 use Rattle.qlaws.proofs.Waits.{before}
 

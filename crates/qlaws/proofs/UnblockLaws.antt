@@ -28,7 +28,6 @@ use Rattle.qrules.proofs.Traces.Past.Numbers.{is_unblocked, open_parts}
 use Rattle.qrules.proofs.Traces.Past.Unblocked.{none_unblocked}
 use Rattle.qrules.specs.Past as new
 use Rattle.qrules.specs.Properties.{items}
-use Rattle.qrules.proofs.Lawful.{of_roster}
 use Rattle.qlaws.specs.Pending as laws
 use Rattle.qrules.proofs.Traces.Due.{unblock_same}
 

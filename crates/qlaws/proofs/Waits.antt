@@ -1,6 +1,6 @@
 -- What threads wait in after a trace of the roster's threads.
-use Rattle.std.proofs.Common.{◌≡◌, ◌∙◌, ℕ, List, [], refl, ap, sym, subst}
-use Rattle.std.specs.Prelude.{Option, None, Some, is_some, unwrap_or, option_map}
+use Rattle.std.proofs.Common.{◌≡◌, ◌∙◌, ℕ, List, [], refl, ap, subst}
+use Rattle.std.specs.Prelude.{Option, None, Some, unwrap_or, option_map}
 use Rattle.std.specs.Option.{option_or}
 use Rattle.std.specs.List.{AllByRecursion}
 use Rattle.std.proofs.lemmas.Option.{none-some, same_Some}
@@ -16,13 +16,11 @@ use Rattle.qmodel.specs.Trace.{Trace}
 use Rattle.qmodel.specs.declared.open_call.OpenCall.{OpenCall}
 use Rattle.qmodel.specs.declared.open_call.Receipt.{Receipt as OldReceipt}
 use Rattle.qmodel.specs.declared.open_call.Wait.TheVariants.{Answer, Item as ForItem}
-use Rattle.qrules.specs.Facts.{is_blocked, receive_of, send_of, OpenReceive, OpenSend}
+use Rattle.qrules.specs.Facts.{OpenReceive, OpenSend}
 use Rattle.qrules.specs.Lawful.{facts_of, IsLawful}
 use Rattle.qrules.specs.Rule.{ReceiveRequest}
 use Rattle.qrules.specs.Facts.{receive_view, receive_in, send_view, send_in}
-use Rattle.qrules.proofs.Lawful.{same_lawful, of_roster}
-use Rattle.qrules.proofs.Past.Facts.{facts_known}
-use Rattle.qlaws.specs.OpenCalls.{waiting_number}
+use Rattle.qrules.proofs.Lawful.{same_lawful}
 use Rattle.qlaws.specs.Endings.{waiting_buffer}
 use Rattle.qrules.specs.Facts.{open_receives, open_sends}
 

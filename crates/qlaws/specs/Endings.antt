@@ -1,6 +1,6 @@
 -- Laws of the endings of one event: the threads that get them, what they may receive, and the threads that
 -- wait afterwards.
-use Rattle.std.specs.Prelude.{◌&&◌, ◌+◌, ◌<◌, ◌==◌, ◌||◌, ◌∷◌, ◌≡◌, ◌↔◌, if◌then◌else◌}
+use Rattle.std.specs.Prelude.{◌&&◌, ◌+◌, ◌==◌, ◌||◌, ◌∷◌, ◌≡◌, ◌↔◌, if◌then◌else◌}
 use Rattle.qrules.specs.Words.{[], false, is_some, length, list_any, member_at, option_map}
 use Rattle.qrules.specs.Words.{option_or, true, unwrap_or, AllByRecursion, Bool, Completion, Down, List}
 use Rattle.qrules.specs.Words.{Member, None, Option, Some}

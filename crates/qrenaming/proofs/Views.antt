@@ -9,19 +9,18 @@ use Rattle.qqueue.specs.declared.item.Item.{Item}
 use Rattle.qqueue.specs.declared.item.Kind.{Kind}
 use Rattle.qqueue.specs.declared.item.Kind.TheVariants.{Any, PulseOnly}
 use Rattle.qqueue.specs.declared.item.What.TheVariants.{User}
-use Rattle.qrules.specs.Private.Facts.{threads_of, Facts as OldFacts}
+use Rattle.qrules.specs.Private.Facts.{Facts as OldFacts}
 use Rattle.qrules.specs.Private.Receivers.{wait_for, wait_on}
 use Rattle.qmodel.specs.declared.open_call.OpenCall.{OpenCall}
 use Rattle.qmodel.specs.declared.open_call.Wait.{Wait}
 use Rattle.qmodel.specs.declared.open_call.Wait.TheVariants.{Answer, Item as ForItem}
-use Rattle.qrules.specs.Facts.{receive_of, send_of, OpenReceive, OpenSend}
-use Rattle.qrules.specs.Facts.{receive_in, receive_view, send_in, send_view}
+use Rattle.qrules.specs.Facts.{OpenReceive}
+use Rattle.qrules.specs.Facts.{receive_in, receive_view, send_view}
 use Rattle.qrules.proofs.View.{IsKnown}
 use Rattle.qrenaming.specs.Laws.{KeepsReceivers}
-use Rattle.qrenaming.specs.Renaming.{facts_as, receive_as, send_as, Renaming}
+use Rattle.qrenaming.specs.Renaming.{receive_as, send_as, Renaming}
 use Rattle.qrenaming.specs.Private.Laws.{KeepsReceivers as KeepsWaits}
-use Rattle.qrenaming.specs.Private.Renaming.{open_as, facts_as as facts_as}
-use Rattle.qrenaming.proofs.Outcomes.{blocked_as, filter_map_as}
+use Rattle.qrenaming.specs.Private.Renaming.{open_as}
 
 -- ---- facts with other numbers, viewed
 
