@@ -14,10 +14,8 @@ use Rattle.qrules.specs.Private.ThreadState.{state_in}
 use Rattle.qmodel.specs.declared.open_call.Wait.TheVariants.{Answer, Item as ForItem}
 use Rattle.qrules.proofs.Traces.Rosters.{filter_map_same}
 use Rattle.qrules.specs.Lawful.{facts_of}
-use Rattle.qrules.specs.View.{receive_in, receive_view, send_in, send_view}
-use Rattle.qrules.proofs.Same.{facts_view}
 use Rattle.qrules.proofs.Rows.Plain.{state_same}
-use Rattle.qrules.proofs.View.{receive_found, send_found, IsKnown}
+use Rattle.qrules.proofs.View.{IsKnown}
 use Rattle.qrules.specs.Facts.{waiting_number}
 use Rattle.qkernel.specs.Blocked.{blocked_threads}
 use Rattle.qkernel.specs.Blocked as told
@@ -31,7 +29,7 @@ use Rattle.qmodel.specs.declared.open_call.Blocked.{Blocked}
 use Rattle.qmodel.specs.declared.open_call.OpenCall.{OpenCall}
 use Rattle.qstate.specs.declared.thread.Thread.{Thread}
 use Rattle.qstate.proofs.Senders.{own_open}
-use Rattle.qkernel.proofs.Contents.{content_same, open_among}
+use Rattle.qkernel.proofs.Contents.{open_among}
 
 -- what is told of each thread that is blocked, by its record
 abbrev pub blocked_by : (ℕ → Option Connection) → List Thread → List Blocked
@@ -53,23 +51,12 @@ same_told connection open_call (t ∷ threads) h = rw (h.0, same_told connection
 -- ---- what is told by the rules
 
 module _ (f : Facts) (known : IsKnown f) where
-  number_same : (u : ℕ) → waiting_number (facts_view f) u ≡ option_map (λ o. o.number) (f.open_call u)
-  number_same u = rw (send_found f u known, receive_found f u known) (
-      elim (f.open_call u) as (λ o. option_or (option_map (λ s. s.number) (send_view u o)) (option_map (λ r. r.number) (receive_view u o)) ≡ option_map (λ o. o.number) o) [
-        | None ↦ refl
-        | Some o ↦ elim (o.wait) as (λ w. option_or (option_map (λ s. s.number) (send_in u o.number w)) (option_map (λ r. r.number) (receive_in u o.number w)) ≡ Some o.number) [
-          | Answer coid message reply_buffer receipt ↦ refl
-          | ForItem chid kind buffer ↦ refl
-        ]
-      ])
-
-  told_same : (u : ℕ) → blocked_thread f.connection u (f.open_call u) ≡ told.blocked_thread (facts_view f) u
+  told_same : (u : ℕ) → blocked_thread f.connection u (f.open_call u) ≡ told.blocked_thread f u
   told_same u = sym (
-      ap (λ s. option_map (λ n. record { number = n; thread = u; state = s }) (waiting_number (facts_view f) u)) (state_same f u known)
-      ∙ ap (option_map (λ n. record { number = n; thread = u; state = state_in f.connection (f.open_call u) })) (number_same u)
+      ap (λ s. option_map (λ n. record { number = n; thread = u; state = s }) (waiting_number f u)) (state_same f u known)
       ∙ elim (f.open_call u) as (λ o. option_map (λ n. record { number = n; thread = u; state = state_in f.connection o }) (option_map (λ o. o.number) o) ≡ blocked_thread f.connection u o) [ None ↦ refl | Some o ↦ refl ])
 
-  all_told : blocked_threads_in f ≡ blocked_threads (facts_view f)
+  all_told : blocked_threads_in f ≡ blocked_threads f
   all_told = filter_map_same _ _ (threads_of f.roster) told_same
 
 pub blocked_now : (roster : List Member) (s : State) (past : Trace) → IsRoster (members_of s.threads) → StandsAt roster s past
@@ -77,4 +64,4 @@ pub blocked_now : (roster : List Member) (s : State) (past : Trace) → IsRoster
 blocked_now roster s past rises stands =
     same_told (facts_in s).connection (open_in s.threads) s.threads (own_open s.threads rises)
     ∙ all_told (facts_in s) (open_among s.threads)
-    ∙ ap blocked_threads (sym (content_same s rises) ∙ stands)
+    ∙ ap blocked_threads stands

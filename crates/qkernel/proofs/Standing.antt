@@ -17,10 +17,10 @@ use Rattle.qrules.specs.Private.Laws.{IsOnlyCounted}
 use Rattle.qrules.specs.Private.Lawful.{facts_of, with_event}
 use Rattle.qrules.specs.Facts as rules
 use Rattle.qrules.specs.Outcome.{Answers}
-use Rattle.qrules.proofs.Same.{facts_view, AreOfRoster}
+use Rattle.qrules.proofs.Same.{AreOfRoster}
 use Rattle.qrules.proofs.Lawful.{of_roster, same_lawful}
 use Rattle.qrules.proofs.Outcomes.{same_answers, same_buffer}
-use Rattle.qrules.proofs.Past.Facts.{facts_known, same_facts}
+use Rattle.qrules.proofs.Past.Facts.{facts_known}
 use Rattle.qrules.specs.Private.Past.{is_failure, priority_in}
 use Rattle.qkernel.specs.Stands.{StandsAt, AnswersAtTraces, LeavesIfRefused}
 use Rattle.qkernel.specs.Kernel.{State, IsSound}
@@ -32,30 +32,7 @@ use Rattle.qbase.proofs.Lists.{all_filter_map}
 use Rattle.qrules.proofs.Traces.Past.Ends.{ending_names, laws_of}
 use Rattle.qrules.proofs.Traces.Past.Follows.{past_follows}
 use Rattle.qrules.proofs.Traces.TraceLaws.Refused.{only_counted}
-use Rattle.qkernel.proofs.Contents.{content_at, content_same, stands_by}
-
--- facts that say the same of each thing are one
-one_facts : (f g : Facts) → f.roster ≡ g.roster → f.number ≡ g.number → f.down ≡ g.down → ((h : ℕ) → f.channel h ≡ g.channel h) → f.open_channels ≡ g.open_channels → ((k : ℕ) → f.connection k ≡ g.connection k)
-    → f.live_connections ≡ g.live_connections → ((u : ℕ) → f.open_call u ≡ g.open_call u) → ((h : ℕ) → f.pending h ≡ g.pending h) → ((u : ℕ) → f.priority u ≡ g.priority u) → f ≡ g
-one_facts f g r n d c oc k lk o p q = λ i. record {
-  roster = r i;
-  number = n i;
-  down = d i;
-  channel = λ h. c h i;
-  open_channels = oc i;
-  connection = λ x. k x i;
-  live_connections = lk i;
-  open_call = λ u. o u i;
-  pending = λ h. p h i;
-  priority = λ u. q u i;
-}
-
-same_sum : (a b x y : ℕ) → a + x ≡ y → b + x ≡ y → a ≡ b
-same_sum a b x y p q = omega (arith, p, q)
-
-follows_once : (f g k : Facts) (t : ℕ) (c : Call) (accept : Bool) → Follows f t c accept g → Follows f t c accept k → g ≡ k
-follows_once f g k t c accept a b = one_facts g k (a.roster ∙ sym b.roster) (a.number ∙ sym b.number) (a.down ∙ sym b.down) (λ h. a.channel h ∙ sym (b.channel h)) (same_sum _ _ _ _ a.open_channels b.open_channels)
-    (λ x. a.connection x ∙ sym (b.connection x)) (same_sum _ _ _ _ a.live_connections b.live_connections) (λ u. a.open_call u ∙ sym (b.open_call u)) (λ h. a.pending h ∙ sym (b.pending h)) (λ u. a.priority u ∙ sym (b.priority u))
+use Rattle.qrules.proofs.Once.{follows_once, one_facts}
 
 answer_of : (accept : Bool) (f : Facts) (t : ℕ) (c : Call) (X : List Completion) → Outcome accept f t c X → old_answer.Answers f t c X
 answer_of true f t c X a = inl a
@@ -69,7 +46,7 @@ pub step_at_traces : (old : State) (t : ℕ) (c : Call) (X : List Completion) (n
 step_at_traces old t c X new rises known step roster past lawful stands =
     let accept = step.0 in
     let of : AreOfRoster roster past = of_roster roster past lawful in
-    let same : facts_in old ≡ facts_of roster past = content_at roster old past rises of stands in
+    let same : facts_in old ≡ facts_of roster past = stands in
     let roster_is : members_of old.threads ≡ roster = ap (λ f. f.roster) same in
     let outcome : Outcome accept (facts_of roster past) t c X = subst (λ f. Outcome accept f t c X) same step.1.answer in
     let now : Follows (facts_of roster past) t c accept (facts_in new) = subst (λ f. Follows f t c accept (facts_in new)) same step.1.follows in
@@ -77,10 +54,7 @@ step_at_traces old t c X new rises known step roster past lawful stands =
     let is_known : is_some (member_at roster t) ≡ true = subst (λ r. is_some (member_at r t) ≡ true) roster_is known in
     let after : facts_in new ≡ facts_of roster (with_event t c X past) =
     follows_once _ _ _ t c accept now (past_follows accept roster past t c X is_roster ((same_lawful roster past).0 lawful) is_known outcome) in
-    let still : IsRoster (members_of new.threads) = subst IsRoster (sym (steps_roster old t c X new step)) rises in (
-      subst (λ f. Answers f t c X) (sym (same_facts roster past of)) ((same_answers (facts_of roster past) t c (facts_known roster past of) X).1 (answer_of accept _ t c X outcome)),
-      stands_by roster new (with_event t c X past) still (of, is_known) after,
-    )
+    ((same_answers (facts_of roster past) t c (facts_known roster past of) X).1 (answer_of accept _ t c X outcome), after)
 
 -- the ending is no failure of thread t
 abbrev IsNoFailureOf : ℕ → Completion → Type 0
@@ -107,17 +81,13 @@ refused_counts old t c X new step e is = by_case step.0 step.1 where
 abbrev counted : Facts → Facts
 counted f = record f { number = f.number + 1 }
 
-abbrev counted_in_rules : rules.Facts → rules.Facts
-counted_in_rules f = record f { number = f.number + 1 }
-
 counted_by : (f g : Facts) → IsOnlyCounted f g → g ≡ counted f
 counted_by f g h = one_facts g (counted f) h.roster h.number h.down h.channel h.open_channels h.connection h.live_connections h.open_call h.pending h.priority
 
 pub refused_leaves : (old : State) (t : ℕ) (c : Call) (X : List Completion) (new : State) → IsRoster (members_of old.threads) → Steps old t c X new → LeavesIfRefused old t c X new
 refused_leaves old t c X new rises step e is =
-    let still : IsRoster (members_of new.threads) = subst IsRoster (sym (steps_roster old t c X new step)) rises in
     let ends : X ≡ refusal_ending (facts_in old) t c e ∷ [] = is ∙ ap (λ buffer. record { call = old.made + 1; thread = t; mark = mark.Failed e; buffer = buffer } ∷ []) (same_buffer c) in
-    content_same new still ∙ ap facts_view (counted_by (facts_in old) (facts_in new) (refused_counts old t c X new step e ends)) ∙ ap counted_in_rules (sym (content_same old rises))
+    counted_by (facts_in old) (facts_in new) (refused_counts old t c X new step e ends)
 
 -- one more call was made
 pub steps_made : (old : State) (t : ℕ) (c : Call) (X : List Completion) (new : State) → Steps old t c X new → new.made ≡ old.made + 1
@@ -143,5 +113,4 @@ sound_new roster few r = record { few = rw (length-map roster ready_thread) few;
 pub stands_new : (roster : List Member) → IsRoster roster → StandsAt roster (record { made = 0; down = false; threads = map ready_thread roster; channels = []; connections = [] }) []
 stands_new roster rises =
     let s : State = record { made = 0; down = false; threads = map ready_thread roster; channels = []; connections = [] } in
-    stands_by roster s [] (rw (ready_members roster) rises) tt
-    (one_facts (facts_in s) (facts_of roster []) (ready_members roster) refl refl (λ h. refl) refl (λ k. refl) refl (ready_open roster) (λ h. refl) (ready_level roster))
+    one_facts (facts_in s) (facts_of roster []) (ready_members roster) refl refl (λ h. refl) refl (λ k. refl) refl (ready_open roster) (λ h. refl) (ready_level roster)

@@ -21,10 +21,9 @@ use Rattle.qrules.proofs.Same.{AreOfRoster}
 use Rattle.qrules.specs.Trace.{followed_by, Event, Trace}
 use Rattle.qrules.proofs.Lawful.{of_roster, same_lawful}
 use Rattle.qrules.proofs.Outcomes.{same_answers}
-use Rattle.qrules.proofs.Past.Facts.{facts_known, same_facts}
+use Rattle.qrules.proofs.Past.Facts.{facts_known}
 use Rattle.qrules.proofs.Properties.All.{same_properties}
 use Rattle.qrules.proofs.Rows.Held.{info_same}
-use Rattle.qrules.proofs.View as view
 use Rattle.qstate.specs.Kept.{members_of}
 use Rattle.qkernel.specs.Kernel.{State}
 use Rattle.qkernel.specs.Stands.{StandsAt}
@@ -39,13 +38,13 @@ module _ (roster : List Member) (past : Trace) (lawful : IsLawful roster past) w
   before = (same_lawful roster past).0 lawful
 
   pub blocked_same : (t : ℕ) → is_blocked (facts_of roster past) t ≡ is_some (open_call roster past t)
-  blocked_same t = ap (λ f. is_blocked f t) (same_facts roster past of) ∙ view.blocked_same (old_lawful.facts_of roster past) t (facts_known roster past of)
+  blocked_same t = refl
 
   pub answers_before : (t : ℕ) (c : Call) (X : List Completion) → Answers (facts_of roster past) t c X → old_answer.Answers (old_lawful.facts_of roster past) t c X
-  answers_before t c X a = (same_answers (old_lawful.facts_of roster past) t c (facts_known roster past of) X).0 (subst (λ f. Answers f t c X) (same_facts roster past of) a)
+  answers_before t c X a = (same_answers (old_lawful.facts_of roster past) t c (facts_known roster past of) X).0 a
 
   pub info_before : (i : ℕ) → info_of (facts_of roster past) i ≡ old_info.info_of (old_lawful.facts_of roster past) (sender (old_lawful.facts_of roster past) i)
-  info_before i = ap (λ f. info_of f i) (same_facts roster past of) ∙ info_same (old_lawful.facts_of roster past) i (facts_known roster past of)
+  info_before i = info_same (old_lawful.facts_of roster past) i (facts_known roster past of)
 
   pub properties_of : IsRoster roster → HasProperties roster past
   properties_of rises = (same_properties roster past of).1 (has_properties roster past rises before)

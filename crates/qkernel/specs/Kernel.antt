@@ -1,14 +1,14 @@
 -- The content of a kernel.
 use Rattle.std.specs.Prelude.{◌+◌, ◌≤◌, ◌<◌}
 use Rattle.std.specs.List.{AllByRecursion}
-use Rattle.qrules.specs.Words.{filter_map, length, Bool, Connection, List, ℕ}
+use Rattle.qrules.specs.Words.{length, Bool, Connection, List, ℕ}
 use Rattle.qrules.specs.Facts.{Facts}
-use Rattle.qrules.specs.Facts.{receive_view, send_view}
 use Rattle.qtables.specs.Entries.{entry_at, IsRising}
 use Rattle.qtables.specs.Members.{IsRoster}
 use Rattle.qstate.specs.Channel.{ids_of}
 use Rattle.qstate.specs.Kept.{channel_in, pending_in}
 use Rattle.qstate.specs.Kept.{thread_priority, members_of}
+use Rattle.qstate.specs.Thread.{open_in}
 use Rattle.qstate.specs.declared.channel.Channel.{Channel}
 use Rattle.qstate.specs.declared.thread.Thread.{Thread}
 
@@ -30,8 +30,7 @@ facts_in s = record {
   open_channels = length s.channels;
   connection = entry_at s.connections;
   live_connections = length s.connections;
-  open_sends = filter_map (λ t. send_view t.member.thread t.open_call) s.threads;
-  open_receives = filter_map (λ t. receive_view t.member.thread t.open_call) s.threads;
+  open_call = open_in s.threads;
   pending = pending_in s.channels;
   priority = thread_priority s.threads;
 }

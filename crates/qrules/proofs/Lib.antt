@@ -11,3 +11,4 @@ pub mod Outcomes
 pub mod Past
 pub mod Lawful
 pub mod Properties
+pub mod Once

@@ -28,7 +28,7 @@ use Rattle.qstate.proofs.Senders.{held_sent, sender_of_held}
 use Rattle.qrules.proofs.Traces.Rosters.{among, only_own, rises}
 use Rattle.qrules.specs.Rules.Held as rules
 use Rattle.qrules.proofs.Rows.Held.{info_same}
-use Rattle.qkernel.proofs.Contents.{content_same, open_among}
+use Rattle.qkernel.proofs.Contents.{open_among}
 use Rattle.qkernel.proofs.Steps.Common.{uncut, counted, stays_free}
 use Rattle.qkernel.proofs.Steps.Held.{is_held}
 
@@ -45,7 +45,7 @@ info_nowhere s i none = ap (info_of (facts_in s)) none
 
 -- what is told by the kernel's content is told at every trace at which it stands
 pub info_at_traces : (s : State) (i : ℕ) (told : Option Told) → IsRoster (members_of s.threads) → told ≡ info_of (facts_in s) (sender (facts_in s) i) → InfoAtTraces s i told
-info_at_traces s i told rises is roster past stands = is ∙ sym (info_same (facts_in s) i (open_among s.threads)) ∙ ap (λ f. rules.info_of f i) (sym (content_same s rises) ∙ stands)
+info_at_traces s i told rises is roster past stands = is ∙ sym (info_same (facts_in s) i (open_among s.threads)) ∙ ap (λ f. rules.info_of f i) stands
 
 -- what is held is told of
 told_some : (m : Member) (o : Option OpenCall) → is_some (held_over_in o) ≡ true → is_some (info_of_open m o) ≡ true

@@ -47,6 +47,8 @@ use Rattle.qkernel.proofs.Steps.Cancelling.{endings_cancelled, mine, open_after}
 use Rattle.qkernel.proofs.Steps.Delivering.{count_kept}
 use Rattle.qkernel.proofs.Steps.Telling.{AreMarked, Tells}
 use Rattle.qkernel.proofs.Steps.Told.{IsNew}
+use Rattle.qrules.proofs.Traces.Due.{unblock_same}
+use Rattle.qrules.specs.Private.Effects.{makes}
 
 -- ---- what guards a wait, by the kernel's content
 
@@ -109,6 +111,9 @@ module _ (s : State) (t thread : ℕ) (m : Member) (sound : IsSound s) (known : 
       k : Unguarded s (open_in s.threads thread)
       k = none_guards s (open_in s.threads thread) none
 
+      made_none : makes (facts_in s) t (Unblock thread) ≡ None
+      made_none = unblock_same (facts_in s) thread ∙ k.none_due
+
       cancel_same : (u : ℕ) (o : Option OpenCall) → open_in s.threads u ≡ o → cancel_where (λ wait. eqb u thread && not (is_some (guard (facts_in s) wait))) Intr u o ≡ cancel_where (λ wait. eqb u thread) Intr u o
       cancel_same u None is = refl
       cancel_same u (Some w) is = elim (eqb u thread) as (λ b. eqb u thread ≡ b → cond (b && not (is_some (guard (facts_in s) w.wait))) (Some (cancel_call Intr u w)) None ≡ cond b (Some (cancel_call Intr u w)) None) [
@@ -141,11 +146,12 @@ module _ (s : State) (t thread : ℕ) (m : Member) (sound : IsSound s) (known : 
             open_channels = rw known (count_kept s.channels channels lose.ids);
             connection = λ h. rw known refl;
             live_connections = rw known (omega arith);
-            open_call = λ u. open_after s t (Of thread) Intr threads u free are ∙ rw (ends_one u, k.none_due, and-false (eqb u thread)) refl;
+            open_call = λ u. open_after s t (Of thread) Intr threads u free are ∙ rw (ends_one u, k.none_due, made_none, and-false (eqb u thread)) refl;
             pending = λ h. lose.pending h
                 ∙ ap (λ (g : ℕ → Option Completion). filter (λ item. not (list_any (λ v. is_unread_send (entry_at s.connections) h item.number (open_in s.threads v) && is_some (g v)) (threads_of (members_of s.threads)))) (pending_in s.channels h)) (sym ends_same)
                 ∙ ap (uncut_items (facts_in s) t (Unblock thread) h) (sym (append-nil (pending_in s.channels h)))
-                ∙ ap (λ o. unreceived_items (pulse_receipt (facts_in s) o) h (uncut_items (facts_in s) t (Unblock thread) h (pending_in s.channels h ++ made_on h o))) (sym k.none_due);
+                ∙ ap (λ o. unreceived_items (pulse_receipt (facts_in s) o) h (uncut_items (facts_in s) t (Unblock thread) h (pending_in s.channels h ++ []))) (sym k.none_due)
+                ∙ ap (λ o. unreceived_items (pulse_receipt (facts_in s) (due_pulse (facts_in s) thread)) h (uncut_items (facts_in s) t (Unblock thread) h (pending_in s.channels h ++ made_on h o))) (sym made_none);
             priority = λ u. are.priority u ∙ rw (k.none_due) refl;
           };
         },
@@ -160,6 +166,9 @@ module _ (s : State) (t thread : ℕ) (m : Member) (sound : IsSound s) (known : 
       module _ (told : g.0.receipt.unblocked ≡ true) where
         none_due : due_pulse (facts_in s) thread ≡ None
         none_due = q.due_is ∙ rw told refl
+
+        nothing_made : makes (facts_in s) t (Unblock thread) ≡ None
+        nothing_made = unblock_same (facts_in s) thread ∙ none_due
 
         uncut_where : (u : ℕ) (o : Option OpenCall) → open_in s.threads u ≡ o → cancel_where (λ wait. eqb u thread && not (is_some (guard (facts_in s) wait))) Intr u o ≡ None
         uncut_where u None is = refl
@@ -188,8 +197,8 @@ module _ (s : State) (t thread : ℕ) (m : Member) (sound : IsSound s) (known : 
               open_channels = rw known (omega arith);
               connection = λ h. rw known refl;
               live_connections = rw known (omega arith);
-              open_call = λ u. stays_free s.threads t u free ∙ rw (ends_none u, none_due, and-false (eqb u thread)) refl;
-              pending = λ h. uncut_by s t (Unblock thread) (λ u y e. absurd (none-some y (sym (ends_none u) ∙ e))) refl refl h (rw none_due (sym (append-nil _)));
+              open_call = λ u. stays_free s.threads t u free ∙ rw (ends_none u, none_due, nothing_made, and-false (eqb u thread)) refl;
+              pending = λ h. uncut_by s t (Unblock thread) (λ u y e. absurd (none-some y (sym (ends_none u) ∙ e))) refl refl h (rw (none_due, nothing_made) (sym (append-nil _)));
               priority = λ u. rw none_due refl;
             };
           },
@@ -212,7 +221,7 @@ module _ (s : State) (t thread : ℕ) (m : Member) (sound : IsSound s) (known : 
         tells_unblock room = record {
           quiet = record { closes_none = refl; detaches_none = refl; stays_up = refl; creates_none = rw known refl; attaches_none = rw known refl; sets_none = refl; writes_none = refl };
           passed = rw (up, free, known, fellow, due_is, room) refl;
-          made = due_is;
+          made = unblock_same (facts_in s) thread ∙ due_is;
           own = refl;
           ends = λ u. ap (λ d. other_ending (facts_in s) thread d u) due_is;
           receipt = ap (pulse_receipt (facts_in s)) due_is;
