@@ -13,7 +13,6 @@ mod channel_destroy;
 mod connect_attach;
 mod connect_detach;
 mod error;
-mod finding;
 mod info;
 mod lent;
 mod priority_set;
@@ -36,6 +35,7 @@ use qbase::ids::ThreadNo;
 use qmodel::call::Call;
 use qstate::channel::Channel;
 use qstate::endings::Endings;
+use qstate::objects::Objects;
 use qstate::seat::Seat;
 use qstate::thread::Thread;
 use qstate::threads::Threads;
@@ -56,9 +56,7 @@ pub struct Kernel {
     alloc: Global,
     made: u64,
     down: bool,
-    threads: Threads,
-    channels: Channels<Channel>,
-    connections: Connections,
+    objects: Objects,
 }
 
 impl Model for Kernel {
@@ -66,9 +64,9 @@ impl Model for Kernel {
 
     ghost Value = { State };
 
-    ghost view = { λ k. record { made = k.made; down = k.down; threads = k.threads; channels = k.channels; connections = k.connections } };
+    ghost view = { λ k. record { made = k.made; down = k.down; threads = k.objects.threads; channels = k.objects.channels; connections = k.objects.connections } };
 
-    ghost invariant = { λ k. IsSound (record { made = k.made; down = k.down; threads = k.threads; channels = k.channels; connections = k.connections }) };
+    ghost invariant = { λ k. IsSound (record { made = k.made; down = k.down; threads = k.objects.threads; channels = k.objects.channels; connections = k.objects.connections }) };
 }
 
 impl Kernel {
@@ -87,13 +85,16 @@ impl Kernel {
         let Ok(threads) = Threads::new(alloc, roster) else {
             return Err(Errno::NoMemory);
         };
+        let objects = Objects {
+            threads,
+            channels: Channels::new(alloc),
+            connections: Connections::new(alloc),
+        };
         Ok(Kernel {
             alloc,
             made: 0,
             down: false,
-            threads,
-            channels: Channels::new(alloc),
-            connections: Connections::new(alloc),
+            objects,
         })
     }
 
@@ -105,7 +106,7 @@ impl Kernel {
     {
         if self.down {
             Some(Errno::Down)
-        } else if self.threads.record(seat).open_call.is_some() {
+        } else if self.objects.threads.record(seat).open_call.is_some() {
             Some(Errno::Busy)
         } else {
             None
@@ -123,7 +124,7 @@ impl Kernel {
         Caller {
             made: self.made,
             seat: *seat,
-            process: self.threads.record(seat).member.process,
+            process: self.objects.threads.record(seat).member.process,
             alloc: self.alloc,
         }
     }
@@ -223,7 +224,7 @@ impl Kernel {
         ensures thread { IfSome result (λ seat. seat.thread ≡ thread) }
         ensures known { is_some result ≡ is_some (member_at (members_of self.now.threads) thread) }
     {
-        self.threads.seat(thread)
+        self.objects.threads.seat(thread)
     }
 
     /// Returns the seat of a thread that is in the roster.
@@ -341,21 +342,21 @@ impl Kernel {
     pub fn threads(&self) -> &[Thread]
         ensures { result.now ≡ self.now.threads }
     {
-        self.threads.records()
+        self.objects.threads.records()
     }
 
     /// Returns the open channels, with the messages and pulses that wait on each.
     pub fn channels(&self) -> &Channels<Channel>
         ensures { result.now ≡ self.now.channels }
     {
-        &self.channels
+        &self.objects.channels
     }
 
     /// Returns the live connections.
     pub fn connections(&self) -> &Connections
         ensures { result.now ≡ self.now.connections }
     {
-        &self.connections
+        &self.objects.connections
     }
 
     /// Returns the allocator.

@@ -12,8 +12,8 @@ ghost use Rattle.qstate.specs.Kept.{members_of};
 
 use crate::channel::Channel;
 use crate::endings::Endings;
+use crate::objects::Objects;
 use crate::thread::Thread;
-use crate::threads::Threads;
 use qbase::bytes::Bytes;
 use qbase::errno::Errno;
 use qbase::ids::{ChannelId, ConnectionId, ThreadNo};
@@ -37,9 +37,9 @@ pub enum CancelSet {
 
 /// The calls that are cancelled, and the error with which each ends.
 #[derive(Clone, Copy, Debug, PartialEq, Eq)]
-pub struct Cancel {
-    pub set: CancelSet,
-    pub errno: Errno,
+struct Cancel {
+    set: CancelSet,
+    errno: Errno,
 }
 
 /// Returns whether a call that waits in this way is blocked on the channel.
@@ -245,27 +245,24 @@ fn cancel_each(
     }
 }
 
-impl Threads {
+impl Objects {
     /// Ends each call of a set with an error. The endings are in rising thread number, with the caller's own at its
     /// place. A message that is cancelled before it is received leaves its channel's queue.
-    pub fn cancel(
-        &mut self,
-        channels: &mut Channels<Channel>,
-        connections: &Connections,
-        cancel: Cancel,
-        own: Completion,
-        endings: &mut Endings,
-    )
-        requires idle { open_in self.old own.thread ≡ None }
+    pub fn cancel(&mut self, set: CancelSet, errno: Errno, own: Completion, endings: &mut Endings)
+        requires idle { open_in self.old.threads own.thread ≡ None }
         requires none { endings.old.items ≡ [] }
-        ensures endings { endings.new.items ≡ filter_map (λ u. ending_for (entry_at connections.now) cancel.set cancel.errno own u (open_in self.old u)) (threads_of (members_of self.old)) }
-        ensures threads { AreCancelled (entry_at connections.now) cancel.set cancel.errno self.old self.new }
-        ensures channels { LoseCancelled (entry_at connections.now) cancel.set cancel.errno self.old channels.old channels.new }
+        ensures endings { endings.new.items ≡ filter_map (λ u. ending_for (entry_at self.old.connections) set errno own u (open_in self.old.threads u)) (threads_of (members_of self.old.threads)) }
+        ensures threads { AreCancelled (entry_at self.old.connections) set errno self.old.threads self.new.threads }
+        ensures channels { LoseCancelled (entry_at self.old.connections) set errno self.old.threads self.old.channels self.new.channels }
+        ensures connections { self.new.connections ≡ self.old.connections }
     {
+        let threads = &mut self.threads;
+        let cancel = Cancel { set, errno };
+        let records = &mut threads.records;
         cancel_each(
-            &mut self.records,
-            channels,
-            connections,
+            records,
+            &mut self.channels,
+            &self.connections,
             cancel,
             own,
             endings,

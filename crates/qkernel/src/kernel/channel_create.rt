@@ -32,7 +32,7 @@ impl Kernel {
             flags,
             queue: Queue::new(self.alloc),
         };
-        match self.channels.create(ChannelId(number), channel) {
+        match self.objects.channels.create(ChannelId(number), channel) {
             Ok(()) => put(endings, caller.ending(Mark::Channel(ChannelId(number)))),
             Err((errno, _)) => return Err(errno),
         }

@@ -23,12 +23,13 @@ impl Kernel {
         requires { MayCall self.old caller.now endings.old.items }
         ensures { Makes self.old caller.now (Call.Read rcvid offset buffer) endings.new.items self.new }
     {
-        let holder = match self.holder(caller, rcvid) {
+        let holder = match self.objects.holder(caller.process, rcvid) {
             Ok(holder) => holder,
             Err(errno) => return caller.refuse(endings, errno, buffer),
         };
         let mut buffer = buffer;
-        let copied = buffer.take(self.threads.record(&holder).message(), offset);
+        let message = self.objects.threads.record(&holder).message();
+        let copied = buffer.take(message, offset);
         put(endings, caller.ending_with(Mark::Count(copied), buffer));
     }
 }

@@ -43,23 +43,21 @@ impl Kernel {
         requires buffer { kind ≡ Kind.PulseOnly → buffer ≡ [] }
         ensures { Makes self.old caller.now (receive_of kind chid buffer) endings.new.items self.new }
     {
-        let Some(channel) = self.channels.get_mut(chid) else {
+        let objects = &mut self.objects;
+        let Some(channel) = objects.channels.get_mut(chid) else {
             return caller.refuse(endings, Errno::Srch, buffer);
         };
         if caller.process != channel.owner {
             return caller.refuse(endings, Errno::Srch, buffer);
         }
-        match channel.queue.take(kind) {
-            None => {
-                caller.block(&mut self.threads, Wait::Item { chid, kind, buffer }, 0);
-            }
-            Some(item) => {
-                let mut buffer = buffer;
-                let priority = channel.carried(item.priority);
-                let mark = self.threads.hand_item(item, &mut buffer);
-                self.threads.set_priority(&caller.seat, priority);
-                put(endings, caller.ending_with(mark, buffer));
-            }
-        }
+        let Some(item) = channel.queue.take(kind) else {
+            let wait = Wait::Item { chid, kind, buffer };
+            return caller.block(&mut objects.threads, wait, 0);
+        };
+        let mut buffer = buffer;
+        let priority = channel.carried(item.priority);
+        let mark = objects.threads.hand_item(item, &mut buffer);
+        objects.threads.set_priority(&caller.seat, priority);
+        put(endings, caller.ending_with(mark, buffer));
     }
 }

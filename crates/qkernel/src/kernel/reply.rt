@@ -35,10 +35,7 @@ impl Kernel {
         requires { MayCall self.old caller.now endings.old.items }
         ensures { MakesOrRefuses self.old caller.now (Call.Reply rcvid status bytes.now) result endings.new.items self.new }
     {
-        let held = self
-            .threads
-            .take_held(&self.connections, &self.channels, caller.process, rcvid);
-        let sent = held.ok_or(Errno::Srch)?;
+        let sent = self.objects.take_held(caller.process, rcvid)?;
         put(endings, caller.ending(Mark::Ok));
         put(endings, reply_ending(sent, status, bytes));
         Ok(())

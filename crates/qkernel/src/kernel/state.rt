@@ -24,8 +24,8 @@ impl Kernel {
             return Err(Errno::Srch);
         };
         let mark = Mark::State {
-            state: self.threads.state(&self.connections, &seat),
-            priority: self.threads.record(&seat).priority,
+            state: self.objects.state(&seat),
+            priority: self.objects.threads.priority(&seat),
         };
         put(endings, caller.ending(mark));
         Ok(())

@@ -23,8 +23,8 @@ impl Kernel {
         requires { MayCall self.old caller.now endings.old.items }
         ensures { MakesOrRefuses self.old caller.now (Call.Write rcvid offset bytes.now) result endings.new.items self.new }
     {
-        let holder = self.holder(caller, rcvid)?;
-        let copied = self.threads.write_sent(&holder, offset, bytes);
+        let holder = self.objects.holder(caller.process, rcvid)?;
+        let copied = self.objects.threads.write_sent(&holder, offset, bytes);
         put(endings, caller.ending(Mark::Count(copied)));
         Ok(())
     }

@@ -9,7 +9,7 @@ use Rattle.qkernel.proofs.kernel.Kernel.channel_create.Goals as goal
 pub create-requires : goal.create-requires
 create-requires c =
     let may = rw (← c.self.view_is) at c.requires in
-    rw (c.number-number.ensures) (ids_below c.args.caller.now.made c.self.inside.channels may.sound.channel_ids)
+    rw (c.number-number.ensures) (ids_below c.args.caller.now.made c.self.inside.objects.channels may.sound.channel_ids)
 
 pub invariant_of-self : goal.invariant_of-self
 invariant_of-self c =
@@ -31,5 +31,5 @@ pub returns : goal.returns
 returns c =
     let may = rw (← c.self.view_is) at c.requires in
     let flags = sym c.if-not-is_known.ensures in
-    let room : nat_lt (length c.self.inside.channels) 64 ≡ true = lt-ltb (length c.self.inside.channels) 64 (omega (arith, c.in-Ok.ensures.room)) in
+    let room : nat_lt (length c.self.inside.objects.channels) 64 ≡ true = lt-ltb (length c.self.inside.objects.channels) 64 (omega (arith, c.in-Ok.ensures.room)) in
     rw (← c.self.view_is, may.counted, c.in-Ok.ensures.ok, c.number-number.ensures) (step_created _ c.args.caller.now.seat.thread c.args.flags _ c.new.result may.sound (ap (λ q. q.items) c.new.ensures) _ may.among.known may.up may.free flags room (rw (c.ending.ensures, c.number-number.ensures, may.none) at c.put.ensures))

@@ -13,5 +13,5 @@ pub returns : goal.returns
 returns c =
     let may = rw (← c.self.view_is) at c.requires in
     let there = rw (← c.self.view_is) at (sym c.seat.ensures.known ∙ ap is_some c.in-Some.is) in
-    let ended = rw (c.ending.ensures, c.state.ensures, ← c.record.ensures.priority, may.none, c.in-Some.ensures.thread) at c.put.ensures in
+    let ended = rw (c.ending.ensures, c.state.ensures, c.priority.ensures, may.none, c.in-Some.ensures.thread) at c.put.ensures in
     rw (← c.self.view_is, may.counted) (step_state _ c.args.caller.now.seat.thread c.args.target _ may.among.known may.up may.free _ may.sound there ended)
