@@ -19,7 +19,6 @@ mod priority_set;
 mod pulse;
 mod read;
 mod receive;
-mod receive_pulse;
 mod reply;
 mod send;
 mod shutdown;
@@ -33,6 +32,7 @@ use qbase::bytes::Bytes;
 use qbase::errno::Errno;
 use qbase::ids::ThreadNo;
 use qmodel::call::Call;
+use qqueue::item::Kind;
 use qstate::channel::Channel;
 use qstate::endings::Endings;
 use qstate::objects::Objects;
@@ -148,7 +148,7 @@ impl Kernel {
                 Ok(())
             }
             Call::Receive { chid, buffer } => {
-                self.receive(caller, chid, buffer, endings);
+                self.receive(caller, chid, Kind::Any, buffer, endings);
                 Ok(())
             }
             Call::Reply {
@@ -172,7 +172,8 @@ impl Kernel {
             } => self.write(caller, rcvid, offset, bytes.as_slice(), endings),
             Call::Info(rcvid) => self.info(caller, rcvid, endings),
             Call::ReceivePulse(chid) => {
-                self.receive_pulse(caller, chid, endings);
+                let buffer = Bytes::new(self.alloc);
+                self.receive(caller, chid, Kind::PulseOnly, buffer, endings);
                 Ok(())
             }
             Call::Pulse {

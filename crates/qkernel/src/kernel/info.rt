@@ -32,9 +32,8 @@ impl Kernel {
         ensures { MakesOrRefuses self.old caller.now (Call.Info rcvid) result endings.new.items self.new }
     {
         let holder = self.objects.holder(caller.process, rcvid)?;
-        let Some(info) = self.objects.threads.record(&holder).info() else {
-            return Err(Errno::Srch);
-        };
+        let told = self.objects.threads.record(&holder).info();
+        let info = told.ok_or(Errno::Srch)?;
         put(endings, caller.ending(Mark::Info(info)));
         Ok(())
     }

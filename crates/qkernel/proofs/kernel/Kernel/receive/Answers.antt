@@ -9,7 +9,7 @@ use Rattle.qstate.specs.Channel.{is_of}
 use Rattle.qstate.specs.Kept.{items_waiting_on, open_channel_of}
 use Rattle.qqueue.specs.Best.{best_of, is_pulse, without_item}
 use Rattle.qkernel.proofs.Steps.Receiving.{hands_members, step_receive_refused, step_receive_waits, step_receive_takes, sound_taken}
-use Rattle.qkernel.proofs.kernel.Kernel.receive_kind.Goals as goal
+use Rattle.qkernel.proofs.kernel.Kernel.receive.Goals as goal
 
 pub returns-in_default-take : goal.returns-in_default-take
 returns-in_default-take c =
