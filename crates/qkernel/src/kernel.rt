@@ -12,7 +12,6 @@ mod channel_create;
 mod channel_destroy;
 mod connect_attach;
 mod connect_detach;
-mod error;
 mod info;
 mod lent;
 mod priority_set;
@@ -24,7 +23,6 @@ mod send;
 mod shutdown;
 mod state;
 mod unblock;
-mod write;
 
 use arrayvec::ArrayVec;
 use caller::Caller;

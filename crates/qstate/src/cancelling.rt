@@ -213,13 +213,6 @@ fn push_ending(endings: &mut Endings, ending: Option<Completion>)
     }
 }
 
-/// Returns the thread of a completion.
-fn caller_of(own: &Completion) -> ThreadNo
-    ensures { result ≡ own.now.thread }
-{
-    own.thread
-}
-
 /// Ends each call that is cancelled. The endings are in rising thread number, with the caller's own at its place.
 fn cancel_each(
     threads: &mut Vec<Thread>,
@@ -237,7 +230,7 @@ fn cancel_each(
     ensures threads { threads.new.items ≡ map (thread_after_cancelled (entry_at connections.now) cancel.set) threads.old.items }
     ensures channels { LoseCancelled (entry_at connections.now) cancel.set cancel.errno threads.old.items channels.old channels.new }
 {
-    let caller = caller_of(&own);
+    let caller = own.thread;
     let mut left = Some(own);
     for thread in threads.iter_mut() {
         let ending = end_thread(thread, channels, connections, &cancel, caller, &mut left);

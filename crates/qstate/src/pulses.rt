@@ -16,7 +16,7 @@ use qqueue::item::Item;
 pub const PULSE_LIMIT: usize = 1024;
 
 /// Returns the mark of a receive that takes this pulse.
-fn pulse_mark(item: &Item) -> Mark
+pub(crate) fn pulse_mark(item: &Item) -> Mark
     ensures { result ≡ Mark.Pulse item.now.number item.now.priority item.now.what }
 {
     Mark::Pulse {
