@@ -3,7 +3,7 @@
 ghost use Rattle.std.specs.Prelude.{◌≡◌, ◌==◌, ◌&&◌, ◌≤◌, ◌<◌, [], true, Some, None, is_some, length, filter_map, map, if◌then◌else◌};
 ghost use Rattle.qtables.specs.Entries.{entry_at};
 ghost use Rattle.qtables.specs.Members.{IsRoster};
-ghost use Rattle.qmodel.specs.Private.Cancelling.{buffer_of_wait, is_on, is_over, cancel_call, cancel_where};
+ghost use Rattle.qmodel.specs.Private.Cancelling.{buffer_of_wait, is_on, cancel_call, cancel_where};
 ghost use Rattle.qmodel.specs.Private.Step.{is_unread_send};
 ghost use Rattle.qmodel.specs.Private.Facts.{threads_of};
 ghost use Rattle.qstate.specs.Cancelling.{is_cancelled_by, ending_for, with_ending, thread_after_cancelled, thread_unless_cancelled, unread_over_by, unread_on_by, call_if_cancelled, is_taken_from, Lose, AreCancelled, LoseCancelled};
@@ -55,16 +55,6 @@ fn waits_on(connections: &Connections, chid: ChannelId, wait: &Wait) -> bool
     }
 }
 
-/// Returns whether a wait is for the answer to a message that was sent over the connection.
-fn is_sent_over(coid: ConnectionId, wait: &Wait) -> bool
-    ensures { result ≡ is_over coid wait.now }
-{
-    match wait {
-        Wait::Answer { coid: over, .. } => *over == coid,
-        Wait::Item { .. } => false,
-    }
-}
-
 /// Returns whether a thread's wait is cancelled.
 fn is_cancelled(
     connections: &Connections,
@@ -78,7 +68,10 @@ fn is_cancelled(
         CancelSet::On(chid) => waits_on(connections, *chid, wait),
         CancelSet::All => true,
         CancelSet::Of(named) => thread == *named,
-        CancelSet::Over(coid) => is_sent_over(*coid, wait),
+        CancelSet::Over(coid) => match wait {
+            Wait::Answer { coid: over, .. } => over == coid,
+            Wait::Item { .. } => false,
+        },
     }
 }
 

@@ -1,11 +1,10 @@
 //! The record of an open channel.
 
-ghost use Rattle.std.specs.Prelude.{◌≡◌, ◌==◌, ◌+◌, ◌≤◌, ◌<◌, ◌++◌, ◌∷◌, ◌&&◌, [], count_by, is_some, true, None, Some, if◌then◌else◌, IsOk, OnOk, OnErr, IfErr};
+ghost use Rattle.std.specs.Prelude.{◌≡◌, ◌==◌, ◌+◌, ◌<◌, ◌++◌, ◌∷◌, ◌&&◌, [], count_by, is_some, true, None, Some, if◌then◌else◌, IsOk, OnOk, OnErr, IfErr};
 ghost use Rattle.std.specs.List.{AllByRecursion};
-ghost use Rattle.qqueue.specs.Best.{with_item_priority};
 ghost use Rattle.qmodel.specs.Private.Facts.{is_fixed, tells_disconnect, tells_unblock};
-ghost use Rattle.qstate.specs.Channel.{is_of, route_in, ClosesIn, SetsItems};
-ghost use Rattle.qstate.specs.Kept.{channel_in, open_channel_of, pending_in};
+ghost use Rattle.qstate.specs.Channel.{is_of, route_in, ClosesIn};
+ghost use Rattle.qstate.specs.Kept.{channel_in, open_channel_of};
 ghost use Rattle.qtables.specs.Entries.{entry_at};
 
 use crate::objects::Objects;
@@ -106,17 +105,6 @@ impl Objects {
         match self.channels.get(chid) {
             None => false,
             Some(channel) => channel.flags.tells_unblock(),
-        }
-    }
-
-    /// Gives the item of this number and key another priority, if it waits on the channel; takes no memory.
-    pub(crate) fn requeue(&mut self, chid: ChannelId, number: u64, key: usize, priority: Priority)
-        ensures threads { self.new.threads ≡ self.old.threads }
-        ensures channels { SetsItems chid (with_item_priority number priority (pending_in self.old.channels chid)) self.old.channels self.new.channels }
-        ensures connections { self.new.connections ≡ self.old.connections }
-    {
-        if let Some(channel) = self.channels.get_mut(chid) {
-            let _ = channel.queue.requeue(number, priority, key);
         }
     }
 

@@ -51,14 +51,15 @@ impl Objects {
         ensures connections { self.new.connections ≡ self.old.connections }
     {
         let there = self.threads.record(seat);
-        let key = there.key;
         let Some(unread) = there.unread() else {
             return;
         };
         let Some(connection) = self.connections.get(unread.coid) else {
             return;
         };
-        let chid = connection.channel;
-        self.requeue(chid, unread.number, key, priority);
+        let Some(channel) = self.channels.get_mut(connection.channel) else {
+            return;
+        };
+        let _ = channel.queue.requeue(unread.number, priority, there.key);
     }
 }
