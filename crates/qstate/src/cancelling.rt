@@ -36,7 +36,7 @@ pub enum CancelSet {
 }
 
 /// The calls that are cancelled, and the error with which each ends.
-#[derive(Clone, Copy, Debug, PartialEq, Eq)]
+#[derive(Clone, Copy)]
 struct Cancel {
     set: CancelSet,
     errno: Errno,
@@ -243,15 +243,9 @@ impl Objects {
         ensures connections { self.new.connections ≡ self.old.connections }
     {
         let threads = &mut self.threads;
-        let cancel = Cancel { set, errno };
         let records = &mut threads.records;
-        cancel_each(
-            records,
-            &mut self.channels,
-            &self.connections,
-            cancel,
-            own,
-            endings,
-        );
+        let channels = &mut self.channels;
+        let cancel = Cancel { set, errno };
+        cancel_each(records, channels, &self.connections, cancel, own, endings);
     }
 }
