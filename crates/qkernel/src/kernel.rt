@@ -12,21 +12,17 @@ mod channel_create;
 mod channel_destroy;
 mod connect_attach;
 mod connect_detach;
-mod error;
-mod finding;
 mod info;
 mod lent;
 mod priority_set;
 mod pulse;
 mod read;
 mod receive;
-mod receive_pulse;
 mod reply;
 mod send;
 mod shutdown;
 mod state;
 mod unblock;
-mod write;
 
 use arrayvec::ArrayVec;
 use caller::Caller;
@@ -34,8 +30,10 @@ use qbase::bytes::Bytes;
 use qbase::errno::Errno;
 use qbase::ids::ThreadNo;
 use qmodel::call::Call;
+use qqueue::item::Kind;
 use qstate::channel::Channel;
 use qstate::endings::Endings;
+use qstate::objects::Objects;
 use qstate::seat::Seat;
 use qstate::thread::Thread;
 use qstate::threads::Threads;
@@ -56,9 +54,7 @@ pub struct Kernel {
     alloc: Global,
     made: u64,
     down: bool,
-    threads: Threads,
-    channels: Channels<Channel>,
-    connections: Connections,
+    objects: Objects,
 }
 
 impl Model for Kernel {
@@ -66,9 +62,9 @@ impl Model for Kernel {
 
     ghost Value = { State };
 
-    ghost view = { λ k. record { made = k.made; down = k.down; threads = k.threads; channels = k.channels; connections = k.connections } };
+    ghost view = { λ k. record { made = k.made; down = k.down; threads = k.objects.threads; channels = k.objects.channels; connections = k.objects.connections } };
 
-    ghost invariant = { λ k. IsSound (record { made = k.made; down = k.down; threads = k.threads; channels = k.channels; connections = k.connections }) };
+    ghost invariant = { λ k. IsSound (record { made = k.made; down = k.down; threads = k.objects.threads; channels = k.objects.channels; connections = k.objects.connections }) };
 }
 
 impl Kernel {
@@ -87,13 +83,16 @@ impl Kernel {
         let Ok(threads) = Threads::new(alloc, roster) else {
             return Err(Errno::NoMemory);
         };
+        let objects = Objects {
+            threads,
+            channels: Channels::new(alloc),
+            connections: Connections::new(alloc),
+        };
         Ok(Kernel {
             alloc,
             made: 0,
             down: false,
-            threads,
-            channels: Channels::new(alloc),
-            connections: Connections::new(alloc),
+            objects,
         })
     }
 
@@ -105,7 +104,7 @@ impl Kernel {
     {
         if self.down {
             Some(Errno::Down)
-        } else if self.threads.record(seat).open_call.is_some() {
+        } else if self.objects.threads.record(seat).open_call.is_some() {
             Some(Errno::Busy)
         } else {
             None
@@ -123,7 +122,7 @@ impl Kernel {
         Caller {
             made: self.made,
             seat: *seat,
-            process: self.threads.record(seat).member.process,
+            process: self.objects.threads.record(seat).member.process,
             alloc: self.alloc,
         }
     }
@@ -147,7 +146,7 @@ impl Kernel {
                 Ok(())
             }
             Call::Receive { chid, buffer } => {
-                self.receive(caller, chid, buffer, endings);
+                self.receive(caller, chid, Kind::Any, buffer, endings);
                 Ok(())
             }
             Call::Reply {
@@ -171,7 +170,8 @@ impl Kernel {
             } => self.write(caller, rcvid, offset, bytes.as_slice(), endings),
             Call::Info(rcvid) => self.info(caller, rcvid, endings),
             Call::ReceivePulse(chid) => {
-                self.receive_pulse(caller, chid, endings);
+                let buffer = Bytes::new(self.alloc);
+                self.receive(caller, chid, Kind::PulseOnly, buffer, endings);
                 Ok(())
             }
             Call::Pulse {
@@ -223,7 +223,7 @@ impl Kernel {
         ensures thread { IfSome result (λ seat. seat.thread ≡ thread) }
         ensures known { is_some result ≡ is_some (member_at (members_of self.now.threads) thread) }
     {
-        self.threads.seat(thread)
+        self.objects.threads.seat(thread)
     }
 
     /// Returns the seat of a thread that is in the roster.
@@ -341,21 +341,21 @@ impl Kernel {
     pub fn threads(&self) -> &[Thread]
         ensures { result.now ≡ self.now.threads }
     {
-        self.threads.records()
+        self.objects.threads.records()
     }
 
     /// Returns the open channels, with the messages and pulses that wait on each.
     pub fn channels(&self) -> &Channels<Channel>
         ensures { result.now ≡ self.now.channels }
     {
-        &self.channels
+        &self.objects.channels
     }
 
     /// Returns the live connections.
     pub fn connections(&self) -> &Connections
         ensures { result.now ≡ self.now.connections }
     {
-        &self.connections
+        &self.objects.connections
     }
 
     /// Returns the allocator.

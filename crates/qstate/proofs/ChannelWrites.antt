@@ -5,6 +5,7 @@ use Rattle.std.specs.List.{AllByRecursion}
 use Rattle.std.specs.Option.{option_map}
 use Rattle.std.proofs.lemmas.Bool.{eqb-true, true≢false}
 use Rattle.qqueue.specs.declared.item.Item.{Item}
+use Rattle.qqueue.specs.Best.{with_item_priority}
 use Rattle.qqueue.specs.Contents.{Contents}
 use Rattle.qtables.specs.Entries.{entry_at, with_record, without_entry}
 use Rattle.qtables.proofs.LookUps.{entry_at-with_record, entry_at-without_entry}
@@ -54,6 +55,17 @@ sets_items channels h c d items is owner flags now = record {
 pub sets_queue : (channels : List (ℕ × Channel)) (h : ℕ) (c : Channel) (q : Contents) (items : List Item) → entry_at channels h ≡ Some c → q.items ≡ items
     → SetsItems h items channels (with_record channels h (record { owner = c.owner; flags = c.flags; queue = q }))
 sets_queue channels h c q items is now = sets_items channels h c (record { owner = c.owner; flags = c.flags; queue = q }) items is refl refl now
+
+-- no item of a channel that is gone gets another priority
+pub sets_gone : (channels : List (ℕ × Channel)) (h n priority : ℕ) → entry_at channels h ≡ None → SetsItems h (with_item_priority n priority (pending_in channels h)) channels channels
+sets_gone channels h n priority gone = record {
+  ids = refl;
+  channel = λ k. refl;
+  pending = λ k. elim (eqb k h) as (λ b. eqb k h ≡ b → pending_in channels k ≡ cond b (with_item_priority n priority (pending_in channels h)) (pending_in channels k)) [
+    | true ↦ λ e. ap (pending_in channels) (eqb-true k h e) ∙ rw gone refl
+    | false ↦ λ e. refl
+  ] refl;
+}
 
 -- what holds where there is a channel holds where one is open
 on_open : {P : Type 0} (o : Option Channel) → is_some (option_map open_channel_of o) ≡ true → OnSome o P → P

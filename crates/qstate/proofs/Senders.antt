@@ -1,8 +1,9 @@
 -- The thread whose open call is a Send, by its place and by its number.
 use Rattle.std.proofs.Common.{◌≡◌, ℕ, suc, zero, ◌+◌, ◌<◌, List, [], ◌∷◌, length, get_or, refl, ap, sym, subst, ◌∙◌, cond, arith, true, false, eqb}
-use Rattle.std.specs.Prelude.{Option, None, Some, is_some, position}
+use Rattle.std.specs.Prelude.{Option, None, Some, Result, is_some, position}
 use Rattle.std.specs.List.{position_from, AllByRecursion}
-use Rattle.std.specs.Option.{option_map, IfNone, IfSome}
+use Rattle.std.specs.Option.{ok_or, option_map, IfNone, IfSome}
+use Rattle.std.specs.Result.{IfErr, IfOk}
 use Rattle.std.proofs.lemmas.Bool.{eqb-true, eq-eqb, ne_eqb, true≢false, and_parts}
 use Rattle.std.proofs.lemmas.Iterator.Adapters.{position_from-zero}
 use Rattle.std.proofs.lemmas.Option.{same_Some, none-some}
@@ -202,7 +203,7 @@ pub send_of_sender : (threads : List Thread) (i u : ℕ) → sender_in threads i
 send_of_sender threads i u sent = send_there i u (open_in threads u) (sends_it threads i u sent)
 
 -- the Send that a thread is blocked in, if it is in one, is that thread's own
-pub send_own : (u : ℕ) (o : Option OpenCall) (s : Option OpenSend) (P : OpenSend → Type 0) → s ≡ send_in u o → ((x : OpenSend) → x.thread ≡ u → send_in u o ≡ Some x → P x) → IfSome s P
+send_own : (u : ℕ) (o : Option OpenCall) (s : Option OpenSend) (P : OpenSend → Type 0) → s ≡ send_in u o → ((x : OpenSend) → x.thread ≡ u → send_in u o ≡ Some x → P x) → IfSome s P
 send_own u o None P had each = tt
 send_own u o (Some s) P had each = each s (thread_of o had) (sym had) where
   thread_of : (o : Option OpenCall) → Some s ≡ send_in u o → s.thread ≡ u
@@ -216,6 +217,16 @@ send_own u o (Some s) P had each = each s (thread_of o had) (sym had) where
 pub there_not_none : {A : Type 0} (o : Option A) (P : Type 0) → is_some o ≡ true → IfNone o P
 there_not_none None P some = absurd (true≢false (sym some))
 there_not_none (Some x) P some = tt
+
+-- a Send that is there is an Ok, and what holds of the thread's own Send holds of it
+pub send_taken : {E : Type 0} (u : ℕ) (o : Option OpenCall) (s : Option OpenSend) (e : E) (r : Result OpenSend E) (P : OpenSend → Type 0) → r ≡ ok_or s e → s ≡ send_in u o → ((x : OpenSend) → x.thread ≡ u → send_in u o ≡ Some x → P x) → IfOk r P
+send_taken u o None e r P is had each = rw is tt
+send_taken u o (Some s) e r P is had each = rw is (send_own u o (Some s) P had each)
+
+-- and no error
+pub never_err : {A E : Type 0} (o : Option A) (e : E) (r : Result A E) (P : E → Type 0) → r ≡ ok_or o e → is_some o ≡ true → IfErr r P
+never_err None e r P is some = absurd (true≢false (sym some))
+never_err (Some x) e r P is some = rw is tt
 
 -- how it ends that is answered
 pub answered_by : (finish : Finish) (u : ℕ) (o : Option OpenCall) (s : OpenSend) → send_in u o ≡ Some s → answer_ending finish u o ≡ Some (record { call = s.number; thread = s.thread; mark = (finish s.reply_buffer).0; buffer = (finish s.reply_buffer).1 })

@@ -3,7 +3,7 @@
 ghost use Rattle.std.specs.Prelude.{◌≡◌, ◌==◌, ◌&&◌, ◌≤◌, ◌<◌, [], true, Some, None, is_some, length, filter_map, map, if◌then◌else◌};
 ghost use Rattle.qtables.specs.Entries.{entry_at};
 ghost use Rattle.qtables.specs.Members.{IsRoster};
-ghost use Rattle.qrules.specs.Private.Cancelling.{buffer_of_wait, is_on, is_over, cancel_call, cancel_where};
+ghost use Rattle.qrules.specs.Private.Cancelling.{buffer_of_wait, is_on, cancel_call, cancel_where};
 ghost use Rattle.qrules.specs.Private.Step.{is_unread_send};
 ghost use Rattle.qrules.specs.Private.Facts.{threads_of};
 ghost use Rattle.qstate.specs.Cancelling.{is_cancelled_by, ending_for, with_ending, thread_after_cancelled, thread_unless_cancelled, unread_over_by, unread_on_by, call_if_cancelled, is_taken_from, Lose, AreCancelled, LoseCancelled};
@@ -12,8 +12,8 @@ ghost use Rattle.qstate.specs.Kept.{members_of};
 
 use crate::channel::Channel;
 use crate::endings::Endings;
+use crate::objects::Objects;
 use crate::thread::Thread;
-use crate::threads::Threads;
 use qbase::bytes::Bytes;
 use qbase::errno::Errno;
 use qbase::ids::{ChannelId, ConnectionId, ThreadNo};
@@ -36,10 +36,10 @@ pub enum CancelSet {
 }
 
 /// The calls that are cancelled, and the error with which each ends.
-#[derive(Clone, Copy, Debug, PartialEq, Eq)]
-pub struct Cancel {
-    pub set: CancelSet,
-    pub errno: Errno,
+#[derive(Clone, Copy)]
+struct Cancel {
+    set: CancelSet,
+    errno: Errno,
 }
 
 /// Returns whether a call that waits in this way is blocked on the channel.
@@ -52,16 +52,6 @@ fn waits_on(connections: &Connections, chid: ChannelId, wait: &Wait) -> bool
             Some(connection) => connection.channel == chid,
         },
         Wait::Item { chid: named, .. } => *named == chid,
-    }
-}
-
-/// Returns whether a wait is for the answer to a message that was sent over the connection.
-fn is_sent_over(coid: ConnectionId, wait: &Wait) -> bool
-    ensures { result ≡ is_over coid wait.now }
-{
-    match wait {
-        Wait::Answer { coid: over, .. } => *over == coid,
-        Wait::Item { .. } => false,
     }
 }
 
@@ -78,7 +68,10 @@ fn is_cancelled(
         CancelSet::On(chid) => waits_on(connections, *chid, wait),
         CancelSet::All => true,
         CancelSet::Of(named) => thread == *named,
-        CancelSet::Over(coid) => is_sent_over(*coid, wait),
+        CancelSet::Over(coid) => match wait {
+            Wait::Answer { coid: over, .. } => over == coid,
+            Wait::Item { .. } => false,
+        },
     }
 }
 
@@ -213,13 +206,6 @@ fn push_ending(endings: &mut Endings, ending: Option<Completion>)
     }
 }
 
-/// Returns the thread of a completion.
-fn caller_of(own: &Completion) -> ThreadNo
-    ensures { result ≡ own.now.thread }
-{
-    own.thread
-}
-
 /// Ends each call that is cancelled. The endings are in rising thread number, with the caller's own at its place.
 fn cancel_each(
     threads: &mut Vec<Thread>,
@@ -237,7 +223,7 @@ fn cancel_each(
     ensures threads { threads.new.items ≡ map (thread_after_cancelled (entry_at connections.now) cancel.set) threads.old.items }
     ensures channels { LoseCancelled (entry_at connections.now) cancel.set cancel.errno threads.old.items channels.old channels.new }
 {
-    let caller = caller_of(&own);
+    let caller = own.thread;
     let mut left = Some(own);
     for thread in threads.iter_mut() {
         let ending = end_thread(thread, channels, connections, &cancel, caller, &mut left);
@@ -245,30 +231,21 @@ fn cancel_each(
     }
 }
 
-impl Threads {
+impl Objects {
     /// Ends each call of a set with an error. The endings are in rising thread number, with the caller's own at its
     /// place. A message that is cancelled before it is received leaves its channel's queue.
-    pub fn cancel(
-        &mut self,
-        channels: &mut Channels<Channel>,
-        connections: &Connections,
-        cancel: Cancel,
-        own: Completion,
-        endings: &mut Endings,
-    )
-        requires idle { open_in self.old own.thread ≡ None }
+    pub fn cancel(&mut self, set: CancelSet, errno: Errno, own: Completion, endings: &mut Endings)
+        requires idle { open_in self.old.threads own.thread ≡ None }
         requires none { endings.old.items ≡ [] }
-        ensures endings { endings.new.items ≡ filter_map (λ u. ending_for (entry_at connections.now) cancel.set cancel.errno own u (open_in self.old u)) (threads_of (members_of self.old)) }
-        ensures threads { AreCancelled (entry_at connections.now) cancel.set cancel.errno self.old self.new }
-        ensures channels { LoseCancelled (entry_at connections.now) cancel.set cancel.errno self.old channels.old channels.new }
+        ensures endings { endings.new.items ≡ filter_map (λ u. ending_for (entry_at self.old.connections) set errno own u (open_in self.old.threads u)) (threads_of (members_of self.old.threads)) }
+        ensures threads { AreCancelled (entry_at self.old.connections) set errno self.old.threads self.new.threads }
+        ensures channels { LoseCancelled (entry_at self.old.connections) set errno self.old.threads self.old.channels self.new.channels }
+        ensures connections { self.new.connections ≡ self.old.connections }
     {
-        cancel_each(
-            &mut self.records,
-            channels,
-            connections,
-            cancel,
-            own,
-            endings,
-        );
+        let threads = &mut self.threads;
+        let records = &mut threads.records;
+        let channels = &mut self.channels;
+        let cancel = Cancel { set, errno };
+        cancel_each(records, channels, &self.connections, cancel, own, endings);
     }
 }

@@ -11,18 +11,11 @@ use std::alloc::Global;
 /// The endings of one event, in rising thread number: each thread of the roster gets at most one.
 pub type Endings = ArrayVec<Completion, 64, Global>;
 
-/// Returns whether a thread has a lower number than another.
-fn is_before(thread: ThreadNo, other: ThreadNo) -> bool
-    ensures { result ≡ nat_lt thread other }
-{
-    thread.0 < other.0
-}
-
 /// Returns the index of the first ending whose thread has a greater number; `None` if there is none.
 fn first_later(endings: &Endings, thread: ThreadNo) -> Option<usize>
     ensures { result ≡ position (λ e. nat_lt thread e.thread) endings.now.items }
 {
-    endings.iter().position(|e| is_before(thread, e.thread))
+    endings.iter().position(|e| thread.0 < e.thread.0)
 }
 
 /// Inserts an ending before the one at an index.

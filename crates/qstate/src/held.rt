@@ -1,6 +1,6 @@
 //! Messages that are held: received, and not yet answered.
 
-ghost use Rattle.std.specs.Prelude.{◌≡◌, None, Some, is_some, option_map, IfNone, IfSome};
+ghost use Rattle.std.specs.Prelude.{◌≡◌, None, Some, true, false, option_map, IfOk, IfErr, OnErr};
 ghost use Rattle.qbase.specs.Laying.{laid_count, lay_over};
 ghost use Rattle.qrules.specs.Private.Calls.Info.{info_of_open};
 ghost use Rattle.qrules.specs.Private.Facts.{message_in};
@@ -12,16 +12,15 @@ ghost use Rattle.qstate.specs.Open.{send_in};
 ghost use Rattle.qstate.specs.Thread.{open_in, sender_in, ChangesOpen, SetsOpen};
 ghost use Rattle.qstate.specs.Threads.{IsSeatIn};
 
-use crate::channel::{Channel, owns, tells_unblock};
+use crate::objects::Objects;
 use crate::open::OpenSend;
 use crate::seat::Seat;
 use crate::thread::Thread;
 use crate::threads::Threads;
+use qbase::errno::Errno;
 use qbase::ids::{ChannelId, ConnectionId, ProcessNo, ReceiveId};
 use qmodel::call::Info;
 use qmodel::open_call::{Receipt, Wait};
-use qtables::channels::Channels;
-use qtables::connections::Connections;
 
 /// A message that is held: received, and not yet answered.
 #[derive(Clone, Copy, Debug, PartialEq, Eq)]
@@ -33,27 +32,64 @@ pub struct Held {
     pub receipt: Receipt,
 }
 
-impl Threads {
+impl Objects {
     /// Returns the message with which the thread at a seat is REPLY-blocked, and its channel; `None` unless there is
     /// such a message and the channel has the unblock flag.
-    pub fn guarded_message(
-        &self,
-        connections: &Connections,
-        channels: &Channels<Channel>,
-        seat: &Seat,
-    ) -> Option<(Held, ChannelId)>
-        requires { IsSeatIn self.now seat.now }
-        ensures { result ≡ guarded_message_in connections.now channels.now (held_message_in (open_in self.now seat.now.thread)) }
+    pub fn guarded_message(&self, seat: &Seat) -> Option<(Held, ChannelId)>
+        requires { IsSeatIn self.now.threads seat.now }
+        ensures { result ≡ guarded_message_in self.now.connections self.now.channels (held_message_in (open_in self.now.threads seat.now.thread)) }
     {
-        let held = self.record(seat).held_message()?;
-        let connection = connections.get(held.coid)?;
-        if tells_unblock(channels, connection.channel) {
+        let held = self.threads.record(seat).held_message()?;
+        let connection = self.connections.get(held.coid)?;
+        if self.tells_unblock(connection.channel) {
             Some((held, connection.channel))
         } else {
             None
         }
     }
 
+    /// Returns the seat of the thread whose message is held under this receive id on a channel of this process; `Srch`
+    /// if there is none.
+    #[inline(always)]
+    pub fn holder(&self, process: ProcessNo, rcvid: ReceiveId) -> Result<Seat, Errno>
+        ensures held { IfOk result (λ seat. is_held_in self.now.threads self.now.connections self.now.channels process rcvid ≡ true) }
+        ensures seat { IfOk result (λ seat. IsSeatIn self.now.threads seat) }
+        ensures sender { IfOk result (λ seat. sender_in self.now.threads rcvid ≡ Some seat.thread) }
+        ensures none { IfErr result (λ e. is_held_in self.now.threads self.now.connections self.now.channels process rcvid ≡ false) }
+        ensures error { IfErr result (λ e. e ≡ Errno.Srch) }
+    {
+        let seat = self.threads.sender(rcvid.0).ok_or(Errno::Srch)?;
+        let coid = self.threads.record(&seat).held_over().ok_or(Errno::Srch)?;
+        let connection = self.connections.get(coid).ok_or(Errno::Srch)?;
+        if self.owns(process, connection.channel) {
+            Ok(seat)
+        } else {
+            Err(Errno::Srch)
+        }
+    }
+
+    /// Ends the Send of the thread that `holder` finds, and returns it. `Srch` if there is no such thread; then nothing
+    /// changes.
+    #[inline(always)]
+    pub fn take_held(&mut self, process: ProcessNo, rcvid: ReceiveId) -> Result<OpenSend, Errno>
+        ensures held { IfOk result (λ sent. is_held_in self.old.threads self.old.connections self.old.channels process rcvid ≡ true) }
+        ensures sender { IfOk result (λ sent. sender_in self.old.threads rcvid ≡ Some sent.thread) }
+        ensures had { IfOk result (λ sent. send_in sent.thread (open_in self.old.threads sent.thread) ≡ Some sent) }
+        ensures after { IfOk result (λ sent. SetsOpen sent.thread None self.old.threads self.new.threads) }
+        ensures channels { self.new.channels ≡ self.old.channels }
+        ensures connections { self.new.connections ≡ self.old.connections }
+
+        // The error, and that it changes nothing.
+        ensures none { IfErr result (λ e. is_held_in self.old.threads self.old.connections self.old.channels process rcvid ≡ false) }
+        ensures unchanged { OnErr result (self.new ≡ self.old) }
+        ensures error { IfErr result (λ e. e ≡ Errno.Srch) }
+    {
+        let holder = self.holder(process, rcvid)?;
+        self.threads.take_sent(&holder).ok_or(Errno::Srch)
+    }
+}
+
+impl Threads {
     /// Records that an unblock pulse was made for the message of the thread at a seat.
     pub fn mark_unblocked(&mut self, seat: &Seat)
         requires { IsSeatIn self.old seat.now }
@@ -61,50 +97,6 @@ impl Threads {
     {
         let there = &mut self.records[seat.index];
         there.mark_unblocked();
-    }
-
-    /// Returns the seat of the thread whose message is held under this receive id on a channel of this process; `None`
-    /// if there is none.
-    #[inline(always)]
-    pub fn holder(
-        &self,
-        connections: &Connections,
-        channels: &Channels<Channel>,
-        process: ProcessNo,
-        rcvid: ReceiveId,
-    ) -> Option<Seat>
-        ensures held { is_some result ≡ is_held_in self.now connections.now channels.now process rcvid }
-        ensures seat { IfSome result (λ seat. IsSeatIn self.now seat) }
-        ensures sender { IfSome result (λ seat. sender_in self.now rcvid ≡ Some seat.thread) }
-    {
-        let seat = self.sender(rcvid.0)?;
-        let coid = self.record(&seat).held_over()?;
-        let connection = connections.get(coid)?;
-        if owns(channels, process, connection.channel) {
-            Some(seat)
-        } else {
-            None
-        }
-    }
-
-    /// Ends the Send of the thread that `holder` finds, and returns it. `None` if there is no such thread; then nothing
-    /// changes.
-    #[inline(always)]
-    pub fn take_held(
-        &mut self,
-        connections: &Connections,
-        channels: &Channels<Channel>,
-        process: ProcessNo,
-        rcvid: ReceiveId,
-    ) -> Option<OpenSend>
-        ensures held { is_some result ≡ is_held_in self.old connections.now channels.now process rcvid }
-        ensures unchanged { IfNone result (self.new ≡ self.old) }
-        ensures sender { IfSome result (λ sent. sender_in self.old rcvid ≡ Some sent.thread) }
-        ensures had { IfSome result (λ sent. send_in sent.thread (open_in self.old sent.thread) ≡ Some sent) }
-        ensures after { IfSome result (λ sent. SetsOpen sent.thread None self.old self.new) }
-    {
-        let holder = self.holder(connections, channels, process, rcvid)?;
-        self.take_sent(&holder)
     }
 
     /// Copies bytes into the reply buffer of the Send that the thread at a seat is blocked in, from the offset on, and

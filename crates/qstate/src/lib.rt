@@ -7,6 +7,7 @@ pub mod channel;
 pub mod endings;
 pub mod held;
 pub mod index;
+pub mod objects;
 pub mod open;
 pub mod pulses;
 pub mod receiver;

@@ -6,19 +6,17 @@ ghost use Rattle.qqueue.specs.Best.{is_pulse};
 ghost use Rattle.qstate.specs.Kept.{channel_in, pending_in};
 ghost use Rattle.qstate.specs.Pulses.{IsSent, IsSentIfDue, IsTurnedAway, IsUnsent};
 
-use crate::channel::Channel;
-use crate::threads::Threads;
+use crate::objects::Objects;
 use qbase::errno::Errno;
 use qbase::ids::ChannelId;
 use qmodel::call::{Completion, Mark};
 use qqueue::item::Item;
-use qtables::channels::Channels;
 
 /// The most pulses that may wait on a channel: our own profile.
 pub const PULSE_LIMIT: usize = 1024;
 
 /// Returns the mark of a receive that takes this pulse.
-fn pulse_mark(item: &Item) -> Mark
+pub(crate) fn pulse_mark(item: &Item) -> Mark
     ensures { result ≡ Mark.Pulse item.now.number item.now.priority item.now.what }
 {
     Mark::Pulse {
@@ -28,51 +26,50 @@ fn pulse_mark(item: &Item) -> Mark
     }
 }
 
-/// Sends a pulse. If receivers of the channel may take it, the one that began to wait last does, and the completion of
-/// its call is returned. Else the pulse joins the channel's queue, whose room is all that takes memory. `Again` if
-/// 1,024 pulses wait there, and `NoMemory` if no receiver may take it and the allocator refuses.
-pub fn send_pulse(
-    threads: &mut Threads,
-    channels: &mut Channels<Channel>,
-    chid: ChannelId,
-    item: Item,
-) -> Result<Option<Completion>, Errno>
-    requires pulse { is_pulse item.what ≡ true }
-    requires there { is_some (channel_in channels.old chid) ≡ true }
-    requires newest { AllByRecursion (λ x. x.number < item.number) (pending_in channels.old chid) }
-    ensures ok { IfOk result (λ met. IsSent chid item threads.old channels.old threads.new channels.new met) }
-    ensures err { IfErr result (λ e. IsTurnedAway chid item threads.old channels.old threads.new channels.new e) }
-{
-    let Some(channel) = channels.get_mut(chid) else {
-        unreachable!();
-    };
-    if channel.queue.pulses() >= PULSE_LIMIT {
-        return Err(Errno::Again);
-    }
-    match threads.wake_newest(chid, &item, channel.carried(item.priority)) {
-        Some(receive) => Ok(Some(receive.ending(pulse_mark(&item)))),
-        None => {
-            let _ = channel.enqueue(item)?;
-            Ok(None)
+impl Objects {
+    /// Sends a pulse. If receivers of the channel may take it, the one that began to wait last does, and the completion
+    /// of its call is returned. Else the pulse joins the channel's queue, whose room is all that takes memory. `Again`
+    /// if 1,024 pulses wait there, and `NoMemory` if no receiver may take it and the allocator refuses.
+    pub fn send_pulse(&mut self, chid: ChannelId, item: Item) -> Result<Option<Completion>, Errno>
+        requires pulse { is_pulse item.what ≡ true }
+        requires there { is_some (channel_in self.old.channels chid) ≡ true }
+        requires newest { AllByRecursion (λ x. x.number < item.number) (pending_in self.old.channels chid) }
+        ensures ok { IfOk result (λ met. IsSent chid item self.old.threads self.old.channels self.new.threads self.new.channels met) }
+        ensures err { IfErr result (λ e. IsTurnedAway chid item self.old.threads self.old.channels self.new.threads self.new.channels e) }
+        ensures connections { self.new.connections ≡ self.old.connections }
+    {
+        let Some(channel) = self.channels.get_mut(chid) else {
+            unreachable!();
+        };
+        if channel.queue.pulses() >= PULSE_LIMIT {
+            return Err(Errno::Again);
+        }
+        let priority = channel.carried(item.priority);
+        match self.threads.wake_newest(chid, &item, priority) {
+            Some(receive) => Ok(Some(receive.ending(pulse_mark(&item)))),
+            None => {
+                let _ = channel.enqueue(item)?;
+                Ok(None)
+            }
         }
     }
-}
 
-/// Sends a pulse as `send_pulse` does, if there is one to send.
-pub fn send_due(
-    threads: &mut Threads,
-    channels: &mut Channels<Channel>,
-    chid: ChannelId,
-    due: Option<Item>,
-) -> Result<Option<Completion>, Errno>
-    requires pulse { IfSome due (λ item. is_pulse item.what ≡ true) }
-    requires there { is_some due ≡ true → is_some (channel_in channels.old chid) ≡ true }
-    requires newest { IfSome due (λ item. AllByRecursion (λ x. x.number < item.number) (pending_in channels.old chid)) }
-    ensures ok { IfOk result (λ met. IsSentIfDue chid due threads.old channels.old threads.new channels.new met) }
-    ensures err { IfErr result (λ e. IsUnsent chid due threads.old channels.old threads.new channels.new e) }
-{
-    match due {
-        None => Ok(None),
-        Some(item) => send_pulse(threads, channels, chid, item),
+    /// Sends a pulse as `send_pulse` does, if there is one to send.
+    pub fn send_due(
+        &mut self,
+        chid: ChannelId,
+        due: Option<Item>,
+    ) -> Result<Option<Completion>, Errno>
+        requires pulse { IfSome due (λ item. is_pulse item.what ≡ true) }
+        requires there { is_some due ≡ true → is_some (channel_in self.old.channels chid) ≡ true }
+        requires newest { IfSome due (λ item. AllByRecursion (λ x. x.number < item.number) (pending_in self.old.channels chid)) }
+        ensures ok { IfOk result (λ met. IsSentIfDue chid due self.old.threads self.old.channels self.new.threads self.new.channels met) }
+        ensures err { IfErr result (λ e. IsUnsent chid due self.old.threads self.old.channels self.new.threads self.new.channels e) }
+        ensures connections { self.new.connections ≡ self.old.connections }
+    {
+        match due {
+            None => Ok(None),
+            Some(item) => self.send_pulse(chid, item),
+        }
     }
 }

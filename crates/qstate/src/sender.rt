@@ -9,6 +9,7 @@ ghost use Rattle.qrules.specs.Private.Step.{held_call};
 ghost use Rattle.qstate.specs.Thread.{sender_in, message_from, ChangesSender, HandsOver};
 ghost use Rattle.qstate.specs.Threads.{IsSeatIn};
 
+use crate::pulses::pulse_mark;
 use crate::seat::Seat;
 use crate::thread::Thread;
 use crate::threads::Threads;
@@ -76,11 +77,7 @@ impl Threads {
         ensures buffer { buffer.new ≡ (delivery_of item (message_from self.old item.number) buffer.old).1 }
     {
         if item.what.is_pulse() {
-            return Mark::Pulse {
-                item: item.number,
-                priority: item.priority,
-                what: item.what,
-            };
+            return pulse_mark(&item);
         }
         let copied = self.hand_over(item.number, item.priority, buffer);
         Mark::Message {

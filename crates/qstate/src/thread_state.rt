@@ -6,8 +6,8 @@ ghost use Rattle.qrules.specs.Private.ThreadState.{channel_over, state_of, state
 ghost use Rattle.qstate.specs.Thread.{open_in};
 ghost use Rattle.qstate.specs.Threads.{IsSeatIn};
 
+use crate::objects::Objects;
 use crate::seat::Seat;
-use crate::threads::Threads;
 use qbase::ids::{ChannelId, ConnectionId};
 use qbase::state::ThreadState;
 use qmodel::open_call::Wait;
@@ -42,15 +42,15 @@ pub fn state_of_wait(connections: &Connections, wait: &Wait) -> ThreadState
     }
 }
 
-impl Threads {
+impl Objects {
     /// Returns the state of the thread at a seat.
-    pub fn state(&self, connections: &Connections, seat: &Seat) -> ThreadState
-        requires { IsSeatIn self.now seat.now }
-        ensures { result ≡ state_in (entry_at connections.now) (open_in self.now seat.now.thread) }
+    pub fn state(&self, seat: &Seat) -> ThreadState
+        requires { IsSeatIn self.now.threads seat.now }
+        ensures { result ≡ state_in (entry_at self.now.connections) (open_in self.now.threads seat.now.thread) }
     {
-        match &self.record(seat).open_call {
+        match &self.threads.record(seat).open_call {
             None => ThreadState::Ready,
-            Some(call) => state_of_wait(connections, &call.wait),
+            Some(call) => state_of_wait(&self.connections, &call.wait),
         }
     }
 }

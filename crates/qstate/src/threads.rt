@@ -2,8 +2,7 @@
 
 ghost use Rattle.std.specs.Prelude.{◌≡◌, ◌<◌, ◌≤◌, None, Some, true, is_some, length, map, IfOk, IfSome};
 ghost use Rattle.qtables.specs.Members.{member_at, IsRoster};
-ghost use Rattle.qrules.specs.Private.Facts.{is_in_process};
-ghost use Rattle.qstate.specs.Kept.{members_of};
+ghost use Rattle.qstate.specs.Kept.{members_of, thread_priority};
 ghost use Rattle.qstate.specs.Open.{receive_in, send_in};
 ghost use Rattle.qstate.specs.Thread.{ready_thread, open_in, seat_in, SetsOpen, SetsPriority, Wakes};
 ghost use Rattle.qstate.specs.Threads.{IsSeatIn, IsRecordOf};
@@ -12,7 +11,7 @@ use crate::index::Index;
 use crate::open::{OpenReceive, OpenSend};
 use crate::seat::Seat;
 use crate::thread::Thread;
-use qbase::ids::{ProcessNo, ThreadNo};
+use qbase::ids::ThreadNo;
 use qbase::priority::Priority;
 use qmodel::open_call::OpenCall;
 use qtables::member::Member;
@@ -127,26 +126,20 @@ impl Threads {
         Some(Seat { thread, index })
     }
 
-    /// Returns the seat of a thread of this process; `None` if the thread isn't in the roster or is another process's.
-    pub fn fellow(&self, process: ProcessNo, thread: ThreadNo) -> Option<Seat>
-        ensures seat { IfSome result (λ seat. IsSeatIn self.now seat) }
-        ensures thread { IfSome result (λ seat. seat.thread ≡ thread) }
-        ensures own { is_some result ≡ is_in_process process (member_at (members_of self.now) thread) }
-    {
-        let seat = self.seat(thread)?;
-        if self.record(&seat).member.process == process {
-            Some(seat)
-        } else {
-            None
-        }
-    }
-
     /// Returns the record of the thread at a seat.
     pub fn record(&self, seat: &Seat) -> &Thread
         requires { IsSeatIn self.now seat.now }
         ensures { IsRecordOf seat.now.thread self.now result.now }
     {
         &self.records[seat.index]
+    }
+
+    /// Returns the priority of the thread at a seat.
+    pub fn priority(&self, seat: &Seat) -> Priority
+        requires { IsSeatIn self.now seat.now }
+        ensures { result ≡ thread_priority self.now seat.now.thread }
+    {
+        self.record(seat).priority
     }
 
     /// Gives the thread at a seat this priority; `None` leaves it as it is.

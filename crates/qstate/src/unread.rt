@@ -5,15 +5,12 @@ ghost use Rattle.qstate.specs.Thread.{open_in};
 ghost use Rattle.qstate.specs.Threads.{IsSeatIn};
 ghost use Rattle.qstate.specs.Unread.{unread_in, MovesUnread};
 
-use crate::channel::{Channel, requeue};
+use crate::objects::Objects;
 use crate::seat::Seat;
 use crate::thread::Thread;
-use crate::threads::Threads;
 use qbase::ids::ConnectionId;
 use qbase::priority::Priority;
 use qmodel::open_call::Wait;
-use qtables::channels::Channels;
-use qtables::connections::Connections;
 
 /// A message that isn't received.
 #[derive(Clone, Copy, Debug, PartialEq, Eq)]
@@ -44,32 +41,25 @@ impl Thread {
     }
 }
 
-impl Threads {
+impl Objects {
     /// Gives the message with which the thread at a seat is SEND-blocked another priority in its channel's queue. Does
     /// nothing if the thread isn't SEND-blocked. Takes no memory.
-    pub fn requeue_unread(
-        &self,
-        connections: &Connections,
-        channels: &mut Channels<Channel>,
-        seat: &Seat,
-        priority: Priority,
-    )
-        requires { IsSeatIn self.now seat.now }
-        ensures { MovesUnread (open_in self.now seat.now.thread) connections.now priority channels.old channels.new }
+    pub fn requeue_unread(&mut self, seat: &Seat, priority: Priority)
+        requires { IsSeatIn self.old.threads seat.now }
+        ensures threads { self.new.threads ≡ self.old.threads }
+        ensures channels { MovesUnread (open_in self.old.threads seat.now.thread) self.old.connections priority self.old.channels self.new.channels }
+        ensures connections { self.new.connections ≡ self.old.connections }
     {
-        let there = self.record(seat);
+        let there = self.threads.record(seat);
         let Some(unread) = there.unread() else {
             return;
         };
-        let Some(connection) = connections.get(unread.coid) else {
+        let Some(connection) = self.connections.get(unread.coid) else {
             return;
         };
-        requeue(
-            channels,
-            connection.channel,
-            unread.number,
-            there.key,
-            priority,
-        );
+        let Some(channel) = self.channels.get_mut(connection.channel) else {
+            return;
+        };
+        let _ = channel.queue.requeue(unread.number, priority, there.key);
     }
 }

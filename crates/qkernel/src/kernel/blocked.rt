@@ -46,7 +46,7 @@ impl Kernel {
         ensures { result ≡ is_some (open_in self.now.threads thread) }
     {
         match self.seat(thread) {
-            Some(seat) => self.threads.record(&seat).open_call.is_some(),
+            Some(seat) => self.objects.threads.record(&seat).open_call.is_some(),
             None => false,
         }
     }
@@ -57,8 +57,8 @@ impl Kernel {
         ensures { (roster : List Member) (past : Trace) → StandsAt roster self.now past → IfOk result (λ list. list.items ≡ blocked_threads (facts_of roster past)) }
     {
         let mut list = Vec::new(alloc);
-        for thread in self.threads.records() {
-            push_blocked(&mut list, &self.connections, thread)?;
+        for thread in self.objects.threads.records() {
+            push_blocked(&mut list, &self.objects.connections, thread)?;
         }
         Ok(list)
     }

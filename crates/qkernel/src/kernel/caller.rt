@@ -6,7 +6,7 @@ ghost use Rattle.qstate.specs.Threads.{IsSeatIn};
 
 use qbase::bytes::Bytes;
 use qbase::errno::Errno;
-use qbase::ids::{ProcessNo, ThreadNo};
+use qbase::ids::ProcessNo;
 use qbase::priority::Priority;
 use qmodel::call::{Completion, Mark};
 use qmodel::open_call::{OpenCall, Wait};
@@ -38,13 +38,6 @@ impl Caller {
         self.made + 1
     }
 
-    /// Returns the caller's thread.
-    pub(crate) fn thread(&self) -> ThreadNo
-        ensures { result ≡ self.now.seat.thread }
-    {
-        self.seat.thread()
-    }
-
     /// Returns the completion of the caller's call, with a buffer.
     #[inline(always)]
     pub(crate) fn ending_with(&self, mark: Mark, buffer: Bytes) -> Completion
@@ -52,7 +45,7 @@ impl Caller {
     {
         Completion {
             call: self.number(),
-            thread: self.thread(),
+            thread: self.seat.thread(),
             mark,
             buffer,
         }

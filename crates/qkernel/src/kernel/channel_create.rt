@@ -23,19 +23,19 @@ impl Kernel {
         requires { MayCall self.old caller.now endings.old.items }
         ensures { MakesOrRefuses self.old caller.now (Call.ChannelCreate flags) result endings.new.items self.new }
     {
-        let number = caller.number();
         if !flags.is_known() {
             return Err(Errno::Inval);
         }
+        let chid = ChannelId(caller.number());
         let channel = Channel {
             owner: caller.process,
             flags,
             queue: Queue::new(self.alloc),
         };
-        match self.channels.create(ChannelId(number), channel) {
-            Ok(()) => put(endings, caller.ending(Mark::Channel(ChannelId(number)))),
-            Err((errno, _)) => return Err(errno),
+        if let Err((errno, _)) = self.objects.channels.create(chid, channel) {
+            return Err(errno);
         }
+        put(endings, caller.ending(Mark::Channel(chid)));
         Ok(())
     }
 }

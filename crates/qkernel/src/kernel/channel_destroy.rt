@@ -5,8 +5,7 @@ use super::caller::Caller;
 use qbase::errno::Errno;
 use qbase::ids::ChannelId;
 use qmodel::call::{Call, Mark};
-use qstate::cancelling::{Cancel, CancelSet};
-use qstate::channel::{close, owns};
+use qstate::cancelling::CancelSet;
 use qstate::endings::Endings;
 
 impl Kernel {
@@ -24,20 +23,13 @@ impl Kernel {
         requires { MayCall self.old caller.now endings.old.items }
         ensures { MakesOrRefuses self.old caller.now (Call.ChannelDestroy chid) result endings.new.items self.new }
     {
-        if !owns(&self.channels, caller.process, chid) {
+        if !self.objects.owns(caller.process, chid) {
             return Err(Errno::Inval);
         }
-        self.threads.cancel(
-            &mut self.channels,
-            &self.connections,
-            Cancel {
-                set: CancelSet::On(chid),
-                errno: Errno::Srch,
-            },
-            caller.ending(Mark::Ok),
-            endings,
-        );
-        close(&mut self.channels, chid);
+        let own = caller.ending(Mark::Ok);
+        self.objects
+            .cancel(CancelSet::On(chid), Errno::Srch, own, endings);
+        self.objects.close(chid);
         Ok(())
     }
 }

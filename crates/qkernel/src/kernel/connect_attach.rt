@@ -5,7 +5,6 @@ use super::caller::Caller;
 use qbase::errno::Errno;
 use qbase::ids::{ChannelId, ConnectionId};
 use qmodel::call::{Call, Mark};
-use qstate::channel::is_open;
 use qstate::endings::{Endings, put};
 use qtables::connection::Connection;
 
@@ -22,21 +21,18 @@ impl Kernel {
         requires { MayCall self.old caller.now endings.old.items }
         ensures { MakesOrRefuses self.old caller.now (Call.ConnectAttach chid) result endings.new.items self.new }
     {
-        let number = caller.number();
-        if !is_open(&self.channels, chid) {
+        if !self.objects.is_open(chid) {
             return Err(Errno::Srch);
         }
+        let coid = ConnectionId(caller.number());
         let connection = Connection {
             process: caller.process,
             channel: chid,
         };
-        match self.connections.create(ConnectionId(number), connection) {
-            Ok(()) => put(
-                endings,
-                caller.ending(Mark::Connection(ConnectionId(number))),
-            ),
-            Err((errno, _)) => return Err(errno),
+        if let Err((errno, _)) = self.objects.connections.create(coid, connection) {
+            return Err(errno);
         }
+        put(endings, caller.ending(Mark::Connection(coid)));
         Ok(())
     }
 }

@@ -10,10 +10,8 @@ use qbase::ids::ConnectionId;
 use qbase::priority::Priority;
 use qmodel::call::{Call, Mark};
 use qqueue::item::{Item, What};
-use qstate::cancelling::{Cancel, CancelSet};
-use qstate::channel::{own_connection, tells_detached};
+use qstate::cancelling::CancelSet;
 use qstate::endings::{Endings, put_if};
-use qstate::pulses::send_due;
 
 /// Returns the pulse that tells a server that the caller's process has detached its last connection; `None` if it isn't
 /// the last.
@@ -42,25 +40,18 @@ impl Kernel {
         requires { MayCall self.old caller.now endings.old.items }
         ensures { MakesOrRefuses self.old caller.now (Call.ConnectDetach coid) result endings.new.items self.new }
     {
-        let Some(chid) = own_connection(&self.connections, caller.process, coid) else {
+        let Some(chid) = self.objects.own_connection(caller.process, coid) else {
             return Err(Errno::Inval);
         };
-        let last = tells_detached(&self.connections, &self.channels, caller.process, chid);
-        let priority = self.priority(caller);
+        let last = self.objects.tells_detached(caller.process, chid);
+        let priority = self.objects.threads.priority(&caller.seat);
         let due = pulse_for(caller, last, priority);
-        let met = send_due(&mut self.threads, &mut self.channels, chid, due)?;
-        self.threads.cancel(
-            &mut self.channels,
-            &self.connections,
-            Cancel {
-                set: CancelSet::Over(coid),
-                errno: Errno::Badf,
-            },
-            caller.ending(Mark::Ok),
-            endings,
-        );
+        let met = self.objects.send_due(chid, due)?;
+        let own = caller.ending(Mark::Ok);
+        self.objects
+            .cancel(CancelSet::Over(coid), Errno::Badf, own, endings);
         put_if(endings, met);
-        let _ = self.connections.remove(coid);
+        let _ = self.objects.connections.remove(coid);
         Ok(())
     }
 }

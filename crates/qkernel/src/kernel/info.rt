@@ -17,8 +17,8 @@ impl Kernel {
     pub fn message_info(&self, rcvid: ReceiveId) -> Option<Info>
         ensures { InfoAtTraces self.now rcvid result }
     {
-        let sender = self.threads.sender(rcvid.0)?;
-        self.threads.record(&sender).info()
+        let sender = self.objects.threads.sender(rcvid.0)?;
+        self.objects.threads.record(&sender).info()
     }
 
     /// Answers with the data of a held message. Changes nothing, never blocks, and takes no memory.
@@ -31,10 +31,9 @@ impl Kernel {
         requires { MayCall self.old caller.now endings.old.items }
         ensures { MakesOrRefuses self.old caller.now (Call.Info rcvid) result endings.new.items self.new }
     {
-        let holder = self.holder(caller, rcvid)?;
-        let Some(info) = self.threads.record(&holder).info() else {
-            return Err(Errno::Srch);
-        };
+        let holder = self.objects.holder(caller.process, rcvid)?;
+        let told = self.objects.threads.record(&holder).info();
+        let info = told.ok_or(Errno::Srch)?;
         put(endings, caller.ending(Mark::Info(info)));
         Ok(())
     }

@@ -23,10 +23,9 @@ impl Kernel {
         requires { MayCall self.old caller.now endings.old.items }
         ensures { MakesOrRefuses self.old caller.now (Call.PrioritySet target priority) result endings.new.items self.new }
     {
-        let fellow = self.fellow(caller, target)?;
-        self.threads
-            .requeue_unread(&self.connections, &mut self.channels, &fellow, priority);
-        self.threads.set_priority(&fellow, Some(priority));
+        let fellow = self.objects.fellow(caller.process, target)?;
+        self.objects.requeue_unread(&fellow, priority);
+        self.objects.threads.set_priority(&fellow, Some(priority));
         put(endings, caller.ending(Mark::Ok));
         Ok(())
     }

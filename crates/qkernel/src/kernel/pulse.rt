@@ -7,9 +7,7 @@ use qbase::ids::ConnectionId;
 use qbase::priority::Priority;
 use qmodel::call::{Call, Mark};
 use qqueue::item::What;
-use qstate::channel::route;
 use qstate::endings::{Endings, put, put_if};
-use qstate::pulses::send_pulse;
 
 impl Kernel {
     ghost use Rattle.qkernel.specs.Private.Caller.{MayCall, MakesOrRefuses};
@@ -28,14 +26,14 @@ impl Kernel {
         requires { MayCall self.old caller.now endings.old.items }
         ensures { MakesOrRefuses self.old caller.now (Call.Pulse coid priority code value) result endings.new.items self.new }
     {
-        let Some(chid) = route(&self.connections, &self.channels, caller.process, coid) else {
+        let Some(chid) = self.objects.route(caller.process, coid) else {
             return Err(Errno::Badf);
         };
         if code < 0 {
             return Err(Errno::Inval);
         }
         let item = caller.item(priority, What::User { code, value });
-        let met = send_pulse(&mut self.threads, &mut self.channels, chid, item)?;
+        let met = self.objects.send_pulse(chid, item)?;
         put(endings, caller.ending(Mark::Ok));
         put_if(endings, met);
         Ok(())

@@ -1,14 +1,15 @@
-//! Read.
+//! Read and Write.
 
 use super::Kernel;
 use super::caller::Caller;
 use qbase::bytes::Bytes;
+use qbase::errno::Errno;
 use qbase::ids::ReceiveId;
 use qmodel::call::{Call, Mark};
 use qstate::endings::{Endings, put};
 
 impl Kernel {
-    ghost use Rattle.qkernel.specs.Private.Caller.{MayCall, Makes};
+    ghost use Rattle.qkernel.specs.Private.Caller.{MayCall, Makes, MakesOrRefuses};
 
     /// Copies bytes of a held message, from an offset on, to the front of the buffer. An offset at or past the
     /// message's end copies nothing. Changes nothing, never blocks, and takes no memory.
@@ -23,12 +24,32 @@ impl Kernel {
         requires { MayCall self.old caller.now endings.old.items }
         ensures { Makes self.old caller.now (Call.Read rcvid offset buffer) endings.new.items self.new }
     {
-        let holder = match self.holder(caller, rcvid) {
+        let holder = match self.objects.holder(caller.process, rcvid) {
             Ok(holder) => holder,
             Err(errno) => return caller.refuse(endings, errno, buffer),
         };
         let mut buffer = buffer;
-        let copied = buffer.take(self.threads.record(&holder).message(), offset);
+        let message = self.objects.threads.record(&holder).message();
+        let copied = buffer.take(message, offset);
         put(endings, caller.ending_with(Mark::Count(copied), buffer));
+    }
+
+    /// Copies bytes into the reply buffer of a held message's sender, from an offset on; the sender stays blocked. An
+    /// offset at or past the buffer's end copies nothing. Never blocks, and takes no memory.
+    pub(super) fn write(
+        &mut self,
+        caller: &Caller,
+        rcvid: ReceiveId,
+        offset: usize,
+        bytes: &[u8],
+        endings: &mut Endings,
+    ) -> Result<(), Errno>
+        requires { MayCall self.old caller.now endings.old.items }
+        ensures { MakesOrRefuses self.old caller.now (Call.Write rcvid offset bytes.now) result endings.new.items self.new }
+    {
+        let holder = self.objects.holder(caller.process, rcvid)?;
+        let copied = self.objects.threads.write_sent(&holder, offset, bytes);
+        put(endings, caller.ending(Mark::Count(copied)));
+        Ok(())
     }
 }

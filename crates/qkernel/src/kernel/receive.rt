@@ -1,4 +1,4 @@
-//! Receive, and what it shares with ReceivePulse.
+//! Receive and ReceivePulse.
 
 ghost use Rattle.std.specs.Prelude.{◌≡◌, []};
 ghost use Rattle.qrules.specs.Private.Receiving.{receive_of};
@@ -8,7 +8,6 @@ use super::caller::Caller;
 use qbase::bytes::Bytes;
 use qbase::errno::Errno;
 use qbase::ids::ChannelId;
-use qmodel::call::Call;
 use qmodel::open_call::Wait;
 use qqueue::item::Kind;
 use qstate::endings::{Endings, put};
@@ -16,22 +15,9 @@ use qstate::endings::{Endings, put};
 impl Kernel {
     ghost use Rattle.qkernel.specs.Private.Caller.{MayCall, Makes};
 
-    /// Takes the best message or pulse of a channel, or blocks until one arrives; takes no memory.
+    /// Takes the best message or pulse of a channel that a receive of this kind may take, or blocks until one arrives;
+    /// takes no memory. ReceivePulse takes pulses only, and brings no buffer.
     pub(super) fn receive(
-        &mut self,
-        caller: &Caller,
-        chid: ChannelId,
-        buffer: Bytes,
-        endings: &mut Endings,
-    )
-        requires may { MayCall self.old caller.now endings.old.items }
-        ensures { Makes self.old caller.now (Call.Receive chid buffer) endings.new.items self.new }
-    {
-        self.receive_kind(caller, chid, Kind::Any, buffer, endings);
-    }
-
-    /// Takes the best item that a receive of this kind may take, or blocks until one arrives; takes no memory.
-    pub(super) fn receive_kind(
         &mut self,
         caller: &Caller,
         chid: ChannelId,
@@ -43,23 +29,21 @@ impl Kernel {
         requires buffer { kind ≡ Kind.PulseOnly → buffer ≡ [] }
         ensures { Makes self.old caller.now (receive_of kind chid buffer) endings.new.items self.new }
     {
-        let Some(channel) = self.channels.get_mut(chid) else {
+        let objects = &mut self.objects;
+        let Some(channel) = objects.channels.get_mut(chid) else {
             return caller.refuse(endings, Errno::Srch, buffer);
         };
         if caller.process != channel.owner {
             return caller.refuse(endings, Errno::Srch, buffer);
         }
-        match channel.queue.take(kind) {
-            None => {
-                caller.block(&mut self.threads, Wait::Item { chid, kind, buffer }, 0);
-            }
-            Some(item) => {
-                let mut buffer = buffer;
-                let priority = channel.carried(item.priority);
-                let mark = self.threads.hand_item(item, &mut buffer);
-                self.threads.set_priority(&caller.seat, priority);
-                put(endings, caller.ending_with(mark, buffer));
-            }
-        }
+        let Some(item) = channel.queue.take(kind) else {
+            let wait = Wait::Item { chid, kind, buffer };
+            return caller.block(&mut objects.threads, wait, 0);
+        };
+        let mut buffer = buffer;
+        let priority = channel.carried(item.priority);
+        let mark = objects.threads.hand_item(item, &mut buffer);
+        objects.threads.set_priority(&caller.seat, priority);
+        put(endings, caller.ending_with(mark, buffer));
     }
 }

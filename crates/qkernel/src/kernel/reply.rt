@@ -1,6 +1,7 @@
-//! Reply.
+//! Reply and Error.
 
 ghost use Rattle.std.specs.Prelude.{◌≡◌};
+ghost use Rattle.qrules.specs.Private.Calls.Error.{mark_of};
 ghost use Rattle.qbase.specs.Laying.{laid_count, lay_over};
 
 use super::Kernel;
@@ -20,6 +21,20 @@ fn reply_ending(sent: OpenSend, status: i64, bytes: &[u8]) -> Completion
     sent.ending(Mark::Replied { status, copied })
 }
 
+/// Returns the mark of the sender's call: the code 0 is a reply of status 0 with no bytes, our own profile.
+fn error_mark(code: i32) -> Mark
+    ensures { result ≡ mark_of code }
+{
+    if code == 0 {
+        Mark::Replied {
+            status: 0,
+            copied: 0,
+        }
+    } else {
+        Mark::Errored(code)
+    }
+}
+
 impl Kernel {
     ghost use Rattle.qkernel.specs.Private.Caller.{MayCall, MakesOrRefuses};
 
@@ -35,12 +50,27 @@ impl Kernel {
         requires { MayCall self.old caller.now endings.old.items }
         ensures { MakesOrRefuses self.old caller.now (Call.Reply rcvid status bytes.now) result endings.new.items self.new }
     {
-        let held = self
-            .threads
-            .take_held(&self.connections, &self.channels, caller.process, rcvid);
-        let sent = held.ok_or(Errno::Srch)?;
+        let sent = self.objects.take_held(caller.process, rcvid)?;
         put(endings, caller.ending(Mark::Ok));
         put(endings, reply_ending(sent, status, bytes));
+        Ok(())
+    }
+
+    /// Answers a held message with a code and no bytes, which ends its sender's call. Never blocks, and takes no
+    /// memory.
+    pub(super) fn error(
+        &mut self,
+        caller: &Caller,
+        rcvid: ReceiveId,
+        code: i32,
+        endings: &mut Endings,
+    ) -> Result<(), Errno>
+        requires { MayCall self.old caller.now endings.old.items }
+        ensures { MakesOrRefuses self.old caller.now (Call.Error rcvid code) result endings.new.items self.new }
+    {
+        let answered = self.objects.take_held(caller.process, rcvid)?;
+        put(endings, caller.ending(Mark::Ok));
+        put(endings, answered.ending(error_mark(code)));
         Ok(())
     }
 }

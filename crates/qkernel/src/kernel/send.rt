@@ -12,7 +12,6 @@ use qbase::ids::{ConnectionId, ReceiveId};
 use qmodel::call::{Call, Completion, Mark};
 use qmodel::open_call::{Receipt, Wait};
 use qqueue::item::{Item, What};
-use qstate::channel::own_connection;
 use qstate::endings::{Endings, put};
 use qstate::open::OpenReceive;
 
@@ -50,28 +49,30 @@ impl Kernel {
         requires { MayCall self.old caller.now endings.old.items }
         ensures { Makes self.old caller.now (Call.Send coid message reply_buffer) endings.new.items self.new }
     {
-        let item = caller.item(self.priority(caller), What::Message);
-        let Some(chid) = own_connection(&self.connections, caller.process, coid) else {
+        let objects = &mut self.objects;
+        let priority = objects.threads.priority(&caller.seat);
+        let item = caller.item(priority, What::Message);
+        let Some(chid) = objects.own_connection(caller.process, coid) else {
             return caller.refuse(endings, Errno::Badf, reply_buffer);
         };
-        let Some(channel) = self.channels.get_mut(chid) else {
+        let Some(channel) = objects.channels.get_mut(chid) else {
             return caller.refuse(endings, Errno::Badf, reply_buffer);
         };
+        let carried = channel.carried(item.priority);
         let mut key = 0;
-        let priority = channel.carried(item.priority);
-        let receipt = match self.threads.wake_newest(chid, &item, priority) {
-            None => {
-                match channel.enqueue(item) {
-                    Ok(place) => key = place,
-                    Err(errno) => return caller.refuse(endings, errno, reply_buffer),
-                }
-                None
-            }
+        let receipt = match objects.threads.wake_newest(chid, &item, carried) {
             Some(receive) => {
                 let (ended, receipt) = deliver(receive, &item, &message);
                 put(endings, ended);
                 Some(receipt)
             }
+            None => match channel.enqueue(item) {
+                Ok(place) => {
+                    key = place;
+                    None
+                }
+                Err(errno) => return caller.refuse(endings, errno, reply_buffer),
+            },
         };
         let wait = Wait::Answer {
             coid,
@@ -79,6 +80,6 @@ impl Kernel {
             reply_buffer,
             receipt,
         };
-        caller.block(&mut self.threads, wait, key);
+        caller.block(&mut objects.threads, wait, key);
     }
 }

@@ -4,7 +4,7 @@ use super::Kernel;
 use super::caller::Caller;
 use qbase::errno::Errno;
 use qmodel::call::{Call, Mark};
-use qstate::cancelling::{Cancel, CancelSet};
+use qstate::cancelling::CancelSet;
 use qstate::endings::Endings;
 
 impl Kernel {
@@ -16,16 +16,9 @@ impl Kernel {
         requires { MayCall self.old caller.now endings.old.items }
         ensures { Makes self.old caller.now Call.Shutdown endings.new.items self.new }
     {
-        self.threads.cancel(
-            &mut self.channels,
-            &self.connections,
-            Cancel {
-                set: CancelSet::All,
-                errno: Errno::Srch,
-            },
-            caller.ending(Mark::Ok),
-            endings,
-        );
+        let own = caller.ending(Mark::Ok);
+        self.objects
+            .cancel(CancelSet::All, Errno::Srch, own, endings);
         self.down = true;
     }
 }

@@ -20,12 +20,10 @@ impl Kernel {
         requires { MayCall self.old caller.now endings.old.items }
         ensures { MakesOrRefuses self.old caller.now (Call.State target) result endings.new.items self.new }
     {
-        let Some(seat) = self.seat(target) else {
-            return Err(Errno::Srch);
-        };
+        let seat = self.seat(target).ok_or(Errno::Srch)?;
         let mark = Mark::State {
-            state: self.threads.state(&self.connections, &seat),
-            priority: self.threads.record(&seat).priority,
+            state: self.objects.state(&seat),
+            priority: self.objects.threads.priority(&seat),
         };
         put(endings, caller.ending(mark));
         Ok(())

@@ -6,9 +6,8 @@ use qbase::errno::Errno;
 use qbase::ids::ThreadNo;
 use qmodel::call::{Call, Mark};
 use qqueue::item::What;
-use qstate::cancelling::{Cancel, CancelSet};
+use qstate::cancelling::CancelSet;
 use qstate::endings::{Endings, put, put_if};
-use qstate::pulses::send_pulse;
 
 impl Kernel {
     ghost use Rattle.qkernel.specs.Private.Caller.{MayCall, MakesOrRefuses};
@@ -26,21 +25,11 @@ impl Kernel {
         requires { MayCall self.old caller.now endings.old.items }
         ensures { MakesOrRefuses self.old caller.now (Call.Unblock target) result endings.new.items self.new }
     {
-        let fellow = self.fellow(caller, target)?;
-        let Some(guarded) = self
-            .threads
-            .guarded_message(&self.connections, &self.channels, &fellow)
-        else {
-            self.threads.cancel(
-                &mut self.channels,
-                &self.connections,
-                Cancel {
-                    set: CancelSet::Of(target),
-                    errno: Errno::Intr,
-                },
-                caller.ending(Mark::Ok),
-                endings,
-            );
+        let fellow = self.objects.fellow(caller.process, target)?;
+        let Some(guarded) = self.objects.guarded_message(&fellow) else {
+            let own = caller.ending(Mark::Ok);
+            self.objects
+                .cancel(CancelSet::Of(target), Errno::Intr, own, endings);
             return Ok(());
         };
         let (held, chid) = guarded;
@@ -49,8 +38,8 @@ impl Kernel {
             return Ok(());
         }
         let pulse = caller.item(held.receipt.priority, What::Unblock(held.rcvid));
-        let met = send_pulse(&mut self.threads, &mut self.channels, chid, pulse)?;
-        self.threads.mark_unblocked(&fellow);
+        let met = self.objects.send_pulse(chid, pulse)?;
+        self.objects.threads.mark_unblocked(&fellow);
         put(endings, caller.ending(Mark::Ok));
         put_if(endings, met);
         Ok(())

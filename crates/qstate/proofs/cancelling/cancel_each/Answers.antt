@@ -1,4 +1,4 @@
-use Rattle.std.proofs.Common.{◌≡◌, ◌<◌, ◌≤◌, ap, arith, length, ◌∙◌}
+use Rattle.std.proofs.Common.{◌≡◌, ◌<◌, ◌≤◌, ap, arith, length, refl, ◌∙◌}
 use Rattle.qtables.specs.Entries.{entry_at}
 use Rattle.qstate.proofs.Cancels.Threads.{passed_on, idle_here, sweeps_init, sweeps_step, at_end, swept_endings, swept_threads, swept_channels, few_more}
 use Rattle.qstate.proofs.cancelling.cancel_each.Goals as goal
@@ -15,7 +15,7 @@ end_thread-ending-requires c =
     let so = c.loop-thread.invariant in
     let l : c.loop-thread.thread-index < length c.args.threads.now.items = omega (arith, ap length c.deref_mut-thread-items.ensures.value) in
     record {
-      idle = idle_here (entry_at c.args.connections.now) c.args.cancel.set c.args.cancel.errno c.args.own c.args.threads.now.items c.loop-thread.thread-items c.loop-thread.thread-index c.thread-item.result c.args.channels.now c.loop-thread.channels c.loop-thread.left c.loop-thread.endings.items so.threads l so.so_far c.caller_of-caller.result c.caller_of-caller.ensures;
+      idle = idle_here (entry_at c.args.connections.now) c.args.cancel.set c.args.cancel.errno c.args.own c.args.threads.now.items c.loop-thread.thread-items c.loop-thread.thread-index c.thread-item.result c.args.channels.now c.loop-thread.channels c.loop-thread.left c.loop-thread.endings.items so.threads l so.so_far c.args.own.thread refl;
     }
 
 pub push_ending-requires : goal.push_ending-requires
@@ -28,7 +28,7 @@ loop-thread-preserved c =
     record {
       threads = passed_on (entry_at c.args.connections.now) c.args.cancel.set c.args.cancel.errno c.args.own c.args.threads.now.items c.loop-thread.thread-items c.loop-thread.thread-index c.thread-item.result c.end_thread-ending.new.thread so.threads l c.end_thread-ending.ensures.thread;
       few = rw c.push_ending.ensures (omega (arith, few_more c.loop-thread.endings.items c.end_thread-ending.result));
-      so_far = sweeps_step (entry_at c.args.connections.now) c.args.cancel.set c.args.cancel.errno c.args.own c.args.threads.now.items c.loop-thread.thread-items c.loop-thread.thread-index c.thread-item.result c.args.channels.now c.loop-thread.channels c.loop-thread.left c.loop-thread.endings.items so.threads l so.so_far c.caller_of-caller.result c.caller_of-caller.ensures
+      so_far = sweeps_step (entry_at c.args.connections.now) c.args.cancel.set c.args.cancel.errno c.args.own c.args.threads.now.items c.loop-thread.thread-items c.loop-thread.thread-index c.thread-item.result c.args.channels.now c.loop-thread.channels c.loop-thread.left c.loop-thread.endings.items so.threads l so.so_far c.args.own.thread refl
           c.end_thread-ending.new.channels c.end_thread-ending.new.own c.end_thread-ending.result c.push_ending.new.endings.items c.end_thread-ending.ensures.channels c.end_thread-ending.ensures.own c.end_thread-ending.ensures.ending c.push_ending.ensures;
     }
 

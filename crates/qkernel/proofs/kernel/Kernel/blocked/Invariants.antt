@@ -4,4 +4,4 @@ use Rattle.qkernel.proofs.BlockedThreads.{blocked_by}
 use Rattle.qkernel.proofs.kernel.Kernel.blocked.Given as goal
 
 abbrev pub invariant-loop-thread : goal.invariant-loop-thread
-invariant-loop-thread l = l.list.items ≡ blocked_by (entry_at l.self-inside.connections) (take l.thread-index l.self-inside.threads)
+invariant-loop-thread l = l.list.items ≡ blocked_by (entry_at l.self-inside.objects.connections) (take l.thread-index l.self-inside.objects.threads)

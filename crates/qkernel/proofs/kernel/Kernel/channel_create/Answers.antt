@@ -9,7 +9,7 @@ use Rattle.qkernel.proofs.kernel.Kernel.channel_create.Goals as goal
 pub create-requires : goal.create-requires
 create-requires c =
     let may = rw (← c.self.view_is) at c.requires in
-    rw (c.number-number.ensures) (ids_below c.args.caller.now.made c.self.inside.channels may.sound.channel_ids)
+    rw (c.number.ensures) (ids_below c.args.caller.now.made c.self.inside.objects.channels may.sound.channel_ids)
 
 pub invariant_of-self : goal.invariant_of-self
 invariant_of-self c =
@@ -25,11 +25,11 @@ returns-in-Err c =
 pub invariant_of-self-2 : goal.invariant_of-self-2
 invariant_of-self-2 c =
     let may = rw (← c.self.view_is) at c.requires in
-    rw (may.counted, c.in-Ok.ensures.ok, c.number-number.ensures) (sound_created _ c.args.caller.now.seat.thread c.args.flags (caller_of c.args.caller.now may.among.began) c.new.result may.sound (ap (λ q. q.items) c.new.ensures))
+    rw (may.counted, c.in_default.ensures.ok, c.number.ensures) (sound_created _ c.args.caller.now.seat.thread c.args.flags (caller_of c.args.caller.now may.among.began) c.new.result may.sound (ap (λ q. q.items) c.new.ensures))
 
 pub returns : goal.returns
 returns c =
     let may = rw (← c.self.view_is) at c.requires in
     let flags = sym c.if-not-is_known.ensures in
-    let room : nat_lt (length c.self.inside.channels) 64 ≡ true = lt-ltb (length c.self.inside.channels) 64 (omega (arith, c.in-Ok.ensures.room)) in
-    rw (← c.self.view_is, may.counted, c.in-Ok.ensures.ok, c.number-number.ensures) (step_created _ c.args.caller.now.seat.thread c.args.flags _ c.new.result may.sound (ap (λ q. q.items) c.new.ensures) _ may.among.known may.up may.free flags room (rw (c.ending.ensures, c.number-number.ensures, may.none) at c.put.ensures))
+    let room : nat_lt (length c.self.inside.objects.channels) 64 ≡ true = lt-ltb (length c.self.inside.objects.channels) 64 (omega (arith, c.in_default.ensures.room)) in
+    rw (← c.self.view_is, may.counted, c.in_default.ensures.ok, c.number.ensures) (step_created _ c.args.caller.now.seat.thread c.args.flags _ c.new.result may.sound (ap (λ q. q.items) c.new.ensures) _ may.among.known may.up may.free flags room (rw (c.ending.ensures, c.number.ensures, may.none) at c.put.ensures))

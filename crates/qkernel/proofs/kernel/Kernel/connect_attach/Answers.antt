@@ -11,7 +11,7 @@ use Rattle.qkernel.proofs.kernel.Kernel.connect_attach.Goals as goal
 pub create-requires : goal.create-requires
 create-requires c =
     let may = rw (← c.self.view_is) at c.requires in
-    rw (c.number-number.ensures) (up_to_below (λ e. e.0) c.args.caller.now.made c.self.inside.connections may.sound.connection_ids)
+    rw (c.number.ensures) (up_to_below (λ e. e.0) c.args.caller.now.made c.self.inside.objects.connections may.sound.connection_ids)
 
 pub invariant_of-self : goal.invariant_of-self
 invariant_of-self c =
@@ -21,17 +21,17 @@ invariant_of-self c =
 pub returns-in-Err : goal.returns-in-Err
 returns-in-Err c =
     let may = rw (← c.self.view_is) at c.requires in
-    let opens : is_some (channel_in c.self.inside.channels c.args.chid) ≡ true = sym c.if-not-is_open.ensures in
+    let opens : is_some (channel_in c.self.inside.objects.channels c.args.chid) ≡ true = sym c.if-not-is_open.ensures in
     (c.requires.none, rw (← c.self.view_is, may.counted, c.in-Err.ensures.err) (step_attach_refused _ c.args.caller.now.seat.thread c.args.chid c.in-Err.errno _ may.up may.free opens c.in-Err.ensures.error refl))
 
 pub invariant_of-self-2 : goal.invariant_of-self-2
 invariant_of-self-2 c =
     let may = rw (← c.self.view_is) at c.requires in
-    rw (may.counted, c.in-Ok.ensures.ok, c.number-number.ensures) (sound_attached _ c.args.caller.now.seat.thread c.args.chid (caller_of c.args.caller.now may.among.began) may.sound)
+    rw (may.counted, c.in_default.ensures.ok, c.number.ensures) (sound_attached _ c.args.caller.now.seat.thread c.args.chid (caller_of c.args.caller.now may.among.began) may.sound)
 
 pub returns : goal.returns
 returns c =
     let may = rw (← c.self.view_is) at c.requires in
-    let opens : is_some (channel_in c.self.inside.channels c.args.chid) ≡ true = sym c.if-not-is_open.ensures in
-    let room : nat_lt (length c.self.inside.connections) 1024 ≡ true = lt-ltb (length c.self.inside.connections) 1024 (omega (arith, c.in-Ok.ensures.room)) in
-    rw (← c.self.view_is, may.counted, c.in-Ok.ensures.ok, c.number-number.ensures) (step_attached _ c.args.caller.now.seat.thread c.args.chid _ may.sound _ may.among.known may.up may.free opens room (rw (c.ending.ensures, c.number-number.ensures, may.none) at c.put.ensures))
+    let opens : is_some (channel_in c.self.inside.objects.channels c.args.chid) ≡ true = sym c.if-not-is_open.ensures in
+    let room : nat_lt (length c.self.inside.objects.connections) 1024 ≡ true = lt-ltb (length c.self.inside.objects.connections) 1024 (omega (arith, c.in_default.ensures.room)) in
+    rw (← c.self.view_is, may.counted, c.in_default.ensures.ok, c.number.ensures) (step_attached _ c.args.caller.now.seat.thread c.args.chid _ may.sound _ may.among.known may.up may.free opens room (rw (c.ending.ensures, c.number.ensures, may.none) at c.put.ensures))

@@ -10,15 +10,15 @@ use Rattle.qkernel.proofs.kernel.Kernel.read.Goals as goal
 pub returns-in-Err : goal.returns-in-Err
 returns-in-Err c =
     let may = rw (← c.self.view_is) at c.requires in
-    let none = rw (← c.self.view_is) at c.in-Err.ensures.none in
+    let none = c.in-Err.ensures.none in
     rw (← c.self.view_is, may.counted) (step_unheld _ c.args.caller.now.seat.thread _ c.args.rcvid may.sound may.among.known (Read c.args.rcvid c.args.offset c.args.buffer) _ refl may.up may.free none (rw c.in-Err.ensures.error at c.refuse.ensures))
 
 pub returns : goal.returns
 returns c =
     let may = rw (← c.self.view_is) at c.requires in
-    let held = rw (← c.self.view_is) at c.in-Ok.ensures.held in
-    let sent = rw (← c.self.view_is) at c.in-Ok.ensures.sender in
-    let message : c.message.result.now ≡ message_from c.self.inside.threads c.args.rcvid =
-    c.message.ensures ∙ ap message_in (sym c.record.ensures.open_call) ∙ sym (message_sent c.args.rcvid c.in-Ok.holder.thread c.self.inside.threads sent) in
+    let held = c.in-Ok.ensures.held in
+    let sent = c.in-Ok.ensures.sender in
+    let message : c.message-message.result.now ≡ message_from c.self.inside.objects.threads c.args.rcvid =
+    c.message-message.ensures ∙ ap message_in (sym c.record.ensures.open_call) ∙ sym (message_sent c.args.rcvid c.in-Ok.holder.thread c.self.inside.objects.threads sent) in
     let ended = rw (c.ending_with.ensures, c.take-copied.ensures.count, c.take-copied.ensures.after, message, may.none) at c.put.ensures in
     rw (← c.self.view_is, may.counted) (step_read _ c.args.caller.now.seat.thread _ c.args.rcvid may.sound may.among.known may.up may.free held c.args.offset c.args.buffer _ ended)

@@ -18,24 +18,24 @@ use Rattle.qkernel.proofs.Steps.Told.{is_told, made_for, newest_due}
 pub invariant_of-self : goal.invariant_of-self
 invariant_of-self c =
     let may = rw (← c.self.view_is) at c.requires in
-    rw (may.counted) (sound_cancelled _ c.self.inside.down (Of c.args.target) Intr _ _ may.sound c.cancel.ensures.threads c.cancel.ensures.channels)
+    rw (may.counted, c.cancel.ensures.connections) (sound_cancelled _ c.self.inside.down (Of c.args.target) Intr _ _ may.sound c.cancel.ensures.threads c.cancel.ensures.channels)
 
 pub returns-in_default : goal.returns-in_default
 returns-in_default c =
     let may = rw (← c.self.view_is) at c.requires in
-    let fellow = rw (← c.self.view_is) at c.in_ok-fellow.ensures.fellow in
+    let fellow = c.in_ok-fellow.ensures.fellow in
     let none = rw c.in_ok-fellow.ensures.thread at (sym c.guarded_message.ensures ∙ c.in_default.is) in
-    rw (← c.self.view_is, may.counted) (step_unblock_cancelled _ c.args.caller.now.seat.thread c.args.target _ may.sound may.among.known may.up may.free fellow none _ _ _ c.cancel.ensures.threads c.cancel.ensures.channels
-    (rw c.ending.ensures at c.cancel.ensures.endings))
+    rw (← c.self.view_is, may.counted, c.cancel.ensures.connections) (step_unblock_cancelled _ c.args.caller.now.seat.thread c.args.target _ may.sound may.among.known may.up may.free fellow none _ _ _ c.cancel.ensures.threads c.cancel.ensures.channels
+    (rw c.ending-own.ensures at c.cancel.ensures.endings))
 
 -- ---- its message had its pulse
 
 pub returns-then-held : goal.returns-then-held
 returns-then-held c =
     let may = rw (← c.self.view_is) at c.requires in
-    let fellow = rw (← c.self.view_is) at c.in_ok-fellow.ensures.fellow in
+    let fellow = c.in_ok-fellow.ensures.fellow in
     let guards = rw c.in_ok-fellow.ensures.thread at (sym c.guarded_message.ensures ∙ c.in-Some.is) in
-    rw (← c.self.view_is, may.counted) (step_unblock_again _ c.args.caller.now.seat.thread c.args.target _ may.sound may.among.known may.up may.free fellow c.in-Some.guarded guards c.if-held.true _ (rw (c.ending-then-held.ensures, may.none) at c.put.ensures))
+    rw (← c.self.view_is, may.counted) (step_unblock_again _ c.args.caller.now.seat.thread c.args.target _ may.sound may.among.known may.up may.free fellow c.in-Some.guarded guards c.if-held.true _ (rw (c.ending.ensures, may.none) at c.put.ensures))
 
 -- ---- its server is told
 
@@ -51,7 +51,7 @@ send_pulse-requires-clause-newest c =
 pub mark_unblocked-requires : goal.mark_unblocked-requires
 mark_unblocked-requires c =
     let may = rw (← c.self.view_is) at c.requires in
-    let there = rw (← c.self.view_is) at c.in_ok-fellow.ensures.seat in
+    let there = c.in_ok-fellow.ensures.seat in
     let free = rw (← c.self.view_is) at c.requires.free in
     let new = new_pulse (c.args.caller.now.made + 1) _ _ c.item-pulse.result c.item-pulse.ensures in
     let told = is_told _ c.args.caller.now.seat.thread c.in-Some.guarded.1 (Some c.item-pulse.result) _ _ c.in_ok-met.met may.sound free new c.in_ok-met.ensures.ok in
@@ -61,37 +61,37 @@ pub invariant_of-self-2 : goal.invariant_of-self-2
 invariant_of-self-2 c =
     let may = rw (← c.self.view_is) at c.requires in
     let new = new_pulse (c.args.caller.now.made + 1) _ _ c.item-pulse.result c.item-pulse.ensures in
-    rw (may.counted) (sound_kept _ _ c.mark_unblocked.ensures.members (sound_due _ c.in-Some.guarded.1 (Some c.item-pulse.result) _ _ c.in_ok-met.met may.sound new c.in_ok-met.ensures.ok))
+    rw (may.counted, c.in_ok-met.ensures.connections) (sound_kept _ _ c.mark_unblocked.ensures.members (sound_due _ c.in-Some.guarded.1 (Some c.item-pulse.result) _ _ c.in_ok-met.met may.sound new c.in_ok-met.ensures.ok))
 
 pub invariant_of-self-in_err-met : goal.invariant_of-self-in_err-met
 invariant_of-self-in_err-met c =
     let may = rw (← c.self.view_is) at c.requires in
-    rw (may.counted) (sound_turned_away _ c.args.caller.now.seat.thread (Unblock c.args.target) c.in-Some.guarded.1 c.item-pulse.result c.in_err-met.field-0.0 _ _ c.in_err-met.ensures.err may.sound)
+    rw (may.counted, c.in_err-met.ensures.connections) (sound_turned_away _ c.args.caller.now.seat.thread (Unblock c.args.target) c.in-Some.guarded.1 c.item-pulse.result c.in_err-met.field-0.0 _ _ c.in_err-met.ensures.err may.sound)
 
 pub returns : goal.returns
 returns c =
     let may = rw (← c.self.view_is) at c.requires in
-    let fellow = rw (← c.self.view_is) at c.in_ok-fellow.ensures.fellow in
+    let fellow = c.in_ok-fellow.ensures.fellow in
     let guards = rw c.in_ok-fellow.ensures.thread at (sym c.guarded_message.ensures ∙ c.in-Some.is) in
     let g = c.in-Some.guarded in
     let pulse = c.item-pulse.result in
     let new = new_pulse (c.args.caller.now.made + 1) _ _ pulse c.item-pulse.ensures in
     let told = is_told _ c.args.caller.now.seat.thread g.1 (Some pulse) _ _ c.in_ok-met.met may.sound may.free new c.in_ok-met.ensures.ok in
-    rw (← c.self.view_is, may.counted) (step_told _ c.args.caller.now.seat.thread (Unblock c.args.target) _ (made_for g.1 (Some pulse)) may.sound may.among.known may.free
+    rw (← c.self.view_is, may.counted, c.in_ok-met.ensures.connections) (step_told _ c.args.caller.now.seat.thread (Unblock c.args.target) _ (made_for g.1 (Some pulse)) may.sound may.among.known may.free
     (tells_unblock _ c.args.caller.now.seat.thread c.args.target _ may.sound may.among.known may.up may.free fellow g guards c.if-held.false pulse c.item-pulse.ensures told.room) _ _ c.in_ok-met.met told _ _
     (are_marked c.args.target (record { item = pulse; channel = g.1 }) _ _ (rw c.in_ok-fellow.ensures.thread at c.mark_unblocked.ensures)) (rw (c.put-2.ensures, c.ending-2.ensures, may.none) at c.put_if.ensures))
 
 pub returns-in_err-met : goal.returns-in_err-met
 returns-in_err-met c =
     let may = rw (← c.self.view_is) at c.requires in
-    let fellow = rw (← c.self.view_is) at c.in_ok-fellow.ensures.fellow in
+    let fellow = c.in_ok-fellow.ensures.fellow in
     let guards = rw c.in_ok-fellow.ensures.thread at (sym c.guarded_message.ensures ∙ c.in-Some.is) in
     let g = c.in-Some.guarded in
     let pulse = c.item-pulse.result in
     let p = err_from_is_err_and c.from_residual-in_err-met.result c.from_residual-in_err-met.ensures.1 in
     rw (p.1, p.2) (
       c.requires.none,
-      rw (← c.self.view_is, may.counted) (step_turned_away _ c.args.caller.now.seat.thread (Unblock c.args.target) g.1 pulse c.in_err-met.field-0.0 _ _ c.in_err-met.ensures.err _
+      rw (← c.self.view_is, may.counted, c.in_err-met.ensures.connections) (step_turned_away _ c.args.caller.now.seat.thread (Unblock c.args.target) g.1 pulse c.in_err-met.field-0.0 _ _ c.in_err-met.ensures.err _
           (unblock_full _ c.args.caller.now.seat.thread c.args.target _ may.sound may.among.known may.up may.free fellow g guards c.if-held.false pulse c.item-pulse.ensures)
           (unblock_memory _ c.args.caller.now.seat.thread c.args.target _ may.sound may.among.known may.up may.free fellow g guards c.if-held.false pulse c.item-pulse.ensures) refl),
     )

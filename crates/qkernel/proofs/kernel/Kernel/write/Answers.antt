@@ -13,7 +13,7 @@ use Rattle.qkernel.proofs.kernel.Kernel.write.Goals as goal
 pub returns-in_err-holder : goal.returns-in_err-holder
 returns-in_err-holder c =
     let may = rw (← c.self.view_is) at c.requires in
-    let none = rw (← c.self.view_is) at c.in_err-holder.ensures.none in
+    let none = c.in_err-holder.ensures.none in
     let p = err_from_is_err_and c.from_residual.result c.from_residual.ensures.1 in
     rw (p.1, p.2) (c.requires.none, rw (← c.self.view_is, may.counted, c.in_err-holder.ensures.error) (step_unheld _ c.args.caller.now.seat.thread _ c.args.rcvid may.sound may.among.known (Write c.args.rcvid c.args.offset c.args.bytes.now) _ refl may.up may.free none refl))
 
@@ -25,9 +25,9 @@ invariant_of-self c =
 pub returns : goal.returns
 returns c =
     let may = rw (← c.self.view_is) at c.requires in
-    let held = rw (← c.self.view_is) at c.in_ok-holder.ensures.held in
-    let sent = rw (← c.self.view_is) at c.in_ok-holder.ensures.sender in
+    let held = c.in_ok-holder.ensures.held in
+    let sent = c.in_ok-holder.ensures.sender in
     let changes = changes_sender c.args.rcvid c.in_ok-holder.holder.thread (written_call c.args.offset c.args.bytes.now) _ _ sent c.write_sent-copied.ensures.after in
-    let count = c.write_sent-copied.ensures.count ∙ ap (λ o. laid_count (reply_buffer_in o) c.args.offset c.args.bytes.now) (sym (call_sent c.args.rcvid c.in_ok-holder.holder.thread c.self.inside.threads sent)) in
+    let count = c.write_sent-copied.ensures.count ∙ ap (λ o. laid_count (reply_buffer_in o) c.args.offset c.args.bytes.now) (sym (call_sent c.args.rcvid c.in_ok-holder.holder.thread c.self.inside.objects.threads sent)) in
     let ended = rw (c.ending.ensures, count, may.none) at c.put.ensures in
     rw (← c.self.view_is, may.counted) (step_written _ c.args.caller.now.seat.thread _ c.args.rcvid may.sound may.among.known may.up may.free held c.args.offset c.args.bytes.now _ _ changes ended)

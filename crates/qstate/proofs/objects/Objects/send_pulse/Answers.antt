@@ -3,7 +3,7 @@ use Rattle.std.proofs.lemmas.Bool.{lt-ltb}
 use Rattle.std.proofs.lemmas.Result.{err_from_is_err_and}
 use Rattle.qstate.specs.Kept.{items_waiting_on}
 use Rattle.qstate.proofs.ChannelWrites.{sets_items}
-use Rattle.qstate.proofs.pulses.send_pulse.Goals as goal
+use Rattle.qstate.proofs.objects.Objects.send_pulse.Goals as goal
 
 pub returns-in_ok-enqueue-in-None-clause-ok : goal.returns-in_ok-enqueue-in-None-clause-ok
 returns-in_ok-enqueue-in-None-clause-ok c =
@@ -12,7 +12,7 @@ returns-in_ok-enqueue-in-None-clause-ok c =
       room = rw (there, ← c.pulses.ensures) (lt-ltb c.pulses.result 1024 c.if-pulses-ge-PULSE_LIMIT.false);
       nobody = c.in-None.ensures.nobody;
       threads_are = c.in-None.ensures.unchanged;
-      sets = sets_items c.args.channels.now c.args.chid c.in-Some.channel.now c.enqueue.new.self _ there c.enqueue.ensures.owner c.enqueue.ensures.flags
+      sets = sets_items c.args.self.now.channels c.args.chid c.in-Some.channel.now c.enqueue.new.self _ there c.enqueue.ensures.owner c.enqueue.ensures.flags
           (c.in_ok-enqueue-in-None.ensures.ok ∙ ap (λ xs. xs ++ c.args.item ∷ []) (sym (ap items_waiting_on there)));
     }
 
@@ -25,7 +25,7 @@ returns-in_err-enqueue-in-None-clause-err c =
       inr (record {
         room = rw (there, ← c.pulses.ensures) (lt-ltb c.pulses.result 1024 c.if-pulses-ge-PULSE_LIMIT.false);
         nobody = c.in-None.ensures.nobody;
-        sets = sets_items c.args.channels.now c.args.chid c.in-Some.channel.now c.enqueue.new.self _ there c.enqueue.ensures.owner c.enqueue.ensures.flags
+        sets = sets_items c.args.self.now.channels c.args.chid c.in-Some.channel.now c.enqueue.new.self _ there c.enqueue.ensures.owner c.enqueue.ensures.flags
             (c.in_err-enqueue-in-None.ensures.err ∙ sym (ap items_waiting_on there));
         error = c.in_err-enqueue-in-None.ensures.error;
       }),
