@@ -23,7 +23,7 @@ use Rattle.qrules.proofs.Traces.TraceLaws.Setting as setting
 use Rattle.qrules.proofs.Traces.TraceLaws.CurrentPriority as current_priority
 use Rattle.qrules.specs.Lawful.{facts_of, IsLawful}
 use Rattle.qrules.specs.Past.{is_gone, sender_of}
-use Rattle.qrules.specs.Facts.{send_view}
+use Rattle.qrules.specs.Private.Facts.{send_view}
 use Rattle.qrules.proofs.Properties.BestFirst.{asks_of}
 use Rattle.qlaws.specs.Pending as laws
 use Rattle.qlaws.proofs.Waits.{place_of, before}

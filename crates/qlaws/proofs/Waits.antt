@@ -19,7 +19,8 @@ use Rattle.qmodel.specs.declared.open_call.Wait.TheVariants.{Answer, Item as For
 use Rattle.qrules.specs.Facts.{OpenReceive, OpenSend}
 use Rattle.qrules.specs.Lawful.{facts_of, IsLawful}
 use Rattle.qrules.specs.Rule.{ReceiveRequest}
-use Rattle.qrules.specs.Facts.{receive_view, receive_in, send_view, send_in}
+use Rattle.qrules.specs.Facts.{receive_in, send_in}
+use Rattle.qrules.specs.Private.Facts.{receive_view, send_view}
 use Rattle.qrules.proofs.Lawful.{same_lawful}
 use Rattle.qlaws.specs.Endings.{waiting_buffer}
 use Rattle.qrules.specs.Facts.{open_receives, open_sends}

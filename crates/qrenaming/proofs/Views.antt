@@ -15,7 +15,8 @@ use Rattle.qmodel.specs.declared.open_call.OpenCall.{OpenCall}
 use Rattle.qmodel.specs.declared.open_call.Wait.{Wait}
 use Rattle.qmodel.specs.declared.open_call.Wait.TheVariants.{Answer, Item as ForItem}
 use Rattle.qrules.specs.Facts.{OpenReceive}
-use Rattle.qrules.specs.Facts.{receive_in, receive_view, send_view}
+use Rattle.qrules.specs.Facts.{receive_in}
+use Rattle.qrules.specs.Private.Facts.{receive_view, send_view}
 use Rattle.qrules.proofs.View.{IsKnown}
 use Rattle.qrenaming.specs.Laws.{KeepsReceivers}
 use Rattle.qrenaming.specs.Renaming.{receive_as, send_as, Renaming}

@@ -16,7 +16,8 @@ use Rattle.qqueue.specs.declared.item.Kind.{Kind}
 use Rattle.qrules.specs.Facts.{OpenReceive, OpenSend}
 use Rattle.qrules.specs.Delivery.{cancel, cancel_receive, cancel_send}
 use Rattle.qrules.proofs.Lists.{filter-filter_map, found, map-filter_map}
-use Rattle.qrules.specs.Facts.{receive_in, receive_view, send_in, send_view}
+use Rattle.qrules.specs.Facts.{receive_in, send_in}
+use Rattle.qrules.specs.Private.Facts.{receive_view, send_view}
 use Rattle.qrules.proofs.View.{receive_thread, send_thread, unknown, IsKnown}
 use Rattle.qrules.specs.Facts.{open_receives, open_sends}
 

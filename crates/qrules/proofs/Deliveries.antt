@@ -23,7 +23,8 @@ use Rattle.qrules.specs.Rule.{SentItem}
 use Rattle.qrules.specs.Delivery.{deliver, delivery, has_to_wait, newest_receiver}
 use Rattle.qrules.proofs.Cancels.{pass}
 use Rattle.qrules.proofs.Newest.{newest_same, taker, waits_same}
-use Rattle.qrules.specs.Facts.{receive_in, receive_view}
+use Rattle.qrules.specs.Facts.{receive_in}
+use Rattle.qrules.specs.Private.Facts.{receive_view}
 
 -- no thread takes the item
 pub record NoReceiver (f : OldFacts) (m : SentItem) : Type 0 where

@@ -11,7 +11,8 @@ use Rattle.qmodel.specs.declared.open_call.Wait.{Wait}
 use Rattle.qmodel.specs.declared.open_call.Wait.TheVariants.{Answer, Item as ForItem}
 use Rattle.qrules.proofs.Traces.Past.Senders.{sender_sends}
 use Rattle.qrules.specs.Facts.{OpenSend, open_send}
-use Rattle.qrules.specs.Facts.{send_in, send_view}
+use Rattle.qrules.specs.Facts.{send_in}
+use Rattle.qrules.specs.Private.Facts.{send_view}
 
 module _ (open_call : ℕ → Option OpenCall) (i : ℕ) where
   open_among : (ts : List ℕ) → find (λ s. eqb s.number i) (filter_map (λ u. send_view u (open_call u)) ts) ≡ option_and_then (λ u. send_view u (open_call u)) (sender_among open_call i ts)

@@ -13,7 +13,8 @@ use Rattle.qrules.specs.Facts.{OpenReceive}
 use Rattle.qrules.specs.Rule.{SentItem}
 use Rattle.qrules.specs.Delivery.{newer, newest_receiver}
 use Rattle.qrules.proofs.Lists.{filter-filter_map}
-use Rattle.qrules.specs.Facts.{receive_in, receive_view}
+use Rattle.qrules.specs.Facts.{receive_in}
+use Rattle.qrules.specs.Private.Facts.{receive_view}
 
 -- ---- the newest of a list
 

@@ -8,7 +8,8 @@ use Rattle.qrules.specs.Private.Facts.{threads_of, Facts as OldFacts}
 use Rattle.qmodel.specs.declared.open_call.OpenCall.{OpenCall}
 use Rattle.qmodel.specs.declared.open_call.Wait.TheVariants.{Answer, Item as ForItem}
 use Rattle.qrules.specs.Facts.{OpenReceive, OpenSend}
-use Rattle.qrules.specs.Facts.{receive_in, receive_view, send_in, send_view}
+use Rattle.qrules.specs.Facts.{receive_in, send_in}
+use Rattle.qrules.specs.Private.Facts.{receive_view, send_view}
 
 -- a thread that waits is one of the roster
 abbrev pub IsKnown : OldFacts → Type 0

@@ -53,19 +53,11 @@ send_in t n (Answer coid message reply_buffer receipt) = Some (record {
 })
 send_in t n (ForItem chid kind buffer) = None
 
--- the open Send of thread t, if its open call is one
-abbrev pub send_view : ThreadNo → Option OpenCall → Option OpenSend
-send_view t call = option_and_then (λ o. send_in t o.number o.wait) call
-
 -- call n of thread t, if it waits for an item
 abbrev pub receive_in : ThreadNo → CallNo → Wait → Option OpenReceive
 receive_in t n (Answer coid message reply_buffer receipt) = None
 receive_in t n (ForItem chid kind buffer) =
     Some (record { number = n; thread = t; channel = chid; kind = kind; buffer = buffer })
-
--- the open receive of thread t, if its open call is one
-abbrev pub receive_view : ThreadNo → Option OpenCall → Option OpenReceive
-receive_view t call = option_and_then (λ o. receive_in t o.number o.wait) call
 
 -- the threads of a roster
 abbrev pub threads_of : List Member → List ThreadNo
@@ -105,11 +97,11 @@ module _ (f : Facts) where
 
   -- the Send that thread t waits in
   abbrev pub send_of : ThreadNo → Option OpenSend
-  send_of t = send_view t (f.open_call t)
+  send_of t = option_and_then (λ o. send_in t o.number o.wait) (f.open_call t)
 
   -- the Receive or ReceivePulse that thread t waits in
   abbrev pub receive_of : ThreadNo → Option OpenReceive
-  receive_of t = receive_view t (f.open_call t)
+  receive_of t = option_and_then (λ o. receive_in t o.number o.wait) (f.open_call t)
 
   -- the open Sends, in rising thread number
   abbrev pub open_sends : List OpenSend

@@ -58,23 +58,17 @@ item_in (mark.Message rcvid copied) = Some (record { number = rcvid; copied = co
 item_in (mark.Pulse item priority what) = Some (record { number = item; copied = 0 })
 item_in other = None
 
--- how many bytes were copied of item i, if this is its receipt
-abbrev pub copied_count_in : CallNo → Option ReceivedItem → Option ℕ
-copied_count_in i received = option_and_then (λ r. if r.number == i then Some r.copied else None) received
-
 -- the first value that this says of these endings
 abbrev pub first_among : {A : Type 0} → (Completion → Option A) → List Completion → Option A
 first_among say [] = None
 first_among say (x ∷ endings) = option_or (say x) (first_among say endings)
 
--- how many bytes of item i were copied by these endings, if one of them receives it
-abbrev pub copied_count_among : List Completion → CallNo → Option ℕ
-copied_count_among endings i = first_among (λ x. copied_count_in i (item_in x.mark)) endings
-
 -- how many bytes of item i were copied, if it is received
 abbrev pub copied_count_of : Trace → CallNo → Option ℕ
 copied_count_of [] i = None
-copied_count_of (e ∷ past) i = option_or (copied_count_among e.endings i) (copied_count_of past i)
+copied_count_of (e ∷ past) i = option_or (first_among
+    (λ x. option_and_then (λ r. if r.number == i then Some r.copied else None) (item_in x.mark)) e.endings)
+    (copied_count_of past i)
 
 -- item i is received
 abbrev pub is_received : Trace → CallNo → Bool
@@ -174,14 +168,11 @@ abbrev pub is_unblock_for : ReceiveId → What → Bool
 is_unblock_for i (what.Unblock rcvid) = rcvid == i
 is_unblock_for i other = false
 
--- what a call waits for, if it doesn't end in its own event
-abbrev pub waits : Call → Option Wait
-waits c = option_or (option_map (λ s. Answer s.connection s.message s.reply_buffer None) (effect_of c).sends)
-    (option_map (λ r. ForItem r.channel r.kind r.buffer) (effect_of c).receives)
-
 -- the open call that a call leaves if it doesn't end in its own event
 abbrev pub asks : CallNo → Call → Option OpenCall
-asks n c = option_map (λ wait. record { number = n; wait = wait }) (waits c)
+asks n c = option_map (λ wait. record { number = n; wait = wait }) (option_or
+    (option_map (λ s. Answer s.connection s.message s.reply_buffer None) (effect_of c).sends)
+    (option_map (λ r. ForItem r.channel r.kind r.buffer) (effect_of c).receives))
 
 -- the newest accepted blocking call of thread t
 abbrev pub newest_block : Trace → ThreadNo → Option OpenCall
@@ -201,29 +192,15 @@ abbrev pub with_buffer : (Bytes → Bytes) → Wait → Wait
 with_buffer f (Answer coid message reply_buffer receipt) = Answer coid message (f reply_buffer) receipt
 with_buffer f (ForItem chid kind buffer) = ForItem chid kind buffer
 
--- a call with the present content of its reply buffer
-abbrev pub call_by_now : Trace → OpenCall → OpenCall
-call_by_now past o = record o { wait = with_buffer (with_writes past o.number) o.wait }
-
--- a call, unless it is ended
-abbrev pub unless_ended : Trace → Option OpenCall → Option OpenCall
-unless_ended past call = option_and_then (λ o. if is_ended past o.number then None else Some o) call
-
--- a call with the record of its message's receipt, if there was one
-abbrev pub with_receipt : Priority → Bool → Option ℕ → OpenCall → OpenCall
-with_receipt priority unblocked copied o =
-    option_map_or (λ n. record o
-    { wait = wait_with_receipt (record { priority = priority; copied = n; unblocked = unblocked }) o.wait })
-    copied o
-
--- one of these items is an unblock pulse for message i
-abbrev pub unblocked_among : List SentItem → ReceiveId → Bool
-unblocked_among made i = list_any (λ m. is_unblock_for i m.item.what) made
-
--- the open call of thread t, given all items with their present priorities
+-- the open call of thread t, given all items with their present priorities: its newest accepted call that may
+-- wait, unless that is ended; a Send has what was written over its reply buffer, and its message's receipt
 abbrev pub open_call_by : Trace → List SentItem → ThreadNo → Option OpenCall
-open_call_by past made t =
-    option_map
-    (λ o. with_receipt (priority_of_item (item_among made o.number)) (unblocked_among made o.number)
-    (copied_count_of past o.number) (call_by_now past o))
-    (unless_ended past (newest_block past t))
+open_call_by past items t = option_map (λ o. let now : OpenCall =
+    record o { wait = with_buffer (with_writes past o.number) o.wait } in option_map_or (λ copied. record now {
+      wait = wait_with_receipt (record {
+        priority = priority_of_item (item_among items o.number);
+        copied = copied;
+        unblocked = list_any (λ m. is_unblock_for o.number m.item.what) items;
+      }) now.wait;
+    }) (copied_count_of past o.number) now)
+    (option_and_then (λ o. if is_ended past o.number then None else Some o) (newest_block past t))

@@ -25,7 +25,8 @@ use Rattle.qrules.specs.Past.{attached_connection, item_among}
 use Rattle.qrules.specs.Properties.{items, number_received, IsShut, ShutForGood}
 use Rattle.qrules.proofs.Past.Facts.{facts_known}
 use Rattle.qrules.proofs.Properties.Items.{same_channel_among}
-use Rattle.qrules.specs.Facts.{receive_in, receive_view, send_in, send_view}
+use Rattle.qrules.specs.Facts.{receive_in, send_in}
+use Rattle.qrules.specs.Private.Facts.{receive_view, send_view}
 use Rattle.qrules.proofs.Same.{AreOfRoster}
 use Rattle.qrules.specs.Facts.{open_receives, open_sends}
 

@@ -16,7 +16,8 @@ use Rattle.qrules.specs.Facts.{leads_to}
 use Rattle.qrules.specs.Rules.Threads.{state_of, state_of_send}
 use Rattle.qrules.proofs.Cancels.{cancel_same}
 use Rattle.qrules.proofs.Rows.Same.{after_own, alone, SameRow}
-use Rattle.qrules.specs.Facts.{receive_in, receive_view, send_in, send_view}
+use Rattle.qrules.specs.Facts.{receive_in, send_in}
+use Rattle.qrules.specs.Private.Facts.{receive_view, send_view}
 use Rattle.qrules.proofs.View.{IsKnown}
 
 pub channel_create : (f : OldFacts) (t : ℕ) (flags : ChannelFlags) → SameRow f t (calls.ChannelCreate flags)

@@ -6,7 +6,8 @@ use Rattle.qqueue.specs.declared.item.What.TheVariants as what
 use Rattle.qmodel.specs.Trace.{SentItem}
 use Rattle.qmodel.specs.declared.open_call.Wait.{Wait}
 use Rattle.qmodel.specs.declared.open_call.Wait.TheVariants.{Answer, Item as ForItem}
-use Rattle.qrules.specs.Facts.{send_in, send_view, Facts, OpenSend}
+use Rattle.qrules.specs.Facts.{send_in, Facts, OpenSend}
+use Rattle.qrules.specs.Private.Facts.{send_view}
 use Rattle.qrules.specs.Private.Calls.Unblock.{due_pulse, due_pulse_of_wait}
 use Rattle.qrules.specs.Rules.Unblock.{unblock_channel, unblock_pulse}
 

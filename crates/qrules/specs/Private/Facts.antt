@@ -10,6 +10,7 @@ use Rattle.qmodel.specs.Trace.{OpenChannel}
 use Rattle.qmodel.specs.Trace.{ProcessNo, ReceiveId, ThreadNo}
 pub use Rattle.qrules.specs.Facts.{count_to, has_flag, is_of_process, is_of_same_process, owns, route, threads_of}
 pub use Rattle.qrules.specs.Facts.{Facts}
+use Rattle.qrules.specs.Facts.{receive_in, send_in, OpenReceive, OpenSend}
 
 -- ---- threads and processes
 
@@ -76,3 +77,13 @@ message_in call = option_map_or (λ o. message_of o.wait) call []
 -- the message that was sent as number i
 abbrev pub message : Facts → ReceiveId → List ℕ
 message f i = message_in (open_send f i)
+
+-- ---- open calls
+
+-- the open Send of thread t, if its open call is one
+abbrev pub send_view : ThreadNo → Option OpenCall → Option OpenSend
+send_view t call = option_and_then (λ o. send_in t o.number o.wait) call
+
+-- the open receive of thread t, if its open call is one
+abbrev pub receive_view : ThreadNo → Option OpenCall → Option OpenReceive
+receive_view t call = option_and_then (λ o. receive_in t o.number o.wait) call

@@ -16,11 +16,12 @@ use Rattle.qmodel.specs.Trace.{SentItem}
 pub use Rattle.qrules.specs.Past.{accepted_at, attached_connection, channel_at, connection_at, created_channel}
 pub use Rattle.qrules.specs.Past.{is_accepted, is_destroyed, is_ended, is_failure, is_number, is_unblock_for}
 pub use Rattle.qrules.specs.Past.{item_among, item_in, priority_set_by, sender_of, was_done, with_writes}
-pub use Rattle.qrules.specs.Past.{copied_count_among, copied_count_in, copied_count_of, current_priority}
+pub use Rattle.qrules.specs.Past.{copied_count_of, current_priority}
 pub use Rattle.qrules.specs.Past.{first_among, is_gone, is_received, items_by_now, pending_among}
 pub use Rattle.qrules.specs.Past.{priority_set_since, ReceivedItem}
-pub use Rattle.qrules.specs.Past.{call_by_now, newest_block, open_call_by, unblocked_among, unless_ended}
-pub use Rattle.qrules.specs.Past.{wait_with_receipt, with_receipt}
+pub use Rattle.qrules.specs.Past.{newest_block, open_call_by, wait_with_receipt}
+use Rattle.qrules.specs.Past.{with_buffer}
+use Rattle.qmodel.specs.Trace.{ReceiveId}
 use Rattle.qrules.specs.Lawful.{facts_of, item_made_by, items_and_priorities}
 pub use Rattle.qrules.specs.Properties.{items, priority_before}
 
@@ -53,6 +54,33 @@ abbrev pub live_connections : List Member → Trace → ℕ
 live_connections roster past = count_to (connection_at roster past) (length past)
 
 -- ---- searching
+
+-- how many bytes were copied of item i, if this is its receipt
+abbrev pub copied_count_in : CallNo → Option ReceivedItem → Option ℕ
+copied_count_in i received = option_and_then (λ r. if r.number == i then Some r.copied else None) received
+
+-- how many bytes of item i were copied by these endings, if one of them receives it
+abbrev pub copied_count_among : List Completion → CallNo → Option ℕ
+copied_count_among endings i = first_among (λ x. copied_count_in i (item_in x.mark)) endings
+
+-- a call with the present content of its reply buffer
+abbrev pub call_by_now : Trace → OpenCall → OpenCall
+call_by_now past o = record o { wait = with_buffer (with_writes past o.number) o.wait }
+
+-- a call, unless it is ended
+abbrev pub unless_ended : Trace → Option OpenCall → Option OpenCall
+unless_ended past call = option_and_then (λ o. if is_ended past o.number then None else Some o) call
+
+-- a call with the record of its message's receipt, if there was one
+abbrev pub with_receipt : Priority → Bool → Option ℕ → OpenCall → OpenCall
+with_receipt priority unblocked copied o =
+    option_map_or (λ n. record o
+    { wait = wait_with_receipt (record { priority = priority; copied = n; unblocked = unblocked }) o.wait })
+    copied o
+
+-- one of these items is an unblock pulse for message i
+abbrev pub unblocked_among : List SentItem → ReceiveId → Bool
+unblocked_among made i = list_any (λ m. is_unblock_for i m.item.what) made
 
 -- the priority of a member; 0 if there is none
 abbrev pub priority_in : Option Member → Priority
