@@ -82,7 +82,7 @@ of_passing P p k (y ∷ items) all =
       | false ↦ λ is all. (λ passes. absurd (true≢false (sym passes ∙ is)), of_passing P p k items all)
     ] refl all
 
--- ---- by the kernel's own records
+-- ---- in the words of the proofs
 
 -- the item with the priority that event e sets for its sender
 abbrev set_by : Event → Trace → Item → Item

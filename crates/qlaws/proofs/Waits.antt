@@ -29,7 +29,7 @@ use Rattle.qrules.specs.Facts.{open_receives, open_sends}
 abbrev pub place_of : ReceiveRequest → ℕ × Kind
 place_of r = (r.channel, r.kind)
 
--- a lawful trace is so by the definitions of the kernel's own records
+-- a lawful trace is so in the words of the proofs
 pub before : (roster : List Member) (past : Trace) → IsLawful roster past → old.IsLawful roster past
 before roster past l = (same_lawful roster past).0 l
 

@@ -4,7 +4,8 @@ use Rattle.qrules.specs.Words.{false, is_some, length, may_take, not, option_map
 use Rattle.qrules.specs.Words.{true}
 use Rattle.qrules.specs.Words.{AllByRecursion, Bool, Call, Connection, None, Option, Some}
 use Rattle.qrules.specs.Trace.{call_at, Bytes, CallNo, Event, ReceiveId, ThreadNo, Trace}
-use Rattle.qrules.specs.Facts.{is_blocked, open_receives, open_send, open_sends, receive_of, Facts, OpenReceive, OpenSend}
+use Rattle.qrules.specs.Facts.{is_blocked, open_receives, open_send, open_sends, receive_of, Facts}
+use Rattle.qrules.specs.Facts.{OpenReceive, OpenSend}
 use Rattle.qrules.specs.Rule.{buffer_of, SentItem}
 use Rattle.qrules.specs.Rules.{effect_of}
 use Rattle.qrules.specs.Delivery.{newest_receiver}

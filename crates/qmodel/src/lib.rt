@@ -1,5 +1,4 @@
-//! The calls of the kernel and the result of each, defined over the list of all past calls. The crate proves what these
-//! definitions mean for all lawful lists, without any code of a kernel.
+//! The calls of the kernel, their results, and the calls that threads wait in.
 #![tactic(auto)]
 
 pub mod call;

@@ -1,4 +1,4 @@
--- A trace is lawful by the one model exactly where it is by the other.
+-- A trace is lawful by the rules exactly where it is by the words of the proofs.
 use Rattle.std.proofs.Common.{◌≡◌, ◌↔◌, List, [], ◌∷◌, refl, sym, subst}
 use Rattle.qtables.specs.declared.member.Member.{Member}
 use Rattle.qrules.specs.Private.Lawful as old

@@ -1,4 +1,4 @@
--- A call is answered so by the one model exactly where it is by the other.
+-- A call has the answer of its rule exactly where it has that of its row in the words of the proofs.
 use Rattle.std.proofs.Common.{◌≡◌, ◌∙◌, ◌↔◌, inl, inr, ℕ, List, [], ◌∷◌, refl, ap, sym, cond, Bool, true, false, eqb}
 use Rattle.std.specs.Prelude.{None, Some, is_some, find}
 use Rattle.std.specs.List.{filter_map}

@@ -1,4 +1,4 @@
--- The six properties are those of both models.
+-- The six properties, and those in the words of the proofs.
 pub mod Items
 pub mod Calls
 pub mod ReceivedOnce

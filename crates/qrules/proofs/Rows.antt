@@ -1,4 +1,4 @@
--- Each call is answered by both models as one.
+-- The rule of each call, and its row in the words of the proofs.
 pub mod Same
 pub mod Plain
 pub mod Held

@@ -1,4 +1,4 @@
--- What the one model's facts are as the other's.
+-- A thread that waits is one of the roster.
 use Rattle.std.proofs.Common.{◌≡◌, ◌∙◌, ℕ, refl, ap, sym, true, false}
 use Rattle.std.specs.Prelude.{Option, None, Some, is_some}
 use Rattle.std.proofs.lemmas.Bool.{true≢false}

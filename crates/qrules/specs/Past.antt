@@ -193,10 +193,11 @@ with_buffer f (Answer coid message reply_buffer receipt) = Answer coid message (
 with_buffer f (ForItem chid kind buffer) = ForItem chid kind buffer
 
 -- the open call of thread t, given all items with their present priorities: its newest accepted call that may
--- wait, unless that is ended; a Send has what was written over its reply buffer, and its message's receipt
+-- wait, unless that is ended; a Send has its reply buffer as it is by now, and its message's receipt
 abbrev pub open_call_by : Trace → List SentItem → ThreadNo → Option OpenCall
-open_call_by past items t = option_map (λ o. let now : OpenCall =
-    record o { wait = with_buffer (with_writes past o.number) o.wait } in option_map_or (λ copied. record now {
+open_call_by past items t = option_map
+    (λ o. let now : OpenCall = record o { wait = with_buffer (with_writes past o.number) o.wait } in
+    option_map_or (λ copied. record now {
       wait = wait_with_receipt (record {
         priority = priority_of_item (item_among items o.number);
         copied = copied;

@@ -8,8 +8,8 @@ use Rattle.qmodel.specs.declared.open_call.Wait.{Wait}
 use Rattle.qmodel.specs.declared.open_call.Wait.TheVariants.{Answer, Item as ForItem}
 use Rattle.qmodel.specs.Trace.{OpenChannel}
 use Rattle.qmodel.specs.Trace.{ProcessNo, ReceiveId, ThreadNo}
-pub use Rattle.qrules.specs.Facts.{count_to, has_flag, is_of_process, is_of_same_process, owns, route, threads_of}
-pub use Rattle.qrules.specs.Facts.{Facts}
+pub use Rattle.qrules.specs.Facts.{count_to, has_flag, is_of_process, is_of_same_process, owns, route}
+pub use Rattle.qrules.specs.Facts.{threads_of, Facts}
 use Rattle.qrules.specs.Facts.{receive_in, send_in, OpenReceive, OpenSend}
 
 -- ---- threads and processes

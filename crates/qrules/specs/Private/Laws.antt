@@ -31,7 +31,8 @@ use Rattle.qrules.specs.Private.Headline.SentOrder.{connection_of}
 use Rattle.qrules.specs.Private.Headline.ShutForGood.{NoneReceivedFrom}
 use Rattle.qrules.specs.Private.Lawful.{IsLawful, facts_of}
 use Rattle.qrules.specs.Private.Pulses.{pulses_among}
-use Rattle.qrules.specs.Private.Past.{attached_connection, channel_at, connection_at, accepted_at, is_accepted}
+use Rattle.qrules.specs.Private.Past.{accepted_at, attached_connection, channel_at, connection_at}
+use Rattle.qrules.specs.Private.Past.{is_accepted}
 use Rattle.qrules.specs.Private.Past.{is_destroyed}
 use Rattle.qrules.specs.Private.Past.{is_down, is_ended, is_gone, items, open_call, pending_items}
 use Rattle.qrules.specs.Private.Past.{priority_of_item}
@@ -69,7 +70,8 @@ pub record WasSent (roster : List Member) (past : Trace) (x : Completion) (i : C
 abbrev pub ReceivedWasSent : Type 0
 ReceivedWasSent = (roster : List Member) (past : Trace) (e : Event) → IsRoster roster
     → IsLawful roster (e ∷ past)
-    → AllByRecursion (λ x. (i : CallNo) → number_received x ≡ Some i → WasSent roster (e ∷ past) x i) e.endings
+    → AllByRecursion (λ x. (i : CallNo) → number_received x ≡ Some i → WasSent roster (e ∷ past) x i)
+    e.endings
 
 -- ---- open calls
 

@@ -13,7 +13,8 @@ use Rattle.qrules.specs.Private.Facts.{count_to, is_fixed}
 use Rattle.qmodel.specs.Trace.{OpenChannel}
 use Rattle.qrules.specs.Private.Rows.{item_in}
 use Rattle.qmodel.specs.Trace.{SentItem}
-pub use Rattle.qrules.specs.Past.{accepted_at, attached_connection, channel_at, connection_at, created_channel}
+pub use Rattle.qrules.specs.Past.{accepted_at, attached_connection, channel_at, connection_at}
+pub use Rattle.qrules.specs.Past.{created_channel}
 pub use Rattle.qrules.specs.Past.{is_accepted, is_destroyed, is_ended, is_failure, is_number, is_unblock_for}
 pub use Rattle.qrules.specs.Past.{item_among, item_in, priority_set_by, sender_of, was_done, with_writes}
 pub use Rattle.qrules.specs.Past.{copied_count_of, current_priority}

@@ -42,7 +42,8 @@ due_pulse f thread = option_and_then (λ o. due_pulse_of_wait f o.number o.wait)
 -- Srch if the thread isn't in the roster, or is of another process, or else Again if a pulse must be sent and
 -- 1,024 are pending
 abbrev pub refusal : Facts → ThreadNo → ThreadNo → Option Errno
-refusal f t thread = if is_of_same_process f t thread then refusal_if_full_for f (due_pulse f thread) else Some Srch
+refusal f t thread =
+    if is_of_same_process f t thread then refusal_if_full_for f (due_pulse f thread) else Some Srch
 
 -- if no pulse must be sent, the thread's open call is cancelled unless a channel guards it; otherwise the
 -- call of the pulse's receiver ends
