@@ -48,7 +48,6 @@ use Rattle.qrules.proofs.Traces.Past.Numbers.{block_asked, block_below, call_ear
 use Rattle.qrules.proofs.Traces.Properties.Rows.Delivering.{Delivers, delivery_meets}
 use Rattle.qrules.proofs.Traces.Properties.Rows.Receiving.{receive_takes}
 use Rattle.qrules.proofs.Traces.Properties.Rows.Telling.{told_meets, unblock_ends}
-use Rattle.qrules.proofs.Properties.Calls.{same_call_at}
 use Rattle.qrules.specs.Trace.{call_at}
 use Rattle.qlaws.proofs.Waits.{before}
 use Rattle.qcalls.specs.Errors.{failure}
@@ -142,7 +141,7 @@ received_fits priority unblocked (Some copied) o m = elim (o.wait) as (λ w. fit
 
 -- what is known of the ending of call i
 of_call : (past : Trace) (x : Completion) (i : ℕ) (c : Call) → x.call ≡ i → old_call_at past i ≡ Some c → fits c x.mark ≡ true → option_map (λ c. fits c x.mark) (call_at past x.call) ≡ Some true
-of_call past x i c at is fit = ap (option_map (λ c. fits c x.mark)) (same_call_at past x.call ∙ ap (old_call_at past) at ∙ is) ∙ ap Some fit
+of_call past x i c at is fit = ap (option_map (λ c. fits c x.mark)) (ap (old_call_at past) at ∙ is) ∙ ap Some fit
 
 pub endings_fit : EndingsFit
 endings_fit roster past e r l =

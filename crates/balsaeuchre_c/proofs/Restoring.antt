@@ -19,7 +19,8 @@ use Rattle.qmodel.specs.declared.call.Mark.TheVariants as mark
 use Rattle.qrules.specs.Facts.{Facts, threads_of}
 use Rattle.qrules.specs.Lawful.{facts_of}
 use Rattle.qrules.specs.Outcome.{row, Answers}
-use Rattle.qrules.specs.Past.{accepted_calls, item_in, with_writes}
+use Rattle.qrules.specs.Past.{item_in, with_writes}
+use Rattle.qrules.proofs.Traces.TraceLaws.Lengths.{writes_length}
 use Rattle.qrules.specs.Properties.{buffer_at, message_at, request_of, HasProperties, IsCopied, IsCounted, IsLaid, TakesBest}
 use Rattle.qrules.specs.Rule.{buffer_of, ReceiveRequest, Transfer}
 use Rattle.qrules.specs.Rules.{effect_of}
@@ -57,14 +58,10 @@ front_told b p m n is count =
 
 -- ---- what a call brought
 
-writes_length : (ws : List Transfer) (b : List ℕ) → length (fold (λ b w. lay_over b w.offset w.bytes) b ws) ≡ length b
-writes_length [] b = refl
-writes_length (w ∷ ws) b = writes_length ws (lay_over b w.offset w.bytes) ∙ lay_length b w.offset w.bytes
-
 buffer_length : (past : Trace) (i : ℕ) → length (buffer_at past i) ≡ length (brought_at past i)
 buffer_length past i = elim (call_at past i) as (λ o. length (option_map_or (λ c. cond (is_some (effect_of c).sends) (with_writes past i (buffer_of (effect_of c))) (buffer_of (effect_of c))) o []) ≡ length (option_map_or (λ c. buffer_of (effect_of c)) o [])) [
   | None ↦ refl
-  | Some c ↦ elim (is_some (effect_of c).sends) as (λ b. length (cond b (with_writes past i (buffer_of (effect_of c))) (buffer_of (effect_of c))) ≡ length (buffer_of (effect_of c))) [ true ↦ writes_length (reverse (filter_map (λ d. option_and_then (λ w. cond (eqb w.rcvid i) (Some w) None) d.effect.writes) (accepted_calls past))) (buffer_of (effect_of c)) | false ↦ refl ]
+  | Some c ↦ elim (is_some (effect_of c).sends) as (λ b. length (cond b (with_writes past i (buffer_of (effect_of c))) (buffer_of (effect_of c))) ≡ length (buffer_of (effect_of c))) [ true ↦ writes_length past i (buffer_of (effect_of c)) | false ↦ refl ]
 ]
 
 receive_sends : (c : Call) (r : ReceiveRequest) → (effect_of c).receives ≡ Some r → is_some (effect_of c).sends ≡ false

@@ -203,7 +203,7 @@ over_length : (w : Option Transfer) (i : ℕ) (b : List ℕ) → length (buffer_
 over_length None i b = refl
 over_length (Some w) i b = elim (eqb w.rcvid i) as (λ m. length (cond m (lay_over b w.offset w.bytes) b) ≡ length b) [ true ↦ lay_length b w.offset w.bytes | false ↦ refl ]
 
-writes_length : (past : Trace) (i : ℕ) (b : List ℕ) → length (with_writes past i b) ≡ length b
+pub writes_length : (past : Trace) (i : ℕ) (b : List ℕ) → length (with_writes past i b) ≡ length b
 writes_length [] i b = refl
 writes_length (e ∷ past) i b = elim (is_accepted e past) as (λ a. length (cond a (buffer_after_write (writes e.call) i (with_writes past i b)) (with_writes past i b)) ≡ length b) [
   | true ↦ over_length (writes e.call) i (with_writes past i b) ∙ writes_length past i b
