@@ -2,7 +2,6 @@
 
 use crate::arrow::{Arrow, arrow_of};
 use crate::row::Cut;
-use crate::state::signs_of;
 use qbase::bytes::Bytes;
 use qbase::errno::word;
 use qbase::ids::{ChannelId, ConnectionId, ProcessNo, ReceiveId, ThreadNo};
@@ -10,6 +9,7 @@ use qbase::priority::Priority;
 use qkernel::call::{Call, Completion, Mark};
 use qmodel::kind::CallKind;
 use qqueue::item::What;
+use qreading::states::state_name;
 use std::alloc::{AllocError, Global};
 
 /// Returns the call of a thread, as it stands beside the thread's line; with the bytes that it sends if `bytes` is set.
@@ -99,7 +99,7 @@ pub fn push_result(
         Mark::Connection(ConnectionId(connection)) => write!(words, ": connection {connection}"),
         Mark::Count(copied) => write!(words, ": {copied} bytes"),
         Mark::State { state, priority } => {
-            let (name, level) = (signs_of(state).name, priority.get());
+            let (name, level) = (state_name(state), priority.get());
             write!(words, ": {name} {level}")
         }
         _ => Ok(()),

@@ -8,11 +8,11 @@ use crate::chart::{Chart, head};
 use crate::label::{cut_words, priority_words};
 use crate::plan::{Side, is_sent, leaves_at, words_side};
 use crate::row::Row;
-use crate::state::{signs_of, state_among};
 use fixed::{LEGEND, START};
 use qbase::ids::ThreadNo;
 use qbase::state::ThreadState;
 use qexplain::waiting::Wait;
+use qreading::states::{state_among, state_word};
 use qtables::member::Member;
 use sheet::{BAR_HALF, LINE, Sheet};
 use std::alloc::{AllocError, Global};
@@ -285,7 +285,7 @@ fn push_bar(
     start: Place,
     bottom: usize,
 ) -> Result<(), AllocError> {
-    let class = signs_of(state).class;
+    let class = state_word(state);
     let (x, y) = start;
     let width = BAR_HALF.saturating_mul(2);
     let height = bottom.saturating_sub(y);

@@ -63,7 +63,7 @@ fn push_operand(
 }
 
 /// Adds the words of these operands, each behind a space.
-fn push_operands(
+pub fn push_operands(
     alloc: Global,
     out: &mut String,
     scope: &Scope,

@@ -221,6 +221,14 @@ impl Scope {
         }
     }
 
+    /// Returns the name that stands for the call with this number, or for the thread if `of_thread` is set.
+    pub fn name_of(&self, of_thread: bool, number: u64) -> Option<&Word> {
+        let mut labels = self.labels.iter();
+        let is_of = |label: &&Label| (label.kind == Kind::Thread) == of_thread;
+        let label = labels.find(|label| label.number == number && is_of(label))?;
+        Some(&label.name)
+    }
+
     /// Returns the last label with this name.
     pub fn latest(&self, name: &Word) -> Option<&Label>
         ensures { option_map (λ l. l.now) result ≡ latest name.now self.now.labels }

@@ -4,7 +4,7 @@ use crate::expectation::CallCheck;
 use crate::label::NameError;
 use crate::line::Kind;
 use crate::scope::Scope;
-use qreading::near::nearest;
+use qreading::near::push_near;
 use qreading::word::Word;
 use std::alloc::{AllocError, Global};
 
@@ -56,12 +56,9 @@ impl Context<'_> {
         for label in self.scope.labels() {
             names.push(label.name.as_str())?;
         }
-        match nearest(self.alloc, name.as_str(), names.as_slice())? {
-            Some(near) => format!(in self.alloc;
-                "{name} isn't defined before this line; did you mean '{near}'?"
-            ),
-            None => format!(in self.alloc; "{name} isn't defined before this line"),
-        }
+        let mut text = format!(in self.alloc; "{name} isn't defined before this line")?;
+        push_near(self.alloc, &mut text, name.as_str(), names.as_slice())?;
+        Ok(text)
     }
 
     /// Returns the words for a name that stands for something of another kind.

@@ -2,20 +2,18 @@
 
 use crate::expectation::{CallCheck, Ending, Expectation, Follower, StateCheck};
 use crate::expecting::completion::End;
-use crate::label::Label;
-use crate::line::{Kind, Operand};
+use crate::line::Operand;
 use crate::scope::Scope;
 use crate::wording::Context;
 use qbase::bytes::Bytes;
+use qbase::ids::ThreadNo;
 use qbase::state::ThreadState;
 use qkernel::call::{Completion, Mark};
 use qkernel::kernel::Kernel;
 use qmodel::kind::CallKind;
 use qreading::place::{Fault, Place};
 use qreading::reading::number::number;
-use qreading::states::{state_channel, state_name};
-use qstate::thread::Thread;
-use qstate::thread_state::state_of_wait;
+use qreading::states::{state_among, state_channel, state_name};
 use std::alloc::{AllocError, Global};
 use std::mem;
 
@@ -45,23 +43,6 @@ fn operand_number(scope: &Scope, operand: &Operand) -> u64 {
         Operand::Number(number) => *number,
         Operand::Plain(word) => number(word.as_str().as_bytes()).unwrap_or(0),
         Operand::Text(_) | Operand::Zeros(_) => 0,
-    }
-}
-
-/// Returns the state of a thread that a kernel has.
-fn state_of(kernel: &Kernel, thread: &Thread) -> ThreadState {
-    match &thread.open_call {
-        Some(call) => state_of_wait(kernel.connections(), &call.wait),
-        None => ThreadState::Ready,
-    }
-}
-
-/// Returns the state of the thread with this number; one that a kernel hasn't is ready.
-fn state_of_number(kernel: &Kernel, number: u64) -> ThreadState {
-    let mut threads = kernel.threads().iter();
-    match threads.find(|thread| u64::from(thread.member.thread.0) == number) {
-        Some(thread) => state_of(kernel, thread),
-        None => ThreadState::Ready,
     }
 }
 
@@ -317,25 +298,18 @@ impl Check {
         check: &StateCheck,
     ) -> Result<Option<Fault>, AllocError> {
         let thread = operand_number(&self.scope, &check.thread);
-        let now = match kernel {
-            Some(kernel) => state_of_number(kernel, thread),
-            None => ThreadState::Ready,
+        let now = match (kernel, u8::try_from(thread)) {
+            (Some(kernel), Ok(thread)) => {
+                state_among(kernel.blocked(self.alloc)?.as_slice(), ThreadNo(thread))
+            }
+            _ => ThreadState::Ready,
         };
-        self.difference_of_state(&now, check)
-    }
-
-    /// Returns how a state differs from what a line says.
-    fn difference_of_state(
-        &self,
-        now: &ThreadState,
-        check: &StateCheck,
-    ) -> Result<Option<Fault>, AllocError> {
-        let channel = state_channel(*now).map_or(0, |channel| channel.0);
+        let channel = state_channel(now).map_or(0, |channel| channel.0);
         let wanted = match &check.channel {
             Some(wanted) => operand_number(&self.scope, wanted),
             None => channel,
         };
-        if is_state(state_name(*now), check.state) && wanted == channel {
+        if is_state(state_name(now), check.state) && wanted == channel {
             return Ok(None);
         }
         let is = self.state_words(now)?;
@@ -347,18 +321,14 @@ impl Check {
     }
 
     /// Returns a state in words.
-    fn state_words(&self, state: &ThreadState) -> Result<String, AllocError> {
-        let name = state_name(*state);
-        let Some(channel) = state_channel(*state) else {
+    fn state_words(&self, state: ThreadState) -> Result<String, AllocError> {
+        let name = state_name(state);
+        let Some(channel) = state_channel(state) else {
             return String::from_str(self.alloc, name);
         };
         let number = channel.0;
-        let is = |label: &&Label| label.number == number && label.kind == Kind::Channel;
-        match self.scope.labels().iter().find(is) {
-            Some(label) => {
-                let channel = &label.name;
-                format!(in self.alloc; "{name} on {channel}")
-            }
+        match self.scope.name_of(false, number) {
+            Some(channel) => format!(in self.alloc; "{name} on {channel}"),
             None => format!(in self.alloc; "{name} on {number}"),
         }
     }
@@ -397,16 +367,10 @@ impl Check {
         if matches!(expected.ending, Ending::Blocked) {
             return Ok(None);
         }
-        let mut threads = kernel.threads().iter();
-        let is_in = |thread: &&Thread| match &thread.open_call {
-            Some(open) => open.number == call,
-            None => false,
-        };
-        let state = match threads.find(is_in) {
-            Some(thread) => state_of(kernel, thread),
-            None => ThreadState::Ready,
-        };
-        let state = state_name(state);
+        let blocked = kernel.blocked(self.alloc)?;
+        let mut blocked = blocked.iter();
+        let open = blocked.find(|blocked| blocked.number == call);
+        let state = state_name(open.map_or(ThreadState::Ready, |open| open.state));
         let wanted = &expected.text;
         let what = format!(in self.alloc;
             "expected {wanted}, and the call hasn't ended: its thread is {state} at the end"
