@@ -25,6 +25,7 @@ pub const MOST_CALLS: usize = 400;
 
 /// Runs the script in a text on a new kernel, and returns the drawing of the run. Returns an error if the script is
 /// faulty, or if more than 400 calls would be drawn.
+#[tactic(auto, using(crate::proofs::Charting::uncharted))]
 pub fn drawing(alloc: Global, text: &[u8], view: &View) -> Result<String, ChartFault>
     ensures { IfErr result (IsChartFault view.now text.now) }
 {
@@ -48,6 +49,7 @@ pub fn drawing_of(alloc: Global, script: Script, view: &View) -> Result<String, 
 
 /// Runs the script in a text on a new kernel, and returns the chart of the run with all its rows; an error if more than
 /// 400 of them would be drawn.
+#[tactic(auto, using(crate::proofs::Charting::uncharted))]
 pub fn chart(alloc: Global, text: &[u8], view: &View) -> Result<Chart, ChartFault>
     ensures ok { IfOk result (IsCharted view.now text.now) }
     ensures err { IfErr result (IsChartFault view.now text.now) }

@@ -46,7 +46,6 @@ fn plain_words(alloc: Global, number: u64, call: &Call) -> Result<String, AllocE
     }
 }
 
-/// Returns a call and what it names.
 fn named_label(alloc: Global, kind: CallKind, operand: Option<u64>) -> Result<String, AllocError> {
     let name = kind.word();
     let Some(number) = operand else {

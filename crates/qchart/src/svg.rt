@@ -54,11 +54,8 @@ impl Sheet<'_> {
         let mut first = 0usize;
         for (column, member) in lifelines.iter().enumerate() {
             let next = column.saturating_add(1);
-            let goes_on = match lifelines.get(next) {
-                Some(other) => other.process == member.process,
-                None => false,
-            };
-            if !goes_on {
+            let other = lifelines.get(next);
+            if !other.is_some_and(|other| other.process == member.process) {
                 self.push_process(out, first, column)?;
                 first = next;
             }
@@ -278,7 +275,6 @@ fn push_circle(out: &mut String, class: &str, x: usize, y: usize) -> Result<(), 
     out.push_str(" r=\"4\"/>")
 }
 
-/// Adds the bar of a state.
 fn push_bar(
     out: &mut String,
     state: ThreadState,

@@ -142,10 +142,7 @@ impl Session {
 
     /// Returns the lines of all calls that ended so far.
     pub fn trace(&self) -> &str {
-        match &self.run {
-            Some(run) => run.run().text(),
-            None => "",
-        }
+        self.run.as_ref().map_or("", |run| run.run().text())
     }
 
     /// Returns the lines of the threads that are blocked now.

@@ -22,6 +22,7 @@ use std::alloc::{AllocError, Global};
 use std::io::{Read, Write};
 
 /// Returns the roster of these threads. One that comes twice, and those behind the 64th, are left out.
+#[tactic(auto, using(crate::proofs::Joining::joins_at, crate::proofs::Joining::enrolled_next))]
 pub fn roster_with_all(alloc: Global, members: &[Member]) -> Roster
     ensures { AllJoin [] members.now → result ≡ roster_with [] members.now }
 {

@@ -51,7 +51,6 @@ fn is_state(name: &str, wanted: &str) -> bool {
     name == wanted || wanted == "blocked" && name != "ready"
 }
 
-/// Returns a difference at a place.
 fn difference_at(
     place: Place,
     what: Result<String, AllocError>,
@@ -96,7 +95,6 @@ impl Check {
         }
     }
 
-    /// Adds a difference, if there is one.
     fn tell(&mut self, difference: Option<Fault>) -> Result<(), AllocError> {
         if let Some(fault) = difference {
             self.faults.push(fault)?;
@@ -150,10 +148,7 @@ impl Check {
     /// Returns the next line that says a state, if it stands behind the calls so far.
     fn next_state(&self) -> Option<&StateCheck> {
         let check = self.states.get(self.compared)?;
-        if check.calls > self.ends.len() as u64 {
-            return None;
-        }
-        Some(check)
+        (check.calls <= self.ends.len() as u64).then_some(check)
     }
 
     /// Keeps how a call ended.
@@ -192,10 +187,10 @@ impl Check {
 
     /// Returns how the end of a call differs from the expected one.
     fn difference(&self, end: &End, expected: &Expectation) -> Result<Option<Fault>, AllocError> {
-        if let Ending::Parts(patterns) = &expected.ending {
-            if end.fits(self.alloc, &self.scope, patterns.as_slice())? {
-                return Ok(None);
-            }
+        if let Ending::Parts(patterns) = &expected.ending
+            && end.fits(self.alloc, &self.scope, patterns.as_slice())?
+        {
+            return Ok(None);
         }
         let wanted = &expected.text;
         let came = self.came(end, expected.place.line)?;
@@ -251,17 +246,15 @@ impl Check {
             expected.push((event, place))?;
         }
         for (line, place) in expected {
-            let difference = match self.follower(line, place) {
-                Some((follower, Some(end))) => self.follower_difference(line, follower, end)?,
-                Some((follower, None)) => {
-                    if matches!(follower.expectation.ending, Ending::Parts(_)) {
-                        self.waiting.push((line, place))?;
-                    }
-                    None
-                }
-                None => None,
+            let Some((follower, end)) = self.follower(line, place) else {
+                continue;
             };
-            self.tell(difference)?;
+            if let Some(end) = end {
+                let difference = self.follower_difference(line, follower, end)?;
+                self.tell(difference)?;
+            } else if matches!(follower.expectation.ending, Ending::Parts(_)) {
+                self.waiting.push((line, place))?;
+            }
         }
         Ok(())
     }
@@ -320,7 +313,6 @@ impl Check {
         )
     }
 
-    /// Returns a state in words.
     fn state_words(&self, state: ThreadState) -> Result<String, AllocError> {
         let name = state_name(state);
         let Some(channel) = state_channel(state) else {
@@ -336,23 +328,20 @@ impl Check {
     /// Compares what is left at the end of the run: calls that are expected to end, and haven't.
     pub fn finish(&mut self, kernel: &Kernel) -> Result<(), AllocError> {
         for call in 1..=self.ends.len() as u64 {
-            let difference = match (self.at(call), self.end_of(call)) {
-                (Some(CallCheck { own: Some(own), .. }), None) => {
-                    self.open_difference(kernel, call, own)?
-                }
-                _ => None,
-            };
-            self.tell(difference)?;
+            if let (Some(CallCheck { own: Some(own), .. }), None) = (
+                self.at(call),
+                self.end_of(call),
+            ) {
+                let difference = self.open_difference(kernel, call, own)?;
+                self.tell(difference)?;
+            }
         }
         for (event, place) in mem::replace(&mut self.waiting, Vec::new(self.alloc)) {
-            let difference = match self.follower(event, place) {
-                Some((follower, _)) => {
-                    let call = self.scope.number(&follower.name);
-                    self.open_difference(kernel, call, &follower.expectation)?
-                }
-                None => None,
-            };
-            self.tell(difference)?;
+            if let Some((follower, _)) = self.follower(event, place) {
+                let call = self.scope.number(&follower.name);
+                let difference = self.open_difference(kernel, call, &follower.expectation)?;
+                self.tell(difference)?;
+            }
         }
         Ok(())
     }

@@ -34,7 +34,6 @@ fn fits_word(pattern: &Pattern, scope: &Scope, word: &str) -> bool {
     signed_number(word.as_bytes()) == Some(wanted)
 }
 
-/// Returns whether a buffer fits a pattern.
 fn fits_buffer(pattern: &Pattern, buffer: &[u8]) -> bool {
     match pattern {
         Pattern::Any => true,
@@ -126,10 +125,10 @@ impl End {
         out: &mut String,
         count: usize,
     ) -> Result<(), AllocError> {
-        let buffer = match &self.buffer {
-            Some(buffer) => buffer.as_slice(),
-            None => &[],
-        };
+        let buffer = self
+            .buffer
+            .as_ref()
+            .map_or([].as_slice(), |buffer| buffer.as_slice());
         let shown = shown_bytes(alloc, buffer.get(..count).unwrap_or(buffer))?;
         write!(out, " {shown}")
     }

@@ -100,7 +100,6 @@ fn form_of(table: Table, token: &Token<'_>) -> Option<(&'static str, &'static [P
     None
 }
 
-/// Reads a number.
 fn number(alloc: Global, token: &Token<'_>) -> Result<i128, ReadError> {
     match signed_number(token.bytes) {
         Some(value) if token.sort == Sort::Word => Ok(value),
@@ -115,10 +114,10 @@ fn errno(alloc: Global, token: &Token<'_>) -> Result<&'static str, ReadError> {
     {
         return Ok(errno::word(errno));
     }
-    let mut words = Vec::new(alloc);
-    for errno in &ERRORS {
-        words.push(errno::word(*errno))?;
-    }
+    let words: Vec<&str> = ERRORS
+        .iter()
+        .map(|errno| errno::word(*errno))
+        .collect(alloc)?;
     let word = quotation(token.bytes);
     let what = no_such(alloc, word, words.as_slice(), "is no error", ERROR_WORDS);
     Err(fault_at(token.place, what))
@@ -143,7 +142,6 @@ fn process(alloc: Global, token: &Token<'_>) -> Result<Pattern, ReadError> {
     Ok(Pattern::Number(number(alloc, token)?))
 }
 
-/// Reads bytes.
 fn bytes(alloc: Global, token: &Token<'_>) -> Result<Bytes, ReadError> {
     let said = match token.sort {
         Sort::Text => return text_bytes(alloc, token),
@@ -241,10 +239,7 @@ fn pulse_len(tokens: &[Token<'_>]) -> usize
 
 /// Returns the words for a first word that no ending has.
 fn unknown_ending(alloc: Global, token: &Token<'_>) -> Result<String, AllocError> {
-    let mut words = Vec::new(alloc);
-    for (word, _) in &FORMS {
-        words.push(*word)?;
-    }
+    let words: Vec<&str> = FORMS.iter().map(|(word, _)| *word).collect(alloc)?;
     no_such(
         alloc,
         quotation(token.bytes),

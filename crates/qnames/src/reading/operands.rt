@@ -35,13 +35,10 @@ fn bytes(alloc: Global, slot: Slot, token: &Token<'_>) -> Result<Operand, ReadEr
 
 /// Returns the bit of a flag, by name.
 fn flag(alloc: Global, token: &Token<'_>, name: &[u8]) -> Result<u8, ReadError> {
-    let mut names = Vec::new(alloc);
-    for (flag, bit) in &FLAGS {
-        if name == flag.as_bytes() {
-            return Ok(*bit);
-        }
-        names.push(*flag)?;
+    if let Some((_, bit)) = FLAGS.iter().find(|(flag, _)| name == flag.as_bytes()) {
+        return Ok(*bit);
     }
+    let names: Vec<&str> = FLAGS.iter().map(|(flag, _)| *flag).collect(alloc)?;
     let all =
         "the flags are FIXED_PRIORITY, UNBLOCK and DISCONNECT, with | between, and 0 for none";
     let what = no_such(alloc, quotation(name), names.as_slice(), "is no flag", all);
