@@ -3,7 +3,6 @@
 
 use crate::explained_run::ExplainedRun;
 use crate::states::states_of;
-use crate::why::Refusal;
 use qbase::errno::Errno;
 use qbase::ids::ThreadNo;
 use qmodel::call::Call;
@@ -165,14 +164,6 @@ impl Session {
                 let run = ExplainedRun::new(alloc, members, 0)?;
                 states_of(alloc, run.run().kernel(), members)
             }
-        }
-    }
-
-    /// Returns the failures in the event of the last call, with their reasons.
-    pub fn failures(&self) -> Result<Vec<Refusal>, AllocError> {
-        match &self.run {
-            Some(run) => run.refusals(self.alloc),
-            None => Ok(Vec::new(self.alloc)),
         }
     }
 

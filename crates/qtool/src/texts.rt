@@ -32,12 +32,21 @@ pub struct Texts {
     pub example: &'static str,
 }
 
-/// The texts of `script`.
-pub static SCRIPT: Texts = Texts {
-    about: "Runs a script and prints what its calls answer",
-    long: "Runs a script and prints what its calls answer.
+/// The texts with this work in a line, which also begins the longer text.
+macro_rules! texts {
+    ($about:literal, $more:literal, $example:literal) => {
+        Texts {
+            about: $about,
+            long: concat!($about, ".\n\n", $more),
+            example: $example,
+        }
+    };
+}
 
-A script is a line for each thread, with its process and its priority, and
+/// The texts of `script`.
+pub static SCRIPT: Texts = texts!(
+    "Runs a script and prints what its calls answer",
+    "A script is a line for each thread, with its process and its priority, and
 then a line for each kernel call, with the thread that makes it. The calls are
 numbered from 1; a channel, a connection and a receive id have the number of
 the call that made them.
@@ -136,7 +145,7 @@ say how its call has to end, and a line of its own in which state a thread is:
 It runs as its plain script, in which each name is replaced by its number; --plain
 prints that. All faults, and all that isn't as expected in the run, are told on
 standard error, as 'qdemo: FILE:4:27: expected ..'. docs/SCRIPTS.md has all forms.",
-    example: "Example:
+    "Example:
   input            output
   thread 1 1 10
   thread 2 2 20
@@ -149,15 +158,13 @@ standard error, as 'qdemo: FILE:4:27: expected ..'. docs/SCRIPTS.md has all form
 
 Status: 0; 1 for a faulty script, a run that isn't as its script expects, or with
 --strict where a call failed; 2 for a faulty command line; 3 where reading, writing
-or memory fails; 141 where nobody reads the output.",
-};
+or memory fails; 141 where nobody reads the output."
+);
 
 /// The texts of `check`.
-pub static CHECK: Texts = Texts {
-    about: "Runs scripts and compares what they print with their traces",
-    long: "Runs scripts and compares what they print with their traces.
-
-A PATH is a script, or a folder, of which each file NAME.txt is one. NAME.trace
+pub static CHECK: Texts = texts!(
+    "Runs scripts and compares what they print with their traces",
+    "A PATH is a script, or a folder, of which each file NAME.txt is one. NAME.trace
 beside it is what it has to print, byte for byte but for a carriage return before
 a line feed. The output has a line for each script, those of a folder in the order
 of their names, and a last line that counts. Where one prints something else, the
@@ -167,7 +174,7 @@ names, which says itself what it expects, and has no trace. A file NAME.design i
 design, and NAME.verdict what 'qdemo explore' has to tell of it.
 
 With --update a trace or a verdict that is missing or differs is written.",
-    example: "Example:
+    "Example:
   $ qdemo check data
   first-message: as its trace says
   two-servers: differs from its trace at line 4
@@ -178,15 +185,13 @@ With --update a trace or a verdict that is missing or differs is written.",
 
 Status: 0 where all are the same or written; 1 where one differs, is faulty or has
 no trace; 2 for a faulty command line; 3 where a file can't be read or written, a
-folder has no script, or memory fails; 141 where nobody reads the output.",
-};
+folder has no script, or memory fails; 141 where nobody reads the output."
+);
 
 /// The texts of `play`.
-pub static PLAY: Texts = Texts {
-    about: "Reads calls and commands, and answers each at once",
-    long: "Reads calls and commands, and answers each at once.
-
-Each line is one of a script, as 'qdemo help script' describes them, and what it
+pub static PLAY: Texts = texts!(
+    "Reads calls and commands, and answers each at once",
+    "Each line is one of a script, as 'qdemo help script' describes them, and what it
 adds to the trace is printed at once. Or it is a command:
 
   state      a line for each thread: THREAD state STATE CHANNEL PRIORITY
@@ -209,7 +214,7 @@ is that of 'qdemo script' for the same lines.
 
 For each line the script is run anew, so that 'undo' can go back. It is meant for
 some thousand lines, or some hundred with names, not for more.",
-    example: "Example:
+    "Example:
   $ qdemo play
   > thread 1 1 10
   > 1 create 0
@@ -227,35 +232,31 @@ some thousand lines, or some hundred with names, not for more.",
 
 Status: 0; 1 for a faulty FILE, or for a faulty line or a call that isn't as
 expected where the input is no terminal; 2 for a faulty command line; 3 where
-reading, writing or memory fails; 141 where nobody reads the output.",
-};
+reading, writing or memory fails; 141 where nobody reads the output."
+);
 
 /// The texts of `chart`.
-pub static CHART: Texts = Texts {
-    about: "Draws the run of a script: its threads, messages, answers and pulses",
-    long: "Draws the run of a script: its threads, messages, answers and pulses.
-
-A line goes down for each thread, with its state as a bar, and an arrow for each
+pub static CHART: Texts = texts!(
+    "Draws the run of a script: its threads, messages, answers and pulses",
+    "A line goes down for each thread, with its state as a bar, and an arrow for each
 message, answer and pulse, in the row of the call in which it arrives. A message
 that nobody has received is an arrow that ends in the air, and a circle of threads
 that wait for one another is told below the rows. The drawing is columns of text on
 a terminal and with --text, and else SVG, which a browser shows. docs/CHARTS.md says
 how to read it. At most 400 calls can be drawn: of a longer script draw a part, by
 --from and --to. 'qdemo help script' describes scripts.",
-    example: "Example:
+    "Example:
   $ qdemo chart first-message.txt -o run.svg
 
 Status: 0; 1 for a faulty script, or one of too many calls; 2 for a faulty command
 line, or a drawing that would be written over its script; 3 where reading, writing
-or memory fails; 141 where nobody reads the output.",
-};
+or memory fails; 141 where nobody reads the output."
+);
 
 /// The texts of `explore`.
-pub static EXPLORE: Texts = Texts {
-    about: "Makes every interleaving of a design, and tells what goes wrong",
-    long: "Makes every interleaving of a design, and tells what goes wrong.
-
-A design is a small system of servers and clients. A line begins the section of a
+pub static EXPLORE: Texts = texts!(
+    "Makes every interleaving of a design, and tells what goes wrong",
+    "A design is a small system of servers and clients. A line begins the section of a
 thread, and the lines up to the next section are its program:
 
   thread NAME PROCESS PRIORITY [COPIES]
@@ -320,7 +321,7 @@ What is wrong is told with the fewest calls that lead to it:
                                  thread, which is ready
 
 docs/EXPLORE.md shows it by examples. 'qdemo help script' describes calls.",
-    example: "Example:
+    "Example:
   $ qdemo explore designs/two-servers-mended.design
   designs/two-servers-mended.design: nothing found in all 2,218 interleavings: \
     4 threads, 88 moments, 153 moves, none longer than 19 calls
@@ -329,15 +330,13 @@ docs/EXPLORE.md shows it by examples. 'qdemo help script' describes calls.",
 Status: 0 if nothing is wrong in any interleaving; 1 where something is, or for a
 faulty design; 2 for a faulty command line; 3 where reading, writing or memory fails;
 4 where nothing is wrong so far, but not all was looked at: it gave up, or made some
-interleavings by chance; 141 where nobody reads the output.",
-};
+interleavings by chance; 141 where nobody reads the output."
+);
 
 /// The texts of `serve`.
-pub static SERVE: Texts = Texts {
-    about: "Runs a server and its clients on threads, and prints what they did",
-    long: "Runs a server and its clients on threads, and prints what they did.
-
-Each client makes its rounds: it sends a pulse, and then a message for the echo
+pub static SERVE: Texts = texts!(
+    "Runs a server and its clients on threads, and prints what they did",
+    "Each client makes its rounds: it sends a pulse, and then a message for the echo
 service or for the sum service, waits for the answer and checks it. The servers
 receive on one channel.
 
@@ -375,7 +374,7 @@ run that would be longer no file is written.
 
 Where standard error is a terminal, a line on it shows how far a run is that takes
 more than half a second. It is gone at the end, and --quiet leaves it out.",
-    example: "Example:
+    "Example:
   $ qdemo serve --clients 2 --servers 1 --rounds 1
   sent 2
   answered 2
@@ -384,5 +383,5 @@ more than half a second. It is gone at the end, and --quiet leaves it out.",
   events 20
 
 Status: 0; 2 for a faulty command line, or a run that is too long to be recorded; 3
-where writing or memory fails; 4 where a worker fails.",
-};
+where writing or memory fails; 4 where a worker fails."
+);
