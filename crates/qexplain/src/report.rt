@@ -81,16 +81,15 @@ impl ReportedRun {
         let endings = self.run().endings().iter();
         let failed = endings.filter(|ending| matches!(ending.mark, Mark::Failed(_)));
         let count = failed.count();
-        let report = &mut self.report;
-        report.failures = report.failures.saturating_add(count);
-        if count == 0 || report.refusals.len() >= MOST_REFUSALS {
+        self.report.failures = self.report.failures.saturating_add(count);
+        if count == 0 || self.report.refusals.len() >= MOST_REFUSALS {
             return Ok(());
         }
         for refusal in self.run.refusals(self.alloc)? {
             let place = refusal.number.saturating_sub(1) as usize;
             let line = self.lines.get(place).copied().unwrap_or(0);
-            if report.refusals.len() < MOST_REFUSALS {
-                report.refusals.push((line, refusal))?;
+            if self.report.refusals.len() < MOST_REFUSALS {
+                self.report.refusals.push((line, refusal))?;
             }
         }
         Ok(())

@@ -61,29 +61,38 @@ fn use_by<'a>(operand: &'a Operand, usage: Usage<'a>, place: Place) -> Option<Us
     }
 }
 
-/// Returns the use of a name at a place of a line, or its definition.
-fn use_at<'a>(line: &'a Line, place: Place) -> Option<Use<'a>> {
-    let (definition, call) = match line {
-        Line::Aside(_) => return None,
-        Line::Thread(thread) => (&thread.definition, None),
-        Line::Call(call) => (&call.definition, Some(call)),
-    };
-    match definition {
-        Some(definition) if definition.place == place => Some(Use {
-            name: &definition.name,
-            usage: Usage::Caller,
-            wanted: definition.kind,
-        }),
-        _ => use_in(call?, place),
-    }
-}
-
 /// Returns the use of a name at a place of a call's line.
 fn use_in<'a>(call: &'a CallLine, place: Place) -> Option<Use<'a>> {
-    let usage = Usage::Operand(call.verb.as_str());
-    let mut operands = call.operands.iter();
-    let used = operands.find_map(|operand| use_by(operand, usage, place));
-    used.or_else(|| use_by(&call.caller, Usage::Caller, place))
+    for operand in &call.operands {
+        let used = use_by(operand, Usage::Operand(call.verb.as_str()), place);
+        if used.is_some() {
+            return used;
+        }
+    }
+    use_by(&call.caller, Usage::Caller, place)
+}
+
+/// Returns the use of a name at a place, or its definition.
+fn use_at<'a>(lines: &'a [Line], place: Place) -> Option<Use<'a>> {
+    for line in lines {
+        let (definition, used) = match line {
+            Line::Aside(_) => continue,
+            Line::Thread(thread) => (&thread.definition, None),
+            Line::Call(call) => (&call.definition, use_in(call, place)),
+        };
+        match definition {
+            _ if used.is_some() => return used,
+            Some(definition) if definition.place == place => {
+                return Some(Use {
+                    name: &definition.name,
+                    usage: Usage::Caller,
+                    wanted: definition.kind,
+                });
+            }
+            _ => {}
+        }
+    }
+    None
 }
 
 /// Returns the faults of the names of the lines, in words.
@@ -95,7 +104,7 @@ pub fn name_faults(
     let mut told = Vec::new(context.alloc);
     for fault in faults {
         let place = fault.place;
-        if let Some(used) = lines.iter().find_map(|line| use_at(line, place)) {
+        if let Some(used) = use_at(lines, place) {
             let what = context.words(used, fault.error)?;
             told.push(Fault { place, what })?;
         }

@@ -305,7 +305,7 @@ impl Check {
         if is_state(state_name(now), check.state) && wanted == channel {
             return Ok(None);
         }
-        let is = self.state_words(now)?;
+        let is = self.state_words(&now)?;
         let wanted = &check.text;
         difference_at(
             check.place,
@@ -313,9 +313,9 @@ impl Check {
         )
     }
 
-    fn state_words(&self, state: ThreadState) -> Result<String, AllocError> {
-        let name = state_name(state);
-        let Some(channel) = state_channel(state) else {
+    fn state_words(&self, state: &ThreadState) -> Result<String, AllocError> {
+        let name = state_name(*state);
+        let Some(channel) = state_channel(*state) else {
             return String::from_str(self.alloc, name);
         };
         let number = channel.0;
