@@ -17,8 +17,9 @@ use Rattle.qkernel.specs.Stands.{AnswersAtTraces}
 use Rattle.qkernel.specs.Kernel.{State}
 use Rattle.qkernel.proofs.Running.{runs_more}
 use Rattle.qchart.specs.declared.row.Row.{Row}
+use Rattle.qscript.specs.Running.{AreBlocked}
 use Rattle.qchart.specs.Changes.{changed_threads}
-use Rattle.qchart.specs.Rows.{HasRows, TellsBlocked, TellsChanges, arrows_from, blocked_from, changes_from, event_arrows, event_thread, row_arrows, row_blocked, row_changes, row_thread}
+use Rattle.qchart.specs.Rows.{HasRows, TellsChanges, arrows_from, blocked_from, changes_from, event_arrows, event_thread, row_arrows, row_blocked, row_changes, row_thread}
 
 -- the arrows of one event more
 arrows_push : (before : List ℕ) (events : List Event) (e : Event) → arrows_from before (events ++ e ∷ []) ≡ arrows_from before events ++ event_arrows (before ++ map event_thread events) e ∷ []
@@ -69,7 +70,7 @@ pub record IsRowOf (old : State) (before : List ℕ) (t : ℕ) (c : Call) (row :
   pub thread : row.thread ≡ t
   pub arrows : row.arrows.items ≡ filter_map (arrow_of (before ++ t ∷ []) t) endings
   pub changes : TellsChanges old new row.changes.items
-  pub blocked : TellsBlocked new row.blocked.items
+  pub blocked : AreBlocked new row.blocked.items
 
 -- one row more
 pub going_more : (old : State) (calls : List (ℕ × Call)) (mid new : State) (rows : List Row) (callers : List ℕ) (t : ℕ) (c : Call) (row : Row) → Going old calls mid rows callers

@@ -8,6 +8,7 @@ use Rattle.qmodel.specs.declared.open_call.Blocked.{Blocked}
 use Rattle.qscript.specs.Enrolled.{roster_with}
 use Rattle.qreading.specs.Reading.Meaning.{meaning, Says, IsFaultOf}
 use Rattle.qscript.specs.Script.{IsRunOf}
+use Rattle.qreading.specs.declared.fault.ScriptFault.TheVariants.{NoMemory}
 use Rattle.qchart.specs.declared.chart.Chart.{Chart}
 use Rattle.qchart.specs.declared.fault.ChartFault.{ChartFault}
 use Rattle.qchart.specs.declared.fault.ChartFault.TheVariants.{Script, TooManyCalls}
@@ -44,3 +45,8 @@ pub record HasTooMany (view : View) (text : List ℕ) (count : ℕ) : Type 0 whe
 abbrev pub IsChartFault : View → List ℕ → ChartFault → Type 0
 IsChartFault view text (Script fault) = IsFaultOf fault (meaning text)
 IsChartFault view text (TooManyCalls count) = HasTooMany view text count
+
+-- the reason why a script of these calls has no chart: there was no memory, or it has too many calls
+abbrev pub IsUncharted : View → List (ℕ × Call) → ChartFault → Type 0
+IsUncharted view calls (Script fault) = fault ≡ NoMemory
+IsUncharted view calls (TooManyCalls count) = (length calls ≡ count) × (400 < drawn_count view count)

@@ -58,11 +58,6 @@ row_changes row = row.changes.items
 abbrev pub row_blocked : Row → List Blocked
 row_blocked row = row.blocked.items
 
--- these threads are blocked after each trace that the kernel may have made
-abbrev pub TellsBlocked : State → List Blocked → Type 0
-TellsBlocked s blocked = (roster : List Member) (past : Trace) → StandsAt roster s past
-    → blocked ≡ blocked_threads (facts_of roster past)
-
 -- these threads have these priorities after each trace that the kernel may have made in the new state, and
 -- others after each that it may have made in the old one; no other thread's priority differs
 abbrev pub TellsChanges : State → State → List Level → Type 0

@@ -1,9 +1,10 @@
-//! Draws a script: from its text to the text of the drawing.
+//! Draws a script.
 
-ghost use Rattle.std.specs.Prelude.{IfOk, IfErr};
+ghost use Rattle.std.specs.Prelude.{◌≤◌, length, IfOk, IfErr};
 ghost use Rattle.std.specs.List.Sorted.{IsPermutation};
 ghost use Rattle.qscript.specs.Script.{CanRun};
-ghost use Rattle.qchart.specs.Charts.{IsChartOf, IsCharted, IsChartFault};
+ghost use Rattle.qchart.specs.Charts.{IsChartOf, IsCharted, IsChartFault, IsUncharted};
+ghost use Rattle.qchart.specs.View.{drawn_count};
 
 use crate::chart::Chart;
 use crate::fault::ChartFault;
@@ -22,12 +23,22 @@ use std::alloc::{AllocError, Global};
 /// The most calls of a chart.
 pub const MOST_CALLS: usize = 400;
 
-/// Runs a script on a new kernel, and returns the drawing of the run. Returns an error if the script is faulty, or if
-/// more than 400 calls would be drawn.
+/// Runs the script in a text on a new kernel, and returns the drawing of the run. Returns an error if the script is
+/// faulty, or if more than 400 calls would be drawn.
+#[tactic(auto, using(crate::proofs::Charting::uncharted))]
 pub fn drawing(alloc: Global, text: &[u8], view: &View) -> Result<String, ChartFault>
     ensures { IfErr result (IsChartFault view.now text.now) }
 {
-    let whole = chart(alloc, text, view)?;
+    let script = parse(alloc, text)?;
+    let drawn = drawing_of(alloc, script, view)?;
+    Ok(drawn)
+}
+
+/// Runs a script on a new kernel, and returns the drawing of the run; an error if more than 400 calls would be drawn.
+pub fn drawing_of(alloc: Global, script: Script, view: &View) -> Result<String, ChartFault>
+    ensures { IfErr result (IsUncharted view.now script.calls.items) }
+{
+    let whole = chart_of(alloc, script, view)?;
     let part = part_of(alloc, whole, view)?;
     let drawn = match view.style {
         Style::Svg => svg_of(alloc, &part)?,
@@ -36,30 +47,33 @@ pub fn drawing(alloc: Global, text: &[u8], view: &View) -> Result<String, ChartF
     Ok(drawn)
 }
 
-/// Runs a script on a new kernel, and returns the chart of the run with all its rows; an error if more than 400 of them
-/// would be drawn.
+/// Runs the script in a text on a new kernel, and returns the chart of the run with all its rows; an error if more than
+/// 400 of them would be drawn.
+#[tactic(auto, using(crate::proofs::Charting::uncharted))]
 pub fn chart(alloc: Global, text: &[u8], view: &View) -> Result<Chart, ChartFault>
     ensures ok { IfOk result (IsCharted view.now text.now) }
     ensures err { IfErr result (IsChartFault view.now text.now) }
 {
     let script = parse(alloc, text)?;
+    let chart = chart_of(alloc, script, view)?;
+    Ok(chart)
+}
+
+/// Runs a script on a new kernel, and returns the chart of the run with all its rows; an error if more than 400 of them
+/// would be drawn.
+pub fn chart_of(alloc: Global, script: Script, view: &View) -> Result<Chart, ChartFault>
+    ensures few { IfOk result (λ _. drawn_count view.now (length script.calls.items) ≤ 400) }
+    ensures chart { CanRun script.roster.items script.calls.items → IfOk result (IsChartOf script.roster.items script.calls.items) }
+    ensures err { IfErr result (IsUncharted view.now script.calls.items) }
+{
     let calls = script.calls.len();
     if view.span(calls) > MOST_CALLS {
         return Err(ChartFault::TooManyCalls(calls));
     }
-    let chart = chart_of(alloc, script, view.bytes)?;
-    Ok(chart)
-}
-
-/// Returns the chart of a script.
-fn chart_of(alloc: Global, script: Script, bytes: bool) -> Result<Chart, AllocError>
-    requires { CanRun script.roster.items script.calls.items }
-    ensures { IfOk result (IsChartOf script.roster.items script.calls.items) }
-{
     let roster = roster_with_all(alloc, script.roster.as_slice());
-    let mut run = Run::new(alloc, &roster, script.calls.len())?;
+    let mut run = Run::new(alloc, &roster, calls)?;
     let mut history = History::new(alloc);
-    let rows = rows_of(alloc, &mut run, &mut history, script.calls, bytes)?;
+    let rows = rows_of(alloc, &mut run, &mut history, script.calls, view.bytes)?;
     let waits = waits(alloc, run.kernel(), &history)?;
     let deadlocks = deadlocks(alloc, run.kernel(), waits.as_slice())?;
     let lifelines = by_process(script.roster)?;

@@ -2,7 +2,6 @@
 
 use crate::arrow::{Arrow, arrow_of};
 use crate::row::Cut;
-use crate::state::signs_of;
 use qbase::bytes::Bytes;
 use qbase::errno::word;
 use qbase::ids::{ChannelId, ConnectionId, ProcessNo, ReceiveId, ThreadNo};
@@ -10,6 +9,7 @@ use qbase::priority::Priority;
 use qkernel::call::{Call, Completion, Mark};
 use qmodel::kind::CallKind;
 use qqueue::item::What;
+use qreading::states::state_name;
 use std::alloc::{AllocError, Global};
 
 /// Returns the call of a thread, as it stands beside the thread's line; with the bytes that it sends if `bytes` is set.
@@ -46,7 +46,6 @@ fn plain_words(alloc: Global, number: u64, call: &Call) -> Result<String, AllocE
     }
 }
 
-/// Returns a call and what it names.
 fn named_label(alloc: Global, kind: CallKind, operand: Option<u64>) -> Result<String, AllocError> {
     let name = kind.word();
     let Some(number) = operand else {
@@ -99,7 +98,7 @@ pub fn push_result(
         Mark::Connection(ConnectionId(connection)) => write!(words, ": connection {connection}"),
         Mark::Count(copied) => write!(words, ": {copied} bytes"),
         Mark::State { state, priority } => {
-            let (name, level) = (signs_of(state).name, priority.get());
+            let (name, level) = (state_name(state), priority.get());
             write!(words, ": {name} {level}")
         }
         _ => Ok(()),

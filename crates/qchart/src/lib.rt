@@ -11,7 +11,6 @@ mod label;
 mod plan;
 pub mod row;
 mod run;
-mod state;
 mod svg;
 mod text;
 pub mod view;

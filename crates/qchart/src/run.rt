@@ -1,20 +1,24 @@
 //! Makes the rows of a run.
 
-ghost use Rattle.std.specs.Prelude.{◌≡◌, ◌+◌, ◌∷◌, ◌++◌, [], is_some, true, IfOk, OnOk};
+ghost use Rattle.std.specs.Prelude.{◌≡◌, ◌+◌, ◌∷◌, ◌++◌, [], is_some, map, true, IfOk, OnOk};
 ghost use Rattle.std.specs.List.{filter_map};
 ghost use Rattle.qtables.specs.Members.{member_at};
 ghost use Rattle.qstate.specs.Kept.{members_of};
 ghost use Rattle.qkernel.specs.Stands.{AnswersAtTraces};
 ghost use Rattle.qchart.specs.Arrows.{arrow_of};
-ghost use Rattle.qchart.specs.Rows.{HasRows, TellsBlocked, TellsChanges};
+ghost use Rattle.qscript.specs.Running.{AreBlocked};
+ghost use Rattle.qchart.specs.Changes.{level_of};
+ghost use Rattle.qchart.specs.Rows.{HasRows, TellsChanges};
 
 use crate::arrow::arrows_of;
-use crate::changes::{changes_since, levels_of};
+use crate::changes::{Level, changes_since, levels_of};
 use crate::label::{arrow_labels, call_words, push_result};
 use crate::row::{Cut, Row};
 use qbase::ids::ThreadNo;
 use qexplain::history::{History, Past};
 use qkernel::call::{Call, Completion, Mark};
+use qkernel::kernel::Kernel;
+use qkernel::open_call::Blocked;
 use qscript::run::Run;
 use std::alloc::{AllocError, Global};
 
@@ -23,6 +27,26 @@ use std::alloc::{AllocError, Global};
 struct Course {
     callers: Vec<ThreadNo>,
     bytes: bool,
+}
+
+/// The threads of a kernel at some time: their priorities, and those that are blocked.
+#[derive(Drop)]
+struct Standing {
+    levels: Vec<Level>,
+    blocked: Vec<Blocked>,
+}
+
+impl Standing {
+    /// Returns how the threads of a kernel stand now.
+    fn of(alloc: Global, kernel: &Kernel) -> Result<Standing, AllocError>
+        ensures levels { IfOk result (λ s. s.levels.items ≡ map level_of kernel.now.threads) }
+        ensures blocked { IfOk result (λ s. AreBlocked kernel.now s.blocked.items) }
+    {
+        Ok(Standing {
+            levels: levels_of(alloc, kernel)?,
+            blocked: kernel.blocked(alloc)?,
+        })
+    }
 }
 
 /// Makes the calls in order, adds them to the history, and returns a row for each; its words have the bytes if `bytes`
@@ -63,19 +87,19 @@ impl Course {
         ensures thread { IfOk result (λ row. row.thread ≡ thread) }
         ensures arrows { IfOk result (λ row. row.arrows.items ≡ filter_map (arrow_of (self.old.callers.items ++ thread ∷ []) thread) run.new.endings.items) }
         ensures changes { IfOk result (λ row. TellsChanges run.old.kernel run.new.kernel row.changes.items) }
-        ensures blocked { IfOk result (λ row. TellsBlocked run.new.kernel row.blocked.items) }
+        ensures blocked { IfOk result (λ row. AreBlocked run.new.kernel row.blocked.items) }
         ensures callers { OnOk result (self.new.callers.items ≡ self.old.callers.items ++ thread ∷ []) }
         ensures known { OnOk result (is_some (member_at (members_of run.old.kernel.threads) thread) ≡ true) }
         ensures roster { OnOk result (members_of run.new.kernel.threads ≡ members_of run.old.kernel.threads) }
     {
         let number = run.kernel().made().saturating_add(1);
         let mut words = call_words(alloc, number, &call, self.bytes)?;
-        let before = levels_of(alloc, run.kernel())?;
+        let before = Standing::of(alloc, run.kernel())?;
         self.callers.push(thread)?;
         if run.make(thread, call).is_err() {
             return Err(AllocError);
         }
-        let after = levels_of(alloc, run.kernel())?;
+        let after = Standing::of(alloc, run.kernel())?;
         let endings = run.endings();
         push_result(&mut words, number, endings)?;
         let callers = self.callers.as_slice();
@@ -86,8 +110,8 @@ impl Course {
             arrows: arrows_of(alloc, callers, thread, endings)?,
             labels: arrow_labels(alloc, callers, thread, endings, self.bytes)?,
             cuts: cuts_of(alloc, number, endings)?,
-            changes: changes_since(alloc, before.as_slice(), after.as_slice())?,
-            blocked: run.kernel().blocked(alloc)?,
+            changes: changes_since(alloc, before.levels.as_slice(), after.levels.as_slice())?,
+            blocked: after.blocked,
         })
     }
 }

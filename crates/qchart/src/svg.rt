@@ -8,11 +8,11 @@ use crate::chart::{Chart, head};
 use crate::label::{cut_words, priority_words};
 use crate::plan::{Side, is_sent, leaves_at, words_side};
 use crate::row::Row;
-use crate::state::{signs_of, state_among};
 use fixed::{LEGEND, START};
 use qbase::ids::ThreadNo;
 use qbase::state::ThreadState;
 use qexplain::waiting::Wait;
+use qreading::states::{state_among, state_word};
 use qtables::member::Member;
 use sheet::{BAR_HALF, LINE, Sheet};
 use std::alloc::{AllocError, Global};
@@ -54,11 +54,8 @@ impl Sheet<'_> {
         let mut first = 0usize;
         for (column, member) in lifelines.iter().enumerate() {
             let next = column.saturating_add(1);
-            let goes_on = match lifelines.get(next) {
-                Some(other) => other.process == member.process,
-                None => false,
-            };
-            if !goes_on {
+            let other = lifelines.get(next);
+            if !other.is_some_and(|other| other.process == member.process) {
                 self.push_process(out, first, column)?;
                 first = next;
             }
@@ -278,14 +275,13 @@ fn push_circle(out: &mut String, class: &str, x: usize, y: usize) -> Result<(), 
     out.push_str(" r=\"4\"/>")
 }
 
-/// Adds the bar of a state.
 fn push_bar(
     out: &mut String,
     state: ThreadState,
     start: Place,
     bottom: usize,
 ) -> Result<(), AllocError> {
-    let class = signs_of(state).class;
+    let class = state_word(state);
     let (x, y) = start;
     let width = BAR_HALF.saturating_mul(2);
     let height = bottom.saturating_sub(y);

@@ -7,10 +7,11 @@ use crate::chart::{Chart, head};
 use crate::label::{cut_words, priority_words};
 use crate::plan::is_sent;
 use crate::row::Row;
-use crate::state::{signs_of, state_among};
 use line::Line;
 use qbase::ids::ThreadNo;
+use qbase::state::ThreadState;
 use qexplain::waiting::Wait;
+use qreading::states::state_among;
 use std::alloc::{AllocError, Global};
 
 /// The place of the first thread's line in a line of text.
@@ -83,7 +84,7 @@ impl Page<'_> {
         let mut line = line;
         for member in &self.chart.lifelines {
             let state = state_among(row.blocked.as_slice(), member.thread);
-            line.put(self.place_of(member.thread), signs_of(state).sign)?;
+            line.put(self.place_of(member.thread), state_sign(state))?;
         }
         line.end(out)
     }
@@ -188,6 +189,16 @@ impl Page<'_> {
             let room = words.len().saturating_add(3);
             line.put_spaced(from.saturating_sub(room), words)
         }
+    }
+}
+
+/// Returns the sign that draws the line of a thread in this state.
+fn state_sign(state: ThreadState) -> &'static str {
+    match state {
+        ThreadState::Ready => "|",
+        ThreadState::SendBlocked(_) => "S",
+        ThreadState::ReceiveBlocked(_) => "R",
+        ThreadState::ReplyBlocked(_) => "P",
     }
 }
 

@@ -7,8 +7,8 @@ use qbase::errno::Errno;
 use qbase::ids::ThreadNo;
 use qmodel::call::Call;
 use qscript::run::Run;
+use qscript::script::roster_with_all;
 use qtables::member::Member;
-use qtables::roster::Roster;
 use std::alloc::{AllocError, Global};
 
 /// A run that goes on call by call, and its past calls.
@@ -19,19 +19,14 @@ pub struct ExplainedRun {
 }
 
 impl ExplainedRun {
-    /// Begins a run of these threads on a new kernel, with room for the lines of `calls` calls. A thread that comes
-    /// twice, and those behind the 64th, are left out.
+    /// Begins a run of these threads on a new kernel, with room for the lines of `calls` calls.
     pub fn new(
         alloc: Global,
         members: &[Member],
         calls: usize,
     ) -> Result<ExplainedRun, AllocError> {
-        let mut roster = Roster::new(alloc);
-        for member in members {
-            let _ = roster.add(member.thread, member.process, member.priority);
-        }
         Ok(ExplainedRun {
-            run: Run::new(alloc, &roster, calls)?,
+            run: Run::new(alloc, &roster_with_all(alloc, members), calls)?,
             history: History::new(alloc),
         })
     }

@@ -119,7 +119,6 @@ pub fn oddities(alloc: Global, text: &[u8]) -> Result<Vec<Remark>, AllocError> {
     Ok(remarks)
 }
 
-/// Returns the oddity of a line.
 fn oddity(alloc: Global, line: &[u8]) -> Result<Option<Explanation>, AllocError> {
     let words = words(alloc, line)?;
     let Some(word) = buffer_word(words.as_slice()) else {

@@ -1,7 +1,7 @@
 //! Unproved: words and layout. Recognizes what is often written in a script by mistake, and says
 //! what to write in its place.
 
-use qreading::grammar::{CALLS, Form, Operand};
+use qreading::grammar::{CALLS, FLAGS, Form, Operand};
 use qreading::reading::call::is;
 use std::alloc::{AllocError, Global};
 use std::str;
@@ -14,13 +14,11 @@ pub fn form_meant(alloc: Global, word: &[u8]) -> Result<Option<Form>, AllocError
             plain.push(byte.to_ascii_lowercase())?;
         }
     }
-    for form in &CALLS {
+    let mut forms = CALLS.iter().copied();
+    Ok(forms.find(|form| {
         let mut names = form.qnx_names.iter();
-        if is(word, form.word) || names.any(|name| is(plain.as_slice(), name)) {
-            return Ok(Some(*form));
-        }
-    }
-    Ok(None)
+        is(word, form.word) || names.any(|name| is(plain.as_slice(), name))
+    }))
 }
 
 /// Returns whether a word begins a comment in other languages.
@@ -87,15 +85,10 @@ pub fn push_operand_hint(
 
 /// Returns the number of a flag, given by its name in any of QNX's spellings or by its number.
 fn flag_number(word: &[u8]) -> Option<u8> {
-    if word.ends_with(b"FIXED_PRIORITY") || is(word, "1") {
-        Some(1)
-    } else if word.ends_with(b"DISCONNECT") || is(word, "4") {
-        Some(4)
-    } else if word.ends_with(b"UNBLOCK") || is(word, "2") {
-        Some(2)
-    } else {
-        None
-    }
+    let mut flags = FLAGS.iter();
+    let is_it = |(name, flag): &&(&str, u8)| word.ends_with(name.as_bytes())
+        || word == [b'0' + *flag].as_slice();
+    flags.find(is_it).map(|(_, flag)| *flag)
 }
 
 /// Adds the sum of flags that are given by their names, with `|` or `+` between, if each of them is known.

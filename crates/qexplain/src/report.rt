@@ -3,9 +3,11 @@
 use crate::explained_run::ExplainedRun;
 use crate::waiting::{Deadlock, Wait};
 use crate::why::Refusal;
-use qmodel::call::Mark;
+use qbase::ids::ThreadNo;
+use qmodel::call::{Call, Mark};
 use qreading::parts::call_lines;
 use qscript::fault::ScriptFault;
+use qscript::run::Run;
 use qscript::{Script, parse};
 use std::alloc::{AllocError, Global};
 
@@ -25,78 +27,84 @@ pub struct Report {
     pub deadlocks: Vec<Deadlock>,
 }
 
-/// Returns the report of a script's run.
-pub fn report_of(alloc: Global, text: &[u8]) -> Result<Report, ScriptFault> {
-    let (_, report) = explained(alloc, text)?;
-    Ok(report)
-}
-
 /// Returns what a script prints, and the report of the same run.
 pub fn explained(alloc: Global, text: &[u8]) -> Result<(String, Report), ScriptFault> {
     let script = parse(alloc, text)?;
     let lines = call_lines(alloc, text)?;
-    explained_script(alloc, script, lines.as_slice())
-}
-
-/// Returns what a script prints whose calls have these line numbers, and the report of the same run.
-pub fn explained_script(
-    alloc: Global,
-    script: Script,
-    lines: &[usize],
-) -> Result<(String, Report), ScriptFault> {
-    let mut run = ExplainedRun::new(alloc, script.roster.as_slice(), script.calls.len())?;
-    let mut report = Report::new(alloc);
+    let mut run = ReportedRun::new(alloc, &script, lines)?;
     for (thread, call) in script.calls {
-        if run.make(thread, call).is_err() {
-            return Err(ScriptFault::NoMemory);
-        }
-        report.note(alloc, &run, lines)?;
+        run.make(thread, call)?;
     }
-    report.finish(alloc, &run)?;
-    let printed = run.into_run().finish(alloc)?;
-    Ok((printed, report))
+    Ok(run.finish()?)
 }
 
-impl Report {
-    /// Returns the report of a run without calls.
-    pub fn new(alloc: Global) -> Report {
-        Report {
-            refusals: Vec::new(alloc),
-            failures: 0,
-            waits: Vec::new(alloc),
-            deadlocks: Vec::new(alloc),
-        }
-    }
+/// A run that goes on call by call, and its report so far.
+#[derive(Drop)]
+pub struct ReportedRun {
+    alloc: Global,
+    run: ExplainedRun,
+    /// The numbers of the lines of its calls.
+    lines: Vec<usize>,
+    report: Report,
+}
 
-    /// Notes who is blocked on whom at the end of a run.
-    pub fn finish(&mut self, alloc: Global, run: &ExplainedRun) -> Result<(), AllocError> {
-        self.waits = run.waits(alloc)?;
-        self.deadlocks = run.deadlocks(alloc, self.waits.as_slice())?;
-        Ok(())
-    }
-
-    /// Counts the failures in the event of the latest call, and notes them up to `MOST_REFUSALS`. The calls have these
-    /// line numbers.
-    pub fn note(
-        &mut self,
+impl ReportedRun {
+    /// Begins the run of a script whose calls have these line numbers.
+    pub fn new(
         alloc: Global,
-        run: &ExplainedRun,
-        lines: &[usize],
-    ) -> Result<(), AllocError> {
-        let endings = run.run().endings().iter();
+        script: &Script,
+        lines: Vec<usize>,
+    ) -> Result<ReportedRun, AllocError> {
+        Ok(ReportedRun {
+            alloc,
+            run: ExplainedRun::new(alloc, script.roster.as_slice(), script.calls.len())?,
+            lines,
+            report: Report {
+                refusals: Vec::new(alloc),
+                failures: 0,
+                waits: Vec::new(alloc),
+                deadlocks: Vec::new(alloc),
+            },
+        })
+    }
+
+    /// Returns the run.
+    pub fn run(&self) -> &Run {
+        self.run.run()
+    }
+
+    /// Makes the next call, counts the failures in its event, and notes them up to `MOST_REFUSALS`.
+    pub fn make(&mut self, thread: ThreadNo, call: Call) -> Result<(), AllocError> {
+        if self.run.make(thread, call).is_err() {
+            return Err(AllocError);
+        }
+        let endings = self.run().endings().iter();
         let failed = endings.filter(|ending| matches!(ending.mark, Mark::Failed(_)));
         let count = failed.count();
-        self.failures = self.failures.saturating_add(count);
-        if count == 0 || self.refusals.len() >= MOST_REFUSALS {
+        self.report.failures = self.report.failures.saturating_add(count);
+        if count == 0 || self.report.refusals.len() >= MOST_REFUSALS {
             return Ok(());
         }
-        for refusal in run.refusals(alloc)? {
+        for refusal in self.run.refusals(self.alloc)? {
             let place = refusal.number.saturating_sub(1) as usize;
-            let line = lines.get(place).copied().unwrap_or(0);
-            if self.refusals.len() < MOST_REFUSALS {
-                self.refusals.push((line, refusal))?;
+            let line = self.lines.get(place).copied().unwrap_or(0);
+            if self.report.refusals.len() < MOST_REFUSALS {
+                self.report.refusals.push((line, refusal))?;
             }
         }
         Ok(())
+    }
+
+    /// Returns what the run prints, and its report with who is blocked on whom at its end.
+    pub fn finish(self) -> Result<(String, Report), AllocError> {
+        let ReportedRun {
+            alloc,
+            run,
+            mut report,
+            ..
+        } = self;
+        report.waits = run.waits(alloc)?;
+        report.deadlocks = run.deadlocks(alloc, report.waits.as_slice())?;
+        Ok((run.into_run().finish(alloc)?, report))
     }
 }

@@ -3,7 +3,6 @@
 
 use crate::explained_run::ExplainedRun;
 use crate::states::states_of;
-use crate::why::Refusal;
 use qbase::errno::Errno;
 use qbase::ids::ThreadNo;
 use qmodel::call::Call;
@@ -142,10 +141,7 @@ impl Session {
 
     /// Returns the lines of all calls that ended so far.
     pub fn trace(&self) -> &str {
-        match &self.run {
-            Some(run) => run.run().text(),
-            None => "",
-        }
+        self.run.as_ref().map_or("", |run| run.run().text())
     }
 
     /// Returns the lines of the threads that are blocked now.
@@ -168,14 +164,6 @@ impl Session {
                 let run = ExplainedRun::new(alloc, members, 0)?;
                 states_of(alloc, run.run().kernel(), members)
             }
-        }
-    }
-
-    /// Returns the failures in the event of the last call, with their reasons.
-    pub fn failures(&self) -> Result<Vec<Refusal>, AllocError> {
-        match &self.run {
-            Some(run) => run.refusals(self.alloc),
-            None => Ok(Vec::new(self.alloc)),
         }
     }
 

@@ -192,20 +192,14 @@ impl Growing {
             return Ok(Step::Faulty(faults));
         }
         self.open = open;
-        Ok(self.taken(plain)?)
-    }
-
-    /// Returns what a line without faults adds to the run.
-    fn taken(&mut self, plain: Plain) -> Result<Step, AllocError> {
-        match plain {
-            Plain::Blank => Ok(Step::Nothing),
+        Ok(match plain {
+            Plain::Blank => Step::Nothing,
             Plain::Roster(member) => {
-                let member = &member;
-                self.roster.push(*member)?;
-                Ok(Step::Member(*member))
+                self.roster.push(member)?;
+                Step::Member(member)
             }
-            Plain::Call(thread, call) => Ok(Step::Call(thread, call)),
-        }
+            Plain::Call(thread, call) => Step::Call(thread, call),
+        })
     }
 
     /// Returns what differs from the expectations at the end of the lines, and wasn't returned before: the names that

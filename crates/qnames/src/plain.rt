@@ -63,7 +63,7 @@ fn push_operand(
 }
 
 /// Adds the words of these operands, each behind a space.
-fn push_operands(
+pub fn push_operands(
     alloc: Global,
     out: &mut String,
     scope: &Scope,
@@ -129,7 +129,6 @@ fn error_in(scope: &Scope, mention: &Mention) -> Option<NameError>
     }
 }
 
-/// Returns the fault of an operand.
 fn fault_of_operand(scope: &Scope, operand: &Operand) -> Option<NameFault>
     ensures { result ≡ operand_fault scope.now.labels operand.now }
 {
@@ -209,7 +208,6 @@ impl Plain {
         }
     }
 
-    /// Adds a line.
     fn add(&mut self, alloc: Global, line: &Line) -> Result<(), AllocError>
         requires threads { self.old.scope.threads < 2 ^ 63 }
         requires calls { self.old.scope.calls < 2 ^ 63 }

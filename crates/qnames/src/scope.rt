@@ -55,7 +55,6 @@ pub fn is_same_kind(a: Kind, b: Kind) -> bool
     code(a) == code(b)
 }
 
-/// Returns whether a word is this name.
 fn is(word: &Word, name: &str) -> bool
     ensures { result ≡ bytes_eq word.now name.now }
 {
@@ -73,7 +72,6 @@ fn places_of(alloc: Global, labels: &[Label]) -> Result<HashMap<String, usize>, 
     Ok(places)
 }
 
-/// Returns the label at a place.
 fn label_at(labels: &[Label], place: usize) -> Option<&Label>
     ensures { option_map (λ l. l.now) result ≡ slice_get labels.now place }
 {
@@ -88,7 +86,6 @@ fn found_process(processes: &[Word], name: &Word) -> Option<usize>
     processes.iter().position(|p| is(p, name.as_str()))
 }
 
-/// Returns whether a name is one of those of the processes.
 fn has_process(processes: &[Word], name: &Word) -> bool
     ensures { result ≡ list_any (λ p. bytes_eq p name.now) processes.now }
 {
@@ -107,7 +104,6 @@ fn process_place(processes: &[Word], name: &Word) -> usize
     }
 }
 
-/// Returns the number of a process.
 fn number_of_process(processes: &[Word], process: &Process) -> u64
     requires { length processes.now < 2 ^ 63 }
     ensures { result ≡ process_number processes.now process.now }
@@ -215,10 +211,16 @@ impl Scope {
 
     /// Returns the number of the process with this name, or 0 if no line has it.
     pub fn process_named(&self, name: &Word) -> u64 {
-        match found_process(self.processes.as_slice(), name) {
-            Some(at) => (at as u64).saturating_add(1),
-            None => 0,
-        }
+        let found = found_process(self.processes.as_slice(), name);
+        found.map_or(0, |at| (at as u64).saturating_add(1))
+    }
+
+    /// Returns the name that stands for the call with this number, or for the thread if `of_thread` is set.
+    pub fn name_of(&self, of_thread: bool, number: u64) -> Option<&Word> {
+        let mut labels = self.labels.iter();
+        let is_of = |label: &&Label| (label.kind == Kind::Thread) == of_thread;
+        let label = labels.find(|label| label.number == number && is_of(label))?;
+        Some(&label.name)
     }
 
     /// Returns the last label with this name.
@@ -274,7 +276,6 @@ impl Scope {
         }
     }
 
-    /// Adds the line of a thread.
     fn add_thread(&mut self, alloc: Global, line: &ThreadLine) -> Result<(), AllocError>
         requires { self.old.threads < 2 ^ 63 }
         ensures { OnOk result (self.new ≡ with_line self.old (Line.Thread line.now)) }

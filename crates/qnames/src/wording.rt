@@ -4,7 +4,7 @@ use crate::expectation::CallCheck;
 use crate::label::NameError;
 use crate::line::Kind;
 use crate::scope::Scope;
-use qreading::near::nearest;
+use qreading::near::push_near;
 use qreading::word::Word;
 use std::alloc::{AllocError, Global};
 
@@ -38,10 +38,8 @@ pub struct Use<'a> {
 impl Context<'_> {
     /// Returns the word that names the call with this number.
     fn verb(&self, number: u64) -> &'static str {
-        match self.calls.get(number.saturating_sub(1) as usize) {
-            Some(call) => call.kind.word(),
-            None => "",
-        }
+        let call = self.calls.get(number.saturating_sub(1) as usize);
+        call.map_or("", |call| call.kind.word())
     }
 
     /// Returns the words for a name that no line above defines.
@@ -52,16 +50,11 @@ impl Context<'_> {
                 "{name} isn't defined before this line; line {line} defines it"
             );
         }
-        let mut names = Vec::new(self.alloc);
-        for label in self.scope.labels() {
-            names.push(label.name.as_str())?;
-        }
-        match nearest(self.alloc, name.as_str(), names.as_slice())? {
-            Some(near) => format!(in self.alloc;
-                "{name} isn't defined before this line; did you mean '{near}'?"
-            ),
-            None => format!(in self.alloc; "{name} isn't defined before this line"),
-        }
+        let labels = self.scope.labels().iter();
+        let names: Vec<&str> = labels.map(|label| label.name.as_str()).collect(self.alloc)?;
+        let mut text = format!(in self.alloc; "{name} isn't defined before this line")?;
+        push_near(self.alloc, &mut text, name.as_str(), names.as_slice())?;
+        Ok(text)
     }
 
     /// Returns the words for a name that stands for something of another kind.

@@ -9,7 +9,6 @@ pub mod parts;
 pub mod place;
 pub mod reading;
 pub mod states;
-pub mod values;
 pub mod word;
 
 pub use reading::script::{MOST_TEXT, Script, parse};

@@ -37,13 +37,36 @@ fn nearest_within<'a>(
     Ok(found)
 }
 
-/// Returns the name that is nearest to a word, the first if several are, or `None` if none is near.
-pub fn nearest<'a>(
+/// Adds `; did you mean 'NAME'?` with the name that is nearest to a word, the first if several are, and returns whether
+/// one is near.
+pub fn push_near(
+    alloc: Global,
+    text: &mut String,
+    word: &str,
+    names: &[&str],
+) -> Result<bool, AllocError> {
+    match nearest_within(alloc, word, names, 0)? {
+        Some(near) => {
+            write!(text, "; did you mean '{near}'?")?;
+            Ok(true)
+        }
+        None => Ok(false),
+    }
+}
+
+/// Returns the words for a word that is none of these: the one that it is near to, or else what all of them are.
+pub fn no_such(
     alloc: Global,
     word: &str,
-    names: &[&'a str],
-) -> Result<Option<&'a str>, AllocError> {
-    nearest_within(alloc, word, names, 0)
+    words: &[&str],
+    what: &str,
+    all: &str,
+) -> Result<String, AllocError> {
+    let mut text = format!(in alloc; "'{word}' {what}")?;
+    if !push_near(alloc, &mut text, word, words)? {
+        write!(text, "; {all}")?;
+    }
+    Ok(text)
 }
 
 /// Returns the keyword that is nearest to a word in any case, or `None` if none is near. A keyword is short, so it has
@@ -61,7 +84,7 @@ fn nearest_keyword(
 }
 
 /// Returns the name of the call that is nearest to a word, the first of the table if several are.
-pub fn near_call(alloc: Global, word: &[u8]) -> Result<Option<&'static str>, AllocError> {
+fn near_call(alloc: Global, word: &[u8]) -> Result<Option<&'static str>, AllocError> {
     let mut words = Vec::new(alloc);
     for form in &CALLS {
         words.push(form.word)?;
@@ -69,22 +92,19 @@ pub fn near_call(alloc: Global, word: &[u8]) -> Result<Option<&'static str>, All
     nearest_keyword(alloc, word, words.as_slice())
 }
 
-/// Returns the names of all calls, for a word that is none of them.
-fn call_names(alloc: Global, word: &str) -> Result<String, AllocError> {
-    let mut text = format!(in alloc; "'{word}' names no call; the calls are")?;
-    for form in &CALLS {
-        text.push(' ')?;
-        text.push_str(form.word)?;
-    }
-    Ok(text)
-}
-
 /// Returns the words for a word that names no call: the name that it is near to, or else the names of all calls.
 pub fn unknown_call(alloc: Global, word: &str) -> Result<String, AllocError> {
-    match near_call(alloc, word.as_bytes())? {
-        Some(near) => format!(in alloc; "'{word}' names no call; did you mean '{near}'?"),
-        None => call_names(alloc, word),
+    let mut text = format!(in alloc; "'{word}' names no call; ")?;
+    if let Some(near) = near_call(alloc, word.as_bytes())? {
+        write!(text, "did you mean '{near}'?")?;
+        return Ok(text);
     }
+    text.push_str("the calls are")?;
+    for form in &CALLS {
+        let name = form.word;
+        write!(text, " {name}")?;
+    }
+    Ok(text)
 }
 
 /// Returns the front of a word, as text.

@@ -3,6 +3,7 @@
 ghost use Rattle.std.specs.Prelude.{length};
 ghost use Rattle.std.specs.Iterator.{at_most};
 
+use crate::grammar::ROSTER;
 use crate::reading::call::is;
 use crate::reading::lines::next_line;
 use crate::reading::number::small;
@@ -71,17 +72,19 @@ pub fn words<'a>(alloc: Global, line: &'a [u8]) -> Result<Vec<Word<'a>>, AllocEr
     Ok(words)
 }
 
+/// Returns the number, counted from 1, of the line at an index, or 0 if there is none.
+fn number_of(line: Option<usize>) -> usize {
+    line.map_or(0, |at| at.saturating_add(1))
+}
+
+/// Returns whether a line begins with the number of a thread.
+fn begins_with_thread(line: &[u8]) -> bool {
+    next_word(line).is_some_and(|(word, _)| small(word).is_ok())
+}
+
 /// Returns the number, counted from 1, of the first line that is a call.
 pub fn first_call(text: &[u8]) -> usize {
-    let mut number = 0usize;
-    for line in Lines(text) {
-        number = number.saturating_add(1);
-        match next_word(line) {
-            Some((word, _)) if small(word).is_ok() => break,
-            _ => {}
-        }
-    }
-    number
+    number_of(Lines(text).position(|line| begins_with_thread(line)))
 }
 
 /// Returns whether this is a roster line of this thread.
@@ -90,27 +93,20 @@ fn enrolls(line: &[u8], thread: u8) -> bool {
         return false;
     };
     match next_word(rest) {
-        Some((number, _)) => is(first, "thread") && small(number) == Ok(thread),
+        Some((number, _)) => is(first, ROSTER.word) && small(number) == Ok(thread),
         None => false,
     }
 }
 
 /// Returns the number, counted from 1, of the first roster line of this thread.
 pub fn first_enrolled(text: &[u8], thread: u8) -> usize {
-    let mut number = 0usize;
-    for line in Lines(text) {
-        number = number.saturating_add(1);
-        if enrolls(line, thread) {
-            break;
-        }
-    }
-    number
+    number_of(Lines(text).position(|line| enrolls(line, thread)))
 }
 
 /// Returns whether a line of a script is a call.
 fn is_call(line: &[u8]) -> bool {
     match next_word(line) {
-        Some((word, _)) => word.first() != Some(&b'#') && !is(word, "thread"),
+        Some((word, _)) => word.first() != Some(&b'#') && !is(word, ROSTER.word),
         None => false,
     }
 }
@@ -118,11 +114,9 @@ fn is_call(line: &[u8]) -> bool {
 /// Returns the numbers, counted from 1, of the lines of a script that are calls, in order.
 pub fn call_lines(alloc: Global, text: &[u8]) -> Result<Vec<usize>, AllocError> {
     let mut lines = Vec::new(alloc);
-    let mut number = 0usize;
-    for line in Lines(text) {
-        number = number.saturating_add(1);
+    for (at, line) in Lines(text).enumerate() {
         if is_call(line) {
-            lines.push(number)?;
+            lines.push(at.saturating_add(1))?;
         }
     }
     Ok(lines)

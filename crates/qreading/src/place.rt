@@ -3,7 +3,7 @@
 ghost use Rattle.std.specs.Prelude.{◌≡◌};
 ghost use Rattle.qreading.specs.declared.place.ReadError.TheVariants.{Memory};
 
-use std::alloc::{AllocError, AllocFailed};
+use std::alloc::{AllocError, AllocFailed, Global};
 use std::fmt;
 use thiserror::Error;
 
@@ -55,6 +55,11 @@ impl<T: Drop> From<AllocFailed<T>> for ReadError {
     fn from(_e: AllocFailed<T>) -> ReadError {
         ReadError::Memory
     }
+}
+
+/// Returns the fault of these words at a place.
+pub fn fault_in_words(alloc: Global, place: Place, what: &str) -> ReadError {
+    fault_at(place, String::from_str(alloc, what))
 }
 
 /// Returns the fault of these words at a place, or the error of memory if there is none for the words.

@@ -1,7 +1,8 @@
 //! The words for the state of a thread.
 
-use qbase::ids::ChannelId;
+use qbase::ids::{ChannelId, ThreadNo};
 use qbase::state::ThreadState;
+use qmodel::open_call::Blocked;
 
 /// Returns the name of a state, in the words of the QNX Neutrino System Architecture.
 pub fn state_name(state: ThreadState) -> &'static str {
@@ -20,6 +21,14 @@ pub fn state_word(state: ThreadState) -> &'static str {
         ThreadState::SendBlocked(_) => "send",
         ThreadState::ReceiveBlocked(_) => "receive",
         ThreadState::ReplyBlocked(_) => "reply",
+    }
+}
+
+/// Returns the state of a thread if these threads are blocked.
+pub fn state_among(blocked: &[Blocked], thread: ThreadNo) -> ThreadState {
+    match blocked.iter().find(|blocked| blocked.thread == thread) {
+        Some(blocked) => blocked.state,
+        None => ThreadState::Ready,
     }
 }
 

@@ -21,18 +21,14 @@ use qtables::roster::Roster;
 use std::alloc::{AllocError, Global};
 use std::io::{Read, Write};
 
-/// Returns the roster of these threads. Each comes once, and there are at most 64.
+/// Returns the roster of these threads. One that comes twice, and those behind the 64th, are left out.
 #[tactic(auto, using(crate::proofs::Joining::joins_at, crate::proofs::Joining::enrolled_next))]
 pub fn roster_with_all(alloc: Global, members: &[Member]) -> Roster
-    requires { AllJoin [] members.now }
-    ensures { result ≡ roster_with [] members.now }
+    ensures { AllJoin [] members.now → result ≡ roster_with [] members.now }
 {
     let mut roster = Roster::new(alloc);
     'joining: for member in members {
-        match roster.add(member.thread, member.process, member.priority) {
-            Ok(()) => {}
-            Err(_) => unreachable!("each thread comes once, and there are at most 64"),
-        }
+        let _ = roster.add(member.thread, member.process, member.priority);
     }
     roster
 }

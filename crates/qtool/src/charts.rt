@@ -4,7 +4,7 @@ use crate::command::ChartRun;
 use crate::ending::{end_unread, end_with, print_text, text_of};
 use crate::names::{is_named, named_of};
 use crate::remarks::Source;
-use qchart::drawing::drawing;
+use qchart::drawing::{drawing, drawing_of};
 use qchart::view::{Style, View};
 use std::fs;
 use std::process::ExitCode;
@@ -24,12 +24,23 @@ pub fn run_chart<R: Files + Input + Print + Eprint + AllocGlobal>(
     }
     let text = text_of(rt, file)?;
     let text = text.as_slice();
-    if !file.is_some_and(is_named) {
-        return draw(rt, run, text);
+    let view = view_of(run);
+    let drawn = if file.is_some_and(is_named) {
+        let shows = false;
+        let named = named_of(rt, Source { file, text, shows })?;
+        drawing_of(rt.alloc(), named.script, &view)
+    } else {
+        drawing(rt.alloc(), text, &view)
+    };
+    match (drawn, run.output.as_deref()) {
+        (Err(fault), _) => return Err(end_with(rt, format_args!("{fault}"), fault.status())),
+        (Ok(drawn), None) => print_text(rt, drawn.as_str())?,
+        (Ok(drawn), Some(name)) => {
+            let written = fs::write(rt, name, drawn.as_str());
+            written.map_err(|error| end_unread(rt, name, error))?;
+        }
     }
-    let shows = false;
-    let named = named_of(rt, Source { file, text, shows })?;
-    draw(rt, run, named.text.as_bytes())
+    Ok(ExitCode::SUCCESS)
 }
 
 /// Returns whether two paths lead to one existing file.
@@ -53,24 +64,4 @@ fn view_of(run: &ChartRun) -> View {
         from: run.from as usize,
         to: run.to.map_or(usize::MAX, |to| to as usize),
     }
-}
-
-/// Draws the run of this script.
-fn draw<R: Files + Print + Eprint + AllocGlobal>(
-    rt: &R,
-    run: &ChartRun,
-    text: &[u8],
-) -> Result<ExitCode, ExitCode> {
-    let drawn = match drawing(rt.alloc(), text, &view_of(run)) {
-        Ok(drawn) => drawn,
-        Err(fault) => return Err(end_with(rt, format_args!("{fault}"), fault.status())),
-    };
-    match run.output.as_deref() {
-        None => print_text(rt, drawn.as_str())?,
-        Some(name) => {
-            let written = fs::write(rt, name, drawn.as_str());
-            written.map_err(|error| end_unread(rt, name, error))?;
-        }
-    }
-    Ok(ExitCode::SUCCESS)
 }

@@ -3,9 +3,7 @@
 use crate::command::ExploreRun;
 use crate::ending::{end_failed, print_text, text_of};
 use crate::remarks;
-use qdesign::verdict::words::{
-    Source, chance_words, found_script, found_words, gave_up_words, nothing_words,
-};
+use qdesign::verdict::words::{Source, found_script};
 use qdesign::{Reading, read};
 use qexplore::fault::Found;
 use qexplore::random::try_some;
@@ -38,11 +36,14 @@ pub fn words_of(alloc: Global, file: &str, text: &[u8]) -> Result<Option<String>
         return Ok(None);
     };
     let design = &design;
-    let search = Search {
+    let source = Source {
         alloc,
-        source: Source { file, text, design },
-        script: false,
+        file,
+        text,
+        design,
     };
+    let script = false;
+    let search = Search { source, script };
     let (words, _) = search.all(MOST_MOMENTS, &mut Nobody)?;
     Ok(Some(words))
 }
@@ -87,8 +88,13 @@ pub fn run_explore<R: Files + Input + Print + Eprint + AllocGlobal>(
     };
     let told = match read(rt.alloc(), text) {
         Ok(Reading::Good(design)) => {
-            let design = &design;
-            told_of(rt, run, Source { file, text, design })
+            let source = Source {
+                alloc: rt.alloc(),
+                file,
+                text,
+                design: &design,
+            };
+            told_of(rt, run, source)
         }
         Ok(Reading::Faulty(faults)) => return Err(source.end_faulty(rt, faults.as_slice())),
         Err(error) => Err(error),
@@ -112,11 +118,8 @@ fn told_of<R: Eprint + AllocGlobal>(
         steps: 0,
         shown: false,
     };
-    let search = Search {
-        alloc: rt.alloc(),
-        source,
-        script: run.script,
-    };
+    let script = run.script;
+    let search = Search { source, script };
     let told = match run.random {
         Some(count) => search.some(u64::from(count), u64::from(run.seed), &mut progress),
         None => search.all(run.most as usize, &mut progress),
@@ -130,7 +133,6 @@ fn told_of<R: Eprint + AllocGlobal>(
 /// A search for faults of a design.
 #[derive(Clone, Copy)]
 struct Search<'a> {
-    alloc: Global,
     source: Source<'a>,
     /// Whether only the run that shows a fault is printed, as a script.
     script: bool,
@@ -139,12 +141,14 @@ struct Search<'a> {
 impl Search<'_> {
     /// Explores all interleavings, and returns the output and the exit status.
     fn all<W: Watch>(self, most: usize, progress: &mut W) -> Result<(String, u8), AllocError> {
-        let Search { alloc, source, .. } = self;
-        Ok(match explore(alloc, source.design, most, progress)? {
-            Verdict::Found(found) => (self.fault(&found, "a shortest run")?, 1),
-            Verdict::Nothing(summary) => (nothing_words(alloc, source, &summary)?, 0),
-            Verdict::GaveUp(tally) => (gave_up_words(alloc, source, tally)?, NOT_ALL),
-        })
+        let source = self.source;
+        Ok(
+            match explore(source.alloc, source.design, most, progress)? {
+                Verdict::Found(found) => (self.fault(&found, "a shortest run")?, 1),
+                Verdict::Nothing(summary) => (source.nothing_words(&summary)?, 0),
+                Verdict::GaveUp(tally) => (source.gave_up_words(tally)?, NOT_ALL),
+            },
+        )
     }
 
     /// Makes random interleavings, and returns the output and the exit status.
@@ -154,21 +158,21 @@ impl Search<'_> {
         seed: u64,
         progress: &mut W,
     ) -> Result<(String, u8), AllocError> {
-        let Search { alloc, source, .. } = self;
-        Ok(
-            match try_some(alloc, source.design, seed, count, progress)? {
-                Some(found) => (self.fault(&found, "a run")?, 1),
-                None => (chance_words(alloc, source.file, count, seed)?, NOT_ALL),
-            },
-        )
+        let source = self.source;
+        let found = try_some(source.alloc, source.design, seed, count, progress)?;
+        Ok(match found {
+            Some(found) => (self.fault(&found, "a run")?, 1),
+            None => (source.chance_words(count, seed)?, NOT_ALL),
+        })
     }
 
     /// Returns the output for a fault; `which` says what kind of run shows it.
     fn fault(self, found: &Found, which: &str) -> Result<String, AllocError> {
+        let source = self.source;
         if self.script {
-            found_script(self.alloc, self.source.design, found)
+            found_script(source.alloc, source.design, found)
         } else {
-            found_words(self.alloc, self.source, found, which)
+            source.found_words(found, which)
         }
     }
 }

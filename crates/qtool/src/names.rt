@@ -3,8 +3,7 @@
 use crate::command::ScriptRun;
 use crate::ending::{end_failed, print_text, text_of};
 use crate::remarks::{Source, tell_run};
-use qexplain::explained_run::ExplainedRun;
-use qexplain::report::Report;
+use qexplain::report::{Report, ReportedRun};
 use qnames::{Named, Reading, read};
 use qreading::place::Fault;
 use std::alloc::{AllocError, Global};
@@ -44,7 +43,7 @@ pub fn run_named<R: Files + Input + Print + Eprint + AllocGlobal>(
         print_text(rt, named.text.as_str())?;
         return Ok(ExitCode::SUCCESS);
     }
-    let Ok(outcome) = outcome_of(rt.alloc(), named, run.explain) else {
+    let Ok(outcome) = outcome_of(rt.alloc(), named) else {
         return Err(end_failed(rt, "out of memory"));
     };
     print_text(rt, outcome.trace.as_str())?;
@@ -65,42 +64,35 @@ struct Outcome {
     faults: Vec<Fault>,
 }
 
-/// Runs a script with names once, and returns its outcome. Failures are explained if `why` is set.
-fn outcome_of(alloc: Global, named: Named, why: bool) -> Result<Outcome, AllocError> {
+/// Runs a script with names once, and returns its outcome.
+fn outcome_of(alloc: Global, named: Named) -> Result<Outcome, AllocError> {
     let Named {
         script,
         mut check,
         ..
     } = named;
-    let mut lines = Vec::new(alloc);
-    for call in &check.calls {
-        lines.push(call.place.line as usize)?;
-    }
-    let mut run = ExplainedRun::new(alloc, script.roster.as_slice(), script.calls.len())?;
-    let mut report = Report::new(alloc);
+    let calls = check.calls.iter();
+    let lines = calls.map(|call| call.place.line as usize).collect(alloc)?;
+    let mut run = ReportedRun::new(alloc, &script, lines)?;
     check.compare_states(Some(run.run().kernel()))?;
     for (thread, call) in script.calls {
-        if run.make(thread, call).is_err() {
-            return Err(AllocError);
-        }
+        run.make(thread, call)?;
         check.follow(run.run().kernel(), run.run().endings())?;
-        if why {
-            report.note(alloc, &run, lines.as_slice())?;
-        }
     }
     check.finish(run.run().kernel())?;
-    report.finish(alloc, &run)?;
+    let (trace, report) = run.finish()?;
+    let faults = check.take_faults()?;
     Ok(Outcome {
-        trace: run.into_run().finish(alloc)?,
+        trace,
         report,
-        faults: check.take_faults()?,
+        faults,
     })
 }
 
 /// Returns the faults of a script with names, or else what differs from its expectations in its run.
 pub fn faults_of(alloc: Global, text: &[u8]) -> Result<Vec<Fault>, AllocError> {
     match read(alloc, text)? {
-        Reading::Good(named) => Ok(outcome_of(alloc, named, false)?.faults),
+        Reading::Good(named) => Ok(outcome_of(alloc, named)?.faults),
         Reading::Faulty(faults) => Ok(faults),
     }
 }

@@ -277,7 +277,6 @@ impl<R: Files + Input + Print + Eprint + AllocGlobal> Play<'_, R> {
     }
 }
 
-/// Returns a line without its end.
 fn without_end(line: &[u8]) -> &[u8] {
     match line {
         [front @ .., b'\r', b'\n'] => front,

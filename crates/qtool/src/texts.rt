@@ -22,13 +22,31 @@ fails; 4 where a worker fails, or a search didn't look at all. Where nobody read
 output any more, as behind '| head -1', the program ends without a message, with
 status 141.";
 
-/// The work of `script`, in a line.
-pub const SCRIPT_ABOUT: &str = "Runs a script and prints what its calls answer";
+/// The texts of a subcommand.
+pub struct Texts {
+    /// Its work, in a line.
+    pub about: &'static str,
+    /// Its work.
+    pub long: &'static str,
+    /// The text below its help.
+    pub example: &'static str,
+}
 
-/// The work of `script`.
-pub const SCRIPT_LONG: &str = "Runs a script and prints what its calls answer.
+/// The texts with this work in a line, which also begins the longer text.
+macro_rules! texts {
+    ($about:literal, $more:literal, $example:literal) => {
+        Texts {
+            about: $about,
+            long: concat!($about, ".\n\n", $more),
+            example: $example,
+        }
+    };
+}
 
-A script is a line for each thread, with its process and its priority, and
+/// The texts of `script`.
+pub static SCRIPT: Texts = texts!(
+    "Runs a script and prints what its calls answer",
+    "A script is a line for each thread, with its process and its priority, and
 then a line for each kernel call, with the thread that makes it. The calls are
 numbered from 1; a channel, a connection and a receive id have the number of
 the call that made them.
@@ -126,10 +144,8 @@ say how its call has to end, and a line of its own in which state a thread is:
 
 It runs as its plain script, in which each name is replaced by its number; --plain
 prints that. All faults, and all that isn't as expected in the run, are told on
-standard error, as 'qdemo: FILE:4:27: expected ..'. docs/SCRIPTS.md has all forms.";
-
-/// The text below the help of `script`.
-pub const SCRIPT_EXAMPLE: &str = "Example:
+standard error, as 'qdemo: FILE:4:27: expected ..'. docs/SCRIPTS.md has all forms.",
+    "Example:
   input            output
   thread 1 1 10
   thread 2 2 20
@@ -142,15 +158,13 @@ pub const SCRIPT_EXAMPLE: &str = "Example:
 
 Status: 0; 1 for a faulty script, a run that isn't as its script expects, or with
 --strict where a call failed; 2 for a faulty command line; 3 where reading, writing
-or memory fails; 141 where nobody reads the output.";
+or memory fails; 141 where nobody reads the output."
+);
 
-/// The work of `check`, in a line.
-pub const CHECK_ABOUT: &str = "Runs scripts and compares what they print with their traces";
-
-/// The work of `check`.
-pub const CHECK_LONG: &str = "Runs scripts and compares what they print with their traces.
-
-A PATH is a script, or a folder, of which each file NAME.txt is one. NAME.trace
+/// The texts of `check`.
+pub static CHECK: Texts = texts!(
+    "Runs scripts and compares what they print with their traces",
+    "A PATH is a script, or a folder, of which each file NAME.txt is one. NAME.trace
 beside it is what it has to print, byte for byte but for a carriage return before
 a line feed. The output has a line for each script, those of a folder in the order
 of their names, and a last line that counts. Where one prints something else, the
@@ -159,10 +173,8 @@ the line of the script that it comes from. A file NAME.names is a script with
 names, which says itself what it expects, and has no trace. A file NAME.design is a
 design, and NAME.verdict what 'qdemo explore' has to tell of it.
 
-With --update a trace or a verdict that is missing or differs is written.";
-
-/// The text below the help of `check`.
-pub const CHECK_EXAMPLE: &str = "Example:
+With --update a trace or a verdict that is missing or differs is written.",
+    "Example:
   $ qdemo check data
   first-message: as its trace says
   two-servers: differs from its trace at line 4
@@ -173,15 +185,13 @@ pub const CHECK_EXAMPLE: &str = "Example:
 
 Status: 0 where all are the same or written; 1 where one differs, is faulty or has
 no trace; 2 for a faulty command line; 3 where a file can't be read or written, a
-folder has no script, or memory fails; 141 where nobody reads the output.";
+folder has no script, or memory fails; 141 where nobody reads the output."
+);
 
-/// The work of `play`, in a line.
-pub const PLAY_ABOUT: &str = "Reads calls and commands, and answers each at once";
-
-/// The work of `play`.
-pub const PLAY_LONG: &str = "Reads calls and commands, and answers each at once.
-
-Each line is one of a script, as 'qdemo help script' describes them, and what it
+/// The texts of `play`.
+pub static PLAY: Texts = texts!(
+    "Reads calls and commands, and answers each at once",
+    "Each line is one of a script, as 'qdemo help script' describes them, and what it
 adds to the trace is printed at once. Or it is a command:
 
   state      a line for each thread: THREAD state STATE CHANNEL PRIORITY
@@ -203,10 +213,8 @@ printed but the answers, and at the end the threads that are blocked: so the out
 is that of 'qdemo script' for the same lines.
 
 For each line the script is run anew, so that 'undo' can go back. It is meant for
-some thousand lines, or some hundred with names, not for more.";
-
-/// The text below the help of `play`.
-pub const PLAY_EXAMPLE: &str = "Example:
+some thousand lines, or some hundred with names, not for more.",
+    "Example:
   $ qdemo play
   > thread 1 1 10
   > 1 create 0
@@ -224,38 +232,31 @@ pub const PLAY_EXAMPLE: &str = "Example:
 
 Status: 0; 1 for a faulty FILE, or for a faulty line or a call that isn't as
 expected where the input is no terminal; 2 for a faulty command line; 3 where
-reading, writing or memory fails; 141 where nobody reads the output.";
+reading, writing or memory fails; 141 where nobody reads the output."
+);
 
-/// The work of `chart`, in a line.
-pub const CHART_ABOUT: &str =
-    "Draws the run of a script: its threads, messages, answers and pulses";
-
-/// The work of `chart`.
-pub const CHART_LONG: &str = "Draws the run of a script: its threads, messages, answers and pulses.
-
-A line goes down for each thread, with its state as a bar, and an arrow for each
+/// The texts of `chart`.
+pub static CHART: Texts = texts!(
+    "Draws the run of a script: its threads, messages, answers and pulses",
+    "A line goes down for each thread, with its state as a bar, and an arrow for each
 message, answer and pulse, in the row of the call in which it arrives. A message
 that nobody has received is an arrow that ends in the air, and a circle of threads
 that wait for one another is told below the rows. The drawing is columns of text on
 a terminal and with --text, and else SVG, which a browser shows. docs/CHARTS.md says
 how to read it. At most 400 calls can be drawn: of a longer script draw a part, by
---from and --to. 'qdemo help script' describes scripts.";
-
-/// The text below the help of `chart`.
-pub const CHART_EXAMPLE: &str = "Example:
+--from and --to. 'qdemo help script' describes scripts.",
+    "Example:
   $ qdemo chart first-message.txt -o run.svg
 
 Status: 0; 1 for a faulty script, or one of too many calls; 2 for a faulty command
 line, or a drawing that would be written over its script; 3 where reading, writing
-or memory fails; 141 where nobody reads the output.";
+or memory fails; 141 where nobody reads the output."
+);
 
-/// The work of `explore`, in a line.
-pub const EXPLORE_ABOUT: &str = "Makes every interleaving of a design, and tells what goes wrong";
-
-/// The work of `explore`.
-pub const EXPLORE_LONG: &str = "Makes every interleaving of a design, and tells what goes wrong.
-
-A design is a small system of servers and clients. A line begins the section of a
+/// The texts of `explore`.
+pub static EXPLORE: Texts = texts!(
+    "Makes every interleaving of a design, and tells what goes wrong",
+    "A design is a small system of servers and clients. A line begins the section of a
 thread, and the lines up to the next section are its program:
 
   thread NAME PROCESS PRIORITY [COPIES]
@@ -319,10 +320,8 @@ What is wrong is told with the fewest calls that lead to it:
   priorities are inverted        a client waits for a server that works below another
                                  thread, which is ready
 
-docs/EXPLORE.md shows it by examples. 'qdemo help script' describes calls.";
-
-/// The text below the help of `explore`.
-pub const EXPLORE_EXAMPLE: &str = "Example:
+docs/EXPLORE.md shows it by examples. 'qdemo help script' describes calls.",
+    "Example:
   $ qdemo explore designs/two-servers-mended.design
   designs/two-servers-mended.design: nothing found in all 2,218 interleavings: \
     4 threads, 88 moments, 153 moves, none longer than 19 calls
@@ -331,15 +330,13 @@ pub const EXPLORE_EXAMPLE: &str = "Example:
 Status: 0 if nothing is wrong in any interleaving; 1 where something is, or for a
 faulty design; 2 for a faulty command line; 3 where reading, writing or memory fails;
 4 where nothing is wrong so far, but not all was looked at: it gave up, or made some
-interleavings by chance; 141 where nobody reads the output.";
+interleavings by chance; 141 where nobody reads the output."
+);
 
-/// The work of `serve`, in a line.
-pub const SERVE_ABOUT: &str = "Runs a server and its clients on threads, and prints what they did";
-
-/// The work of `serve`.
-pub const SERVE_LONG: &str = "Runs a server and its clients on threads, and prints what they did.
-
-Each client makes its rounds: it sends a pulse, and then a message for the echo
+/// The texts of `serve`.
+pub static SERVE: Texts = texts!(
+    "Runs a server and its clients on threads, and prints what they did",
+    "Each client makes its rounds: it sends a pulse, and then a message for the echo
 service or for the sum service, waits for the answer and checks it. The servers
 receive on one channel.
 
@@ -376,10 +373,8 @@ NAME.trace byte for byte, in one thread. A script has at most 4,194,304 bytes; o
 run that would be longer no file is written.
 
 Where standard error is a terminal, a line on it shows how far a run is that takes
-more than half a second. It is gone at the end, and --quiet leaves it out.";
-
-/// The text below the help of `serve`.
-pub const SERVE_EXAMPLE: &str = "Example:
+more than half a second. It is gone at the end, and --quiet leaves it out.",
+    "Example:
   $ qdemo serve --clients 2 --servers 1 --rounds 1
   sent 2
   answered 2
@@ -388,4 +383,5 @@ pub const SERVE_EXAMPLE: &str = "Example:
   events 20
 
 Status: 0; 2 for a faulty command line, or a run that is too long to be recorded; 3
-where writing or memory fails; 4 where a worker fails.";
+where writing or memory fails; 4 where a worker fails."
+);

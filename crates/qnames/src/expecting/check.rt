@@ -2,20 +2,18 @@
 
 use crate::expectation::{CallCheck, Ending, Expectation, Follower, StateCheck};
 use crate::expecting::completion::End;
-use crate::label::Label;
-use crate::line::{Kind, Operand};
+use crate::line::Operand;
 use crate::scope::Scope;
 use crate::wording::Context;
 use qbase::bytes::Bytes;
+use qbase::ids::ThreadNo;
 use qbase::state::ThreadState;
 use qkernel::call::{Completion, Mark};
 use qkernel::kernel::Kernel;
 use qmodel::kind::CallKind;
 use qreading::place::{Fault, Place};
 use qreading::reading::number::number;
-use qreading::states::{state_channel, state_name};
-use qstate::thread::Thread;
-use qstate::thread_state::state_of_wait;
+use qreading::states::{state_among, state_channel, state_name};
 use std::alloc::{AllocError, Global};
 use std::mem;
 
@@ -48,29 +46,11 @@ fn operand_number(scope: &Scope, operand: &Operand) -> u64 {
     }
 }
 
-/// Returns the state of a thread that a kernel has.
-fn state_of(kernel: &Kernel, thread: &Thread) -> ThreadState {
-    match &thread.open_call {
-        Some(call) => state_of_wait(kernel.connections(), &call.wait),
-        None => ThreadState::Ready,
-    }
-}
-
-/// Returns the state of the thread with this number; one that a kernel hasn't is ready.
-fn state_of_number(kernel: &Kernel, number: u64) -> ThreadState {
-    let mut threads = kernel.threads().iter();
-    match threads.find(|thread| u64::from(thread.member.thread.0) == number) {
-        Some(thread) => state_of(kernel, thread),
-        None => ThreadState::Ready,
-    }
-}
-
 /// Returns whether this name of a state is the wanted one; `blocked` is any but `ready`.
 fn is_state(name: &str, wanted: &str) -> bool {
     name == wanted || wanted == "blocked" && name != "ready"
 }
 
-/// Returns a difference at a place.
 fn difference_at(
     place: Place,
     what: Result<String, AllocError>,
@@ -115,7 +95,6 @@ impl Check {
         }
     }
 
-    /// Adds a difference, if there is one.
     fn tell(&mut self, difference: Option<Fault>) -> Result<(), AllocError> {
         if let Some(fault) = difference {
             self.faults.push(fault)?;
@@ -169,10 +148,7 @@ impl Check {
     /// Returns the next line that says a state, if it stands behind the calls so far.
     fn next_state(&self) -> Option<&StateCheck> {
         let check = self.states.get(self.compared)?;
-        if check.calls > self.ends.len() as u64 {
-            return None;
-        }
-        Some(check)
+        (check.calls <= self.ends.len() as u64).then_some(check)
     }
 
     /// Keeps how a call ended.
@@ -211,10 +187,10 @@ impl Check {
 
     /// Returns how the end of a call differs from the expected one.
     fn difference(&self, end: &End, expected: &Expectation) -> Result<Option<Fault>, AllocError> {
-        if let Ending::Parts(patterns) = &expected.ending {
-            if end.fits(self.alloc, &self.scope, patterns.as_slice())? {
-                return Ok(None);
-            }
+        if let Ending::Parts(patterns) = &expected.ending
+            && end.fits(self.alloc, &self.scope, patterns.as_slice())?
+        {
+            return Ok(None);
         }
         let wanted = &expected.text;
         let came = self.came(end, expected.place.line)?;
@@ -270,17 +246,15 @@ impl Check {
             expected.push((event, place))?;
         }
         for (line, place) in expected {
-            let difference = match self.follower(line, place) {
-                Some((follower, Some(end))) => self.follower_difference(line, follower, end)?,
-                Some((follower, None)) => {
-                    if matches!(follower.expectation.ending, Ending::Parts(_)) {
-                        self.waiting.push((line, place))?;
-                    }
-                    None
-                }
-                None => None,
+            let Some((follower, end)) = self.follower(line, place) else {
+                continue;
             };
-            self.tell(difference)?;
+            if let Some(end) = end {
+                let difference = self.follower_difference(line, follower, end)?;
+                self.tell(difference)?;
+            } else if matches!(follower.expectation.ending, Ending::Parts(_)) {
+                self.waiting.push((line, place))?;
+            }
         }
         Ok(())
     }
@@ -317,28 +291,21 @@ impl Check {
         check: &StateCheck,
     ) -> Result<Option<Fault>, AllocError> {
         let thread = operand_number(&self.scope, &check.thread);
-        let now = match kernel {
-            Some(kernel) => state_of_number(kernel, thread),
-            None => ThreadState::Ready,
+        let now = match (kernel, u8::try_from(thread)) {
+            (Some(kernel), Ok(thread)) => {
+                state_among(kernel.blocked(self.alloc)?.as_slice(), ThreadNo(thread))
+            }
+            _ => ThreadState::Ready,
         };
-        self.difference_of_state(&now, check)
-    }
-
-    /// Returns how a state differs from what a line says.
-    fn difference_of_state(
-        &self,
-        now: &ThreadState,
-        check: &StateCheck,
-    ) -> Result<Option<Fault>, AllocError> {
-        let channel = state_channel(*now).map_or(0, |channel| channel.0);
+        let channel = state_channel(now).map_or(0, |channel| channel.0);
         let wanted = match &check.channel {
             Some(wanted) => operand_number(&self.scope, wanted),
             None => channel,
         };
-        if is_state(state_name(*now), check.state) && wanted == channel {
+        if is_state(state_name(now), check.state) && wanted == channel {
             return Ok(None);
         }
-        let is = self.state_words(now)?;
+        let is = self.state_words(&now)?;
         let wanted = &check.text;
         difference_at(
             check.place,
@@ -346,19 +313,14 @@ impl Check {
         )
     }
 
-    /// Returns a state in words.
     fn state_words(&self, state: &ThreadState) -> Result<String, AllocError> {
         let name = state_name(*state);
         let Some(channel) = state_channel(*state) else {
             return String::from_str(self.alloc, name);
         };
         let number = channel.0;
-        let is = |label: &&Label| label.number == number && label.kind == Kind::Channel;
-        match self.scope.labels().iter().find(is) {
-            Some(label) => {
-                let channel = &label.name;
-                format!(in self.alloc; "{name} on {channel}")
-            }
+        match self.scope.name_of(false, number) {
+            Some(channel) => format!(in self.alloc; "{name} on {channel}"),
             None => format!(in self.alloc; "{name} on {number}"),
         }
     }
@@ -366,23 +328,20 @@ impl Check {
     /// Compares what is left at the end of the run: calls that are expected to end, and haven't.
     pub fn finish(&mut self, kernel: &Kernel) -> Result<(), AllocError> {
         for call in 1..=self.ends.len() as u64 {
-            let difference = match (self.at(call), self.end_of(call)) {
-                (Some(CallCheck { own: Some(own), .. }), None) => {
-                    self.open_difference(kernel, call, own)?
-                }
-                _ => None,
-            };
-            self.tell(difference)?;
+            if let (Some(CallCheck { own: Some(own), .. }), None) = (
+                self.at(call),
+                self.end_of(call),
+            ) {
+                let difference = self.open_difference(kernel, call, own)?;
+                self.tell(difference)?;
+            }
         }
         for (event, place) in mem::replace(&mut self.waiting, Vec::new(self.alloc)) {
-            let difference = match self.follower(event, place) {
-                Some((follower, _)) => {
-                    let call = self.scope.number(&follower.name);
-                    self.open_difference(kernel, call, &follower.expectation)?
-                }
-                None => None,
-            };
-            self.tell(difference)?;
+            if let Some((follower, _)) = self.follower(event, place) {
+                let call = self.scope.number(&follower.name);
+                let difference = self.open_difference(kernel, call, &follower.expectation)?;
+                self.tell(difference)?;
+            }
         }
         Ok(())
     }
@@ -397,16 +356,10 @@ impl Check {
         if matches!(expected.ending, Ending::Blocked) {
             return Ok(None);
         }
-        let mut threads = kernel.threads().iter();
-        let is_in = |thread: &&Thread| match &thread.open_call {
-            Some(open) => open.number == call,
-            None => false,
-        };
-        let state = match threads.find(is_in) {
-            Some(thread) => state_of(kernel, thread),
-            None => ThreadState::Ready,
-        };
-        let state = state_name(state);
+        let blocked = kernel.blocked(self.alloc)?;
+        let mut blocked = blocked.iter();
+        let open = blocked.find(|blocked| blocked.number == call);
+        let state = state_name(open.map_or(ThreadState::Ready, |open| open.state));
         let wanted = &expected.text;
         let what = format!(in self.alloc;
             "expected {wanted}, and the call hasn't ended: its thread is {state} at the end"

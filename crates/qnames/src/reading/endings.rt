@@ -8,7 +8,7 @@ use qmodel::kind::CallKind;
 use qreading::lexing::name::is_name;
 use qreading::lexing::token::{Sort, Token};
 use qreading::lexing::values::{wanted, word_of};
-use qreading::place::{Place, ReadError, fault_at};
+use qreading::place::{Place, ReadError, fault_in_words};
 use qreading::word::Word;
 use std::alloc::{AllocError, Global};
 
@@ -33,8 +33,8 @@ fn expectation(
     line: &[u8],
 ) -> Result<Expectation, ReadError> {
     let [word, rest @ ..] = tokens else {
-        let what = String::from_str(alloc, "how the call ends is missing, as in -> ok");
-        return Err(fault_at(arrow.behind(), what));
+        let what = "how the call ends is missing, as in -> ok";
+        return Err(fault_in_words(alloc, arrow.behind(), what));
     };
     Ok(Expectation {
         ending: ending(alloc, word, rest)?,
@@ -51,8 +51,8 @@ fn follower(
     line: &[u8],
 ) -> Result<Follower, ReadError> {
     let [name, arrow, rest @ ..] = tokens else {
-        let what = String::from_str(alloc, "behind ';' stands NAME -> and how that call ends");
-        return Err(fault_at(semicolon.behind(), what));
+        let what = "behind ';' stands NAME -> and how that call ends";
+        return Err(fault_in_words(alloc, semicolon.behind(), what));
     };
     if name.sort != Sort::Word || !is_name(name.bytes) {
         return Err(wanted(alloc, name, "a call's name is wanted"));

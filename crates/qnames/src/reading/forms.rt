@@ -4,14 +4,15 @@ ghost use Rattle.std.specs.Prelude.{◌≤◌, length};
 
 use crate::expectation::{Ending, Pattern};
 use crate::line::{Kind, Operand};
-use crate::reading::operands::{id, no_such, word_in};
+use crate::reading::operands::id;
 use qbase::bytes::Bytes;
+use qbase::errno;
 use qreading::fault::ParseError;
-use qreading::grammar::{ERRORS, Operand as Slot};
+use qreading::grammar::{ERROR_WORDS, ERRORS, Operand as Slot, errno_of};
 use qreading::lexing::name::is_name;
 use qreading::lexing::token::{Sort, Token};
 use qreading::lexing::values::{size_of, text_bytes, wanted, word_of};
-use qreading::near::quotation;
+use qreading::near::{no_such, quotation};
 use qreading::place::{ReadError, fault_at};
 use qreading::reading::bytes::bytes_said;
 use qreading::reading::number::signed_number;
@@ -19,7 +20,7 @@ use std::alloc::{AllocError, Global};
 
 /// The sort of a place behind the first word of an ending.
 #[derive(Clone, Copy)]
-enum Part {
+pub enum Part {
     /// The word of an error.
     Errno,
     /// A name, or a number.
@@ -35,7 +36,7 @@ enum Part {
 }
 
 /// The endings: the first word of each, and what may follow it. A pulse and a state have tables of their own.
-static FORMS: [(&str, &[Part]); 12] = [
+pub static FORMS: [(&str, &[Part]); 12] = [
     ("ok", &[]),
     ("fail", &[Part::Errno]),
     ("blocked", &[]),
@@ -62,14 +63,14 @@ static FORMS: [(&str, &[Part]); 12] = [
 ];
 
 /// The contents of a pulse, by word.
-static PULSES: [(&str, &[Part]); 3] = [
+pub static PULSES: [(&str, &[Part]); 3] = [
     ("user", &[Part::Number, Part::Number]),
     ("unblock", &[Part::Id(Kind::Message)]),
     ("disconnect", &[Part::Process]),
 ];
 
 /// The states of a thread, by word.
-static STATES: [(&str, &[Part]); 4] = [
+pub static STATES: [(&str, &[Part]); 4] = [
     ("ready", &[Part::Number]),
     ("send", &[Part::Id(Kind::Channel), Part::Number]),
     ("receive", &[Part::Id(Kind::Channel), Part::Number]),
@@ -78,6 +79,16 @@ static STATES: [(&str, &[Part]); 4] = [
 
 /// Words, and what may follow each.
 type Table = &'static [(&'static str, &'static [Part])];
+
+/// Returns what may follow a word of a table, which is nothing if the table doesn't have the word.
+pub fn parts_behind(table: Table, word: &str) -> &'static [Part] {
+    for (known, parts) in table {
+        if *known == word {
+            return *parts;
+        }
+    }
+    &[]
+}
 
 /// Returns the word of a table that stands here, and what may follow it.
 fn form_of(table: Table, token: &Token<'_>) -> Option<(&'static str, &'static [Part])> {
@@ -89,7 +100,6 @@ fn form_of(table: Table, token: &Token<'_>) -> Option<(&'static str, &'static [P
     None
 }
 
-/// Reads a number.
 fn number(alloc: Global, token: &Token<'_>) -> Result<i128, ReadError> {
     match signed_number(token.bytes) {
         Some(value) if token.sort == Sort::Word => Ok(value),
@@ -99,11 +109,17 @@ fn number(alloc: Global, token: &Token<'_>) -> Result<i128, ReadError> {
 
 /// Reads the name of an error.
 fn errno(alloc: Global, token: &Token<'_>) -> Result<&'static str, ReadError> {
-    if let Some(word) = word_in(&ERRORS, token) {
-        return Ok(word);
+    if token.sort == Sort::Word
+        && let Some(errno) = errno_of(token.bytes)
+    {
+        return Ok(errno::word(errno));
     }
-    let all = "the errors are srch, badf, inval, again, intr, busy, nomemory and down";
-    let what = no_such(alloc, quotation(token.bytes), &ERRORS, "is no error", all);
+    let words: Vec<&str> = ERRORS
+        .iter()
+        .map(|errno| errno::word(*errno))
+        .collect(alloc)?;
+    let word = quotation(token.bytes);
+    let what = no_such(alloc, word, words.as_slice(), "is no error", ERROR_WORDS);
     Err(fault_at(token.place, what))
 }
 
@@ -126,7 +142,6 @@ fn process(alloc: Global, token: &Token<'_>) -> Result<Pattern, ReadError> {
     Ok(Pattern::Number(number(alloc, token)?))
 }
 
-/// Reads bytes.
 fn bytes(alloc: Global, token: &Token<'_>) -> Result<Bytes, ReadError> {
     let said = match token.sort {
         Sort::Text => return text_bytes(alloc, token),
@@ -224,10 +239,7 @@ fn pulse_len(tokens: &[Token<'_>]) -> usize
 
 /// Returns the words for a first word that no ending has.
 fn unknown_ending(alloc: Global, token: &Token<'_>) -> Result<String, AllocError> {
-    let mut words = Vec::new(alloc);
-    for (word, _) in &FORMS {
-        words.push(*word)?;
-    }
+    let words: Vec<&str> = FORMS.iter().map(|(word, _)| *word).collect(alloc)?;
     no_such(
         alloc,
         quotation(token.bytes),

@@ -1,19 +1,13 @@
 //! Reads the operands of a call.
 
 use crate::line::{Kind, Mention, Operand};
-use qreading::grammar::Operand as Slot;
+use qreading::grammar::{FLAGS, Operand as Slot};
 use qreading::lexing::name::is_name;
 use qreading::lexing::token::{Sort, Token};
 use qreading::lexing::values::{size_of, text_bytes, wanted, word_of};
-use qreading::near::{nearest, quotation};
+use qreading::near::{no_such, quotation};
 use qreading::place::{ReadError, fault_at};
-use std::alloc::{AllocError, Global};
-
-/// The flags, by name.
-static FLAGS: [(&str, u8); 3] = [("FIXED_PRIORITY", 1), ("UNBLOCK", 2), ("DISCONNECT", 4)];
-
-/// The names of the flags.
-static FLAG_NAMES: [&str; 3] = ["FIXED_PRIORITY", "UNBLOCK", "DISCONNECT"];
+use std::alloc::Global;
 
 /// Reads a word as plain scripts have it.
 fn plain(alloc: Global, slot: Slot, token: &Token<'_>) -> Result<Operand, ReadError> {
@@ -39,40 +33,15 @@ fn bytes(alloc: Global, slot: Slot, token: &Token<'_>) -> Result<Operand, ReadEr
     }
 }
 
-/// Returns the one of these words that stands here.
-pub fn word_in(words: &'static [&'static str], token: &Token<'_>) -> Option<&'static str> {
-    for word in words {
-        if token.is_word(word) {
-            return Some(*word);
-        }
-    }
-    None
-}
-
-/// Returns the words for a word that is none of these: the one that it is near to, or else what all of them are.
-pub fn no_such(
-    alloc: Global,
-    word: &str,
-    words: &[&str],
-    what: &str,
-    all: &str,
-) -> Result<String, AllocError> {
-    match nearest(alloc, word, words)? {
-        Some(near) => format!(in alloc; "'{word}' {what}; did you mean '{near}'?"),
-        None => format!(in alloc; "'{word}' {what}; {all}"),
-    }
-}
-
 /// Returns the bit of a flag, by name.
 fn flag(alloc: Global, token: &Token<'_>, name: &[u8]) -> Result<u8, ReadError> {
-    for (flag, bit) in &FLAGS {
-        if name == flag.as_bytes() {
-            return Ok(*bit);
-        }
+    if let Some((_, bit)) = FLAGS.iter().find(|(flag, _)| name == flag.as_bytes()) {
+        return Ok(*bit);
     }
+    let names: Vec<&str> = FLAGS.iter().map(|(flag, _)| *flag).collect(alloc)?;
     let all =
         "the flags are FIXED_PRIORITY, UNBLOCK and DISCONNECT, with | between, and 0 for none";
-    let what = no_such(alloc, quotation(name), &FLAG_NAMES, "is no flag", all);
+    let what = no_such(alloc, quotation(name), names.as_slice(), "is no flag", all);
     Err(fault_at(token.place, what))
 }
 

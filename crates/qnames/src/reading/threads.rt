@@ -2,12 +2,12 @@
 
 use crate::expectation::StateCheck;
 use crate::line::{Definition, Kind, Operand, Process, ThreadLine};
-use crate::reading::operands::{id, word_in};
+use crate::reading::operands::id;
 use qreading::grammar::Operand as Slot;
 use qreading::lexing::name::is_name;
 use qreading::lexing::token::{Sort, Token};
 use qreading::lexing::values::{wanted, word_of};
-use qreading::place::{Place, ReadError, fault_at};
+use qreading::place::{Place, ReadError, fault_at, fault_in_words};
 use qreading::reading::number::small;
 use qreading::word::Word;
 use std::alloc::Global;
@@ -70,11 +70,8 @@ pub fn thread_line(
         _ => return Err(word_count(alloc, place, tokens.len())),
     };
     if thread.is_none() && definition.is_none() {
-        let what = String::from_str(
-            alloc,
-            "the thread has neither a name nor a number: NAME = thread PROCESS PRIORITY",
-        );
-        return Err(fault_at(place, what));
+        let what = "the thread has neither a name nor a number: NAME = thread PROCESS PRIORITY";
+        return Err(fault_in_words(alloc, place, what));
     }
     Ok(ThreadLine {
         definition,
@@ -97,10 +94,9 @@ static STATES: [&str; 5] = [
 /// Reads the name of a state.
 fn state(alloc: Global, token: &Token<'_>) -> Result<&'static str, ReadError> {
     let all = "a thread is ready, SEND-blocked, RECEIVE-blocked, REPLY-blocked or blocked";
-    match word_in(&STATES, token) {
-        Some(state) => Ok(state),
-        None => Err(wanted(alloc, token, all)),
-    }
+    let mut states = STATES.iter().copied();
+    let said = states.find(|state| token.is_word(state));
+    said.ok_or_else(|| wanted(alloc, token, all))
 }
 
 /// Reads the channel behind `on`, if there is one.
@@ -129,8 +125,8 @@ pub fn state_line(
     text: Word,
 ) -> Result<StateCheck, ReadError> {
     let [name, rest @ ..] = rest else {
-        let what = String::from_str(alloc, "a state is missing: THREAD is STATE");
-        return Err(fault_at(is.behind(), what));
+        let what = "a state is missing: THREAD is STATE";
+        return Err(fault_in_words(alloc, is.behind(), what));
     };
     Ok(StateCheck {
         calls,

@@ -31,21 +31,12 @@ fn escaped_byte(sign: u8) -> Option<u8> {
     }
 }
 
-/// Returns the value of a hexadecimal digit.
-fn digit_value(digit: u8) -> Option<u8> {
-    match digit {
-        b'0'..=b'9' => Some(digit - b'0'),
-        b'a'..=b'f' => Some(digit - b'a' + 10),
-        b'A'..=b'F' => Some(digit - b'A' + 10),
-        _ => None,
-    }
-}
-
 /// Returns the byte of two hexadecimal digits.
-fn byte_of(high: u8, low: u8) -> Option<u8> {
-    match (digit_value(high), digit_value(low)) {
-        (Some(high), Some(low)) => Some(high.wrapping_mul(16).wrapping_add(low)),
-        _ => None,
+fn byte_of(digits: &[u8]) -> Option<u8> {
+    let mut byte = [0u8; 1];
+    match hex::decode_to_slice(digits, &mut byte) {
+        Ok(()) => Some(byte[0]),
+        Err(_) => None,
     }
 }
 
@@ -53,7 +44,7 @@ fn byte_of(high: u8, low: u8) -> Option<u8> {
 /// begins no escape.
 fn first_byte(text: &[u8]) -> Option<(u8, usize)> {
     match text {
-        [b'\\', b'x', high, low, ..] => byte_of(*high, *low).map(|byte| (byte, 4)),
+        [b'\\', b'x', rest @ ..] => byte_of(rest.get(..2)?).map(|byte| (byte, 4)),
         [b'\\', sign, ..] => escaped_byte(*sign).map(|byte| (byte, 2)),
         [b'\\'] | [] => None,
         [byte, ..] => Some((*byte, 1)),
@@ -78,18 +69,13 @@ pub fn quoted_bytes(alloc: Global, text: &[u8]) -> Result<Result<Bytes, usize>, 
     Ok(Ok(Bytes::from(bytes)))
 }
 
-/// Returns whether a byte is shown in quotes as it is.
-fn is_shown(byte: u8) -> bool {
-    byte >= 0x20 && byte <= 0x7e
-}
-
 /// Returns bytes as a script with names writes them: a text in quotes if each is printable, else hexadecimal digits, or
 /// `-` if there are none.
 pub fn shown_bytes(alloc: Global, bytes: &[u8]) -> Result<String, AllocError> {
     if bytes.is_empty() {
         return String::from_str(alloc, "-");
     }
-    if !bytes.iter().all(|b| is_shown(*b)) {
+    if !bytes.iter().all(|b| matches!(*b, 0x20..=0x7e)) {
         return hex::encode(alloc, bytes);
     }
     let mut text = String::from_str(alloc, "\"")?;

@@ -1,7 +1,7 @@
 //! Cuts a line into its parts.
 
 use crate::lexing::quoted::quoted_len;
-use crate::place::{Place, ReadError, fault_at};
+use crate::place::{Place, ReadError, fault_at, fault_in_words};
 use std::alloc::Global;
 
 /// The sort of a part of a line.
@@ -91,30 +91,13 @@ fn sign<'a>(sort: Sort, rest: &'a [u8], len: usize) -> Part<'a> {
     }
 }
 
-/// Returns the text in quotes; `rest` begins behind the opening quote.
-fn text_part(alloc: Global, rest: &[u8], place: Place) -> Result<Part<'_>, ReadError> {
-    let Some(len) = quoted_len(rest) else {
-        let what = String::from_str(alloc, "the text has no second quote");
-        return Err(fault_at(place, what));
-    };
-    Ok(Part {
-        sort: Sort::Text,
-        bytes: rest.get(..len).unwrap_or(&[]),
+/// Returns the part in quotes or brackets; `rest` begins behind the opening sign, and `len` is the number of bytes in
+/// front of the closing one.
+fn enclosed<'a>(sort: Sort, rest: &'a [u8], len: usize) -> Part<'a> {
+    Part {
         len: len.saturating_add(2),
-    })
-}
-
-/// Returns the size in brackets; `rest` begins behind the opening bracket.
-fn size_part(alloc: Global, rest: &[u8], place: Place) -> Result<Part<'_>, ReadError> {
-    let Some(len) = rest.iter().position(|b| *b == b']') else {
-        let what = String::from_str(alloc, "the size has no second bracket");
-        return Err(fault_at(place, what));
-    };
-    Ok(Part {
-        sort: Sort::Size,
-        bytes: rest.get(..len).unwrap_or(&[]),
-        len: len.saturating_add(2),
-    })
+        ..sign(sort, rest, len)
+    }
 }
 
 /// Returns the word that begins here.
@@ -136,8 +119,14 @@ fn next_part(alloc: Global, rest: &[u8], place: Place) -> Result<Part<'_>, ReadE
         [b'=', ..] => Ok(sign(Sort::Equals, rest, 1)),
         [b';', ..] => Ok(sign(Sort::Semicolon, rest, 1)),
         [b'-', b'>', ..] => Ok(sign(Sort::Arrow, rest, 2)),
-        [b'"', text @ ..] => text_part(alloc, text, place),
-        [b'[', size @ ..] => size_part(alloc, size, place),
+        [b'"', text @ ..] => match quoted_len(text) {
+            Some(len) => Ok(enclosed(Sort::Text, text, len)),
+            None => Err(fault_in_words(alloc, place, "the text has no second quote")),
+        },
+        [b'[', size @ ..] => match size.iter().position(|b| *b == b']') {
+            Some(len) => Ok(enclosed(Sort::Size, size, len)),
+            None => Err(fault_in_words(alloc, place, "the size has no second bracket")),
+        },
         _ => word_part(alloc, rest, place),
     }
 }

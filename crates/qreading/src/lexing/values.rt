@@ -3,14 +3,12 @@
 use crate::lexing::quoted::quoted_bytes;
 use crate::lexing::token::{Sort, Token};
 use crate::near::quotation;
-use crate::place::{Place, ReadError, fault_at};
+use crate::place::{Place, ReadError, fault_at, fault_in_words};
+use crate::reading::bytes::MOST_REPEATS;
 use crate::reading::number::digits;
 use crate::word::Word;
 use qbase::bytes::Bytes;
 use std::alloc::{AllocError, Global};
-
-/// The most bytes of a buffer of zeros.
-const MOST_ZEROS: u128 = 4096;
 
 /// Returns the bytes of a script as a word. Bytes that aren't text are refused later, by what reads the word.
 pub fn word_of(alloc: Global, bytes: &[u8]) -> Result<Word, AllocError> {
@@ -46,11 +44,9 @@ pub fn text_bytes(alloc: Global, token: &Token<'_>) -> Result<Bytes, ReadError> 
                     .saturating_add(at as u64)
                     .saturating_add(1),
             };
-            let what = String::from_str(
-                alloc,
-                "no escape: \\n, \\t, \\r, \\0, \\\", \\\\ and \\x with two hexadecimal digits are",
-            );
-            Err(fault_at(place, what))
+            let what =
+                "no escape: \\n, \\t, \\r, \\0, \\\", \\\\ and \\x with two hexadecimal digits are";
+            Err(fault_in_words(alloc, place, what))
         }
     }
 }
@@ -58,7 +54,7 @@ pub fn text_bytes(alloc: Global, token: &Token<'_>) -> Result<Bytes, ReadError> 
 /// Returns the number of zeros that a size stands for.
 pub fn size_of(alloc: Global, token: &Token<'_>) -> Result<u64, ReadError> {
     match digits(token.bytes) {
-        Some(count) if count <= MOST_ZEROS => Ok(count as u64),
+        Some(count) if count <= MOST_REPEATS => Ok(count as u64),
         _ => Err(wanted(
             alloc,
             token,

@@ -10,7 +10,8 @@ use hex::FromHexError;
 use qbase::bytes::Bytes;
 use std::alloc::Global;
 
-const MOST_REPEATS: u128 = 4096;
+/// The most bytes that are written as equal ones.
+pub const MOST_REPEATS: u128 = 4096;
 
 /// Returns no bytes for `-`, else the bytes of hexadecimal digits, two for each.
 #[tactic(auto, unfolding(crate::specs::Reading::Operand::plain_of))]

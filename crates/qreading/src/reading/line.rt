@@ -16,7 +16,8 @@ use qmodel::call::Call;
 use qtables::member::Member;
 use std::alloc::Global;
 
-const MOST_BYTES: usize = 4096;
+/// The most bytes of a line.
+pub const MOST_BYTES: usize = 4096;
 
 /// The content of one line.
 #[derive(Drop)]

@@ -11,12 +11,11 @@ use crate::reading::lines::next_line;
 use qbase::ids::ThreadNo;
 use qmodel::call::Call;
 use qtables::member::Member;
+use qtables::roster::THREAD_LIMIT;
 use std::alloc::{AllocError, Global};
 
 /// The most bytes that a script's text may have.
 pub const MOST_TEXT: usize = 4_194_304;
-
-const MOST_THREADS: usize = 64;
 
 /// The threads and the calls of a script, each in the order of its lines.
 #[derive(Debug, Drop)]
@@ -67,7 +66,7 @@ pub fn place(roster: &[Member], said: Line) -> Result<Line, LineFault>
             if has_thread(roster, member.thread) {
                 return Err(LineFault::DoubleThread);
             }
-            if roster.len() >= MOST_THREADS {
+            if roster.len() >= THREAD_LIMIT {
                 return Err(LineFault::TooManyThreads);
             }
             Ok(Line::Roster(member))

@@ -1,11 +1,6 @@
-//! Unproved: words and layout. Builds the command line: each subcommand with its options and help
-//! texts.
+//! Unproved: words and layout. Builds the command line: each subcommand with its options and help texts.
 
-use crate::texts::{
-    ABOUT, CHART_ABOUT, CHART_EXAMPLE, CHART_LONG, CHECK_ABOUT, CHECK_EXAMPLE, CHECK_LONG, EXAMPLE,
-    EXPLORE_ABOUT, EXPLORE_EXAMPLE, EXPLORE_LONG, PLAY_ABOUT, PLAY_EXAMPLE, PLAY_LONG,
-    SCRIPT_ABOUT, SCRIPT_EXAMPLE, SCRIPT_LONG, SERVE_ABOUT, SERVE_EXAMPLE, SERVE_LONG, VERSION,
-};
+use crate::texts::{ABOUT, CHART, CHECK, EXAMPLE, EXPLORE, PLAY, SCRIPT, SERVE, Texts, VERSION};
 use clap::builder::ValueParser;
 use clap::{Arg, ArgAction, Command, value_parser};
 use std::alloc::{AllocError, Global};
@@ -15,6 +10,14 @@ const EXPLAIN: (&str, &str) = (
     "explain",
     "Explain faulty lines, and of script also calls that fail and threads that wait",
 );
+
+/// Returns a subcommand with these texts, without arguments.
+fn subcommand<'a>(alloc: Global, name: &'a str, texts: &'static Texts) -> Command<'a> {
+    Command::new(alloc, name)
+        .about(texts.about)
+        .long_about(texts.long)
+        .after_help(texts.example)
+}
 
 /// Adds options without a value: the name and the help of each.
 fn with_flags<'a>(
@@ -68,10 +71,7 @@ fn serve_command<'a>(alloc: Global) -> Result<Command<'a>, AllocError> {
         ("json", "Print an object of JSON in place of lines"),
         ("quiet", "Show no progress"),
     ];
-    let command = Command::new(alloc, "serve")
-        .about(SERVE_ABOUT)
-        .long_about(SERVE_LONG)
-        .after_help(SERVE_EXAMPLE)
+    let command = subcommand(alloc, "serve", &SERVE)
         .arg(clients.default_value("2"))?
         .arg(servers.default_value("1"))?
         .arg(rounds.default_value("1"))?;
@@ -88,11 +88,10 @@ fn script_command<'a>(alloc: Global) -> Result<Command<'a>, AllocError> {
         ),
         ("strict", "End with status 1 if a call failed"),
     ];
-    let command = Command::new(alloc, "script")
-        .about(SCRIPT_ABOUT)
-        .long_about(SCRIPT_LONG)
-        .after_help(SCRIPT_EXAMPLE)
-        .arg(file(alloc, "The script's file; none or - is standard input"))?;
+    let command = subcommand(alloc, "script", &SCRIPT).arg(file(
+        alloc,
+        "The script's file; none or - is standard input",
+    ))?;
     with_flags(alloc, command, &flags)
 }
 
@@ -104,11 +103,7 @@ fn check_command<'a>(alloc: Global) -> Result<Command<'a>, AllocError> {
         .action(ArgAction::Append)
         .help("Scripts, and folders of scripts; none is the current folder");
     let update = ("update", "Write the traces that are missing or differ");
-    let command = Command::new(alloc, "check")
-        .about(CHECK_ABOUT)
-        .long_about(CHECK_LONG)
-        .after_help(CHECK_EXAMPLE)
-        .arg(paths)?;
+    let command = subcommand(alloc, "check", &CHECK).arg(paths)?;
     with_flags(alloc, command, &[update, EXPLAIN])
 }
 
@@ -129,10 +124,7 @@ fn chart_command<'a>(alloc: Global) -> Result<Command<'a>, AllocError> {
     let call = value_parser!(u32).range(1..4294967295);
     let from = "The number of the first call that is drawn";
     let to = "The number of the last call that is drawn";
-    let command = Command::new(alloc, "chart")
-        .about(CHART_ABOUT)
-        .long_about(CHART_LONG)
-        .after_help(CHART_EXAMPLE)
+    let command = subcommand(alloc, "chart", &CHART)
         .arg(file(alloc, "The script's file; none or - is standard input"))?
         .arg(output)?;
     with_flags(alloc, command, &flags)?
@@ -148,11 +140,10 @@ fn explore_command<'a>(alloc: Global) -> Result<Command<'a>, AllocError> {
     let most = "Give up once more than N moments are known";
     let random = "Make N interleavings by chance, and not all";
     let seed = "What chance begins with; the same seed makes the same interleavings";
-    let command = Command::new(alloc, "explore")
-        .about(EXPLORE_ABOUT)
-        .long_about(EXPLORE_LONG)
-        .after_help(EXPLORE_EXAMPLE)
-        .arg(file(alloc, "The design's file; none or - is standard input"))?;
+    let command = subcommand(alloc, "explore", &EXPLORE).arg(file(
+        alloc,
+        "The design's file; none or - is standard input",
+    ))?;
     with_flags(alloc, command, &[("script", script)])?
         .arg(number(alloc, "most", "N", count, most).default_value("1000000"))?
         .arg(number(alloc, "random", "N", count, random))?
@@ -161,11 +152,7 @@ fn explore_command<'a>(alloc: Global) -> Result<Command<'a>, AllocError> {
 
 /// Returns the whole command line, with its six subcommands.
 pub(super) fn command<'a>(alloc: Global) -> Result<Command<'a>, AllocError> {
-    let play = Command::new(alloc, "play")
-        .about(PLAY_ABOUT)
-        .long_about(PLAY_LONG)
-        .after_help(PLAY_EXAMPLE)
-        .arg(file(alloc, "A script to begin with"))?;
+    let play = subcommand(alloc, "play", &PLAY).arg(file(alloc, "A script to begin with"))?;
     Command::new(alloc, "qdemo")
         .version(VERSION)
         .about(ABOUT)

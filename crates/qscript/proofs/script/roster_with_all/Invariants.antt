@@ -1,6 +1,6 @@
 use Rattle.std.proofs.Common.{◌≡◌, [], take}
-use Rattle.qscript.specs.Enrolled.{roster_with}
+use Rattle.qscript.specs.Enrolled.{roster_with, AllJoin}
 use Rattle.qscript.proofs.script.roster_with_all.Given as goal
 
 abbrev pub invariant-joining : goal.invariant-joining
-invariant-joining l = l.roster ≡ roster_with [] (take l.member-index l.members)
+invariant-joining l = AllJoin [] l.members → l.roster ≡ roster_with [] (take l.member-index l.members)

@@ -1,13 +1,14 @@
-use Rattle.std.proofs.Common.{[], ap, ◌∙◌, arith}
+use Rattle.std.proofs.Common.{[], ap, ◌∙◌, arith, subst, sym}
 use Rattle.qkernel.specs.Stands.{StandsAt}
 use Rattle.qkernel.proofs.Traces.{stands_made, stands_roster}
-use Rattle.qscript.specs.Enrolled.{roster_with}
+use Rattle.qscript.specs.Enrolled.{roster_with, AllJoin}
 use Rattle.qscript.proofs.OneText.{text_of_calls}
 use Rattle.qscript.proofs.script.run_text.Goals as goal
 
 pub make_calls-requires-clause-known : goal.make_calls-requires-clause-known
 make_calls-requires-clause-known c =
-    let roster = c.roster_with_all-roster.ensures ∙ ap (roster_with []) c.as_slice.ensures.value in
+    let members : AllJoin [] c.as_slice.result.now = subst (AllJoin []) (sym c.as_slice.ensures.value) c.requires.members in
+    let roster = c.roster_with_all-roster.ensures members ∙ ap (roster_with []) c.as_slice.ensures.value in
     rw (stands_roster _ _ [] c.in_ok-run.ensures.stands, roster) c.requires.callers
 
 pub make_calls-requires-clause-limit : goal.make_calls-requires-clause-limit
@@ -18,7 +19,8 @@ make_calls-requires-clause-begun c = c.in_ok-run.ensures.begun
 
 pub returns-clause-ok : goal.returns-clause-ok
 returns-clause-ok c =
-    let roster = c.roster_with_all-roster.ensures ∙ ap (roster_with []) c.as_slice.ensures.value in
+    let members : AllJoin [] c.as_slice.result.now = subst (AllJoin []) (sym c.as_slice.ensures.value) c.requires.members in
+    let roster = c.roster_with_all-roster.ensures members ∙ ap (roster_with []) c.as_slice.ensures.value in
     let run = c.in_ok-run.run' in
     let stands : StandsAt (roster_with [] c.args.script.roster.items) run.kernel [] = rw (← roster) c.in_ok-run.ensures.stands in
     let ended = c.in_ok-text.ensures in
