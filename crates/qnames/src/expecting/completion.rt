@@ -1,14 +1,15 @@
-//! A completion, as expectations see it: its printed words, and its words with names in place of numbers.
+//! A completion, as expectations see it: its parts, and its words with names in place of numbers.
 
 use crate::expectation::Pattern;
-use crate::line::Kind;
-use crate::reading::forms::{FORMS, PULSES, Part, STATES, parts_behind};
 use crate::scope::Scope;
 use qbase::bytes::Bytes;
-use qmodel::call::Mark;
+use qbase::errno::word;
+use qbase::state::ThreadState;
+use qmodel::call::{Info, Mark};
+use qqueue::item::What;
 use qreading::lexing::quoted::shown_bytes;
-use qreading::reading::number::{number, signed_number};
-use qscript::printing::marks::push_mark;
+use qreading::states::{state_channel, state_word};
+use qreading::word::Word;
 use std::alloc::{AllocError, Global};
 
 /// The end of a call.
@@ -21,101 +22,192 @@ pub struct End {
     pub buffer: Option<Bytes>,
 }
 
-/// Returns whether a printed word fits a pattern.
-fn fits_word(pattern: &Pattern, scope: &Scope, word: &str) -> bool {
-    let wanted = match pattern {
-        Pattern::Any => return true,
-        Pattern::Word(wanted) => return *wanted == word,
-        Pattern::Front(bytes) => return bytes.is_empty(),
-        Pattern::Number(wanted) => *wanted,
-        Pattern::Named(mention) => i128::from(scope.number(&mention.name)),
-        Pattern::Process(name) => i128::from(scope.process_named(name)),
-    };
-    signed_number(word.as_bytes()) == Some(wanted)
+/// A part of a completion, in the order in which a trace prints the parts.
+#[derive(Clone, Copy)]
+enum Part<'a> {
+    Word(&'static str),
+    Number(i128),
+    /// A channel, a connection, a message, a pulse or a call.
+    Id(u64),
+    Thread(u8),
+    Process(u8),
+    /// The number of bytes that were copied into the buffer.
+    Copied(usize),
+    /// The number of bytes that a call counts.
+    Counted(usize),
+    Buffer(&'a [u8]),
 }
 
-fn fits_buffer(pattern: &Pattern, buffer: &[u8]) -> bool {
-    match pattern {
-        Pattern::Any => true,
-        Pattern::Front(bytes) => buffer.starts_with(bytes.as_slice()),
-        _ => false,
+impl Part<'_> {
+    /// Returns its number, if it is one.
+    fn number(self) -> Option<i128> {
+        match self {
+            Part::Number(number) => Some(number),
+            Part::Id(id) => Some(i128::from(id)),
+            Part::Thread(number) | Part::Process(number) => Some(i128::from(number)),
+            Part::Copied(count) | Part::Counted(count) => Some(count as i128),
+            Part::Word(_) | Part::Buffer(_) => None,
+        }
+    }
+
+    /// Returns whether it fits a pattern.
+    fn fits(self, scope: &Scope, pattern: &Pattern) -> bool {
+        match (pattern, self) {
+            (Pattern::Any, _) => true,
+            (Pattern::Word(wanted), Part::Word(word)) => *wanted == word,
+            (Pattern::Number(wanted), part) => part.number() == Some(*wanted),
+            (Pattern::Named(mention), part) => {
+                part.number() == Some(i128::from(scope.number(&mention.name)))
+            }
+            (Pattern::Process(name), part) => {
+                part.number() == Some(i128::from(scope.process_named(name)))
+            }
+            (Pattern::Front(bytes), Part::Buffer(buffer)) => buffer.starts_with(bytes.as_slice()),
+            (Pattern::Front(bytes), _) => bytes.is_empty(),
+            _ => false,
+        }
+    }
+}
+
+/// Adds the parts of an Info.
+fn push_info(parts: &mut Vec<Part<'_>>, info: Info) -> Result<(), AllocError> {
+    parts.extend_from_slice(&[
+        Part::Word("info"),
+        Part::Process(info.process.0),
+        Part::Thread(info.thread.0),
+        Part::Id(info.connection.0),
+        Part::Number(info.msglen as i128),
+        Part::Number(info.srcmsglen as i128),
+        Part::Number(info.dstmsglen as i128),
+        Part::Number(i128::from(info.priority.get())),
+    ])
+}
+
+/// Adds the parts of a pulse.
+fn push_pulse(
+    parts: &mut Vec<Part<'_>>,
+    item: u64,
+    priority: u8,
+    what: What,
+) -> Result<(), AllocError> {
+    let level = Part::Number(i128::from(priority));
+    parts.extend_from_slice(&[Part::Word("pulse"), Part::Id(item), level])?;
+    match what {
+        What::Message => Ok(()),
+        What::User { code, value } => parts.extend_from_slice(&[
+            Part::Word("user"),
+            Part::Number(i128::from(code)),
+            Part::Number(i128::from(value)),
+        ]),
+        What::Unblock(rcvid) => {
+            parts.extend_from_slice(&[Part::Word("unblock"), Part::Id(rcvid.0)])
+        }
+        What::Disconnect(process) => {
+            parts.extend_from_slice(&[Part::Word("disconnect"), Part::Process(process.0)])
+        }
+    }
+}
+
+/// Adds the parts of the state of a thread.
+fn push_state(
+    parts: &mut Vec<Part<'_>>,
+    state: &ThreadState,
+    priority: u8,
+) -> Result<(), AllocError> {
+    parts.extend_from_slice(&[Part::Word("state"), Part::Word(state_word(*state))])?;
+    if let Some(channel) = state_channel(*state) {
+        parts.push(Part::Id(channel.0))?;
+    }
+    parts.push(Part::Number(i128::from(priority)))?;
+    Ok(())
+}
+
+/// Adds the parts of a mark.
+fn push_mark(parts: &mut Vec<Part<'_>>, mark: Mark) -> Result<(), AllocError> {
+    match mark {
+        Mark::Ok => parts.extend_from_slice(&[Part::Word("ok")]),
+        Mark::Failed(e) => parts.extend_from_slice(&[Part::Word("fail"), Part::Word(word(e))]),
+        Mark::Channel(id) => parts.extend_from_slice(&[Part::Word("channel"), Part::Id(id.0)]),
+        Mark::Connection(id) => {
+            parts.extend_from_slice(&[Part::Word("connection"), Part::Id(id.0)])
+        }
+        Mark::Replied { status, copied } => {
+            let status = Part::Number(i128::from(status));
+            parts.extend_from_slice(&[Part::Word("reply"), status, Part::Copied(copied)])
+        }
+        Mark::Message { rcvid, copied } => {
+            let id = Part::Id(rcvid.0);
+            parts.extend_from_slice(&[Part::Word("message"), id, Part::Copied(copied)])
+        }
+        Mark::Errored(code) => {
+            parts.extend_from_slice(&[Part::Word("error"), Part::Number(i128::from(code))])
+        }
+        Mark::Count(count) => {
+            parts.extend_from_slice(&[Part::Word("count"), Part::Counted(count)])
+        }
+        Mark::Info(info) => push_info(parts, info),
+        Mark::Pulse {
+            item,
+            priority,
+            what,
+        } => push_pulse(parts, item, priority.get(), what),
+        Mark::State { state, priority } => push_state(parts, &state, priority.get()),
     }
 }
 
 impl End {
-    /// Returns the words of its mark, as a trace prints them, each behind a space.
-    fn printed(&self, alloc: Global) -> Result<String, AllocError> {
-        let mut words = String::new(alloc);
-        push_mark(&mut words, self.mark)?;
-        Ok(words)
+    /// Returns its parts.
+    fn parts(&self, alloc: Global) -> Result<Vec<Part<'_>>, AllocError> {
+        let mut parts = Vec::with_capacity(alloc, 9)?;
+        push_mark(&mut parts, self.mark)?;
+        if let Some(buffer) = &self.buffer {
+            parts.push(Part::Buffer(buffer.as_slice()))?;
+        }
+        Ok(parts)
     }
 
-    /// Returns whether its first words, behind which its buffer is printed, fit these patterns.
+    /// Returns whether its first parts fit these patterns.
     pub fn fits(
         &self,
         alloc: Global,
         scope: &Scope,
         patterns: &[Pattern],
     ) -> Result<bool, AllocError> {
-        let printed = self.printed(alloc)?;
-        let mut words = printed.split(' ').skip(1);
-        let mut buffer = self.buffer.as_ref();
-        Ok(
-            patterns.iter().all(|pattern| match words.next() {
-                Some(word) => fits_word(pattern, scope, word),
-                None => buffer
-                    .take()
-                    .is_some_and(|bytes| fits_buffer(pattern, bytes.as_slice())),
-            }),
-        )
+        let parts = self.parts(alloc)?;
+        if parts.len() < patterns.len() {
+            return Ok(false);
+        }
+        let mut pairs = patterns.iter().zip(parts.as_slice());
+        Ok(pairs.all(|(pattern, part)| part.fits(scope, pattern)))
     }
 
     /// Returns its words, with names in place of numbers, and of its buffer only the bytes that were copied.
     pub fn told(&self, alloc: Global, scope: &Scope) -> Result<String, AllocError> {
-        let printed = self.printed(alloc)?;
         let mut out = String::new(alloc);
-        let mut table = FORMS.as_slice();
-        let mut parts: &[Part] = &[];
-        for word in printed.split(' ').skip(1) {
-            if let [part, rest @ ..] = parts {
-                self.push_part(alloc, &mut out, scope, *part, word)?;
-                parts = rest;
-                continue;
+        for part in &self.parts(alloc)? {
+            match *part {
+                Part::Word(word) => write!(out, " {word}")?,
+                Part::Number(number) => write!(out, " {number}")?,
+                Part::Id(id) => push_named(&mut out, scope.name_of(false, id), id)?,
+                Part::Thread(number) => {
+                    let number = u64::from(number);
+                    push_named(&mut out, scope.name_of(true, number), number)?
+                }
+                Part::Process(number) => {
+                    let at = usize::from(number).wrapping_sub(1);
+                    push_named(&mut out, scope.process_names().get(at), u64::from(number))?
+                }
+                Part::Copied(count) => self.push_content(alloc, &mut out, count)?,
+                Part::Counted(count) => {
+                    write!(out, " {count}")?;
+                    if self.buffer.is_some() {
+                        self.push_content(alloc, &mut out, count)?;
+                    }
+                }
+                Part::Buffer(_) => {}
             }
-            write!(out, " {word}")?;
-            parts = parts_behind(table, word);
-            table = if word == "pulse" {
-                PULSES.as_slice()
-            } else {
-                STATES.as_slice()
-            };
-        }
-        if let (Mark::Count(count), Some(_)) = (self.mark, &self.buffer) {
-            self.push_content(alloc, &mut out, count)?;
         }
         String::from_str(alloc, out.as_str().trim_start())
-    }
-
-    /// Adds a space and the printed word of this part, with a name or the copied bytes in place of their number.
-    fn push_part(
-        &self,
-        alloc: Global,
-        out: &mut String,
-        scope: &Scope,
-        part: Part,
-        word: &str,
-    ) -> Result<(), AllocError> {
-        let number = number(word.as_bytes()).unwrap_or(0);
-        let name = match part {
-            Part::Content => return self.push_content(alloc, out, number as usize),
-            Part::Id(kind) => scope.name_of(kind == Kind::Thread, number),
-            Part::Process => scope.process_names().get((number as usize).wrapping_sub(1)),
-            Part::Errno | Part::Number | Part::Buffer => None,
-        };
-        match name {
-            Some(name) => write!(out, " {name}"),
-            None => write!(out, " {word}"),
-        }
     }
 
     /// Adds a space and the first `count` bytes of the buffer.
@@ -131,5 +223,13 @@ impl End {
             .map_or([].as_slice(), |buffer| buffer.as_slice());
         let shown = shown_bytes(alloc, buffer.get(..count).unwrap_or(buffer))?;
         write!(out, " {shown}")
+    }
+}
+
+/// Adds a space and a name, or the number if there is no name.
+fn push_named(out: &mut String, name: Option<&Word>, number: u64) -> Result<(), AllocError> {
+    match name {
+        Some(name) => write!(out, " {name}"),
+        None => write!(out, " {number}"),
     }
 }

@@ -20,7 +20,7 @@ use std::alloc::{AllocError, Global};
 
 /// The sort of a place behind the first word of an ending.
 #[derive(Clone, Copy)]
-pub enum Part {
+enum Part {
     /// The word of an error.
     Errno,
     /// A name, or a number.
@@ -36,7 +36,7 @@ pub enum Part {
 }
 
 /// The endings: the first word of each, and what may follow it. A pulse and a state have tables of their own.
-pub static FORMS: [(&str, &[Part]); 12] = [
+static FORMS: [(&str, &[Part]); 12] = [
     ("ok", &[]),
     ("fail", &[Part::Errno]),
     ("blocked", &[]),
@@ -63,14 +63,14 @@ pub static FORMS: [(&str, &[Part]); 12] = [
 ];
 
 /// The contents of a pulse, by word.
-pub static PULSES: [(&str, &[Part]); 3] = [
+static PULSES: [(&str, &[Part]); 3] = [
     ("user", &[Part::Number, Part::Number]),
     ("unblock", &[Part::Id(Kind::Message)]),
     ("disconnect", &[Part::Process]),
 ];
 
 /// The states of a thread, by word.
-pub static STATES: [(&str, &[Part]); 4] = [
+static STATES: [(&str, &[Part]); 4] = [
     ("ready", &[Part::Number]),
     ("send", &[Part::Id(Kind::Channel), Part::Number]),
     ("receive", &[Part::Id(Kind::Channel), Part::Number]),
@@ -79,16 +79,6 @@ pub static STATES: [(&str, &[Part]); 4] = [
 
 /// Words, and what may follow each.
 type Table = &'static [(&'static str, &'static [Part])];
-
-/// Returns what may follow a word of a table, which is nothing if the table doesn't have the word.
-pub fn parts_behind(table: Table, word: &str) -> &'static [Part] {
-    for (known, parts) in table {
-        if *known == word {
-            return *parts;
-        }
-    }
-    &[]
-}
 
 /// Returns the word of a table that stands here, and what may follow it.
 fn form_of(table: Table, token: &Token<'_>) -> Option<(&'static str, &'static [Part])> {
