@@ -59,6 +59,7 @@ use Rattle.qrules.proofs.Traces.Properties.Rows.Receiving.{receive_takes}
 use Rattle.qrules.proofs.Traces.Properties.Rows.Telling.{Tells, told_meets, unblock_ends}
 use Rattle.qrules.proofs.Traces.TraceLaws.Held.{held_is_held_send}
 use Rattle.qrules.specs.Past.{ReceivedItem}
+use Rattle.qrules.proofs.Traces.Due.{unblock_same}
 
 -- ---- a receipt whose mark is of a message
 
@@ -130,7 +131,7 @@ ends_message f t (ChannelDestroy chid) u y i copied r e m = absurd (no_message y
 ends_message f t Shutdown u y i copied r e m = absurd (no_message y i copied m (ap (λ x. item_in x.mark) (sym (cancel_parts (λ wait. true) Srch u (f.open_call u) y e).ending)))
 ends_message f t (Unblock thread) u y i copied r e m = elim (unblock_ends f thread u y (unblock.due_pulse f thread) e) [
   | inl cancel ↦ absurd (no_message y i copied m (ap (λ x. item_in x.mark) (sym cancel.ending)))
-  | inr k ↦ told_message f t (Unblock thread) (unblock.due_pulse f thread) u y i copied refl k m
+  | inr k ↦ told_message f t (Unblock thread) (unblock.due_pulse f thread) u y i copied (unblock_same f thread) k m
 ]
 ends_message f t (ConnectDetach coid) u y i copied r e m = elim (detach_ends f coid (connect_detach.due_pulse f t coid) u y e) [
   | inl cancel ↦ absurd (no_message y i copied m (ap (λ x. item_in x.mark) (sym cancel.ending)))

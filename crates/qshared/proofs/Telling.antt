@@ -1,5 +1,5 @@
 -- What the past, the kernel and the cells are after an event.
-use Rattle.std.proofs.Common.{◌≡◌, ◌≢◌, ℕ, zero, suc, ◌<◌, List, [], ◌∷◌, ◌++◌, length, set, refl, ap, sym, subst, ◌∙◌, cond, true, false, eqb, inl, inr}
+use Rattle.std.proofs.Common.{◌≡◌, ◌≢◌, ℕ, zero, suc, ◌<◌, List, [], ◌∷◌, ◌++◌, length, set, refl, ap, sym, subst, ◌∙◌, cond, Bool, true, false, eqb, inl, inr}
 use Rattle.std.specs.Prelude.{Some, is_some, ◌||◌}
 use Rattle.std.specs.List.{AllByRecursion}
 use Rattle.std.proofs.lemmas.Bool.{cases_Bool, eqb-true, eqb-false, eq-eqb, ne_eqb, true≢false}
@@ -27,7 +27,7 @@ use Rattle.qhandoff.specs.declared.view.Line.{Line}
 use Rattle.qhandoff.specs.Rule.{idle_line, line}
 use Rattle.qhandoff.specs.Steps.{opened_desk, cancelled_desk}
 use Rattle.qhandoff.proofs.Changes.{line_else, line_here}
-use Rattle.qshared.specs.Due.{AreLater, IsOwed, at_once, endings_due, later_due, later_of, of_thread, place}
+use Rattle.qshared.specs.Due.{AreLater, IsOwed, at_once, endings_due, in_turn, later_due, later_of, of_thread, place}
 use Rattle.qshared.specs.UnderLock.{Agrees}
 use Rattle.qshared.specs.Performing.{IsFree}
 use Rattle.qshared.specs.Private.Putting.{MayPut, Handed}
@@ -113,6 +113,13 @@ module _ (roster : List Member) (kernel : State) (d : Desk Completion) (past : T
         | inr s ↦ may_of Y all.1 u (rw s at got)
       ]
 
+      -- what is owed to thread u, where b says whether the call is its own
+      abbrev owed_later : ℕ → Bool → Type 0
+      owed_later u b = AreLater (is_blocked (facts_of roster (with_event t c X past)) u) (at_once past u ++ cond b (of_thread u X ∷ []) []) (later_due past u ++ cond b [] (of_thread u X))
+
+      abbrev owed_whole : ℕ → Bool → Type 0
+      owed_whole u b = in_turn (at_once past u ++ cond b (of_thread u X ∷ []) []) (later_due past u ++ cond b [] (of_thread u X)) ≡ endings_due past u ++ of_thread u X
+
       -- what is owed to each thread
       owed_after : (u j : ℕ) → place (threads_of roster) u ≡ Some j → IsOwed roster (with_event t c X past) u
       owed_after u j is = elim (cases_Bool (eqb t u)) [
@@ -125,7 +132,7 @@ module _ (roster : List Member) (kernel : State) (d : Desk Completion) (past : T
               | inl got ↦ let x = of_one u X one_each got in inr (x.0, x.1, still_blocked u ∙ rw got refl)
               | inr none ↦ inl (of_none u X none, still_blocked u ∙ ap (λ b. cond b false (may_end roster past t u)) none ∙ ap (λ b. b || is_some (open_call roster past u)) (eq-eqb u t (sym same)))
             ]) in
-            record { later = rw own r.0; whole = rw own r.1 }
+            record { later = subst (owed_later u) (sym own) r.0; whole = subst (owed_whole u) (sym own) r.1 }
         | inr other ↦
             let apart : eqb u t ≡ false = ne_eqb u t (λ s. eqb-false t u other (sym s)) in
             let waiting : may_end roster past t u ≡ is_blocked (facts_of roster past) u = ap (λ b. b || is_some (open_call roster past u)) apart ∙ sym (blocked_same roster past told.lawful u) in
@@ -135,7 +142,7 @@ module _ (roster : List Member) (kernel : State) (d : Desk Completion) (past : T
               | inl got ↦ let x = of_one u X one_each got in inr (x.0, x.1, sym waiting ∙ may_of X (endings_go_to_blocked roster past e rises (before roster (e ∷ past) lawful_after)) u got, still_blocked u ∙ rw got refl)
               | inr none ↦ inl (of_none u X none, still_blocked u ∙ ap (λ b. cond b false (may_end roster past t u)) none ∙ waiting)
             ]) in
-            record { later = rw other r.0; whole = rw other r.1 }
+            record { later = subst (owed_later u) (sym other) r.0; whole = subst (owed_whole u) (sym other) r.1 }
       ]
 
       module _ (new : State) (d' : Desk Completion) (stands : StandsAt roster new (with_event t c X past))
