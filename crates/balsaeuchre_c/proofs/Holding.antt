@@ -37,8 +37,7 @@ use Rattle.qmodel.specs.declared.call.Info.{Info as Told}
 use Rattle.qmodel.specs.declared.call.Mark.{Mark}
 use Rattle.qmodel.specs.declared.call.Mark.TheVariants as mark
 use Rattle.qmodel.specs.declared.open_call.OpenCall.{OpenCall}
-use Rattle.qmodel.specs.declared.open_call.Wait.{Wait}
-use Rattle.qmodel.specs.declared.open_call.Wait.TheVariants.{Answer, Item as ForItem}
+use Rattle.qmodel.specs.declared.open_call.OpenCall.TheVariants.{Receive as InReceive, Send as InSend}
 use Rattle.qbase.proofs.Lists.{all_filter_map, some_of}
 use Rattle.qrules.proofs.Traces.Calls.{call_laws}
 use Rattle.qrules.proofs.Traces.Calls.Answering.{answer_receives}
@@ -49,7 +48,7 @@ use Rattle.qrules.proofs.Traces.Calls.Error.{no_receipt}
 use Rattle.qrules.proofs.Traces.Calls.Held.{sender_ends}
 use Rattle.qrules.proofs.Traces.Calls.Info.{plain}
 use Rattle.qrules.proofs.Traces.Past.Ends.{ended_below, ends_other, ends_own, laws_of, open_known, passes_of}
-use Rattle.qrules.proofs.Traces.Past.Numbers.{is_unblocked, open_from, open_parts, receipt_for_answer, receipt_number}
+use Rattle.qrules.proofs.Traces.Past.Open.{is_unblocked, open_from, open_parts, receipt_for_answer, receipt_number}
 use Rattle.qrules.proofs.Traces.Past.Receipts.{accepted_receipts, best_pending, ending_receives}
 use Rattle.qrules.proofs.Traces.Past.Senders.{sender_sends}
 use Rattle.qrules.proofs.Traces.Properties.Messages.{item_waits, pending_going}

@@ -11,7 +11,7 @@ use Rattle.qtables.specs.declared.member.Member.{Member}
 use Rattle.qrules.specs.Private.Blocked.{blocked_thread, blocked_threads_in}
 use Rattle.qrules.specs.Private.Facts.{threads_of, Facts}
 use Rattle.qrules.specs.Private.ThreadState.{state_in}
-use Rattle.qmodel.specs.declared.open_call.Wait.TheVariants.{Answer, Item as ForItem}
+use Rattle.qmodel.specs.declared.open_call.OpenCall.TheVariants.{Receive, Send}
 use Rattle.qrules.proofs.Traces.Rosters.{filter_map_same}
 use Rattle.qrules.specs.Lawful.{facts_of}
 use Rattle.qrules.proofs.Rows.Plain.{state_same}

@@ -14,8 +14,7 @@ use Rattle.qrules.specs.Private.Past as old
 use Rattle.qmodel.specs.Trace.{Event, Trace}
 use Rattle.qmodel.specs.declared.call.Completion.{Completion}
 use Rattle.qmodel.specs.declared.open_call.OpenCall.{OpenCall}
-use Rattle.qmodel.specs.declared.open_call.Wait.{Wait}
-use Rattle.qmodel.specs.declared.open_call.Wait.TheVariants.{Answer, Item as ForItem}
+use Rattle.qmodel.specs.declared.open_call.OpenCall.TheVariants.{Receive, Send}
 use Rattle.qrules.proofs.Traces.TraceLaws.Limits as limits
 use Rattle.qrules.proofs.Traces.TraceLaws.Order as order
 use Rattle.qrules.proofs.Traces.TraceLaws.Pending as pending

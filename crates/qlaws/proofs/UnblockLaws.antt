@@ -18,13 +18,12 @@ use Rattle.qmodel.specs.declared.call.Call.{Call}
 use Rattle.qmodel.specs.declared.call.Call.TheVariants as calls
 use Rattle.qmodel.specs.declared.open_call.OpenCall.{OpenCall}
 use Rattle.qmodel.specs.declared.open_call.Receipt.{Receipt as OldReceipt}
-use Rattle.qmodel.specs.declared.open_call.Wait.{Wait}
-use Rattle.qmodel.specs.declared.open_call.Wait.TheVariants.{Answer, Item as ForItem}
+use Rattle.qmodel.specs.declared.open_call.OpenCall.TheVariants.{Receive, Send}
 use Rattle.qrules.proofs.Traces.Calls.{call_laws}
 use Rattle.qrules.proofs.Traces.Calls.Unblock.{due_parts}
 use Rattle.qrules.proofs.Traces.Past.CurrentPriority.{unblocked_among_now}
 use Rattle.qrules.proofs.Traces.Past.Items.{item_accepted}
-use Rattle.qrules.proofs.Traces.Past.Numbers.{is_unblocked, open_parts}
+use Rattle.qrules.proofs.Traces.Past.Open.{is_unblocked, open_parts}
 use Rattle.qrules.proofs.Traces.Past.Unblocked.{none_unblocked}
 use Rattle.qrules.specs.Past as new
 use Rattle.qrules.specs.Properties.{items}

@@ -1,3 +1,4 @@
 pub mod Trace
 pub mod Buffers
 pub mod Kinds
+pub mod OpenCalls

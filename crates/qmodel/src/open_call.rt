@@ -1,5 +1,9 @@
 //! Open calls: calls that haven't ended, in which their threads are blocked.
 
+ghost use Rattle.std.specs.Prelude.{◌≡◌};
+ghost use Rattle.qmodel.specs.OpenCalls.{number_of};
+
+use crate::call::{Completion, Mark};
 use qbase::bytes::Bytes;
 use qbase::ids::{ChannelId, ConnectionId, ThreadNo};
 use qbase::priority::Priority;
@@ -17,29 +21,40 @@ pub struct Receipt {
     pub copied: usize,
 }
 
-/// The event that a blocked thread waits for.
+/// A Send that hasn't ended: its thread is SEND-blocked until the message is received, and REPLY-blocked then.
 #[derive(Debug, Drop)]
-pub enum Wait {
-    /// The answer to its message: the thread is SEND-blocked while there is no receipt, and then REPLY-blocked.
-    Answer {
-        coid: ConnectionId,
-        message: Bytes,
-        reply_buffer: Bytes,
-        receipt: Option<Receipt>,
-    },
-    /// An item of this kind: the thread is RECEIVE-blocked.
-    Item {
-        chid: ChannelId,
-        kind: Kind,
-        buffer: Bytes,
-    },
+pub struct OpenSend {
+    /// The number of the call, which is the message's receive id.
+    pub number: u64,
+    pub thread: ThreadNo,
+    pub connection: ConnectionId,
+    /// The channel that the connection leads to.
+    pub channel: ChannelId,
+    pub message: Bytes,
+    /// The buffer that the answer is copied into, with all that was written over it.
+    pub reply_buffer: Bytes,
+    /// The record of the receipt; `None` until the message is received.
+    pub receipt: Option<Receipt>,
 }
 
-/// An open call: its number, and what it waits for.
+/// A Receive or a ReceivePulse that hasn't ended: its thread is RECEIVE-blocked.
 #[derive(Debug, Drop)]
-pub struct OpenCall {
+pub struct OpenReceive {
+    /// The number of the call.
     pub number: u64,
-    pub wait: Wait,
+    pub thread: ThreadNo,
+    pub channel: ChannelId,
+    /// What the call may take.
+    pub kind: Kind,
+    /// The buffer that a message is copied into; empty for a ReceivePulse.
+    pub buffer: Bytes,
+}
+
+/// An open call.
+#[derive(Debug, Drop)]
+pub enum OpenCall {
+    Send(OpenSend),
+    Receive(OpenReceive),
 }
 
 /// A blocked thread, as the text of a trace shows it.
@@ -50,4 +65,44 @@ pub struct Blocked {
     pub thread: ThreadNo,
     /// Its state, with the channel; never `Ready`.
     pub state: ThreadState,
+}
+
+impl OpenSend {
+    /// Returns the completion of the Send, which gets its reply buffer back.
+    pub fn completion(self, mark: Mark) -> Completion
+        ensures { result ≡ record { call = self.number; thread = self.thread; mark = mark; buffer = self.reply_buffer } }
+    {
+        Completion {
+            call: self.number,
+            thread: self.thread,
+            mark,
+            buffer: self.reply_buffer,
+        }
+    }
+}
+
+impl OpenReceive {
+    /// Returns the completion of the receive, which gets its buffer back.
+    pub fn completion(self, mark: Mark) -> Completion
+        ensures { result ≡ record { call = self.number; thread = self.thread; mark = mark; buffer = self.buffer } }
+    {
+        Completion {
+            call: self.number,
+            thread: self.thread,
+            mark,
+            buffer: self.buffer,
+        }
+    }
+}
+
+impl OpenCall {
+    /// Returns the number of the call.
+    pub fn number(&self) -> u64
+        ensures { result ≡ number_of self.now }
+    {
+        match self {
+            OpenCall::Send(send) => send.number,
+            OpenCall::Receive(receive) => receive.number,
+        }
+    }
 }

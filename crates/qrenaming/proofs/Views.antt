@@ -12,8 +12,7 @@ use Rattle.qqueue.specs.declared.item.What.TheVariants.{User}
 use Rattle.qrules.specs.Private.Facts.{Facts as OldFacts}
 use Rattle.qrules.specs.Private.Receivers.{wait_for, wait_on}
 use Rattle.qmodel.specs.declared.open_call.OpenCall.{OpenCall}
-use Rattle.qmodel.specs.declared.open_call.Wait.{Wait}
-use Rattle.qmodel.specs.declared.open_call.Wait.TheVariants.{Answer, Item as ForItem}
+use Rattle.qmodel.specs.declared.open_call.OpenCall.TheVariants.{Receive, Send}
 use Rattle.qrules.specs.Facts.{OpenReceive}
 use Rattle.qrules.specs.Facts.{receive_in}
 use Rattle.qrules.specs.Private.Facts.{receive_view, send_view}

@@ -10,16 +10,16 @@ use Rattle.qrules.specs.Private.Cancelling.{cancel_where, cancels}
 use Rattle.qrules.specs.Private.Facts.{threads_of, Facts as OldFacts}
 use Rattle.qmodel.specs.declared.call.Completion.{Completion}
 use Rattle.qmodel.specs.declared.open_call.Receipt.{Receipt as OldReceipt}
-use Rattle.qmodel.specs.declared.open_call.Wait.{Wait}
-use Rattle.qmodel.specs.declared.open_call.Wait.TheVariants.{Answer, Item as ForItem}
+use Rattle.qmodel.specs.declared.open_call.OpenCall.TheVariants.{Receive, Send}
 use Rattle.qqueue.specs.declared.item.Kind.{Kind}
 use Rattle.qrules.specs.Facts.{OpenReceive, OpenSend}
 use Rattle.qrules.specs.Delivery.{cancel, cancel_receive, cancel_send}
 use Rattle.qrules.proofs.Lists.{filter-filter_map, found, map-filter_map}
 use Rattle.qrules.specs.Facts.{receive_in, send_in}
-use Rattle.qrules.specs.Private.Facts.{receive_view, send_view}
 use Rattle.qrules.proofs.View.{receive_thread, send_thread, unknown, IsKnown}
 use Rattle.qrules.specs.Facts.{open_receives, open_sends}
+use Rattle.qrules.specs.Facts.{OpenCall}
+use Rattle.qmodel.specs.OpenCalls.{thread_of}
 
 -- what passes a test
 abbrev pub pass : {X : Type 0} → (X → Bool) → Option X → Option X
@@ -42,28 +42,24 @@ cancelled thread k p g ts u keeps its known =
     ap (find (λ x. eqb x.thread u)) (ap (map k) (filter-filter_map p g ts) ∙ map-filter_map k (λ t. pass p (g t)) ts)
     ∙ found (λ x. x.thread) (λ t. option_map k (pass p (g t))) ts u (λ v y e. pass_thread thread k p (g v) v keeps (its v) y e) (λ e. ap (λ o. option_map k (pass p o)) (known e))
 
-module _ (f : OldFacts) (sends : OpenSend → Bool) (receives : OpenReceive → Bool) (is_cancelled : ℕ → Wait → Bool) (e : Errno) where
-  pub cancel_same : (u : ℕ) → IsKnown f
-      → ((v n k : ℕ) (m b : List ℕ) (r : Option OldReceipt) → sends (record { number = n; thread = v; connection = k; message = m; reply_buffer = b; receipt = r }) ≡ is_cancelled v (Answer k m b r))
-      → ((v n h : ℕ) (kind : Kind) (b : List ℕ) → receives (record { number = n; thread = v; channel = h; kind = kind; buffer = b }) ≡ is_cancelled v (ForItem h kind b))
+module _ (f : OldFacts) (sends : OpenSend → Bool) (receives : OpenReceive → Bool) (is_cancelled : ℕ → OpenCall → Bool) (e : Errno) where
+  abbrev cancelled_in : OpenCall → Option Completion
+  cancelled_in o = option_or (option_map (cancel_send e) (pass sends (send_in o))) (option_map (cancel_receive e) (pass receives (receive_in o)))
+
+  pub cancel_same : (u : ℕ) → IsKnown f → ((s : OpenSend) → sends s ≡ is_cancelled s.thread (Send s)) → ((r : OpenReceive) → receives r ≡ is_cancelled r.thread (Receive r))
       → find (λ x. eqb x.thread u) (cancel f sends receives e) ≡ cancels f is_cancelled e u
   cancel_same u known of_send of_receive =
       let ts : List ℕ = threads_of f.roster in
       find-append (λ x. eqb x.thread u) (map (cancel_send e) (filter sends (open_sends f))) (map (cancel_receive e) (filter receives (open_receives f)))
       ∙ ap (λ o. option_or o (find (λ x. eqb x.thread u) (map (cancel_receive e) (filter receives (open_receives f)))))
-      (cancelled (λ s. s.thread) (cancel_send e) sends (λ v. send_view v (f.open_call v)) ts u (λ s. refl) (λ v s is. send_thread v (f.open_call v) s is) (λ none. ap (send_view u) (unknown f u known none)))
-      ∙ ap (option_or (option_map (cancel_send e) (pass sends (send_view u (f.open_call u)))))
-      (cancelled (λ r. r.thread) (cancel_receive e) receives (λ v. receive_view v (f.open_call v)) ts u (λ r. refl) (λ v r is. receive_thread v (f.open_call v) r is) (λ none. ap (receive_view u) (unknown f u known none)))
-      ∙ elim (f.open_call u) as (λ o. option_or (option_map (cancel_send e) (pass sends (send_view u o))) (option_map (cancel_receive e) (pass receives (receive_view u o))) ≡ cancel_where (is_cancelled u) e u o) [
-        | None ↦ refl
-        | Some o ↦ elim (o.wait) as (λ w. option_or (option_map (cancel_send e) (pass sends (send_in u o.number w))) (option_map (cancel_receive e) (pass receives (receive_in u o.number w))) ≡ cancel_where (is_cancelled u) e u (Some (record { number = o.number; wait = w }))) [
-          | Answer coid message reply_buffer receipt ↦
-              let s : OpenSend = record { number = o.number; thread = u; connection = coid; message = message; reply_buffer = reply_buffer; receipt = receipt } in
-              rw (of_send u o.number coid message reply_buffer receipt) (
-              elim (is_cancelled u (Answer coid message reply_buffer receipt)) as (λ b. option_or (option_map (cancel_send e) (cond b (Some s) None)) None ≡ cond b (Some (cancel_send e s)) None) [ true ↦ refl | false ↦ refl ])
-          | ForItem chid kind buffer ↦
-              let r : OpenReceive = record { number = o.number; thread = u; channel = chid; kind = kind; buffer = buffer } in
-              rw (of_receive u o.number chid kind buffer) (
-              elim (is_cancelled u (ForItem chid kind buffer)) as (λ b. option_map (cancel_receive e) (cond b (Some r) None) ≡ cond b (Some (cancel_receive e r)) None) [ true ↦ refl | false ↦ refl ])
-        ]
-      ]
+      (cancelled (λ s. s.thread) (cancel_send e) sends (λ v. option_and_then send_in (f.open_call v)) ts u (λ s. refl) (λ v s is. send_thread f v s known is) (λ none. ap (option_and_then send_in) (unknown f u known none)))
+      ∙ ap (option_or (option_map (cancel_send e) (pass sends (option_and_then send_in (f.open_call u)))))
+      (cancelled (λ r. r.thread) (cancel_receive e) receives (λ v. option_and_then receive_in (f.open_call v)) ts u (λ r. refl) (λ v r is. receive_thread f v r known is) (λ none. ap (option_and_then receive_in) (unknown f u known none)))
+      ∙ elim (f.open_call u) as (λ o. f.open_call u ≡ o → option_or (option_map (cancel_send e) (pass sends (option_and_then send_in o))) (option_map (cancel_receive e) (pass receives (option_and_then receive_in o))) ≡ cancel_where (is_cancelled u) e u o) [
+        | None ↦ λ is. refl
+        | Some o ↦ λ is. by_call o (known.own u o is)
+      ] refl
+    where
+      by_call : (o : OpenCall) → thread_of o ≡ u → cancelled_in o ≡ cancel_where (is_cancelled u) e u (Some o)
+      by_call (Send s) own = rw (← own) (rw (of_send s) (elim (is_cancelled s.thread (Send s)) as (λ b. option_or (option_map (cancel_send e) (cond b (Some s) None)) None ≡ cond b (Some (cancel_send e s)) None) [ true ↦ refl | false ↦ refl ]))
+      by_call (Receive r) own = rw (← own) (rw (of_receive r) (elim (is_cancelled r.thread (Receive r)) as (λ b. option_map (cancel_receive e) (cond b (Some r) None) ≡ cond b (Some (cancel_receive e r)) None) [ true ↦ refl | false ↦ refl ]))

@@ -16,15 +16,15 @@ use Rattle.qrules.specs.Private.Facts.{first_where, threads_of, Facts as OldFact
 use Rattle.qrules.specs.Private.Receivers.{is_newest, wait_on, newest_receiver as old_newest}
 use Rattle.qrules.specs.Private.Rows.{receipt_ending}
 use Rattle.qmodel.specs.declared.call.Completion.{Completion}
-use Rattle.qmodel.specs.declared.open_call.Wait.{Wait}
-use Rattle.qmodel.specs.declared.open_call.Wait.TheVariants.{Answer, Item as ForItem}
+use Rattle.qmodel.specs.declared.open_call.OpenCall.TheVariants.{Receive, Send}
 use Rattle.qrules.specs.Facts.{OpenReceive}
 use Rattle.qrules.specs.Rule.{SentItem}
 use Rattle.qrules.specs.Delivery.{deliver, delivery, has_to_wait, newest_receiver}
 use Rattle.qrules.proofs.Cancels.{pass}
 use Rattle.qrules.proofs.Newest.{newest_same, taker, waits_same}
 use Rattle.qrules.specs.Facts.{receive_in}
-use Rattle.qrules.specs.Private.Facts.{receive_view}
+use Rattle.qrules.specs.Facts.{OpenCall}
+use Rattle.qrules.proofs.View.{IsKnown}
 
 -- no thread takes the item
 pub record NoReceiver (f : OldFacts) (m : SentItem) : Type 0 where
@@ -34,13 +34,10 @@ pub record NoReceiver (f : OldFacts) (m : SentItem) : Type 0 where
 -- a thread takes the item
 pub record OneReceiver (f : OldFacts) (m : SentItem) : Type 0 where
   pub thread : ℕ
-  pub number : ℕ
-  pub channel : ℕ
-  pub kind : Kind
-  pub buffer : List ℕ
+  pub receive : OpenReceive
   pub receiver : old_newest f m.channel m.item ≡ Some thread
-  pub is : f.open_call thread ≡ Some (record { number = number; wait = ForItem channel kind buffer })
-  pub new : newest_receiver f m ≡ Some (record { number = number; thread = thread; channel = channel; kind = kind; buffer = buffer })
+  pub is : f.open_call thread ≡ Some (Receive receive)
+  pub new : newest_receiver f m ≡ Some receive
 
 where_is : (p : ℕ → Bool) (ts : List ℕ) (u : ℕ) → first_where p ts ≡ Some u → p u ≡ true
 where_is p [] u e = absurd (none-some u e)
@@ -59,13 +56,12 @@ map_some k None = refl
 map_some k (Some x) = refl
 
 -- what a thread waits in, where it takes the item
-one : (f : OldFacts) (m : SentItem) (u n : ℕ) (w : Wait) → old_newest f m.channel m.item ≡ Some u → f.open_call u ≡ Some (record { number = n; wait = w }) → newest_receiver f m ≡ pass (λ r. eqb r.channel m.channel && may_take r.kind m.item) (receive_in u n w)
-    → is_some (pass (λ r. eqb r.channel m.channel && may_take r.kind m.item) (receive_in u n w)) ≡ true → OneReceiver f m
-one f m u n (Answer coid message reply_buffer receipt) e is new some = absurd (true≢false (sym some))
-one f m u n (ForItem chid kind buffer) e is new some =
-    let r : OpenReceive = record { number = n; thread = u; channel = chid; kind = kind; buffer = buffer } in
-    elim (eqb chid m.channel && may_take kind m.item) as (λ b. newest_receiver f m ≡ cond b (Some r) None → is_some (cond b (Some r) None) ≡ true → OneReceiver f m) [
-      | true ↦ λ new some. record { thread = u; number = n; channel = chid; kind = kind; buffer = buffer; receiver = e; is = is; new = new }
+one : (f : OldFacts) (m : SentItem) (u : ℕ) (o : OpenCall) → old_newest f m.channel m.item ≡ Some u → f.open_call u ≡ Some o → newest_receiver f m ≡ pass (λ r. eqb r.channel m.channel && may_take r.kind m.item) (receive_in o)
+    → is_some (pass (λ r. eqb r.channel m.channel && may_take r.kind m.item) (receive_in o)) ≡ true → OneReceiver f m
+one f m u (Send s) e is new some = absurd (true≢false (sym some))
+one f m u (Receive r) e is new some =
+    elim (eqb r.channel m.channel && may_take r.kind m.item) as (λ b. newest_receiver f m ≡ cond b (Some r) None → is_some (cond b (Some r) None) ≡ true → OneReceiver f m) [
+      | true ↦ λ new some. record { thread = u; receive = r; receiver = e; is = is; new = new }
       | false ↦ λ new some. absurd (true≢false (sym some))
     ] new some
 
@@ -74,10 +70,10 @@ taker_waits : (f : OldFacts) (m : SentItem) (u : ℕ) → old_newest f m.channel
 taker_waits f m u e new =
     let newest : is_newest f.open_call m.channel m.item (threads_of f.roster) u ≡ true = where_is _ (threads_of f.roster) u e in
     let waits : is_some (taker f m u) ≡ true = sym (map_some _ (taker f m u)) ∙ ap is_some (sym (waits_same f m u)) ∙ some_if _ (wait_on m.channel m.item (f.open_call u)) newest in
-    elim (f.open_call u) as (λ o. f.open_call u ≡ o → newest_receiver f m ≡ option_and_then (λ r. cond (eqb r.channel m.channel && may_take r.kind m.item) (Some r) None) (receive_view u o)
-    → is_some (option_and_then (λ r. cond (eqb r.channel m.channel && may_take r.kind m.item) (Some r) None) (receive_view u o)) ≡ true → OneReceiver f m) [
+    elim (f.open_call u) as (λ o. f.open_call u ≡ o → newest_receiver f m ≡ option_and_then (λ r. cond (eqb r.channel m.channel && may_take r.kind m.item) (Some r) None) (option_and_then receive_in o)
+    → is_some (option_and_then (λ r. cond (eqb r.channel m.channel && may_take r.kind m.item) (Some r) None) (option_and_then receive_in o)) ≡ true → OneReceiver f m) [
       | None ↦ λ is new some. absurd (true≢false (sym some))
-      | Some o ↦ λ is new some. one f m u o.number o.wait e is new some
+      | Some o ↦ λ is new some. one f m u o e is new some
     ] refl new waits
 
 pub receiver_cases : (f : OldFacts) (m : SentItem) → NoReceiver f m ⊎ OneReceiver f m
@@ -106,15 +102,15 @@ old_ending item message r b = record { call = r.number; thread = r.thread; mark 
 pub delivery_same : (item : Item) (message : List ℕ) (r : OpenReceive) → delivery item message r ≡ receipt_ending item message r.thread r.number r.buffer
 delivery_same item message r = elim (is_pulse item.what) as (λ b. new_ending item message r b ≡ old_ending item message r b) [ true ↦ refl | false ↦ refl ]
 
-pub deliver_same : (f : OldFacts) (m : SentItem) (message : List ℕ) (u : ℕ) → find (λ x. eqb x.thread u) (deliver f (Some m) message) ≡ delivers f m.item message (receiver f m.item (Some m.channel)) u
-deliver_same f m message u = elim (receiver_cases f m) [
+pub deliver_same : (f : OldFacts) (m : SentItem) (message : List ℕ) (u : ℕ) → IsKnown f → find (λ x. eqb x.thread u) (deliver f (Some m) message) ≡ delivers f m.item message (receiver f m.item (Some m.channel)) u
+deliver_same f m message u known = elim (receiver_cases f m) [
   | inl k ↦ rw (k.none, k.new) refl
   | inr k ↦
-      let r : OpenReceive = record { number = k.number; thread = k.thread; channel = k.channel; kind = k.kind; buffer = k.buffer } in
-      rw (k.receiver, k.new, eqb_either k.thread u) (elim (eqb u k.thread) as (λ b. eqb u k.thread ≡ b → cond b (Some (delivery m.item message r)) None ≡ cond b (receipt_by f m.item message u) None) [
-        | true ↦ λ e. ap Some (delivery_same m.item message r) ∙ sym (ap (receipt_by f m.item message) (eqb-true u k.thread e) ∙ rw (k.is) refl)
+      let own : k.receive.thread ≡ k.thread = known.own k.thread (Receive k.receive) k.is in
+      rw (k.receiver, k.new) (ap (λ v. cond (eqb v u) (Some (delivery m.item message k.receive)) None) own ∙ rw (eqb_either k.thread u) (elim (eqb u k.thread) as (λ b. eqb u k.thread ≡ b → cond b (Some (delivery m.item message k.receive)) None ≡ cond b (receipt_by f m.item message u) None) [
+        | true ↦ λ e. ap Some (delivery_same m.item message k.receive ∙ ap (λ v. receipt_ending m.item message v k.receive.number k.receive.buffer) own) ∙ sym (ap (receipt_by f m.item message) (eqb-true u k.thread e) ∙ rw (k.is) refl)
         | false ↦ λ e. refl
-      ] refl)
+      ] refl))
 ]
 
 pub memory_same : (f : OldFacts) (m : SentItem) → has_to_wait f (Some m) ≡ wants_room f m.item (Some m.channel)

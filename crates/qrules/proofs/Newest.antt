@@ -8,13 +8,13 @@ use Rattle.std.proofs.Math.Bool.{or-true}
 use Rattle.qqueue.specs.Best.{may_take}
 use Rattle.qrules.specs.Private.Facts.{first_where, threads_of, Facts as OldFacts}
 use Rattle.qrules.specs.Private.Receivers.{is_after, is_last_wait, is_newest, wait_on, newest_receiver as old_newest}
-use Rattle.qmodel.specs.declared.open_call.Wait.TheVariants.{Answer, Item as ForItem}
+use Rattle.qmodel.specs.declared.open_call.OpenCall.TheVariants.{Receive, Send}
 use Rattle.qrules.specs.Facts.{OpenReceive}
 use Rattle.qrules.specs.Rule.{SentItem}
 use Rattle.qrules.specs.Delivery.{newer, newest_receiver}
 use Rattle.qrules.proofs.Lists.{filter-filter_map}
 use Rattle.qrules.specs.Facts.{receive_in}
-use Rattle.qrules.specs.Private.Facts.{receive_view}
+use Rattle.qrules.specs.Facts.{OpenCall}
 
 -- ---- the newest of a list
 
@@ -129,19 +129,17 @@ any_same p q (t ∷ ts) h = rw (h t, any_same p q ts h) refl
 
 -- the receive that thread u waits in, where it may take the item
 abbrev pub taker : OldFacts → SentItem → ℕ → Option OpenReceive
-taker f m u = option_and_then (λ r. cond (eqb r.channel m.channel && may_take r.kind m.item) (Some r) None) (receive_view u (f.open_call u))
+taker f m u = option_and_then (λ r. cond (eqb r.channel m.channel && may_take r.kind m.item) (Some r) None) (option_and_then receive_in (f.open_call u))
 
 pub waits_same : (f : OldFacts) (m : SentItem) (u : ℕ) → wait_on m.channel m.item (f.open_call u) ≡ option_map (λ r. r.number) (taker f m u)
 waits_same f m u =
-    elim (f.open_call u) as (λ o. wait_on m.channel m.item o ≡ option_map (λ r. r.number) (option_and_then (λ r. cond (eqb r.channel m.channel && may_take r.kind m.item) (Some r) None) (receive_view u o))) [
+    elim (f.open_call u) as (λ o. wait_on m.channel m.item o ≡ option_map (λ r. r.number) (option_and_then (λ r. cond (eqb r.channel m.channel && may_take r.kind m.item) (Some r) None) (option_and_then receive_in o))) [
       | None ↦ refl
-      | Some o ↦ elim (o.wait) as (λ w. wait_on m.channel m.item (Some (record { number = o.number; wait = w })) ≡ option_map (λ r. r.number) (option_and_then (λ r. cond (eqb r.channel m.channel && may_take r.kind m.item) (Some r) None) (receive_in u o.number w))) [
-        | Answer coid message reply_buffer receipt ↦ refl
-        | ForItem chid kind buffer ↦
-            let r : OpenReceive = record { number = o.number; thread = u; channel = chid; kind = kind; buffer = buffer } in
-            elim (eqb chid m.channel && may_take kind m.item) as (λ b. cond b (Some o.number) None ≡ option_map (λ r. r.number) (cond b (Some r) None)) [ true ↦ refl | false ↦ refl ]
-      ]
-    ]
+      | Some o ↦ by_call o
+    ] where
+      by_call : (o : OpenCall) → wait_on m.channel m.item (Some o) ≡ option_map (λ r. r.number) (option_and_then (λ r. cond (eqb r.channel m.channel && may_take r.kind m.item) (Some r) None) (receive_in o))
+      by_call (Send s) = refl
+      by_call (Receive r) = elim (eqb r.channel m.channel && may_take r.kind m.item) as (λ b. cond b (Some r.number) None ≡ option_map (λ r. r.number) (cond b (Some r) None)) [ true ↦ refl | false ↦ refl ]
 
 after_same : (m : ℕ) (o : Option OpenReceive) → is_after m (option_map (λ r. r.number) o) ≡ option_map_or (λ s. nat_lt m s.number) o false
 after_same m None = refl
@@ -156,7 +154,7 @@ newest_same f m =
     let ts : List ℕ = threads_of f.roster in
     let w : ℕ → Option OpenReceive = taker f m in
     let rs : List OpenReceive = filter_map w ts in
-    ap (reduce newer) (filter-filter_map (λ r. eqb r.channel m.channel && may_take r.kind m.item) (λ u. receive_view u (f.open_call u)) ts)
+    ap (reduce newer) (filter-filter_map (λ r. eqb r.channel m.channel && may_take r.kind m.item) (λ u. option_and_then receive_in (f.open_call u)) ts)
     ∙ reduce_found rs
     ∙ first_found w (is_last rs) ts
     ∙ ap (option_and_then w) (first_same (λ u. option_map_or (is_last rs) (w u) false) (λ u. is_newest f.open_call m.channel m.item ts u) ts (λ u.

@@ -27,15 +27,15 @@ use Rattle.qrules.proofs.View.{IsKnown}
 pub same_row : (f : OldFacts) (t : ℕ) (c : Call) → IsKnown f → SameRow f t c
 same_row f t (calls.ChannelCreate flags) k = channel_create f t flags
 same_row f t (calls.ConnectAttach chid) k = connect_attach f t chid
-same_row f t (calls.Send coid message reply_buffer) k = send f t coid message reply_buffer
+same_row f t (calls.Send coid message reply_buffer) k = send f t coid message reply_buffer k
 same_row f t (calls.Receive chid buffer) k = receive f t chid buffer
-same_row f t (calls.Reply rcvid status bytes) k = reply f t rcvid status bytes
-same_row f t (calls.Error rcvid code) k = error f t rcvid code
+same_row f t (calls.Reply rcvid status bytes) k = reply f t rcvid status bytes k
+same_row f t (calls.Error rcvid code) k = error f t rcvid code k
 same_row f t (calls.Read rcvid offset buffer) k = read f t rcvid offset buffer
 same_row f t (calls.Write rcvid offset bytes) k = write f t rcvid offset bytes
 same_row f t (calls.Info rcvid) k = info f t rcvid k
 same_row f t (calls.ReceivePulse chid) k = receive_pulse f t chid
-same_row f t (calls.Pulse coid priority code value) k = pulse f t coid priority code value
+same_row f t (calls.Pulse coid priority code value) k = pulse f t coid priority code value k
 same_row f t (calls.PrioritySet thread priority) k = priority_set f t thread priority
 same_row f t (calls.State thread) k = state f t thread k
 same_row f t (calls.ChannelDestroy chid) k = channel_destroy f t chid k

@@ -7,26 +7,10 @@ use Rattle.qrules.specs.Trace.{Bytes, CallNo, ChannelId, ConnectionId, Priority,
 use Rattle.qrules.specs.Trace.{ThreadNo}
 pub use Rattle.qmodel.specs.Trace.{OpenChannel}
 pub use Rattle.qmodel.specs.declared.open_call.Receipt.{Receipt}
-use Rattle.qmodel.specs.declared.open_call.OpenCall.{OpenCall}
-use Rattle.qmodel.specs.declared.open_call.Wait.{Wait}
-use Rattle.qmodel.specs.declared.open_call.Wait.TheVariants.{Answer, Item as ForItem}
-
--- a Send that isn't ended: SEND-blocked without a receipt, REPLY-blocked with one
-pub record OpenSend : Type 0 where
-  pub number : ReceiveId
-  pub thread : ThreadNo
-  pub connection : ConnectionId
-  pub message : Bytes
-  pub reply_buffer : Bytes  -- with all that was written over it
-  pub receipt : Option Receipt
-
--- a Receive or a ReceivePulse that isn't ended: RECEIVE-blocked
-pub record OpenReceive : Type 0 where
-  pub number : CallNo
-  pub thread : ThreadNo
-  pub channel : ChannelId
-  pub kind : Kind  -- what it may take
-  pub buffer : Bytes
+pub use Rattle.qmodel.specs.declared.open_call.OpenCall.{OpenCall}
+pub use Rattle.qmodel.specs.declared.open_call.OpenReceive.{OpenReceive}
+pub use Rattle.qmodel.specs.declared.open_call.OpenSend.{OpenSend}
+pub use Rattle.qmodel.specs.OpenCalls.{number_of, receive_in, send_in}
 
 -- the facts after all past calls
 pub record Facts : Type 0 where
@@ -40,24 +24,6 @@ pub record Facts : Type 0 where
   pub open_call : ThreadNo → Option OpenCall  -- that the thread waits in
   pub pending : ChannelId → List Item  -- what waits on a channel to be received, in rising number
   pub priority : ThreadNo → Priority  -- of each thread
-
--- call n of thread t, if it waits for an answer
-abbrev pub send_in : ThreadNo → CallNo → Wait → Option OpenSend
-send_in t n (Answer coid message reply_buffer receipt) = Some (record {
-  number = n;
-  thread = t;
-  connection = coid;
-  message = message;
-  reply_buffer = reply_buffer;
-  receipt = receipt;
-})
-send_in t n (ForItem chid kind buffer) = None
-
--- call n of thread t, if it waits for an item
-abbrev pub receive_in : ThreadNo → CallNo → Wait → Option OpenReceive
-receive_in t n (Answer coid message reply_buffer receipt) = None
-receive_in t n (ForItem chid kind buffer) =
-    Some (record { number = n; thread = t; channel = chid; kind = kind; buffer = buffer })
 
 -- the threads of a roster
 abbrev pub threads_of : List Member → List ThreadNo
@@ -85,10 +51,6 @@ module _ (f : Facts) where
   abbrev pub owns : ThreadNo → ChannelId → Bool
   owns t h = option_map_or (λ c. is_of_process t c.owner) (f.channel h) false
 
-  -- the connection is live, and leads to channel h
-  abbrev pub leads_to : ConnectionId → ChannelId → Bool
-  leads_to k h = option_map_or (λ c. c.channel == h) (f.connection k) false
-
   -- the open channel that the thread may send to over connection k, if its process attached this connection
   abbrev pub route : ThreadNo → ConnectionId → Option ChannelId
   route t k = option_and_then
@@ -97,11 +59,11 @@ module _ (f : Facts) where
 
   -- the Send that thread t waits in
   abbrev pub send_of : ThreadNo → Option OpenSend
-  send_of t = option_and_then (λ o. send_in t o.number o.wait) (f.open_call t)
+  send_of t = option_and_then send_in (f.open_call t)
 
   -- the Receive or ReceivePulse that thread t waits in
   abbrev pub receive_of : ThreadNo → Option OpenReceive
-  receive_of t = option_and_then (λ o. receive_in t o.number o.wait) (f.open_call t)
+  receive_of t = option_and_then receive_in (f.open_call t)
 
   -- the open Sends, in rising thread number
   abbrev pub open_sends : List OpenSend
@@ -113,7 +75,7 @@ module _ (f : Facts) where
 
   -- the number of the call that thread t waits in
   abbrev pub waiting_number : ThreadNo → Option CallNo
-  waiting_number t = option_map (λ o. o.number) (f.open_call t)
+  waiting_number t = option_map number_of (f.open_call t)
 
   -- thread t waits in an open call
   abbrev pub is_blocked : ThreadNo → Bool
@@ -129,8 +91,7 @@ module _ (f : Facts) where
 
   -- the message is received, and its channel is one of the thread's process
   abbrev pub is_held_for : ThreadNo → OpenSend → Bool
-  is_held_for t s =
-      is_some s.receipt && option_map_or (λ c. owns t c.channel) (f.connection s.connection) false
+  is_held_for t s = is_some s.receipt && owns t s.channel
 
   -- message i is held for thread t, which may answer it, read it and write to its reply buffer
   abbrev pub holds : ThreadNo → ReceiveId → Bool

@@ -6,13 +6,11 @@ use Rattle.qrules.specs.Words.{option_or, true, unwrap_or, with_priority, Bool, 
 use Rattle.qrules.specs.Words.{Call, Completion, List, Mark, Member, None, Option, Some, What, ℕ}
 use Rattle.qrules.specs.Trace.{Bytes, CallNo, ChannelId, ConnectionId, Event, Priority, ReceiveId}
 use Rattle.qrules.specs.Trace.{ThreadNo, Trace}
-use Rattle.qrules.specs.Facts.{OpenChannel, Receipt}
-use Rattle.qmodel.specs.declared.open_call.OpenCall.{OpenCall}
-use Rattle.qmodel.specs.declared.open_call.Wait.{Wait}
-use Rattle.qmodel.specs.declared.open_call.Wait.TheVariants.{Answer, Item as ForItem}
+use Rattle.qrules.specs.Facts.{number_of, OpenCall, OpenChannel, OpenSend}
 use Rattle.qrules.specs.Rule.{Effect, SentItem, Transfer}
 use Rattle.qrules.specs.Rules.{effect_of}
 use Rattle.qrules.specs.Words.mark
+use Rattle.qmodel.specs.declared.open_call.OpenCall.TheVariants.{Receive, Send}
 use Rattle.qrules.specs.Words.what
 
 -- ---- accepted calls
@@ -111,6 +109,10 @@ item_among items i = find (λ m. m.item.number == i) items
 abbrev pub priority_of_item : Option SentItem → Priority
 priority_of_item item = option_map_or (λ m. m.item.priority) item 0
 
+-- the channel of an item; 0 if there is none
+abbrev pub channel_of : Option SentItem → ChannelId
+channel_of item = option_map_or (λ m. m.channel) item 0
+
 -- the thread that sent message i
 abbrev pub sender_of : Trace → ReceiveId → Option ThreadNo
 sender_of past i = accepted_at (λ e. option_map (λ s. e.thread) (effect_of e.call).sends) past i
@@ -168,40 +170,52 @@ abbrev pub is_unblock_for : ReceiveId → What → Bool
 is_unblock_for i (what.Unblock rcvid) = rcvid == i
 is_unblock_for i other = false
 
--- the open call that a call leaves if it doesn't end in its own event
-abbrev pub asks : CallNo → Call → Option OpenCall
-asks n c = option_map (λ wait. record { number = n; wait = wait }) (option_or
-    (option_map (λ s. Answer s.connection s.message s.reply_buffer None) (effect_of c).sends)
-    (option_map (λ r. ForItem r.channel r.kind r.buffer) (effect_of c).receives))
+-- the open call in which call n of thread t leaves it if it doesn't end in its own event; a Send is open on
+-- channel h
+abbrev pub asks : CallNo → ThreadNo → ChannelId → Call → Option OpenCall
+asks n t h c = option_or
+    (option_map (λ s. Send (record {
+      number = n;
+      thread = t;
+      connection = s.connection;
+      channel = h;
+      message = s.message;
+      reply_buffer = s.reply_buffer;
+      receipt = None;
+    })) (effect_of c).sends)
+    (option_map (λ r. Receive (record {
+      number = n;
+      thread = t;
+      channel = r.channel;
+      kind = r.kind;
+      buffer = r.buffer;
+    })) (effect_of c).receives)
 
--- the newest accepted blocking call of thread t
-abbrev pub newest_block : Trace → ThreadNo → Option OpenCall
-newest_block [] t = None
-newest_block (e ∷ past) t =
-    if (e.thread == t) && is_accepted e past && is_some (asks (length past + 1) e.call)
-    then asks (length past + 1) e.call else newest_block past t
+-- the open call in which the newest accepted blocking call of thread t left it, given all items
+abbrev pub newest_block : List SentItem → Trace → ThreadNo → Option OpenCall
+newest_block items [] t = None
+newest_block items (e ∷ past) t =
+    let n = length past + 1 in let asked = asks n t (channel_of (item_among items n)) e.call in
+    if (e.thread == t) && is_accepted e past && is_some asked then asked else newest_block items past t
 
--- a wait for an answer, with the record of the message's receipt
-abbrev pub wait_with_receipt : Receipt → Wait → Wait
-wait_with_receipt receipt (Answer coid message reply_buffer before) =
-    Answer coid message reply_buffer (Some receipt)
-wait_with_receipt receipt wait = wait
+-- an open Send as it is by now: with all that was written over its reply buffer, and with its receipt
+abbrev pub send_by_now : Trace → List SentItem → OpenSend → OpenSend
+send_by_now past items s = record s {
+  reply_buffer = with_writes past s.number s.reply_buffer;
+  receipt = option_map (λ copied. record {
+    priority = priority_of_item (item_among items s.number);
+    copied = copied;
+    unblocked = list_any (λ m. is_unblock_for s.number m.item.what) items;
+  }) (copied_count_of past s.number);
+}
 
--- a wait with its reply buffer changed
-abbrev pub with_buffer : (Bytes → Bytes) → Wait → Wait
-with_buffer f (Answer coid message reply_buffer receipt) = Answer coid message (f reply_buffer) receipt
-with_buffer f (ForItem chid kind buffer) = ForItem chid kind buffer
+-- an open call as it is by now
+abbrev pub call_by_now : Trace → List SentItem → OpenCall → OpenCall
+call_by_now past items (Send s) = Send (send_by_now past items s)
+call_by_now past items (Receive r) = Receive r
 
--- the open call of thread t, given all items with their present priorities: its newest accepted call that may
--- wait, unless that is ended; a Send has its reply buffer as it is by now, and its message's receipt
+-- the open call of thread t, given all items with their present priorities: its newest blocking call, unless
+-- that is ended
 abbrev pub open_call_by : Trace → List SentItem → ThreadNo → Option OpenCall
-open_call_by past items t = option_map
-    (λ o. let now : OpenCall = record o { wait = with_buffer (with_writes past o.number) o.wait } in
-    option_map_or (λ copied. record now {
-      wait = wait_with_receipt (record {
-        priority = priority_of_item (item_among items o.number);
-        copied = copied;
-        unblocked = list_any (λ m. is_unblock_for o.number m.item.what) items;
-      }) now.wait;
-    }) (copied_count_of past o.number) now)
-    (option_and_then (λ o. if is_ended past o.number then None else Some o) (newest_block past t))
+open_call_by past items t = option_map (call_by_now past items)
+    (option_and_then (λ o. if is_ended past (number_of o) then None else Some o) (newest_block items past t))

@@ -1,7 +1,6 @@
 -- Words over the kernel's own records, for contracts of inner functions and for proofs. No contract of a
 -- function that `balsaeuchre` exports cites one of them; methods of the records that `Kernel::threads` lends
 -- do.
-pub mod ThreadState
 pub mod Facts
 pub mod Rows
 pub mod Held

@@ -7,8 +7,7 @@ use Rattle.qbase.specs.declared.errno.Errno.{Errno}
 use Rattle.qtables.specs.declared.connection.Connection.{Connection}
 use Rattle.qmodel.specs.declared.call.Completion.{Completion}
 use Rattle.qmodel.specs.declared.open_call.OpenCall.{OpenCall}
-use Rattle.qmodel.specs.declared.open_call.Wait.{Wait}
-use Rattle.qmodel.specs.declared.open_call.Wait.TheVariants.{Answer, Item as ForItem}
+use Rattle.qmodel.specs.declared.open_call.OpenCall.TheVariants.{Receive, Send}
 use Rattle.qrules.specs.Private.Cancelling.{is_on, is_over, cancel_where}
 use Rattle.qrules.specs.Private.Step.{is_unread_send}
 use Rattle.qrules.specs.Private.Facts.{threads_of}

@@ -2,8 +2,7 @@
 use Rattle.std.specs.Prelude.{◌≡◌, ◌≢◌, ◌==◌, ℕ, true, false, Bool, ◌&&◌, nat_lt, if◌then◌else◌}
 use Rattle.qbase.specs.ByteSet.{has}
 use Rattle.qmodel.specs.declared.open_call.OpenCall.{OpenCall}
-use Rattle.qmodel.specs.declared.open_call.Wait.{Wait}
-use Rattle.qmodel.specs.declared.open_call.Wait.TheVariants.{Answer, Item as ForItem}
+use Rattle.qmodel.specs.declared.open_call.OpenCall.TheVariants.{Receive, Send}
 use Rattle.qstate.specs.declared.index.Index.{Index}
 
 -- true if the wait is for an item

@@ -5,8 +5,7 @@ use Rattle.qtables.specs.Entries.{entry_at}
 use Rattle.qtables.specs.declared.connection.Connection.{Connection}
 use Rattle.qrules.specs.Private.Step.{is_unread_send}
 use Rattle.qmodel.specs.declared.open_call.OpenCall.{OpenCall}
-use Rattle.qmodel.specs.declared.open_call.Wait.{Wait}
-use Rattle.qmodel.specs.declared.open_call.Wait.TheVariants.{Answer, Item as ForItem}
+use Rattle.qmodel.specs.declared.open_call.OpenCall.TheVariants.{Receive, Send}
 use Rattle.qstate.specs.declared.channel.Channel.{Channel}
 use Rattle.qstate.specs.declared.unread.Unread.{Unread}
 use Rattle.qstate.specs.Channel.{ids_of}

@@ -18,7 +18,7 @@ use Rattle.qmodel.specs.declared.call.Mark.TheVariants as mark
 use Rattle.qstate.specs.declared.channel.Channel.{Channel}
 use Rattle.qmodel.specs.declared.open_call.OpenCall.{OpenCall}
 use Rattle.qmodel.specs.declared.open_call.Receipt.{Receipt}
-use Rattle.qmodel.specs.declared.open_call.Wait.TheVariants.{Item as ForItem}
+use Rattle.qmodel.specs.declared.open_call.OpenCall.TheVariants.{Receive as InReceive, Send as InSend}
 use Rattle.qstate.specs.declared.thread.Thread.{Thread}
 use Rattle.qrules.specs.Private.Answer.{ending}
 use Rattle.qstate.specs.Channel.{ids_of, is_of, SetsItems}

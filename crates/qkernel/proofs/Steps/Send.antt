@@ -15,7 +15,7 @@ use Rattle.qmodel.specs.declared.call.Completion.{Completion}
 use Rattle.qstate.specs.declared.channel.Channel.{Channel}
 use Rattle.qmodel.specs.declared.open_call.OpenCall.{OpenCall}
 use Rattle.qmodel.specs.declared.open_call.Receipt.{Receipt}
-use Rattle.qmodel.specs.declared.open_call.Wait.TheVariants.{Answer}
+use Rattle.qmodel.specs.declared.open_call.OpenCall.TheVariants.{Receive as InReceive, Send as InSend}
 use Rattle.qstate.specs.declared.thread.Thread.{Thread}
 use Rattle.qrules.specs.Private.Answer.{refusal_ending, ending}
 use Rattle.qstate.specs.Channel.{route_in, SetsItems}

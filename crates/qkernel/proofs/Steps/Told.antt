@@ -18,8 +18,7 @@ use Rattle.qrules.specs.Private.Step.{after_receipt, priority_taken, unreceived_
 use Rattle.qrules.specs.Private.Past.{made_on}
 use Rattle.qmodel.specs.declared.call.Completion.{Completion}
 use Rattle.qmodel.specs.declared.open_call.OpenCall.{OpenCall}
-use Rattle.qmodel.specs.declared.open_call.Wait.{Wait}
-use Rattle.qmodel.specs.declared.open_call.Wait.TheVariants.{Answer, Item as ForItem}
+use Rattle.qmodel.specs.declared.open_call.OpenCall.TheVariants.{Receive, Send}
 use Rattle.qrules.proofs.Traces.Rosters.{filter_map_same, rises}
 use Rattle.qrules.proofs.Traces.Calls.Delivering.{ForAnItem, met_item, met_settled}
 use Rattle.qrules.proofs.Traces.Past.Laws.{IsSettled}

@@ -17,8 +17,7 @@ use Rattle.qrules.specs.Private.Past as past_of
 use Rattle.qmodel.specs.Trace.{Trace}
 use Rattle.qmodel.specs.declared.call.Completion.{Completion}
 use Rattle.qmodel.specs.declared.open_call.OpenCall.{OpenCall}
-use Rattle.qmodel.specs.declared.open_call.Wait.{Wait}
-use Rattle.qmodel.specs.declared.open_call.Wait.TheVariants.{Answer, Item as ForItem}
+use Rattle.qmodel.specs.declared.open_call.OpenCall.TheVariants.{Receive, Send}
 use Rattle.qrules.specs.Facts.{OpenReceive, OpenSend}
 use Rattle.qrules.specs.Lawful.{facts_of}
 use Rattle.qrules.specs.Past.{attached_connection, item_among}
@@ -26,7 +25,6 @@ use Rattle.qrules.specs.Properties.{items, number_received, IsShut, ShutForGood}
 use Rattle.qrules.proofs.Past.Facts.{facts_known}
 use Rattle.qrules.proofs.Properties.Items.{same_channel_among}
 use Rattle.qrules.specs.Facts.{receive_in, send_in}
-use Rattle.qrules.specs.Private.Facts.{receive_view, send_view}
 use Rattle.qrules.proofs.Same.{AreOfRoster}
 use Rattle.qrules.specs.Facts.{open_receives, open_sends}
 
@@ -65,18 +63,18 @@ led None h e = absurd (none-some h e)
 led (Some c) h e = eq-eqb c.channel h (same_Some c.channel h e)
 
 module _ (roster : List Member) (past : Trace) (h : ℕ) where
-  elsewhere : (u n : ℕ) (w : Wait) → ((s : OpenSend) → send_in u n w ≡ Some s → send_elsewhere roster past h s) → ((r : OpenReceive) → receive_in u n w ≡ Some r → receive_elsewhere h r)
+  elsewhere : (u n : ℕ) (w : OpenCall) → ((s : OpenSend) → send_in u n w ≡ Some s → send_elsewhere roster past h s) → ((r : OpenReceive) → receive_in u n w ≡ Some r → receive_elsewhere h r)
       → is_on (λ k. past_of.attached_connection roster past k) h w ≡ false
   elsewhere u n (Answer coid message reply_buffer receipt) sends receives = false_from_ne_true _ (λ on. sends _ refl (leads _ h on))
   elsewhere u n (ForItem chid kind buffer) sends receives = false_from_ne_true _ (λ on. receives _ refl (eqb-true chid h on))
 
-  sends_elsewhere : (u n : ℕ) (w : Wait) (s : OpenSend) → is_on (λ k. past_of.attached_connection roster past k) h w ≡ false → send_in u n w ≡ Some s → send_elsewhere roster past h s
+  sends_elsewhere : (u n : ℕ) (w : OpenCall) (s : OpenSend) → is_on (λ k. past_of.attached_connection roster past k) h w ≡ false → send_in u n w ≡ Some s → send_elsewhere roster past h s
   sends_elsewhere u n (Answer coid message reply_buffer receipt) s off is on =
       let over : option_map (λ c. c.channel) (attached_connection roster past coid) ≡ Some h = ap (λ (s : OpenSend). option_map (λ c. c.channel) (attached_connection roster past s.connection)) (same_Some _ s is) ∙ on in
       true≢false (sym (led _ h over) ∙ off)
   sends_elsewhere u n (ForItem chid kind buffer) s off is on = none-some s is
 
-  receives_elsewhere : (u n : ℕ) (w : Wait) (r : OpenReceive) → is_on (λ k. past_of.attached_connection roster past k) h w ≡ false → receive_in u n w ≡ Some r → receive_elsewhere h r
+  receives_elsewhere : (u n : ℕ) (w : OpenCall) (r : OpenReceive) → is_on (λ k. past_of.attached_connection roster past k) h w ≡ false → receive_in u n w ≡ Some r → receive_elsewhere h r
   receives_elsewhere u n (Answer coid message reply_buffer receipt) r off is on = none-some r is
   receives_elsewhere u n (ForItem chid kind buffer) r off is on = true≢false (sym (eq-eqb chid h (ap (λ (r : OpenReceive). r.channel) (same_Some _ r is) ∙ on)) ∙ off)
 
@@ -84,17 +82,17 @@ module _ (roster : List Member) (past : Trace) (h : ℕ) where
   none_as_before l sends receives u o is =
       let f : OldFacts = old_lawful.facts_of roster past in
       let among : is_among (threads_of roster) u ≡ true = facts_known roster past l u (ap is_some is) in
-      elsewhere u o.number o.wait
+      elsewhere u o.number o
       (λ s sent. all_at (send_elsewhere roster past h) (λ v. send_view v (f.open_call v)) (threads_of roster) u s sends among (ap (send_view u) is ∙ sent))
       (λ r taken. all_at (receive_elsewhere h) (λ v. receive_view v (f.open_call v)) (threads_of roster) u r receives among (ap (receive_view u) is ∙ taken))
 
   send_off : old.NoneBlockedOn roster past h → (u : ℕ) (s : OpenSend) (o : Option OpenCall) → past_of.open_call roster past u ≡ o → send_view u o ≡ Some s → send_elsewhere roster past h s
   send_off none u s None is e = absurd (none-some s e)
-  send_off none u s (Some o) is e = sends_elsewhere u o.number o.wait s (none u o is) e
+  send_off none u s (Some o) is e = sends_elsewhere u o.number o s (none u o is) e
 
   receive_off : old.NoneBlockedOn roster past h → (u : ℕ) (r : OpenReceive) (o : Option OpenCall) → past_of.open_call roster past u ≡ o → receive_view u o ≡ Some r → receive_elsewhere h r
   receive_off none u r None is e = absurd (none-some r e)
-  receive_off none u r (Some o) is e = receives_elsewhere u o.number o.wait r (none u o is) e
+  receive_off none u r (Some o) is e = receives_elsewhere u o.number o r (none u o is) e
 
   -- ---- what is received
 

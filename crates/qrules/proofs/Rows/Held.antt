@@ -19,56 +19,54 @@ use Rattle.qmodel.specs.declared.call.Call.TheVariants as calls
 use Rattle.qmodel.specs.declared.call.Completion.{Completion}
 use Rattle.qmodel.specs.declared.call.Info.{Info}
 use Rattle.qmodel.specs.declared.call.Mark.TheVariants as mark
-use Rattle.qmodel.specs.declared.open_call.Wait.TheVariants.{Answer}
+use Rattle.qmodel.specs.declared.open_call.OpenCall.TheVariants.{Receive, Send}
 use Rattle.qrules.proofs.Traces.Rosters.{among_member}
 use Rattle.qrules.specs.Facts.{open_send, owns, OpenSend}
 use Rattle.qrules.specs.Rules.Held.{info_of, refusal_unless_held}
 use Rattle.qrules.proofs.Messages.{send_cases, NoSend}
 use Rattle.qrules.proofs.Rows.Same.{after_own, alone, ending_of, own_alone, SameRow}
 use Rattle.qrules.proofs.View.{IsKnown}
-
-owns_over : (f : OldFacts) (t k : ℕ) → option_map_or (λ c. owns f t c.channel) (f.connection k) false ≡ option_map_or (λ c. old_owns f t c.channel) (f.connection k) false
-owns_over f t k = elim (f.connection k) as (λ c. option_map_or (λ c. owns f t c.channel) c false ≡ option_map_or (λ c. old_owns f t c.channel) c false) [ None ↦ refl | Some c ↦ refl ]
+use Rattle.qrules.specs.Facts.{Receipt}
+use Rattle.std.proofs.Common.{length}
 
 pub held_same : (f : OldFacts) (t i : ℕ) → refusal_unless_held f t i ≡ refusal f t i
 held_same f t i = elim (send_cases f i) [
   | inl k ↦ rw (k.none, k.new) refl
-  | inr k ↦ rw (k.sent, k.new, k.is) (elim (k.receipt) as (λ r. cond (is_some r && option_map_or (λ c. owns f t c.channel) (f.connection k.connection) false) None (Some Srch)
-      ≡ cond (is_held_by f t (Answer k.connection k.message k.reply_buffer r)) None (Some Srch)) [ None ↦ refl | Some r ↦ ap (λ b. cond b None (Some Srch)) (owns_over f t k.connection) ])
+  | inr k ↦ rw (k.sent, k.new, k.is) refl
 ]
 
 -- a message that isn't refused is open
 no_send : (f : OldFacts) (t i : ℕ) → NoSend f i → refusal f t i ≡ None → ⊥
-no_send f t i k p = none-some Srch (sym (subst (λ s. cond (option_map_or (λ o. is_held_by f t o.wait) (option_and_then f.open_call s) false) None (Some Srch) ≡ None) k.none p))
+no_send f t i k p = none-some Srch (sym (subst (λ s. cond (option_map_or (is_held_by f t) (option_and_then f.open_call s) false) None (Some Srch) ≡ None) k.none p))
 
 -- ---- answers
 
 abbrev answer_of : Finish → OpenSend → Completion
 answer_of finish s = record { call = s.number; thread = s.thread; mark = (finish s.reply_buffer).0; buffer = (finish s.reply_buffer).1 }
 
-answer_same : (f : OldFacts) (finish : Finish) (i u : ℕ) → ending_of (option_to_list (option_map (answer_of finish) (open_send f i))) u ≡ ends_sender f finish (sender f i) u
-answer_same f finish i u = elim (send_cases f i) [
+answer_same : (f : OldFacts) (finish : Finish) (i u : ℕ) → IsKnown f → ending_of (option_to_list (option_map (answer_of finish) (open_send f i))) u ≡ ends_sender f finish (sender f i) u
+answer_same f finish i u known = elim (send_cases f i) [
   | inl k ↦ rw (k.none, k.new) refl
   | inr k ↦
-      let x : Completion = record { call = k.number; thread = k.thread; mark = (finish k.reply_buffer).0; buffer = (finish k.reply_buffer).1 } in
-      rw (k.sent, k.new, eqb_either k.thread u) (elim (eqb u k.thread) as (λ b. eqb u k.thread ≡ b → cond b (Some x) None ≡ cond b (answer_ending finish u (f.open_call u)) None) [
-        | true ↦ λ e. sym (ap (λ v. answer_ending finish v (f.open_call v)) (eqb-true u k.thread e) ∙ rw (k.is) refl)
+      let own : k.send.thread ≡ k.thread = known.own k.thread (Send k.send) k.is in
+      rw (k.sent, k.new) (ap (λ v. cond (eqb v u) (Some (answer_of finish k.send)) None) own ∙ rw (eqb_either k.thread u) (elim (eqb u k.thread) as (λ b. eqb u k.thread ≡ b → cond b (Some (answer_of finish k.send)) None ≡ cond b (answer_ending finish u (f.open_call u)) None) [
+        | true ↦ λ e. ap (λ v. Some (record { call = k.send.number; thread = v; mark = (finish k.send.reply_buffer).0; buffer = (finish k.send.reply_buffer).1 })) own ∙ sym (ap (λ v. answer_ending finish v (f.open_call v)) (eqb-true u k.thread e) ∙ rw (k.is) refl)
         | false ↦ λ e. refl
-      ] refl)
+      ] refl))
 ]
 
-pub reply : (f : OldFacts) (t rcvid : ℕ) (status : ℤ) (bytes : List ℕ) → SameRow f t (calls.Reply rcvid status bytes)
-reply f t rcvid status bytes = record {
+pub reply : (f : OldFacts) (t rcvid : ℕ) (status : ℤ) (bytes : List ℕ) → IsKnown f → SameRow f t (calls.Reply rcvid status bytes)
+reply f t rcvid status bytes known = record {
   refusal = held_same f t rcvid;
   memory = λ p. refl;
-  endings = λ p idle u. after_own (ends_with f.number t mark.Ok) _ _ t u refl (answer_same f (reply_finish status bytes) rcvid u);
+  endings = λ p idle u. after_own (ends_with f.number t mark.Ok) _ _ t u refl (answer_same f (reply_finish status bytes) rcvid u known);
 }
 
-pub error : (f : OldFacts) (t rcvid : ℕ) (code : ℤ) → SameRow f t (calls.Error rcvid code)
-error f t rcvid code = record {
+pub error : (f : OldFacts) (t rcvid : ℕ) (code : ℤ) → IsKnown f → SameRow f t (calls.Error rcvid code)
+error f t rcvid code known = record {
   refusal = held_same f t rcvid;
   memory = λ p. refl;
-  endings = λ p idle u. after_own (ends_with f.number t mark.Ok) _ _ t u refl (answer_same f (error_finish code) rcvid u);
+  endings = λ p idle u. after_own (ends_with f.number t mark.Ok) _ _ t u refl (answer_same f (error_finish code) rcvid u known);
 }
 
 -- ---- transfers
@@ -79,7 +77,7 @@ read f t rcvid offset buffer = record {
   memory = λ p. refl;
   endings = λ p idle u. elim (send_cases f rcvid) [
     | inl k ↦ absurd (no_send f t rcvid k p)
-    | inr k ↦ rw (k.sent, k.new, k.is) (alone (record { call = f.number; thread = t; mark = mark.Count (laid_count buffer 0 (drop offset k.message)); buffer = lay_over buffer 0 (drop offset k.message) }) t u refl)
+    | inr k ↦ rw (k.sent, k.new, k.is) (alone (record { call = f.number; thread = t; mark = mark.Count (laid_count buffer 0 (drop offset k.send.message)); buffer = lay_over buffer 0 (drop offset k.send.message) }) t u refl)
   ];
 }
 
@@ -89,7 +87,7 @@ write f t rcvid offset bytes = record {
   memory = λ p. refl;
   endings = λ p idle u. elim (send_cases f rcvid) [
     | inl k ↦ absurd (no_send f t rcvid k p)
-    | inr k ↦ rw (k.sent, k.new, k.is) (alone (ends_with f.number t (mark.Count (laid_count k.reply_buffer offset bytes))) t u refl)
+    | inr k ↦ rw (k.sent, k.new, k.is) (alone (ends_with f.number t (mark.Count (laid_count k.send.reply_buffer offset bytes))) t u refl)
   ];
 }
 
@@ -107,11 +105,25 @@ pub info_same : (f : OldFacts) (i : ℕ) → IsKnown f → info_of f i ≡ old_i
 info_same f i known = elim (send_cases f i) [
   | inl k ↦ rw (k.none, k.new) refl
   | inr k ↦
-      let m = some_of (member_at f.roster k.thread) (among_member f.roster k.thread (known k.thread (ap is_some k.is))) in
-      elim (k.receipt) as (λ r. k.receipt ≡ r → info_of f i ≡ old_info_of f (sender f i)) [
-        | None ↦ λ e. rw (k.sent, k.new, k.is, e, m.1) refl
-        | Some r ↦ λ e. rw (k.sent, k.new, k.is, e, m.1, member_thread f.roster k.thread m.0 m.1) refl
-      ] refl
+      let own : k.send.thread ≡ k.thread = known.own k.thread (Send k.send) k.is in
+      let m = some_of (member_at f.roster k.thread) (among_member f.roster k.thread (known.among k.thread (ap is_some k.is))) in
+      rw (k.sent, k.new, k.is, m.1) (ap (λ v. option_map (λ (receipt : Receipt). record {
+        process = option_map_or (λ (x : Member). x.process) (member_at f.roster v) 0;
+        thread = k.send.thread;
+        connection = k.send.connection;
+        msglen = receipt.copied;
+        srcmsglen = length k.send.message;
+        dstmsglen = length k.send.reply_buffer;
+        priority = receipt.priority;
+      }) k.send.receipt) own ∙ rw m.1 (ap (λ v. option_map (λ (receipt : Receipt). record {
+        process = m.0.process;
+        thread = v;
+        connection = k.send.connection;
+        msglen = receipt.copied;
+        srcmsglen = length k.send.message;
+        dstmsglen = length k.send.reply_buffer;
+        priority = receipt.priority;
+      }) k.send.receipt) (own ∙ sym (member_thread f.roster k.thread m.0 m.1))))
 ]
 
 own_thread : (f : OldFacts) (t : ℕ) (told : Option Info) (x : Completion) → option_map (λ told. ends_with f.number t (mark.Info told)) told ≡ Some x → x.thread ≡ t

@@ -22,6 +22,7 @@ use Rattle.qrules.specs.Rule.{SentItem}
 use Rattle.qrules.proofs.Deliveries.{deliver_same, delivery_same, idle_takes_none, memory_same}
 use Rattle.qrules.proofs.Messages.{send_cases}
 use Rattle.qrules.proofs.Rows.Same.{alone, ending_of, SameRow}
+use Rattle.qrules.proofs.View.{IsKnown}
 
 -- ---- Send
 
@@ -42,22 +43,22 @@ module _ (f : OldFacts) (t : ℕ) (bytes : List ℕ) where
         | false ↦ λ p. absurd (none-some Badf (sym p))
       ] p
 
-  sent_delivery : (connection : Option Connection) (u : ℕ) → cond (is_some (route_over connection)) None (Some Badf) ≡ None
+  sent_delivery : (connection : Option Connection) (u : ℕ) → IsKnown f → cond (is_some (route_over connection)) None (Some Badf) ≡ None
       → ending_of (deliver f (message_to connection) bytes) u ≡ delivers f (item f t) bytes (receiver f (item f t) (route_over connection)) u
-  sent_delivery None u p = absurd (none-some Badf (sym p))
-  sent_delivery (Some c) u p =
+  sent_delivery None u known p = absurd (none-some Badf (sym p))
+  sent_delivery (Some c) u known p =
       elim (is_of_process f t c.process && is_some (f.channel c.channel)) as (λ b. cond (is_some (cond b (Some c.channel) None)) None (Some Badf) ≡ None
       → ending_of (deliver f (message_to (Some c)) bytes) u ≡ delivers f (item f t) bytes (receiver f (item f t) (cond b (Some c.channel) None)) u) [
-        | true ↦ λ p. deliver_same f (record { item = item f t; channel = c.channel }) bytes u
+        | true ↦ λ p. deliver_same f (record { item = item f t; channel = c.channel }) bytes u known
         | false ↦ λ p. absurd (none-some Badf (sym p))
       ] p
 
-pub send : (f : OldFacts) (t coid : ℕ) (message reply_buffer : List ℕ) → SameRow f t (calls.Send coid message reply_buffer)
-send f t coid message reply_buffer = record {
+pub send : (f : OldFacts) (t coid : ℕ) (message reply_buffer : List ℕ) → IsKnown f → SameRow f t (calls.Send coid message reply_buffer)
+send f t coid message reply_buffer known = record {
   refusal = refl;
   memory = λ p. sent_memory f t message (f.connection coid) p;
   endings = λ p idle u.
-      sent_delivery f t message (f.connection coid) u p
+      sent_delivery f t message (f.connection coid) u known p
       ∙ elim (eqb u t) as (λ b. eqb u t ≡ b → delivers f (item f t) message (receiver f (item f t) (route_over f t message (f.connection coid))) u ≡ cond b None (delivers f (item f t) message (receiver f (item f t) (route_over f t message (f.connection coid))) u)) [
         | true ↦ λ same. idle_takes_none f (item f t) message (receiver f (item f t) (route_over f t message (f.connection coid))) u (ap f.open_call (eqb-true u t same) ∙ idle)
         | false ↦ λ other. refl

@@ -11,7 +11,7 @@ use Rattle.qqueue.specs.declared.item.What.TheVariants as what
 use Rattle.qtables.specs.declared.connection.Connection.{Connection}
 use Rattle.qrules.specs.Private.Calls.ConnectDetach.{due_pulse as last_pulse}
 use Rattle.qrules.specs.Private.Calls.Pulse.{is_negative, sent_pulse}
-use Rattle.qrules.specs.Private.Calls.Unblock.{due_pulse, due_pulse_of_wait, guard, guard_over, other_ending}
+use Rattle.qrules.specs.Private.Calls.Unblock.{due_pulse, other_ending}
 use Rattle.qrules.specs.Private.Cancelling.{cancel_call, cancel_where, cancels, is_over}
 use Rattle.qrules.specs.Private.Facts.{has_flag, is_of_process, Facts as OldFacts}
 use Rattle.qrules.specs.Private.Pulses.{ends_receiver, refusal_if_full, refusal_if_full_for, wants_room_for}
@@ -19,25 +19,27 @@ use Rattle.qrules.specs.Private.Rows.{ends_with}
 use Rattle.qmodel.specs.declared.call.Call.TheVariants as calls
 use Rattle.qmodel.specs.declared.call.Mark.TheVariants as mark
 use Rattle.qmodel.specs.declared.open_call.Receipt.{Receipt as OldReceipt}
-use Rattle.qmodel.specs.declared.open_call.Wait.{Wait}
-use Rattle.qmodel.specs.declared.open_call.Wait.TheVariants.{Answer, Item as ForItem}
+use Rattle.qmodel.specs.declared.open_call.OpenCall.TheVariants.{Receive, Send}
 use Rattle.qrules.specs.Delivery.{cancel, deliver, has_to_wait}
 use Rattle.qrules.specs.Facts.{is_of_process as is_of_process_by, is_of_same_process}
 use Rattle.qrules.specs.Rule.{SentItem}
-use Rattle.qrules.specs.Rules.Unblock.{unblock_channel}
 use Rattle.qrules.proofs.Cancels.{cancel_same}
 use Rattle.qrules.proofs.Deliveries.{deliver_same, memory_same}
 use Rattle.qrules.proofs.Rows.Same.{after_own, ending_of, SameRow}
 use Rattle.qrules.proofs.View.{IsKnown}
 use Rattle.qrules.proofs.Traces.Due.{unblock_same}
+use Rattle.qrules.specs.Facts.{OpenCall}
+use Rattle.qrules.specs.Rules.Unblock.{is_guarded}
+use Rattle.qrules.specs.Private.Calls.Unblock.{due_pulse_of}
+use Rattle.qrules.specs.Private.Calls.Unblock.{guards}
 
 pulse_memory : (f : OldFacts) (pulse : Option SentItem) → has_to_wait f pulse ≡ wants_room_for f pulse
 pulse_memory f None = refl
 pulse_memory f (Some m) = memory_same f m
 
-pulse_delivery : (f : OldFacts) (pulse : Option SentItem) (u : ℕ) → ending_of (deliver f pulse []) u ≡ ends_receiver f pulse u
-pulse_delivery f None u = refl
-pulse_delivery f (Some m) u = deliver_same f m [] u
+pulse_delivery : (f : OldFacts) (pulse : Option SentItem) (u : ℕ) → IsKnown f → ending_of (deliver f pulse []) u ≡ ends_receiver f pulse u
+pulse_delivery f None u known = refl
+pulse_delivery f (Some m) u known = deliver_same f m [] u known
 
 -- ---- Pulse
 
@@ -56,11 +58,11 @@ pulse_refused f t coid priority code value (Some c) e =
       | false ↦ refl
     ]
 
-pub pulse : (f : OldFacts) (t coid priority : ℕ) (code value : ℤ) → SameRow f t (calls.Pulse coid priority code value)
-pulse f t coid priority code value = record {
+pub pulse : (f : OldFacts) (t coid priority : ℕ) (code value : ℤ) → IsKnown f → SameRow f t (calls.Pulse coid priority code value)
+pulse f t coid priority code value known = record {
   refusal = pulse_refused f t coid priority code value (f.connection coid) refl;
   memory = λ p. pulse_memory f (sent_pulse f coid priority code value);
-  endings = λ p idle u. after_own (ends_with f.number t mark.Ok) _ _ t u refl (pulse_delivery f (sent_pulse f coid priority code value) u);
+  endings = λ p idle u. after_own (ends_with f.number t mark.Ok) _ _ t u refl (pulse_delivery f (sent_pulse f coid priority code value) u known);
 }
 
 -- ---- ConnectDetach
@@ -76,39 +78,38 @@ connect_detach f t coid known = record {
   endings = λ p idle u. after_own (ends_with f.number t mark.Ok) _ _ t u refl
       (find-append (λ x. eqb x.thread u) (cancel f (λ s. s.connection == coid) (λ r. false) Badf) (deliver f (last_pulse f t coid) [])
       ∙ ap (λ o. option_or o (ending_of (deliver f (last_pulse f t coid) []) u))
-      (cancel_same f (λ s. s.connection == coid) (λ r. false) (λ v. is_over coid) Badf u known (λ v n k m b r. refl) (λ v n h kind b. refl))
-      ∙ ap (option_or (cancels f (λ v. is_over coid) Badf u)) (pulse_delivery f (last_pulse f t coid) u));
+      (cancel_same f (λ s. s.connection == coid) (λ r. false) (λ v. is_over coid) Badf u known (λ s. refl) (λ r. refl))
+      ∙ ap (option_or (cancels f (λ v. is_over coid) Badf u)) (pulse_delivery f (last_pulse f t coid) u known));
 }
 
 -- ---- Unblock
-
-guard_same : (f : OldFacts) (n v k : ℕ) (m b : List ℕ) (r : Option OldReceipt) → unblock_channel f (record { number = n; thread = v; connection = k; message = m; reply_buffer = b; receipt = r }) ≡ guard f (Answer k m b r)
-guard_same f n v k m b None = elim (f.connection k) as (λ c. option_and_then (λ c. cond (false && has_flag 2 (f.channel c.channel)) (Some c.channel) None) c ≡ None) [ None ↦ refl | Some c ↦ refl ]
-guard_same f n v k m b (Some r) = refl
 
 and_true : (b : Bool) → b ≡ (b && true)
 and_true true = refl
 and_true false = refl
 
 -- a thread for whom a pulse is due isn't cancelled
-due_wait : (f : OldFacts) (n : ℕ) (w : Wait) (m : SentItem) → due_pulse_of_wait f n w ≡ Some m → is_some (guard f w) ≡ true
-due_wait f n (Answer coid message reply_buffer None) m e = absurd (none-some m e)
-due_wait f n (Answer coid message reply_buffer (Some receipt)) m e =
-    elim (guard_over f (f.connection coid)) as (λ h. option_and_then (λ h. cond receipt.unblocked None (Some (record { item = record { number = f.number; priority = receipt.priority; what = what.Unblock n }; channel = h }))) h ≡ Some m → is_some h ≡ true) [
-      | None ↦ λ e. absurd (none-some m e)
-      | Some h ↦ λ e. refl
+due_guards : (f : OldFacts) (o : OpenCall) (m : SentItem) → due_pulse_of f o ≡ Some m → guards f o ≡ true
+due_guards f (Receive r) m e = absurd (none-some m e)
+due_guards f (Send s) m e =
+    elim (s.receipt) as (λ r. option_and_then (λ receipt. cond (is_some r && has_flag 2 (f.channel s.channel) && not receipt.unblocked) (Some (record { item = record { number = f.number; priority = receipt.priority; what = what.Unblock s.number }; channel = s.channel })) None) r ≡ Some m
+    → (is_some r && has_flag 2 (f.channel s.channel)) ≡ true) [
+      | None ↦ λ at. absurd (none-some m at)
+      | Some r ↦ elim (has_flag 2 (f.channel s.channel)) as (λ b. cond (b && not r.unblocked) (Some (record { item = record { number = f.number; priority = r.priority; what = what.Unblock s.number }; channel = s.channel })) None ≡ Some m → b ≡ true) [
+        | true ↦ λ at. refl
+        | false ↦ λ at. absurd (none-some m at)
+      ]
     ] e
-due_wait f n (ForItem chid kind buffer) m e = absurd (none-some m e)
 
-none_cancelled : (f : OldFacts) (thread : ℕ) (m : SentItem) (u : ℕ) → due_pulse f thread ≡ Some m → cancels f (λ v wait. (v == thread) && not (is_some (guard f wait))) Intr u ≡ None
+none_cancelled : (f : OldFacts) (thread : ℕ) (m : SentItem) (u : ℕ) → due_pulse f thread ≡ Some m → cancels f (λ v o. (v == thread) && not (guards f o)) Intr u ≡ None
 none_cancelled f thread m u due =
-    elim (f.open_call u) as (λ o. f.open_call u ≡ o → cancel_where (λ wait. (u == thread) && not (is_some (guard f wait))) Intr u o ≡ None) [
+    elim (f.open_call u) as (λ o. f.open_call u ≡ o → cancel_where (λ o. (u == thread) && not (guards f o)) Intr u o ≡ None) [
       | None ↦ λ e. refl
       | Some o ↦ λ e.
-          elim (eqb u thread) as (λ b. eqb u thread ≡ b → cond (b && not (is_some (guard f o.wait))) (Some (cancel_call Intr u o)) None ≡ None) [
+          elim (eqb u thread) as (λ b. eqb u thread ≡ b → cond (b && not (guards f o)) (Some (cancel_call Intr u o)) None ≡ None) [
             | true ↦ λ same.
-                let is : due_pulse_of_wait f o.number o.wait ≡ Some m = ap (option_and_then (λ o. due_pulse_of_wait f o.number o.wait)) (sym e ∙ ap f.open_call (eqb-true u thread same)) ∙ due in
-                rw (due_wait f o.number o.wait m is) refl
+                let is : due_pulse_of f o ≡ Some m = ap (option_and_then (due_pulse_of f)) (sym e ∙ ap f.open_call (eqb-true u thread same)) ∙ due in
+                rw (due_guards f o m is) refl
             | false ↦ λ other. refl
           ] refl
     ] refl
@@ -118,13 +119,12 @@ unblock f t thread known = record {
   refusal = ap (λ pulse. cond (is_of_same_process f t thread) (refusal_if_full_for f pulse) (Some Srch)) (unblock_same f thread);
   memory = λ p. ap (has_to_wait f) (unblock_same f thread) ∙ pulse_memory f (due_pulse f thread);
   endings = λ p idle u. after_own (ends_with f.number t mark.Ok) _ _ t u refl (
-      ap (λ pulse. ending_of (cancel f (λ s. (s.thread == thread) && not (is_some (unblock_channel f s))) (λ r. r.thread == thread) Intr ++ deliver f pulse []) u) (unblock_same f thread)
-      ∙ find-append (λ x. eqb x.thread u) (cancel f (λ s. (s.thread == thread) && not (is_some (unblock_channel f s))) (λ r. r.thread == thread) Intr) (deliver f (due_pulse f thread) [])
+      ap (λ pulse. ending_of (cancel f (λ s. (s.thread == thread) && not (is_guarded f s)) (λ r. r.thread == thread) Intr ++ deliver f pulse []) u) (unblock_same f thread)
+      ∙ find-append (λ x. eqb x.thread u) (cancel f (λ s. (s.thread == thread) && not (is_guarded f s)) (λ r. r.thread == thread) Intr) (deliver f (due_pulse f thread) [])
       ∙ ap (λ o. option_or o (ending_of (deliver f (due_pulse f thread) []) u))
-      (cancel_same f (λ s. (s.thread == thread) && not (is_some (unblock_channel f s))) (λ r. r.thread == thread) (λ v wait. (v == thread) && not (is_some (guard f wait))) Intr u known
-      (λ v n k m b r. ap (λ o. (v == thread) && not (is_some o)) (guard_same f n v k m b r)) (λ v n h kind b. and_true (eqb v thread)))
-      ∙ elim (due_pulse f thread) as (λ o. due_pulse f thread ≡ o → option_or (cancels f (λ v wait. (v == thread) && not (is_some (guard f wait))) Intr u) (ending_of (deliver f o []) u) ≡ other_ending f thread o u) [
-        | None ↦ λ e. or_none (cancels f (λ v wait. (v == thread) && not (is_some (guard f wait))) Intr u)
-        | Some m ↦ λ e. rw (none_cancelled f thread m u e) (pulse_delivery f (Some m) u)
+      (cancel_same f (λ s. (s.thread == thread) && not (is_guarded f s)) (λ r. r.thread == thread) (λ v o. (v == thread) && not (guards f o)) Intr u known (λ s. refl) (λ r. and_true (eqb r.thread thread)))
+      ∙ elim (due_pulse f thread) as (λ o. due_pulse f thread ≡ o → option_or (cancels f (λ v o. (v == thread) && not (guards f o)) Intr u) (ending_of (deliver f o []) u) ≡ other_ending f thread o u) [
+        | None ↦ λ e. or_none (cancels f (λ v o. (v == thread) && not (guards f o)) Intr u)
+        | Some m ↦ λ e. rw (none_cancelled f thread m u e) (pulse_delivery f (Some m) u known)
       ] refl);
 }

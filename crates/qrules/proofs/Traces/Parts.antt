@@ -9,7 +9,6 @@ use Rattle.qmodel.specs.declared.open_call.OpenCall.{OpenCall}
 use Rattle.qmodel.specs.declared.open_call.Receipt.{Receipt}
 use Rattle.qrules.specs.Private.Calls.ConnectDetach.{detach_pulse, is_last_connection}
 use Rattle.qrules.specs.Private.Calls.Pulse.{is_negative}
-use Rattle.qrules.specs.Private.Calls.Unblock.{due_pulse_of_wait}
 use Rattle.qrules.specs.Private.Facts.{Facts, is_of_process, owns}
 use Rattle.qmodel.specs.Trace.{OpenChannel}
 use Rattle.qrules.specs.Private.Held.{is_held_by}
@@ -19,6 +18,7 @@ use Rattle.qrules.specs.Private.Pulses.{refusal_if_full}
 use Rattle.qrules.specs.Private.Rows.{unblock_item}
 use Rattle.qmodel.specs.Trace.{SentItem}
 use Rattle.qmodel.specs.Trace.{Trace}
+use Rattle.qrules.specs.Private.Calls.Unblock.{due_pulse_of}
 
 -- this channel is of the thread's process
 abbrev pub is_owned_by : Facts → ThreadNo → Option OpenChannel → Bool
@@ -29,22 +29,13 @@ abbrev pub leads_to : Facts → ThreadNo → Option Connection → Option Channe
 leads_to f t connection =
     option_and_then (λ c. if is_of_process f t c.process && is_some (f.channel c.channel) then Some c.channel else None) connection
 
--- the channel of a connection is of the thread's process
-abbrev pub owns_end : Facts → ThreadNo → Option Connection → Bool
-owns_end f t connection = option_map_or (λ c. owns f t c.channel) connection false
-
 -- a thread's open call is a Send whose message is held, on a channel of the process of thread t
 abbrev pub is_held_for : Facts → ThreadNo → Option OpenCall → Bool
-is_held_for f t call = option_map_or (λ o. is_held_by f t o.wait) call false
-
--- the unblock pulse for message i, held with this receipt on channel h; none where one was made
-abbrev pub due_pulse_on : CallNo → ReceiveId → Receipt → Option ChannelId → Option SentItem
-due_pulse_on n i receipt channel =
-    option_and_then (λ h. if receipt.unblocked then None else Some (record { item = unblock_item n receipt.priority i; channel = h })) channel
+is_held_for f t call = option_map_or (is_held_by f t) call false
 
 -- the unblock pulse that is due for a thread's open call
 abbrev pub due_pulse_of_open : Facts → Option OpenCall → Option SentItem
-due_pulse_of_open f call = option_and_then (λ o. due_pulse_of_wait f o.number o.wait) call
+due_pulse_of_open f call = option_and_then (due_pulse_of f) call
 
 -- the disconnect pulse that is due for this connection
 abbrev pub due_pulse_over : Facts → ThreadNo → Option Connection → Option SentItem

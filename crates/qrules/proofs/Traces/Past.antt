@@ -12,6 +12,7 @@ pub mod Live
 pub mod LiveSends
 pub mod Moves
 pub mod Numbers
+pub mod Open
 pub mod OpenCalls
 pub mod Pending
 pub mod Priorities

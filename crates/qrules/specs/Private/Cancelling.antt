@@ -6,45 +6,35 @@ use Rattle.qtables.specs.declared.connection.Connection.{Connection}
 use Rattle.qmodel.specs.declared.call.Completion.{Completion}
 use Rattle.qmodel.specs.declared.call.Mark.TheVariants as mark
 use Rattle.qmodel.specs.declared.open_call.OpenCall.{OpenCall}
-use Rattle.qmodel.specs.declared.open_call.Wait.{Wait}
-use Rattle.qmodel.specs.declared.open_call.Wait.TheVariants.{Answer, Item as ForItem}
+use Rattle.qmodel.specs.declared.open_call.OpenCall.TheVariants.{Send, Receive}
 use Rattle.qmodel.specs.Trace.{ChannelId, ConnectionId, ThreadNo}
+use Rattle.qmodel.specs.OpenCalls.{buffer_in, number_of}
 use Rattle.qrules.specs.Private.Facts.{Facts}
 
--- the buffer that a wait gives back
-abbrev pub buffer_of_wait : Wait → List ℕ
-buffer_of_wait (Answer coid message reply_buffer receipt) = reply_buffer
-buffer_of_wait (ForItem chid kind buffer) = buffer
+-- the open call is blocked on channel h
+abbrev pub is_on : ChannelId → OpenCall → Bool
+is_on h (Send s) = s.channel == h
+is_on h (Receive r) = r.channel == h
 
--- the connection leads to channel h
-abbrev pub is_to : ChannelId → Option Connection → Bool
-is_to h connection = option_map_or (λ c. c.channel == h) connection false
-
--- the wait is on channel h: a Send's on the channel of its connection, a receive's on the channel that it
--- names
-abbrev pub is_on : (ConnectionId → Option Connection) → ChannelId → Wait → Bool
-is_on connection h (Answer coid message reply_buffer receipt) = is_to h (connection coid)
-is_on connection h (ForItem chid kind buffer) = chid == h
-
--- the wait is for the answer to a message that was sent over connection k
-abbrev pub is_over : ConnectionId → Wait → Bool
-is_over k (Answer coid message reply_buffer receipt) = coid == k
-is_over k (ForItem chid kind buffer) = false
+-- the open call is a Send over connection k
+abbrev pub is_over : ConnectionId → OpenCall → Bool
+is_over k (Send s) = s.connection == k
+is_over k (Receive r) = false
 
 -- the ending of thread u's cancelled call: it fails, and gives its buffer back in its present state
 abbrev pub cancel_call : Errno → ThreadNo → OpenCall → Completion
 cancel_call e u o = record {
-  call = o.number;
+  call = number_of o;
   thread = u;
   mark = mark.Failed e;
-  buffer = buffer_of_wait o.wait;
+  buffer = buffer_in o;
 }
 
--- the ending of thread u's open call, if its wait is one that is cancelled
-abbrev pub cancel_where : (Wait → Bool) → Errno → ThreadNo → Option OpenCall → Option Completion
+-- the ending of thread u's open call, if it is one that is cancelled
+abbrev pub cancel_where : (OpenCall → Bool) → Errno → ThreadNo → Option OpenCall → Option Completion
 cancel_where is_cancelled e u call =
-    option_and_then (λ o. if is_cancelled o.wait then Some (cancel_call e u o) else None) call
+    option_and_then (λ o. if is_cancelled o then Some (cancel_call e u o) else None) call
 
--- cancels each open call for whose thread and wait the condition is true
-abbrev pub cancels : Facts → (ThreadNo → Wait → Bool) → Errno → ThreadNo → Option Completion
+-- cancels each open call for which, with its thread, the condition is true
+abbrev pub cancels : Facts → (ThreadNo → OpenCall → Bool) → Errno → ThreadNo → Option Completion
 cancels f is_cancelled e u = cancel_where (is_cancelled u) e u (f.open_call u)

@@ -11,13 +11,6 @@ use Rattle.qrules.specs.Rule.{PriorityChange, Transfer}
 use Rattle.qrules.specs.Rules.{effect_of}
 use Rattle.qrules.specs.Private.Facts.{Facts}
 pub use Rattle.qrules.specs.Past.{asks}
-use Rattle.qmodel.specs.declared.open_call.Wait.{Wait}
-use Rattle.qmodel.specs.declared.open_call.Wait.TheVariants.{Answer, Item as ForItem}
-
--- what a call waits for, if it doesn't end in its own event
-abbrev pub waits : Call → Option Wait
-waits c = option_or (option_map (λ s. Answer s.connection s.message s.reply_buffer None) (effect_of c).sends)
-    (option_map (λ r. ForItem r.channel r.kind r.buffer) (effect_of c).receives)
 
 -- ---- channels and connections
 

@@ -11,7 +11,7 @@ use Rattle.qmodel.specs.declared.call.Completion.{Completion}
 use Rattle.qmodel.specs.declared.open_call.OpenCall.{OpenCall}
 use Rattle.qmodel.specs.Trace.{ThreadNo}
 use Rattle.qmodel.specs.Buffers.{buffer_of}
-use Rattle.qrules.specs.Private.Cancelling.{buffer_of_wait}
+use Rattle.qmodel.specs.OpenCalls.{buffer_in, number_of}
 use Rattle.qrules.specs.Private.Headline.CopiedExactly.{call_at}
 use Rattle.qrules.specs.Private.Lawful.{IsLawful}
 use Rattle.qrules.specs.Private.Past.{has_ending_of, open_call}
@@ -55,7 +55,7 @@ BlockedUnlessEnded = (roster : List Member) (past : Trace) (e : Event) → IsRos
 abbrev pub EndsOrWaits : Type 0
 EndsOrWaits = (roster : List Member) (past : Trace) (e : Event) → IsRoster roster → IsLawful roster (e ∷ past)
     → (has_ending_of e.endings (length past + 1) ≡ false)
-    ↔ (option_map (λ o. o.number) (open_call roster (e ∷ past) e.thread) ≡ Some (length past + 1))
+    ↔ (option_map number_of (open_call roster (e ∷ past) e.thread) ≡ Some (length past + 1))
 
 -- the caller gets an ending exactly if its call ends in its own event
 abbrev pub CallerGetsItsOwn : Type 0
@@ -67,7 +67,7 @@ CallerGetsItsOwn = (roster : List Member) (past : Trace) (e : Event) → IsRoste
 -- the buffer that an open call gives back
 abbrev pub buffer_of_open : Option OpenCall → List ℕ
 buffer_of_open None = []
-buffer_of_open (Some o) = buffer_of_wait o.wait
+buffer_of_open (Some o) = buffer_in o
 
 -- the buffer that thread u gets back if its call ends in call c of thread t: the one of that call, or of the
 -- call that it is blocked in
@@ -84,8 +84,8 @@ EndingsKeepLength = (roster : List Member) (past : Trace) (e : Event) → IsRost
 -- the open call's buffer is as long as the one that it was made with
 pub record IsAsLong (past : Trace) (o : OpenCall) : Type 0 where
   pub call : Call
-  pub is : call_at past o.number ≡ Some call
-  pub same : length (buffer_of_wait o.wait) ≡ length (buffer_of call)
+  pub is : call_at past (number_of o) ≡ Some call
+  pub same : length (buffer_in o) ≡ length (buffer_of call)
 
 -- the buffer of each open call keeps its length
 abbrev pub OpenCallsKeepLength : Type 0

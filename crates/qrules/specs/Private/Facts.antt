@@ -1,16 +1,18 @@
 -- The facts of the past that the answer to a call may depend on.
-use Rattle.std.specs.Prelude.{ℕ, ◌==◌, ◌&&◌, Bool, true, false, List, [], ◌∷◌, Option}
+use Rattle.std.specs.Prelude.{ℕ, ◌==◌, not, is_some, Bool, false, List, [], ◌∷◌, Option}
 use Rattle.std.specs.Prelude.{None, Some, if◌then◌else◌}
 use Rattle.std.specs.Option.{option_and_then, option_map_or}
 use Rattle.qtables.specs.declared.member.Member.{Member}
 use Rattle.qmodel.specs.declared.open_call.OpenCall.{OpenCall}
-use Rattle.qmodel.specs.declared.open_call.Wait.{Wait}
-use Rattle.qmodel.specs.declared.open_call.Wait.TheVariants.{Answer, Item as ForItem}
+use Rattle.qmodel.specs.declared.open_call.Receipt.{Receipt}
+use Rattle.qmodel.specs.declared.open_call.OpenCall.TheVariants.{Send, Receive}
 use Rattle.qmodel.specs.Trace.{OpenChannel}
 use Rattle.qmodel.specs.Trace.{ProcessNo, ReceiveId, ThreadNo}
 pub use Rattle.qrules.specs.Facts.{count_to, has_flag, is_of_process, is_of_same_process, owns, route}
 pub use Rattle.qrules.specs.Facts.{threads_of, Facts}
-use Rattle.qrules.specs.Facts.{receive_in, send_in, OpenReceive, OpenSend}
+pub use Rattle.qmodel.specs.OpenCalls.{number_of, receive_in, send_in}
+use Rattle.std.specs.Prelude.{true}
+use Rattle.std.specs.Prelude.{◌&&◌}
 
 -- ---- threads and processes
 
@@ -34,19 +36,19 @@ tells_disconnect channel = has_flag 4 channel
 
 -- ---- messages
 
--- the thread waits for an answer, and not for an item
-abbrev pub is_for_answer : Wait → Bool
-is_for_answer (Answer coid message reply_buffer receipt) = true
-is_for_answer (ForItem chid kind buffer) = false
+-- the open call is a Send, which waits for an answer
+abbrev pub is_for_answer : OpenCall → Bool
+is_for_answer (Send s) = true
+is_for_answer (Receive r) = false
 
--- the thread waits for the answer to a message that isn't received
-abbrev pub is_for_receipt : Wait → Bool
-is_for_receipt (Answer coid message reply_buffer None) = true
-is_for_receipt wait = false
+-- the open call is a Send whose message isn't received
+abbrev pub is_for_receipt : OpenCall → Bool
+is_for_receipt (Send s) = not (is_some s.receipt)
+is_for_receipt (Receive r) = false
 
--- the open call is the Send of number i
+-- there is an open call, and it is the Send of number i
 abbrev pub is_send : ReceiveId → Option OpenCall → Bool
-is_send i call = option_map_or (λ o. (o.number == i) && is_for_answer o.wait) call false
+is_send i call = option_map_or (λ o. (number_of o == i) && is_for_answer o) call false
 
 -- the first of these numbers for which the condition is true
 abbrev pub first_where : (ℕ → Bool) → List ℕ → Option ℕ
@@ -65,14 +67,14 @@ sender f i = sender_among f.open_call i (threads_of f.roster)
 abbrev pub open_send : Facts → ReceiveId → Option OpenCall
 open_send f i = option_and_then f.open_call (sender f i)
 
--- the message whose answer the thread waits for
-abbrev pub message_of : Wait → List ℕ
-message_of (Answer coid message reply_buffer receipt) = message
-message_of (ForItem chid kind buffer) = []
+-- the message of an open Send
+abbrev pub message_of : OpenCall → List ℕ
+message_of (Send s) = s.message
+message_of (Receive r) = []
 
 -- the message of a Send that is open
 abbrev pub message_in : Option OpenCall → List ℕ
-message_in call = option_map_or (λ o. message_of o.wait) call []
+message_in call = option_map_or message_of call []
 
 -- the message that was sent as number i
 abbrev pub message : Facts → ReceiveId → List ℕ
@@ -80,10 +82,12 @@ message f i = message_in (open_send f i)
 
 -- ---- open calls
 
--- the open Send of thread t, if its open call is one
-abbrev pub send_view : ThreadNo → Option OpenCall → Option OpenSend
-send_view t call = option_and_then (λ o. send_in t o.number o.wait) call
+-- an open call whose message is received
+abbrev pub held_call : Receipt → OpenCall → OpenCall
+held_call kept (Send s) = Send (record s { receipt = Some kept })
+held_call kept (Receive r) = Receive r
 
--- the open receive of thread t, if its open call is one
-abbrev pub receive_view : ThreadNo → Option OpenCall → Option OpenReceive
-receive_view t call = option_and_then (λ o. receive_in t o.number o.wait) call
+-- an open call with its reply buffer changed
+abbrev pub with_buffer : (List ℕ → List ℕ) → OpenCall → OpenCall
+with_buffer f (Send s) = Send (record s { reply_buffer = f s.reply_buffer })
+with_buffer f (Receive r) = Receive r

@@ -6,23 +6,21 @@ use Rattle.qbase.specs.declared.errno.Errno.TheVariants.{Srch}
 use Rattle.qmodel.specs.declared.call.Completion.{Completion}
 use Rattle.qmodel.specs.declared.call.Mark.{Mark}
 use Rattle.qmodel.specs.declared.open_call.OpenCall.{OpenCall}
-use Rattle.qmodel.specs.declared.open_call.Wait.{Wait}
-use Rattle.qmodel.specs.declared.open_call.Wait.TheVariants.{Answer, Item as ForItem}
+use Rattle.qmodel.specs.declared.open_call.OpenCall.TheVariants.{Send, Receive}
 use Rattle.qmodel.specs.Trace.{CallNo, ReceiveId, ThreadNo}
-use Rattle.qrules.specs.Private.Facts.{Facts, owns, sender, open_send}
+use Rattle.qrules.specs.Facts.{is_held_for}
+use Rattle.qrules.specs.Private.Facts.{Facts, sender, open_send}
 
 -- ---- the threads that may work on a message
 
--- the wait is for the answer to a message that is held on a channel of the thread's process
-abbrev pub is_held_by : Facts → ThreadNo → Wait → Bool
-is_held_by f t (Answer coid message reply_buffer (Some receipt)) =
-    option_map_or (λ c. owns f t c.channel) (f.connection coid) false
-is_held_by f t wait = false
+-- the open call is a Send whose message is held on a channel of the thread's process
+abbrev pub is_held_by : Facts → ThreadNo → OpenCall → Bool
+is_held_by f t (Send s) = is_held_for f t s
+is_held_by f t (Receive r) = false
 
 -- Srch if no such message is held, or its channel is another process's
 abbrev pub refusal : Facts → ThreadNo → ReceiveId → Option Errno
-refusal f t rcvid = if option_map_or (λ o. is_held_by f t o.wait) (open_send f rcvid) false then None
-    else Some Srch
+refusal f t rcvid = if option_map_or (is_held_by f t) (open_send f rcvid) false then None else Some Srch
 
 -- ---- answering
 
@@ -31,15 +29,19 @@ refusal f t rcvid = if option_map_or (λ o. is_held_by f t o.wait) (open_send f 
 abbrev pub Finish : Type 0
 Finish = List ℕ → Mark × List ℕ
 
--- the ending of thread u's Send of number m with this answer
-abbrev pub answer_ending_of_wait : Finish → ThreadNo → CallNo → Wait → Option Completion
-answer_ending_of_wait finish u m (Answer coid message reply_buffer receipt) =
-    Some (record { call = m; thread = u; mark = (finish reply_buffer).0; buffer = (finish reply_buffer).1 })
-answer_ending_of_wait finish u m (ForItem chid kind buffer) = None
-
 -- the ending of thread u's open call with this answer, if it is a Send
+abbrev pub answer_ending_of : Finish → ThreadNo → OpenCall → Option Completion
+answer_ending_of finish u (Send s) = Some (record {
+  call = s.number;
+  thread = u;
+  mark = (finish s.reply_buffer).0;
+  buffer = (finish s.reply_buffer).1;
+})
+answer_ending_of finish u (Receive r) = None
+
+-- the same of an open call, if there is one
 abbrev pub answer_ending : Finish → ThreadNo → Option OpenCall → Option Completion
-answer_ending finish u call = option_and_then (λ o. answer_ending_of_wait finish u o.number o.wait) call
+answer_ending finish u call = option_and_then (answer_ending_of finish u) call
 
 -- ends the sender's call, and no other
 abbrev pub ends_sender : Facts → Finish → Option ThreadNo → ThreadNo → Option Completion
@@ -48,14 +50,14 @@ ends_sender f finish sender u =
 
 -- ---- what is kept of a message
 
--- the reply buffer of a wait for an answer
-abbrev pub reply_buffer_of : Wait → List ℕ
-reply_buffer_of (Answer coid message reply_buffer receipt) = reply_buffer
-reply_buffer_of (ForItem chid kind buffer) = []
+-- the reply buffer of an open Send
+abbrev pub reply_buffer_of : OpenCall → List ℕ
+reply_buffer_of (Send s) = s.reply_buffer
+reply_buffer_of (Receive r) = []
 
 -- the reply buffer of a Send that is open
 abbrev pub reply_buffer_in : Option OpenCall → List ℕ
-reply_buffer_in call = option_map_or (λ o. reply_buffer_of o.wait) call []
+reply_buffer_in call = option_map_or reply_buffer_of call []
 
 -- the reply buffer of the message that was sent as number i
 abbrev pub reply_buffer : Facts → ReceiveId → List ℕ

@@ -18,12 +18,13 @@ use Rattle.qmodel.specs.declared.call.Completion.{Completion}
 use Rattle.qmodel.specs.declared.call.Mark.TheVariants as mark
 use Rattle.qmodel.specs.declared.open_call.OpenCall.{OpenCall}
 use Rattle.qmodel.specs.declared.open_call.Receipt.{Receipt}
-use Rattle.qmodel.specs.declared.open_call.Wait.{Wait}
-use Rattle.qmodel.specs.declared.open_call.Wait.TheVariants.{Answer, Item as ForItem}
+use Rattle.qmodel.specs.declared.open_call.OpenCall.TheVariants.{Send, Receive}
+use Rattle.qmodel.specs.declared.open_call.OpenReceive.{OpenReceive}
+use Rattle.qmodel.specs.declared.open_call.OpenSend.{OpenSend}
 use Rattle.qmodel.specs.Trace.{CallNo, ChannelId, ConnectionId, Priority, ReceiveId, ThreadNo}
 use Rattle.qmodel.specs.Buffers.{buffer_of}
 use Rattle.qrules.specs.Private.Effects.{asks, receives_on}
-use Rattle.qrules.specs.Private.Facts.{Facts, is_for_receipt, sender}
+use Rattle.qrules.specs.Private.Facts.{Facts, sender}
 use Rattle.qrules.specs.Private.Headline.AnsweredToSender.{is_held}
 use Rattle.qrules.specs.Private.Headline.CopiedExactly.{call_at}
 use Rattle.qrules.specs.Private.Headline.ReceivedOnce.{number_received}
@@ -41,6 +42,8 @@ use Rattle.qrules.specs.Private.Receivers.{newest_receiver, wait_on}
 use Rattle.qrules.specs.Private.Rows.{names}
 use Rattle.qmodel.specs.Trace.{Event, Trace}
 pub use Rattle.qrules.specs.Trace.{RiseByThread}
+use Rattle.qrules.specs.Private.Facts.{number_of}
+use Rattle.qrules.specs.Private.Facts.{is_for_receipt}
 
 -- ---- receipts
 
@@ -77,7 +80,7 @@ ReceivedWasSent = (roster : List Member) (past : Trace) (e : Event) → IsRoster
 
 -- the thread of an event, if its call may wait
 abbrev pub blocker : Event → Option ThreadNo
-blocker e = if is_some (asks 0 e.call) then Some e.thread else None
+blocker e = if is_some (asks 0 0 0 e.call) then Some e.thread else None
 
 -- call i is one of thread t that was accepted, may wait and isn't ended
 pub record IsUnended (past : Trace) (t : ThreadNo) (i : CallNo) : Type 0 where
@@ -92,22 +95,21 @@ AtMostOneOpen = (roster : List Member) (past : Trace) → IsRoster roster → Is
 -- and this call is its open call
 abbrev pub OpenIsUnended : Type 0
 OpenIsUnended = (roster : List Member) (past : Trace) → IsRoster roster → IsLawful roster past
-    → (t : ThreadNo) (i : CallNo) → (option_map (λ o. o.number) (open_call roster past t) ≡ Some i)
+    → (t : ThreadNo) (i : CallNo) → (option_map number_of (open_call roster past t) ≡ Some i)
     ↔ IsUnended past t i
 
--- connection k is live, and its channel open
-pub record IsLiveWay (roster : List Member) (past : Trace) (k : ConnectionId) : Type 0 where
+-- connection k is live and leads to channel h, which is open
+pub record IsLiveWay (roster : List Member) (past : Trace) (k : ConnectionId) (h : ChannelId) : Type 0 where
   pub connection : Connection
   pub is_live : connection_at roster past k ≡ Some connection
-  pub is_open : is_some (channel_at roster past connection.channel) ≡ true
+  pub channel : connection.channel ≡ h
+  pub is_open : is_some (channel_at roster past h) ≡ true
 
--- the connection of each open Send is live, and its channel open
+-- the connection of each open Send is live and leads to the Send's channel, which is open
 abbrev pub OpenSendsAreLive : Type 0
 OpenSendsAreLive = (roster : List Member) (past : Trace) → IsRoster roster → IsLawful roster past
-    → (u : ThreadNo) (n : CallNo) (coid : ConnectionId) (message reply_buffer : List ℕ)
-    (receipt : Option Receipt)
-    → open_call roster past u ≡ Some (record { number = n; wait = Answer coid message reply_buffer receipt })
-    → IsLiveWay roster past coid
+    → (u : ThreadNo) (s : OpenSend) → open_call roster past u ≡ Some (Send s)
+    → IsLiveWay roster past s.connection s.channel
 
 -- ---- receivers
 
@@ -133,17 +135,15 @@ NoneIsNewest = (roster : List Member) (past : Trace) → IsRoster roster → IsL
 -- no item is pending on a channel that a thread which waits there may take
 abbrev pub NothingPendingForWaiting : Type 0
 NothingPendingForWaiting = (roster : List Member) (past : Trace) → IsRoster roster → IsLawful roster past
-    → (u : ThreadNo) (n : CallNo) (h : ChannelId) (kind : Kind) (buffer : List ℕ)
-    → open_call roster past u ≡ Some (record { number = n; wait = ForItem h kind buffer })
-    → AllByRecursion (λ item. may_take kind item ≡ false) (pending_items roster past h)
+    → (u : ThreadNo) (r : OpenReceive) → open_call roster past u ≡ Some (Receive r)
+    → AllByRecursion (λ item. may_take r.kind item ≡ false) (pending_items roster past r.channel)
 
 -- ---- pending items
 
--- a wait for the answer to a message that is received
-abbrev pub is_for_reply : Wait → Bool
-is_for_reply (Answer coid message reply_buffer None) = false
-is_for_reply (Answer coid message reply_buffer (Some receipt)) = true
-is_for_reply (ForItem chid kind buffer) = false
+-- the open call is a Send whose message is received
+abbrev pub is_for_reply : OpenCall → Bool
+is_for_reply (Send s) = is_some s.receipt
+is_for_reply (Receive r) = false
 
 -- the items of a channel are pending in rising number
 abbrev pub PendingRises : Type 0
@@ -153,8 +153,8 @@ PendingRises = (roster : List Member) (past : Trace) → IsRoster roster → IsL
 -- item i isn't a message that is received and not answered, neither by the past nor by the open calls
 pub record IsNotHeld (roster : List Member) (past : Trace) (i : CallNo) : Type 0 where
   pub unread : is_held past i ≡ false
-  pub unkept : (u : ThreadNo) (o : OpenCall) → open_call roster past u ≡ Some o → is_for_reply o.wait ≡ true
-      → (o.number == i) ≡ false
+  pub unkept : (u : ThreadNo) (o : OpenCall) → open_call roster past u ≡ Some o → is_for_reply o ≡ true
+      → (number_of o == i) ≡ false
 
 -- no item is both pending and held
 abbrev pub NonePendingIsHeld : Type 0
@@ -168,8 +168,8 @@ pub record IsOpenSend (roster : List Member) (past : Trace) (i : ReceiveId) : Ty
   pub waiting : OpenCall
   pub sent : sender_of past i ≡ Some sender
   pub is_open : open_call roster past sender ≡ Some waiting
-  pub number : waiting.number ≡ i
-  pub unread : is_for_receipt waiting.wait ≡ true
+  pub number : number_of waiting ≡ i
+  pub unread : is_for_receipt waiting ≡ true
 
 -- the Send of each pending message is the open call of its sender
 abbrev pub PendingIsOpen : Type 0
@@ -250,7 +250,7 @@ pub record IsHeldSend (roster : List Member) (past : Trace) (i : ReceiveId) : Ty
   pub waiting : OpenCall
   pub is_sender : sender (facts_of roster past) i ≡ Some thread
   pub is_open : open_call roster past thread ≡ Some waiting
-  pub received : is_for_reply waiting.wait ≡ true
+  pub received : is_for_reply waiting ≡ true
 
 -- a message is held by the definition on the past (it is received, and its Send hasn't ended) exactly if it
 -- is held by the definition that the rows use

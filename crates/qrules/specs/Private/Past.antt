@@ -20,11 +20,16 @@ pub use Rattle.qrules.specs.Past.{item_among, item_in, priority_set_by, sender_o
 pub use Rattle.qrules.specs.Past.{copied_count_of, current_priority}
 pub use Rattle.qrules.specs.Past.{first_among, is_gone, is_received, items_by_now, pending_among}
 pub use Rattle.qrules.specs.Past.{priority_set_since, ReceivedItem}
-pub use Rattle.qrules.specs.Past.{newest_block, open_call_by, wait_with_receipt}
-use Rattle.qrules.specs.Past.{with_buffer}
+pub use Rattle.qrules.specs.Past.{asks, call_by_now, newest_block, open_call_by, send_by_now}
+use Rattle.qmodel.specs.OpenCalls.{number_of}
 use Rattle.qmodel.specs.Trace.{ReceiveId}
 use Rattle.qrules.specs.Lawful.{facts_of, item_made_by, items_and_priorities}
 pub use Rattle.qrules.specs.Properties.{items, priority_before}
+use Rattle.qrules.specs.Private.Facts.{with_buffer}
+use Rattle.qrules.specs.Private.Facts.{held_call}
+use Rattle.std.specs.Prelude.{◌+◌}
+use Rattle.qrules.specs.Past.{channel_of}
+use Rattle.std.specs.Prelude.{is_some}
 
 -- ---- accepted, ended
 
@@ -64,20 +69,18 @@ copied_count_in i received = option_and_then (λ r. if r.number == i then Some r
 abbrev pub copied_count_among : List Completion → CallNo → Option ℕ
 copied_count_among endings i = first_among (λ x. copied_count_in i (item_in x.mark)) endings
 
--- a call with the present content of its reply buffer
-abbrev pub call_by_now : Trace → OpenCall → OpenCall
-call_by_now past o = record o { wait = with_buffer (with_writes past o.number) o.wait }
-
 -- a call, unless it is ended
 abbrev pub unless_ended : Trace → Option OpenCall → Option OpenCall
-unless_ended past call = option_and_then (λ o. if is_ended past o.number then None else Some o) call
+unless_ended past call = option_and_then (λ o. if is_ended past (number_of o) then None else Some o) call
 
--- a call with the record of its message's receipt, if there was one
+-- an open call with the present content of its reply buffer
+abbrev pub filled : Trace → OpenCall → OpenCall
+filled past o = with_buffer (with_writes past (number_of o)) o
+
+-- an open call with the record of its message's receipt, if there was one
 abbrev pub with_receipt : Priority → Bool → Option ℕ → OpenCall → OpenCall
 with_receipt priority unblocked copied o =
-    option_map_or (λ n. record o
-    { wait = wait_with_receipt (record { priority = priority; copied = n; unblocked = unblocked }) o.wait })
-    copied o
+    option_map_or (λ n. held_call (record { priority = priority; copied = n; unblocked = unblocked }) o) copied o
 
 -- one of these items is an unblock pulse for message i
 abbrev pub unblocked_among : List SentItem → ReceiveId → Bool
@@ -104,14 +107,6 @@ abbrev pub priority_from_ending : (CallNo → Option Priority) → ThreadNo → 
 priority_from_ending priority t x =
     if x.thread == t then option_and_then (λ r. priority r.number) (item_in x.mark) else None
 
--- the priority that thread t takes by event e, given all items made by then: an accepted PrioritySet sets it,
--- or the thread receives an item and takes the priority that this had before the event
-abbrev pub priority_from_event : List Member → Event → Trace → List SentItem → ThreadNo → Option Priority
-priority_from_event roster e past made t =
-    option_or (priority_set_by e past t)
-    (first_among (priority_from_ending
-    (λ i. carried_priority (channel_at roster past) (item_among (items_by_now past made) i)) t) e.endings)
-
 -- a thread's priority: the one that an event changed it to last, or else the one in the roster
 abbrev pub priority_of_thread : List Member → Trace → ThreadNo → Priority
 priority_of_thread roster past t = (items_and_priorities roster past).priority t
@@ -137,3 +132,10 @@ pending_items roster past h = pending_among past (items_by_now past (items roste
 -- the open call of thread t
 abbrev pub open_call : List Member → Trace → ThreadNo → Option OpenCall
 open_call roster past t = open_call_by past (items_by_now past (items roster past)) t
+
+-- the newest accepted blocking call of thread t, as it began
+abbrev pub block : List Member → Trace → ThreadNo → Option OpenCall
+block roster [] t = None
+block roster (e ∷ past) t =
+    let asked = asks (length past + 1) t (channel_of (item_of roster e past)) e.call in
+    if (e.thread == t) && is_accepted e past && is_some asked then asked else block roster past t

@@ -5,19 +5,18 @@ use Rattle.std.specs.Option.{option_map_or, option_and_then}
 use Rattle.qqueue.specs.Best.{may_take}
 use Rattle.qqueue.specs.declared.item.Item.{Item}
 use Rattle.qmodel.specs.declared.open_call.OpenCall.{OpenCall}
-use Rattle.qmodel.specs.declared.open_call.Wait.{Wait}
-use Rattle.qmodel.specs.declared.open_call.Wait.TheVariants.{Answer, Item as ForItem}
+use Rattle.qmodel.specs.declared.open_call.OpenCall.TheVariants.{Send, Receive}
 use Rattle.qmodel.specs.Trace.{CallNo, ChannelId, ThreadNo}
 use Rattle.qrules.specs.Private.Facts.{Facts, threads_of, first_where}
 
 -- the number of an open call that waits for an item of channel h, and may take this one
-abbrev pub wait_for : ChannelId → Item → CallNo → Wait → Option CallNo
-wait_for h item m (Answer coid message reply_buffer receipt) = None
-wait_for h item m (ForItem chid kind buffer) = if (chid == h) && may_take kind item then Some m else None
+abbrev pub wait_for : ChannelId → Item → OpenCall → Option CallNo
+wait_for h item (Send s) = None
+wait_for h item (Receive r) = if (r.channel == h) && may_take r.kind item then Some r.number else None
 
 -- the number of a thread's open call, if it waits for such an item
 abbrev pub wait_on : ChannelId → Item → Option OpenCall → Option CallNo
-wait_on h item call = option_and_then (λ o. wait_for h item o.number o.wait) call
+wait_on h item call = option_and_then (wait_for h item) call
 
 -- there is such a call, and it is later than call m
 abbrev pub is_after : CallNo → Option CallNo → Bool

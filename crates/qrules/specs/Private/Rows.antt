@@ -13,11 +13,10 @@ use Rattle.qmodel.specs.declared.call.Mark.{Mark}
 use Rattle.qmodel.specs.declared.call.Mark.TheVariants as mark
 use Rattle.qmodel.specs.declared.open_call.OpenCall.{OpenCall}
 use Rattle.qmodel.specs.declared.open_call.Receipt.{Receipt}
-use Rattle.qmodel.specs.declared.open_call.Wait.{Wait}
-use Rattle.qmodel.specs.declared.open_call.Wait.TheVariants.{Answer, Item as ForItem}
+use Rattle.qmodel.specs.declared.open_call.OpenCall.TheVariants.{Send, Receive}
 use Rattle.qmodel.specs.Trace.{SentItem}
 use Rattle.qrules.specs.Rule.{PriorityChange}
-pub use Rattle.qrules.specs.Past.{buffer_after_write, item_in, with_buffer}
+pub use Rattle.qrules.specs.Past.{buffer_after_write, item_in}
 use Rattle.qmodel.specs.Trace.{CallNo, ChannelId, Priority, ProcessNo, ReceiveId, ThreadNo}
 
 -- a receipt: the item's number and channel, the thread that takes it, the thread that waits for its answer,
@@ -108,14 +107,14 @@ receipt_ending item message u m buffer =
           message buffer).1;
     }
 
--- the ending of thread u's open call of number m, if it takes the item into its buffer
-abbrev pub takes_into : Item → List ℕ → ThreadNo → CallNo → Wait → Option Completion
-takes_into item message u m (Answer coid sent reply_buffer receipt) = None
-takes_into item message u m (ForItem chid kind buffer) = Some (receipt_ending item message u m buffer)
+-- the ending of thread u's open call, if it is a receive: it takes the item into its buffer
+abbrev pub takes_into : Item → List ℕ → ThreadNo → OpenCall → Option Completion
+takes_into item message u (Send s) = None
+takes_into item message u (Receive r) = Some (receipt_ending item message u r.number r.buffer)
 
 -- the ending of thread u's open call, which takes the item
 abbrev pub takes : Item → List ℕ → ThreadNo → Option OpenCall → Option Completion
-takes item message u call = option_and_then (λ o. takes_into item message u o.number o.wait) call
+takes item message u call = option_and_then (takes_into item message u) call
 
 -- the receipt in an ending, of an item of this channel, sender and priority
 abbrev pub receipt_in : ChannelId → Option ThreadNo → Priority → Option Completion → Option Received

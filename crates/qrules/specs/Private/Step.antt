@@ -11,20 +11,23 @@ use Rattle.qtables.specs.declared.connection.Connection.{Connection}
 use Rattle.qmodel.specs.declared.call.Call.{Call}
 use Rattle.qmodel.specs.declared.open_call.OpenCall.{OpenCall}
 use Rattle.qmodel.specs.declared.open_call.Receipt.{Receipt}
-use Rattle.qmodel.specs.declared.open_call.Wait.{Wait}
-use Rattle.qmodel.specs.declared.open_call.Wait.TheVariants.{Answer}
+use Rattle.qmodel.specs.declared.open_call.OpenCall.TheVariants.{Send, Receive}
 use Rattle.qmodel.specs.Trace.{ChannelId, ConnectionId, Priority, ReceiveId, ThreadNo}
-use Rattle.qrules.specs.Private.Cancelling.{is_on}
-use Rattle.qrules.specs.Private.Facts.{Facts, sender, is_fixed, threads_of, is_for_receipt}
+pub use Rattle.qrules.specs.Private.Facts.{held_call, with_buffer}
+use Rattle.qrules.specs.Private.Facts.{Facts, sender, is_fixed, threads_of}
 use Rattle.qmodel.specs.Trace.{OpenChannel}
 use Rattle.qrules.specs.Private.Effects.{asks, attaches, closes, creates, detaches, makes, sets, shuts_down}
 use Rattle.qrules.specs.Private.Effects.{unblocks}
 use Rattle.qrules.specs.Private.Effects.{writes}
-use Rattle.qrules.specs.Private.Rows.{Received, Row, names, with_buffer, priority_set_for}
+use Rattle.qrules.specs.Private.Rows.{Received, Row, names, priority_set_for}
 use Rattle.qmodel.specs.Trace.{SentItem}
 use Rattle.qrules.specs.Private.Calls.{row_of}
-use Rattle.qrules.specs.Private.Past.{wait_with_receipt, made_on}
+use Rattle.qrules.specs.Private.Past.{made_on}
 use Rattle.qrules.specs.Rule.{PriorityChange, Transfer}
+use Rattle.qrules.specs.Private.Facts.{number_of}
+use Rattle.qrules.specs.Private.Facts.{is_for_receipt}
+use Rattle.qrules.specs.Past.{channel_of}
+use Rattle.qrules.specs.Private.Cancelling.{is_on}
 
 -- a look-up with one more record at n
 abbrev pub put_at : {A : Type 0} → Option A → ℕ → (ℕ → Option A) → ℕ → Option A
@@ -46,10 +49,6 @@ abbrev pub connection_after : Facts → ThreadNo → Call → ConnectionId → O
 connection_after f t c k = if names (detaches c) k then None
     else put_at (attaches (member_at f.roster t) c) f.number f.connection k
 
--- an open call whose message is received
-abbrev pub held_call : Receipt → OpenCall → OpenCall
-held_call kept o = record o { wait = wait_with_receipt kept o.wait }
-
 -- the thread is this one
 abbrev pub is_thread : Option ThreadNo → ThreadNo → Bool
 is_thread None u = false
@@ -62,7 +61,7 @@ after_receipt (Some r) u o = if is_thread r.sender u then option_map (held_call 
 
 -- an open call whose reply buffer is written over
 abbrev pub written_call : ℕ → List ℕ → OpenCall → OpenCall
-written_call offset bytes o = record o { wait = with_buffer (λ b. lay_over b offset bytes) o.wait }
+written_call offset bytes o = with_buffer (λ b. lay_over b offset bytes) o
 
 -- what thread u waits for after a write
 abbrev pub after_write : Facts → Option Transfer → ThreadNo → Option OpenCall → Option OpenCall
@@ -70,15 +69,11 @@ after_write f None u o = o
 after_write f (Some w) u o =
     if is_thread (sender f w.rcvid) u then option_map (written_call w.offset w.bytes) o else o
 
--- a wait for whose message an unblock pulse is made
-abbrev pub unblocked_wait : Wait → Wait
-unblocked_wait (Answer coid message reply_buffer (Some receipt)) =
-    Answer coid message reply_buffer (Some (record receipt { unblocked = true }))
-unblocked_wait wait = wait
-
 -- an open call for whose message an unblock pulse is made
 abbrev pub unblocked_call : OpenCall → OpenCall
-unblocked_call o = record o { wait = unblocked_wait o.wait }
+unblocked_call (Send s) =
+    Send (record s { receipt = option_map (λ (r : Receipt). record r { unblocked = true }) s.receipt })
+unblocked_call (Receive r) = Receive r
 
 -- what thread u waits for after a call that unblocks a thread and makes this item
 abbrev pub after_unblock : Option SentItem → Option ThreadNo → ThreadNo → Option OpenCall → Option OpenCall
@@ -92,7 +87,8 @@ unless b o = if b then None else o
 -- what the caller u waits for after its call with this row: its request, with the receipt if the message is
 -- received at once; nothing if the call has ended
 abbrev pub own_call_after : Facts → Call → Row → ThreadNo → Option OpenCall
-own_call_after f c row u = unless (is_some row.own) (after_receipt row.receipt u (asks f.number c))
+own_call_after f c row u =
+    unless (is_some row.own) (after_receipt row.receipt u (asks f.number u (channel_of (makes f u c)) c))
 
 -- what another thread u waited for as the call leaves it: written over, received, unblocked
 abbrev pub call_left_by : Facts → ThreadNo → Call → Row → ThreadNo → Option OpenCall
@@ -109,10 +105,9 @@ open_call_after f t c u = if u == t then own_call_after f c (row_of f t c) u
     else other_call_after f t c (row_of f t c) u
 
 -- the open call is the Send of number i, blocked on channel h, and not received
-abbrev pub is_unread_send : (ConnectionId → Option Connection) → ChannelId → ReceiveId → Option OpenCall
-    → Bool
-is_unread_send connection h i call =
-    option_map_or (λ o. (o.number == i) && is_for_receipt o.wait && is_on connection h o.wait) call false
+abbrev pub is_unread_send : ChannelId → ReceiveId → Option OpenCall → Bool
+is_unread_send h i call =
+    option_map_or (λ o. (number_of o == i) && is_for_receipt o && is_on h o) call false
 
 -- the items of channel h without the one that was received from it
 abbrev pub unreceived_items : Option Received → ChannelId → List Item → List Item
@@ -121,7 +116,7 @@ unreceived_items (Some r) h items = if r.channel == h then without_item r.item i
 
 -- the call ends a Send of number i that is blocked on channel h and not received
 abbrev pub is_cancelled : Facts → ThreadNo → Call → ChannelId → ReceiveId → Bool
-is_cancelled f t c h i = list_any (λ s. is_unread_send f.connection h i (f.open_call s)
+is_cancelled f t c h i = list_any (λ s. is_unread_send h i (f.open_call s)
     && is_some ((row_of f t c).ends s)) (threads_of f.roster)
 
 -- the items of channel h without the messages whose Sends the call ends
@@ -132,7 +127,7 @@ uncut_items f t c h items = filter (λ item. not (is_cancelled f t c h item.numb
 abbrev pub items_with_priority_set : Facts → ChannelId → Option PriorityChange → List Item → List Item
 items_with_priority_set f h None items = items
 items_with_priority_set f h (Some s) items =
-    map (λ item. if is_unread_send f.connection h item.number (f.open_call s.thread)
+    map (λ item. if is_unread_send h item.number (f.open_call s.thread)
     then with_priority s.priority item else item) items
 
 -- the pending items after the call: none if the channel is destroyed; otherwise the item that the call makes

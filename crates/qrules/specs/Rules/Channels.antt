@@ -2,7 +2,7 @@
 use Rattle.std.specs.Prelude.{◌==◌, if◌then◌else◌}
 use Rattle.qrules.specs.Words.{nat_lt, true, Again, ChannelFlags, Inval, None, Some, Srch}
 use Rattle.qrules.specs.Trace.{ChannelId}
-use Rattle.qrules.specs.Facts.{leads_to, owns}
+use Rattle.qrules.specs.Facts.{owns}
 use Rattle.qrules.specs.Rule.{no_effect, plain_row, with_endings, Rule}
 use Rattle.qrules.specs.Delivery.{cancel}
 use Rattle.qrules.specs.Words.mark
@@ -21,6 +21,6 @@ channel_create flags = record {
 abbrev pub channel_destroy : ChannelId → Rule
 channel_destroy h = record {
   row = λ f t. with_endings (plain_row f t (if owns f t h then None else Some Inval) mark.Ok)
-      (cancel f (λ s. leads_to f s.connection h) (λ r. r.channel == h) Srch);
+      (cancel f (λ s. s.channel == h) (λ r. r.channel == h) Srch);
   effect = record no_effect { destroys = Some h };
 }

@@ -11,8 +11,7 @@ use Rattle.qqueue.specs.Best.{without_item}
 use Rattle.qtables.specs.Entries.{entry_at}
 use Rattle.qtables.specs.declared.connection.Connection.{Connection}
 use Rattle.qmodel.specs.declared.open_call.OpenCall.{OpenCall}
-use Rattle.qmodel.specs.declared.open_call.Wait.{Wait}
-use Rattle.qmodel.specs.declared.open_call.Wait.TheVariants.{Answer, Item as ForItem}
+use Rattle.qmodel.specs.declared.open_call.OpenCall.TheVariants.{Receive, Send}
 use Rattle.qrules.specs.Private.Facts.{is_for_receipt}
 use Rattle.qrules.specs.Private.Cancelling.{is_to, is_on}
 use Rattle.qrules.specs.Private.Step.{is_unread_send}

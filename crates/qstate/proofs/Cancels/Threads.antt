@@ -10,7 +10,6 @@ use Rattle.qtables.specs.Members.{IsRoster}
 use Rattle.qtables.specs.declared.connection.Connection.{Connection}
 use Rattle.qmodel.specs.declared.call.Completion.{Completion}
 use Rattle.qmodel.specs.declared.open_call.OpenCall.{OpenCall}
-use Rattle.qmodel.specs.declared.open_call.Wait.{Wait}
 use Rattle.qrules.specs.Private.Cancelling.{cancel_call, cancel_where}
 use Rattle.qrules.specs.Private.Step.{is_unread_send}
 use Rattle.qrules.specs.Private.Facts.{threads_of}

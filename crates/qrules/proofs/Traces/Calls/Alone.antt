@@ -12,11 +12,11 @@ use Rattle.qrules.proofs.Traces.Past.Laws.{CallLaws, RowLaws, IsOwn}
 use Rattle.qrules.specs.Rule.{Transfer}
 
 -- a call that never waits and makes nothing
-pub waits_not : (c : Call) → ((n : ℕ) → asks n c ≡ None) → ((f : Facts) (t : ℕ) → makes f t c ≡ None) → CallLaws c
+pub waits_not : (c : Call) → ((n t h : ℕ) → asks n t h c ≡ None) → ((f : Facts) (t : ℕ) → makes f t c ≡ None) → CallLaws c
 waits_not c a m = record {
-  asks_one = λ n o e. absurd (none-some o (sym (a n) ∙ e));
+  asks_one = λ n t h o e. absurd (none-some o (sym (a n t h) ∙ e));
   makes_one = λ f t i e. absurd (none-some i (sym (m f t) ∙ e));
-  waits_write = λ n o e. absurd (none-some o (sym (a n) ∙ e));
+  waits_write = λ n t h o e. absurd (none-some o (sym (a n t h) ∙ e));
   unblocks_none = λ none f t i e. absurd (none-some i (sym (m f t) ∙ e));
   unblocks_one = λ v is f t i e. absurd (none-some i (sym (m f t) ∙ e));
 }

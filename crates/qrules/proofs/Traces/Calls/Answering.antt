@@ -13,21 +13,23 @@ use Rattle.qrules.proofs.Traces.Calls.Alone.{IsPlain}
 use Rattle.qrules.proofs.Traces.Calls.Held.{SenderEnds, sender_ends}
 use Rattle.qrules.proofs.Traces.Past.Laws.{IsOfOpen, IsSettled, RowLaws, is_settled}
 use Rattle.qrules.specs.Rule.{Transfer}
+use Rattle.qmodel.specs.declared.open_call.OpenCall.TheVariants.{Receive, Send}
+use Rattle.std.proofs.Common.{is_some}
 
 of_open : (f : Facts) (t rcvid : ℕ) (finish : Finish) (u : ℕ) (y : Completion) → SenderEnds f t rcvid finish u y → IsOfOpen f u y
 of_open f t rcvid finish u y s = record {
-  waiting = s.held.waiting;
+  waiting = Send s.held.send;
   is = s.held.is_open;
   call = sym (ap (λ x. x.call) s.ending) ∙ sym s.number;
   thread = sym (ap (λ x. x.thread) s.ending);
 }
 
 settled_open : (f : Facts) (t rcvid : ℕ) (finish : Finish) (u : ℕ) (y : Completion) → SenderEnds f t rcvid finish u y → IsSettled (f.open_call u)
-settled_open f t rcvid finish u y s w is = ap (λ o. is_settled o.wait) (same_Some w s.held.waiting (sym is ∙ s.held.is_open)) ∙ ap is_settled s.held.waits
+settled_open f t rcvid finish u y s w is = ap is_settled (same_Some w (Send s.held.send) (sym is ∙ s.held.is_open)) ∙ ap is_some s.held.held
 
 -- its mark is none of a receipt
 pub answer_receives : (f : Facts) (t rcvid : ℕ) (finish : Finish) (u : ℕ) (y : Completion) → ((buffer : List ℕ) → item_in (finish buffer).0 ≡ None) → SenderEnds f t rcvid finish u y → item_in y.mark ≡ None
-answer_receives f t rcvid finish u y none s = ap (λ x. item_in x.mark) (sym s.ending) ∙ none s.held.reply_buffer
+answer_receives f t rcvid finish u y none s = ap (λ x. item_in x.mark) (sym s.ending) ∙ none s.held.send.reply_buffer
 
 -- a call that ends in its own event, and ends the Send that it answers
 pub answers : (f : Facts) (t : ℕ) (c : Call) (rcvid : ℕ) (finish : Finish) → ((buffer : List ℕ) → item_in (finish buffer).0 ≡ None) → refusal f t rcvid ≡ None

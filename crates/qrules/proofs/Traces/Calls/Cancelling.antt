@@ -12,28 +12,27 @@ use Rattle.qrules.specs.Private.Rows.{item_in}
 use Rattle.qmodel.specs.declared.call.Call.{Call}
 use Rattle.qmodel.specs.declared.call.Completion.{Completion}
 use Rattle.qmodel.specs.declared.open_call.OpenCall.{OpenCall}
-use Rattle.qmodel.specs.declared.open_call.Wait.{Wait}
 use Rattle.qrules.proofs.Traces.Calls.Alone.{IsPlain}
 use Rattle.qrules.proofs.Traces.Past.Laws.{RowLaws, is_forceful}
 use Rattle.qrules.specs.Rule.{Transfer}
 
 -- the ending is of an open call that is cancelled
-pub record IsCutCall (is_cancelled : Wait → Bool) (e : Errno) (u : ℕ) (o : Option OpenCall) (y : Completion) : Type 0 where
+pub record IsCutCall (is_cancelled : OpenCall → Bool) (e : Errno) (u : ℕ) (o : Option OpenCall) (y : Completion) : Type 0 where
   pub waiting : OpenCall
   pub is : o ≡ Some waiting
-  pub cancel : is_cancelled waiting.wait ≡ true
+  pub cancel : is_cancelled waiting ≡ true
   pub ending : cancel_call e u waiting ≡ y
 
-pub cancel_parts : (is_cancelled : Wait → Bool) (e : Errno) (u : ℕ) (o : Option OpenCall) (y : Completion) → cancel_where is_cancelled e u o ≡ Some y → IsCutCall is_cancelled e u o y
+pub cancel_parts : (is_cancelled : OpenCall → Bool) (e : Errno) (u : ℕ) (o : Option OpenCall) (y : Completion) → cancel_where is_cancelled e u o ≡ Some y → IsCutCall is_cancelled e u o y
 cancel_parts is_cancelled e u None y h = absurd (none-some y h)
 cancel_parts is_cancelled e u (Some o) y h =
-    elim (is_cancelled o.wait) as (λ b. is_cancelled o.wait ≡ b → cond b (Some (cancel_call e u o)) None ≡ Some y → IsCutCall is_cancelled e u (Some o) y) [
+    elim (is_cancelled o) as (λ b. is_cancelled o ≡ b → cond b (Some (cancel_call e u o)) None ≡ Some y → IsCutCall is_cancelled e u (Some o) y) [
       | true ↦ λ cancel s. record { waiting = o; is = refl; cancel = cancel; ending = same_Some _ y s }
       | false ↦ λ cancel s. absurd (none-some y s)
     ] refl h
 
 -- a call that ends in its own event, and cancels others
-pub cancelling : (f : Facts) (t : ℕ) (c : Call) (is_cancelled : ℕ → Wait → Bool) (e : Errno) → is_forceful c ≡ true → ((y : Completion) → (row_of f t c).own ≡ Some y → IsPlain f.number t y)
+pub cancelling : (f : Facts) (t : ℕ) (c : Call) (is_cancelled : ℕ → OpenCall → Bool) (e : Errno) → is_forceful c ≡ true → ((y : Completion) → (row_of f t c).own ≡ Some y → IsPlain f.number t y)
     → ((u : ℕ) → (row_of f t c).ends u ≡ cancels f is_cancelled e u) → (row_of f t c).receipt ≡ None → makes f t c ≡ None → ((w : Transfer) → writes c ≡ Some w → (s : ℕ) × (sender f w.rcvid ≡ Some s)) → RowLaws f t c
 cancelling f t c is_cancelled e force own ends receipt made written =
     let ended = λ (u : ℕ) (y : Completion) (s : (row_of f t c).ends u ≡ Some y). cancel_parts (is_cancelled u) e u (f.open_call u) y (sym (ends u) ∙ s) in

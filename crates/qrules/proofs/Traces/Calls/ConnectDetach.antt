@@ -79,13 +79,13 @@ detach_ends f k o u y e =
 
 pub call_laws : (coid : ℕ) → CallLaws (ConnectDetach coid)
 call_laws coid = record {
-  asks_one = λ n o e. absurd (none-some o e);
+  asks_one = λ n t h o e. absurd (none-some o e);
   makes_one = λ f t m e. record {
     number = ap (λ x. x.item.number) (sym (due_parts f t (f.connection coid) m e).made);
-    waits = λ o a. absurd (none-some o a);
-    message = λ o a. absurd (none-some o a);
+    waits = λ t h o a. absurd (none-some o a);
+    message = λ t h o a. absurd (none-some o a);
   };
-  waits_write = λ n o e. refl;
+  waits_write = λ n t h o e. refl;
   unblocks_none = λ none f t m e i. ap (λ x. is_unblock_for i x.item.what) (sym (due_parts f t (f.connection coid) m e).made);
   unblocks_one = λ v is. absurd (none-some v is);
 }
@@ -109,13 +109,13 @@ module _ (f : Facts) (t coid : ℕ) (p : Passes f t (ConnectDetach coid)) where
   met_ends : (m : SentItem) → due_pulse f t coid ≡ Some m → (u : ℕ) (y : Completion) → ends_receiver f (Some m) u ≡ Some y → other_ending f coid (due_pulse f t coid) u ≡ Some y
   met_ends m is u y e =
       let k = met_item f m.item [] (Some m.channel) u y e in
-      let uncut : cancel_where (is_over coid) Badf u (f.open_call u) ≡ None = rw (k.is, k.waits) refl in
+      let uncut : cancel_where (is_over coid) Badf u (f.open_call u) ≡ None = rw k.is refl in
       ap (λ x. option_or x (ends_receiver f (due_pulse f t coid) u)) uncut ∙ ap (λ o. ends_receiver f o u) is ∙ e
 
   receives : (o : Option SentItem) → due_pulse f t coid ≡ o → (q : Received) → pulse_receipt f o ≡ Some q → IsReceived f t (ConnectDetach coid) q
   receives None is q e = absurd (none-some q e)
   receives (Some m) is q e = met_received f t (Some m.channel) (ConnectDetach coid) m.item [] None (ap (pulse_receipt f) is) (met_ends m is) p.idle
-      (λ h s. subst (λ k. due_pulse f t coid ≡ Some (record { item = m.item; channel = k })) (same_Some m.channel h s) is) refl q (ap (pulse_receipt f) is ∙ e)
+      (λ h s. subst (λ k. due_pulse f t coid ≡ Some (record { item = m.item; channel = k })) (same_Some m.channel h s) is) (λ h. refl) q (ap (pulse_receipt f) is ∙ e)
 
   pub row_laws : RowLaws f t (ConnectDetach coid)
   row_laws = record {

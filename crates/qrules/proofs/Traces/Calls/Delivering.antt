@@ -19,13 +19,14 @@ use Rattle.qmodel.specs.Trace.{SentItem}
 use Rattle.qmodel.specs.declared.call.Call.{Call}
 use Rattle.qmodel.specs.declared.call.Completion.{Completion}
 use Rattle.qmodel.specs.declared.open_call.OpenCall.{OpenCall}
-use Rattle.qmodel.specs.declared.open_call.Wait.{Wait}
-use Rattle.qmodel.specs.declared.open_call.Wait.TheVariants.{Answer, Item as ForItem}
+use Rattle.qmodel.specs.declared.open_call.OpenCall.TheVariants.{Receive, Send}
 use Rattle.qbase.proofs.Lists.{eqb_same}
 use Rattle.qrules.proofs.Traces.Past.Laws.{IsOfOpen, IsSettled, IsReceipt, IsReceived, is_settled}
 use Rattle.qrules.proofs.Traces.Calls.Taking.{Taken, taken_by, receipt_from, receipt_in_at}
 use Rattle.qrules.proofs.Traces.Routes.{leads_over}
 use Rattle.qrules.specs.Past.{ReceivedItem}
+use Rattle.qrules.specs.Private.Facts.{number_of}
+use Rattle.qmodel.specs.declared.open_call.OpenReceive.{OpenReceive}
 
 -- what goes over a connection is the item
 pub sent_item : (o : Option Connection) (item : Item) (m : SentItem) → item_sent_over o item ≡ Some m → m.item ≡ item
@@ -116,21 +117,15 @@ met_receives f sender item message (Some h) u y p e m =
 
 -- an open call that waits for an item
 pub record ForAnItem (call : Option OpenCall) : Type 0 where
-  pub waiting : OpenCall
-  pub is : call ≡ Some waiting
-  pub chid : ℕ
-  pub kind : Kind
-  pub buffer : List ℕ
-  pub waits : waiting.wait ≡ ForItem chid kind buffer
+  pub receive : OpenReceive
+  pub is : call ≡ Some (Receive receive)
 
 -- what takes the item waits for one, and ends by taking it
 pub takes_item : (item : Item) (message : List ℕ) (u : ℕ) (call : Option OpenCall) (y : Completion) → takes item message u call ≡ Some y
-    → (w : ForAnItem call) × (receipt_ending item message u w.waiting.number w.buffer ≡ y)
+    → (w : ForAnItem call) × (receipt_ending item message u w.receive.number w.receive.buffer ≡ y)
 takes_item item message u None y e = absurd (none-some y e)
-takes_item item message u (Some o) y e = by_wait o.wait e where
-  by_wait : (w : Wait) → takes_into item message u o.number w ≡ Some y → (k : ForAnItem (Some (record { number = o.number; wait = w }))) × (receipt_ending item message u k.waiting.number k.buffer ≡ y)
-  by_wait (Answer coid sent reply_buffer receipt) e = absurd (none-some y e)
-  by_wait (ForItem chid kind buffer) e = (record { waiting = record { number = o.number; wait = ForItem chid kind buffer }; is = refl; chid = chid; kind = kind; buffer = buffer; waits = refl }, same_Some _ y e)
+takes_item item message u (Some (Send s)) y e = absurd (none-some y e)
+takes_item item message u (Some (Receive r)) y e = (record { receive = r; is = refl }, same_Some _ y e)
 
 module _ (f : Facts) (item : Item) (message : List ℕ) (o : Option ℕ) where
   -- what is met waits for an item
@@ -145,7 +140,7 @@ module _ (f : Facts) (item : Item) (message : List ℕ) (o : Option ℕ) where
   pub met_settled : (u : ℕ) (y : Completion) → delivers f item message (receiver f item o) u ≡ Some y → IsSettled (f.open_call u)
   met_settled u y e w is =
       let k = taken_by item message u (f.open_call u) y (met_by f item message (receiver f item o) u y e).given in
-      ap (λ v. is_settled v.wait) (same_Some w k.waiting (sym is ∙ k.is)) ∙ k.settled
+      ap (λ v. is_settled v) (same_Some w k.waiting (sym is ∙ k.is)) ∙ k.settled
 
 module _ (f : Facts) (t : ℕ) (o : Option ℕ) (c : Call) (item : Item) (message : List ℕ) (sender : Option ℕ)
     (receipt_is : (row_of f t c).receipt ≡ receipt_when_sent f sender item message o (receiver f item o)) where
@@ -156,7 +151,7 @@ module _ (f : Facts) (t : ℕ) (o : Option ℕ) (c : Call) (item : Item) (messag
 
   -- the receipt of the row is of the item that is sent
   pub met_received : ((u : ℕ) (y : Completion) → delivers f item message (receiver f item o) u ≡ Some y → (row_of f t c).ends u ≡ Some y) → f.open_call t ≡ None
-      → ((h : ℕ) → o ≡ Some h → makes f t c ≡ Some (record { item = item; channel = h })) → sender ≡ option_map (λ o. t) (asks f.number c) → (q : Received) → (row_of f t c).receipt ≡ Some q → IsReceived f t c q
+      → ((h : ℕ) → o ≡ Some h → makes f t c ≡ Some (record { item = item; channel = h })) → ((h : ℕ) → sender ≡ option_map (λ o. t) (asks f.number t h c)) → (q : Received) → (row_of f t c).receipt ≡ Some q → IsReceived f t c q
   met_received ends_met idle makes_is sender_is q e =
       let s = sent_over_way f sender item message o (receiver f item o) q (sym receipt_is ∙ e) in
       let other : eqb s.by t ≡ false = ne_eqb s.by t (λ same. none-some s.taken.waiting (sym idle ∙ ap f.open_call (sym same) ∙ s.taken.is)) in
@@ -168,7 +163,7 @@ module _ (f : Facts) (t : ℕ) (o : Option ℕ) (c : Call) (item : Item) (messag
         fresh = refl;
         source = inl (record {
           made = makes_is s.channel s.is_channel;
-          sender_is = sender_is;
+          sender_is = sender_is s.channel;
         });
         given = s.given;
         is_given = subst (λ v. ending f t c v ≡ Some s.given) (sym s.taken.thread) (rw other (ends_met s.by s.given met));
@@ -186,6 +181,6 @@ module _ (f : Facts) (t : ℕ) (o : Option ℕ) (c : Call) (item : Item) (messag
   pub delivers_receipt : (u : ℕ) (y : Completion) (p : ReceivedItem) → (row_of f t c).ends u ≡ Some y → item_in y.mark ≡ Some p → IsReceipt (row_of f t c) u p
   delivers_receipt u y p e m = met_receipt f t o c item message sender receipt_is u y p (sym (ends_is u) ∙ e) m
 
-  pub delivers_received : f.open_call t ≡ None → ((h : ℕ) → o ≡ Some h → makes f t c ≡ Some (record { item = item; channel = h })) → sender ≡ option_map (λ o. t) (asks f.number c)
+  pub delivers_received : f.open_call t ≡ None → ((h : ℕ) → o ≡ Some h → makes f t c ≡ Some (record { item = item; channel = h })) → ((h : ℕ) → sender ≡ option_map (λ o. t) (asks f.number t h c))
       → (q : Received) → (row_of f t c).receipt ≡ Some q → IsReceived f t c q
   delivers_received idle makes_is sender_is q e = met_received f t o c item message sender receipt_is (λ u y m. ends_is u ∙ m) idle makes_is sender_is q e

@@ -13,7 +13,7 @@ use Rattle.qrules.proofs.Traces.Calls.Answering.{answers}
 use Rattle.qrules.proofs.Traces.Past.Laws.{CallLaws, RowLaws, Passes}
 
 pub call_laws : (rcvid : ℕ) (code : ℤ) → CallLaws (Error rcvid code)
-call_laws rcvid code = waits_not (Error rcvid code) (λ n. refl) (λ f t. refl)
+call_laws rcvid code = waits_not (Error rcvid code) (λ n t h. refl) (λ f t. refl)
 
 -- its mark is no receipt
 pub no_receipt : (code : ℤ) → item_in (mark_of code) ≡ None

@@ -7,13 +7,18 @@ use Rattle.std.proofs.lemmas.Option.{none-some, same_Some}
 use Rattle.qbase.specs.declared.errno.Errno.{Errno}
 use Rattle.qrules.specs.Private.Facts.{Facts, sender, threads_of}
 use Rattle.qrules.specs.Private.Held.{Finish, ends_sender, answer_ending, is_held_by, refusal}
-use Rattle.qrules.proofs.Traces.Parts.{owns_end, is_held_for}
+use Rattle.qrules.proofs.Traces.Parts.{is_held_for}
 use Rattle.qmodel.specs.declared.call.Completion.{Completion}
 use Rattle.qmodel.specs.declared.open_call.OpenCall.{OpenCall}
 use Rattle.qmodel.specs.declared.open_call.Receipt.{Receipt}
-use Rattle.qmodel.specs.declared.open_call.Wait.{Wait}
-use Rattle.qmodel.specs.declared.open_call.Wait.TheVariants.{Answer, Item as ForItem}
+use Rattle.qmodel.specs.declared.open_call.OpenCall.TheVariants.{Receive, Send}
 use Rattle.qrules.proofs.Traces.Past.Senders.{sender_sends}
+use Rattle.qrules.specs.Private.Facts.{number_of}
+use Rattle.std.proofs.lemmas.Bool.{and_parts}
+use Rattle.qmodel.specs.declared.open_call.OpenSend.{OpenSend}
+use Rattle.std.proofs.Common.{is_some}
+use Rattle.qrules.specs.Private.Facts.{owns}
+use Rattle.qbase.proofs.Lists.{some_of}
 
 -- the ending of call m of thread u that is answered so
 abbrev pub answering : ℕ → ℕ → Finish → List ℕ → Completion
@@ -21,33 +26,19 @@ answering m u finish buffer = record { call = m; thread = u; mark = (finish buff
 
 -- a message that is held, on a channel of thread t's process
 pub record IsHeldFor (f : Facts) (t : ℕ) (call : Option OpenCall) : Type 0 where
-  pub waiting : OpenCall
-  pub coid : ℕ
-  pub message : List ℕ
-  pub reply_buffer : List ℕ
+  pub send : OpenSend
   pub receipt : Receipt
-  pub is_open : call ≡ Some waiting
-  pub waits : waiting.wait ≡ Answer coid message reply_buffer (Some receipt)
-  pub owner : owns_end f t (f.connection coid) ≡ true
-
-record HeldIn (f : Facts) (t : ℕ) (w : Wait) : Type 0 where
-  coid : ℕ
-  message : List ℕ
-  reply_buffer : List ℕ
-  receipt : Receipt
-  waits : w ≡ Answer coid message reply_buffer (Some receipt)
-  owner : owns_end f t (f.connection coid) ≡ true
-
-held_in : (f : Facts) (t : ℕ) (w : Wait) → is_held_by f t w ≡ true → HeldIn f t w
-held_in f t (Answer coid message reply_buffer (Some receipt)) e = record { coid = coid; message = message; reply_buffer = reply_buffer; receipt = receipt; waits = refl; owner = e }
-held_in f t (Answer coid message reply_buffer None) e = absurd (true≢false (sym e))
-held_in f t (ForItem chid kind buffer) e = absurd (true≢false (sym e))
+  pub is_open : call ≡ Some (Send send)
+  pub held : send.receipt ≡ Some receipt
+  pub owner : owns f t send.channel ≡ true
 
 held_parts : (f : Facts) (t : ℕ) (call : Option OpenCall) → is_held_for f t call ≡ true → IsHeldFor f t call
 held_parts f t None e = absurd (true≢false (sym e))
-held_parts f t (Some o) e =
-    let h = held_in f t o.wait e in
-    record { waiting = o; coid = h.coid; message = h.message; reply_buffer = h.reply_buffer; receipt = h.receipt; is_open = refl; waits = h.waits; owner = h.owner }
+held_parts f t (Some (Receive r)) e = absurd (true≢false (sym e))
+held_parts f t (Some (Send s)) e =
+    let both = and_parts (is_some s.receipt) (owns f t s.channel) e in
+    let r = some_of s.receipt both.0 in
+    record { send = s; receipt = r.0; is_open = refl; held = r.1; owner = both.1 }
 
 -- what is refused nothing passes
 passes : (b : Bool) (e : Errno) → cond b None (Some e) ≡ None → b ≡ true
@@ -70,12 +61,12 @@ has_sender f t rcvid r =
 pub record SenderEnds (f : Facts) (t rcvid : ℕ) (finish : Finish) (u : ℕ) (y : Completion) : Type 0 where
   pub is_sender : sender f rcvid ≡ Some u
   pub held : IsHeldFor f t (f.open_call u)
-  pub number : held.waiting.number ≡ rcvid
-  pub ending : answering rcvid u finish held.reply_buffer ≡ y
+  pub number : held.send.number ≡ rcvid
+  pub ending : answering rcvid u finish held.send.reply_buffer ≡ y
 
 -- the ending of what is held
-pub finished_held : (f : Facts) (t : ℕ) (finish : Finish) (u : ℕ) (call : Option OpenCall) (h : IsHeldFor f t call) → answer_ending finish u call ≡ Some (answering h.waiting.number u finish h.reply_buffer)
-finished_held f t finish u call h = rw (h.is_open, h.waits) refl
+pub finished_held : (f : Facts) (t : ℕ) (finish : Finish) (u : ℕ) (call : Option OpenCall) (h : IsHeldFor f t call) → answer_ending finish u call ≡ Some (answering h.send.number u finish h.send.reply_buffer)
+finished_held f t finish u call h = rw h.is_open refl
 
 ends_parts : (f : Facts) (finish : Finish) (r : Option ℕ) (u : ℕ) (y : Completion) → ends_sender f finish r u ≡ Some y → (r ≡ Some u) × (answer_ending finish u (f.open_call u) ≡ Some y)
 ends_parts f finish None u y e = absurd (none-some y e)
@@ -90,11 +81,11 @@ sender_ends f t rcvid finish u y r e =
     let p = ends_parts f finish (sender f rcvid) u y e in
     let h = held_for f t rcvid u r p.0 in
     let s = sender_sends f.open_call rcvid (threads_of f.roster) u p.0 in
-    let same : s.waiting ≡ h.waiting = same_Some _ _ (sym s.is ∙ h.is_open) in
-    let number : h.waiting.number ≡ rcvid = sym (ap (λ o. o.number) same) ∙ s.number in
+    let same : Send s.send ≡ Send h.send = same_Some _ _ (sym s.is ∙ h.is_open) in
+    let number : h.send.number ≡ rcvid = sym (ap number_of same) ∙ s.number in
     record {
       is_sender = p.0;
       held = h;
       number = number;
-      ending = subst (λ m. answering m u finish h.reply_buffer ≡ y) number (same_Some _ y (sym (finished_held f t finish u (f.open_call u) h) ∙ p.1));
+      ending = subst (λ m. answering m u finish h.send.reply_buffer ≡ y) number (same_Some _ y (sym (finished_held f t finish u (f.open_call u) h) ∙ p.1));
     }

@@ -12,7 +12,7 @@ use Rattle.qrules.proofs.Traces.Calls.Alone.{IsPlain, alone, waits_not}
 use Rattle.qrules.proofs.Traces.Past.Laws.{CallLaws, RowLaws, Passes}
 
 pub call_laws : (rcvid : ℕ) → CallLaws (Info rcvid)
-call_laws rcvid = waits_not (Info rcvid) (λ n. refl) (λ f t. refl)
+call_laws rcvid = waits_not (Info rcvid) (λ n t h. refl) (λ f t. refl)
 
 pub plain : (n t : ℕ) (o : Option Told) (y : Completion) → option_map (info_ending n t) o ≡ Some y → IsPlain n t y
 plain n t None y e = absurd (none-some y e)

@@ -11,7 +11,7 @@ use Rattle.qrules.proofs.Traces.Calls.Alone.{IsPlain, alone, waits_not}
 use Rattle.qrules.proofs.Traces.Past.Laws.{CallLaws, RowLaws, Passes}
 
 pub call_laws : (thread priority : ℕ) → CallLaws (PrioritySet thread priority)
-call_laws thread priority = waits_not (PrioritySet thread priority) (λ n. refl) (λ f t. refl)
+call_laws thread priority = waits_not (PrioritySet thread priority) (λ n t h. refl) (λ f t. refl)
 
 pub row_laws : (f : Facts) (t thread priority : ℕ) → Passes f t (PrioritySet thread priority) → RowLaws f t (PrioritySet thread priority)
 row_laws f t thread priority p =

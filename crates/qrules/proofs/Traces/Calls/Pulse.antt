@@ -21,13 +21,13 @@ sent_is_pulse f coid priority code value m e = ap (λ x. is_pulse x.what) (sent_
 
 pub call_laws : (coid priority : ℕ) (code value : ℤ) → CallLaws (Pulse coid priority code value)
 call_laws coid priority code value = record {
-  asks_one = λ n o e. absurd (none-some o e);
+  asks_one = λ n t h o e. absurd (none-some o e);
   makes_one = λ f t m e. record {
     number = ap (λ x. x.number) (sent_item (f.connection coid) (pulse_item f.number priority code value) m e);
-    waits = λ o a. absurd (none-some o a);
-    message = λ o a. absurd (none-some o a);
+    waits = λ t h o a. absurd (none-some o a);
+    message = λ t h o a. absurd (none-some o a);
   };
-  waits_write = λ n o e. refl;
+  waits_write = λ n t h o e. refl;
   unblocks_none = λ none f t m e i. ap (λ x. is_unblock_for i x.what) (sent_item (f.connection coid) (pulse_item f.number priority code value) m e);
   unblocks_one = λ v is f t m e. absurd (none-some v is);
 }
@@ -44,7 +44,7 @@ row_laws f t coid priority code value p =
       ends_settled = λ mild. delivers_settled f t (Some w.0) c item [] None (λ u. ap (λ o. ends_receiver f o u) goes) (ap (pulse_receipt f) goes);
       own_receives = λ y q e m. absurd (none-some q (ap (λ x. item_in x.mark) (same_Some _ y e) ∙ m));
       ends_receives = delivers_receipt f t (Some w.0) c item [] None (λ u. ap (λ o. ends_receiver f o u) goes) (ap (pulse_receipt f) goes);
-      receives = delivers_received f t (Some w.0) c item [] None (λ u. ap (λ o. ends_receiver f o u) goes) (ap (pulse_receipt f) goes) p.idle (λ h is. goes ∙ ap (λ k. Some (record { item = item; channel = k })) (same_Some w.0 h is)) refl;
+      receives = delivers_received f t (Some w.0) c item [] None (λ u. ap (λ o. ends_receiver f o u) goes) (ap (pulse_receipt f) goes) p.idle (λ h is. goes ∙ ap (λ k. Some (record { item = item; channel = k })) (same_Some w.0 h is)) (λ h. refl);
       sends = λ m e no_pulse. absurd (true≢false (sym (sent_is_pulse f coid priority code value m e) ∙ no_pulse));
       makes_open = λ m e. goes_to_open f t (f.connection coid) w.0 item m w.1 e;
       writes_sent = λ w e. absurd (none-some w e);

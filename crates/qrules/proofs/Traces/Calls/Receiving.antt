@@ -13,22 +13,23 @@ use Rattle.qrules.specs.Private.Rows.{Received, item_in, receipt_ending}
 use Rattle.qmodel.specs.declared.call.Call.{Call}
 use Rattle.qmodel.specs.declared.call.Completion.{Completion}
 use Rattle.qmodel.specs.declared.open_call.OpenCall.{OpenCall}
-use Rattle.qmodel.specs.declared.open_call.Wait.TheVariants.{Item as ForItem}
+use Rattle.qmodel.specs.declared.open_call.OpenCall.TheVariants.{Receive, Send}
 use Rattle.qbase.proofs.Lists.{eqb_same}
 use Rattle.qrules.proofs.Traces.Past.Laws.{BeginsToWait, CallLaws, RowLaws, IsOwn, IsReceived}
 use Rattle.qrules.proofs.Traces.Calls.Taking.{given_no_failure, given_received, receipt_from, receipt_in_at}
 use Rattle.qrules.specs.Past.{ReceivedItem}
+use Rattle.std.proofs.Common.{true≢false}
 
 -- the open call of a receive
-abbrev pub receiver : ℕ → Kind → List ℕ → ℕ → OpenCall
-receiver chid kind buffer n = record { number = n; wait = ForItem chid kind buffer }
+abbrev pub receiver : ℕ → Kind → List ℕ → ℕ → ℕ → OpenCall
+receiver chid kind buffer n t = Receive (record { number = n; thread = t; channel = chid; kind = kind; buffer = buffer })
 
-pub receiving_call : (c : Call) (chid : ℕ) (kind : Kind) (buffer : List ℕ) → ((n : ℕ) → asks n c ≡ Some (receiver chid kind buffer n))
+pub receiving_call : (c : Call) (chid : ℕ) (kind : Kind) (buffer : List ℕ) → ((n t h : ℕ) → asks n t h c ≡ Some (receiver chid kind buffer n t))
     → ((f : Facts) (t : ℕ) → makes f t c ≡ None) → writes c ≡ None → CallLaws c
 receiving_call c chid kind buffer a m w = record {
-  asks_one = λ n o e. subst (BeginsToWait n) (same_Some (receiver chid kind buffer n) o (sym (a n) ∙ e)) (record { number = refl; fresh = refl });
+  asks_one = λ n t h o e. subst (BeginsToWait n t h) (same_Some (receiver chid kind buffer n t) o (sym (a n t h) ∙ e)) (record { number = refl; thread = refl; fresh = refl; channel = λ answer. absurd (true≢false (sym answer)) });
   makes_one = λ f t i e. absurd (none-some i (sym (m f t) ∙ e));
-  waits_write = λ n o e. w;
+  waits_write = λ n t h o e. w;
   unblocks_none = λ none f t i e. absurd (none-some i (sym (m f t) ∙ e));
   unblocks_one = λ v is f t i e. absurd (none-some i (sym (m f t) ∙ e));
 }

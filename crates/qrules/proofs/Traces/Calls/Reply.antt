@@ -10,7 +10,7 @@ use Rattle.qrules.proofs.Traces.Calls.Answering.{answers}
 use Rattle.qrules.proofs.Traces.Past.Laws.{CallLaws, RowLaws, Passes}
 
 pub call_laws : (rcvid : ℕ) (status : ℤ) (bytes : List ℕ) → CallLaws (Reply rcvid status bytes)
-call_laws rcvid status bytes = waits_not (Reply rcvid status bytes) (λ n. refl) (λ f t. refl)
+call_laws rcvid status bytes = waits_not (Reply rcvid status bytes) (λ n t h. refl) (λ f t. refl)
 
 pub row_laws : (f : Facts) (t rcvid : ℕ) (status : ℤ) (bytes : List ℕ) → Passes f t (Reply rcvid status bytes) → RowLaws f t (Reply rcvid status bytes)
 row_laws f t rcvid status bytes p = answers f t (Reply rcvid status bytes) rcvid (reply_finish status bytes) (λ buffer. refl) p.row

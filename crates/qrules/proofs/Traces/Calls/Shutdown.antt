@@ -9,7 +9,7 @@ use Rattle.qrules.proofs.Traces.Calls.Cancelling.{cancelling}
 use Rattle.qrules.proofs.Traces.Past.Laws.{CallLaws, RowLaws, Passes}
 
 pub call_laws : CallLaws Shutdown
-call_laws = waits_not Shutdown (λ n. refl) (λ f t. refl)
+call_laws = waits_not Shutdown (λ n t h. refl) (λ f t. refl)
 
 pub row_laws : (f : Facts) (t : ℕ) → Passes f t Shutdown → RowLaws f t Shutdown
 row_laws f t p =

@@ -7,7 +7,7 @@ use Rattle.qrules.proofs.Traces.Calls.Alone.{IsPlain, alone, waits_not}
 use Rattle.qrules.proofs.Traces.Past.Laws.{CallLaws, RowLaws, Passes}
 
 pub call_laws : (thread : ℕ) → CallLaws (State thread)
-call_laws thread = waits_not (State thread) (λ n. refl) (λ f t. refl)
+call_laws thread = waits_not (State thread) (λ n t h. refl) (λ f t. refl)
 
 pub row_laws : (f : Facts) (t thread : ℕ) → Passes f t (State thread) → RowLaws f t (State thread)
 row_laws f t thread p =

@@ -11,10 +11,10 @@ use Rattle.qmodel.specs.declared.call.Completion.{Completion}
 use Rattle.qmodel.specs.declared.call.Mark.{Mark}
 use Rattle.qmodel.specs.declared.call.Mark.TheVariants as mark
 use Rattle.qmodel.specs.declared.open_call.OpenCall.{OpenCall}
-use Rattle.qmodel.specs.declared.open_call.Wait.{Wait}
-use Rattle.qmodel.specs.declared.open_call.Wait.TheVariants.{Answer, Item as ForItem}
+use Rattle.qmodel.specs.declared.open_call.OpenCall.TheVariants.{Receive, Send}
 use Rattle.qrules.proofs.Traces.Past.Laws.{is_settled}
 use Rattle.qrules.specs.Past.{ReceivedItem}
+use Rattle.qmodel.specs.OpenCalls.{number_of}
 
 -- ---- the mark of a receipt
 
@@ -43,22 +43,21 @@ given_no_failure item message buffer = given_is is_failure false (λ i n. refl) 
 pub record Taken (i u : ℕ) (o : Option OpenCall) (y : Completion) : Type 0 where
   pub waiting : OpenCall
   pub is : o ≡ Some waiting
-  pub settled : is_settled waiting.wait ≡ true
-  pub call : y.call ≡ waiting.number
+  pub settled : is_settled waiting ≡ true
+  pub call : y.call ≡ number_of waiting
   pub thread : y.thread ≡ u
   pub copied : ℕ
   pub mark : item_in y.mark ≡ Some (record { number = i; copied = copied })
 
-taken_into : (item : Item) (message : List ℕ) (u m : ℕ) (w : Wait) (y : Completion) → takes_into item message u m w ≡ Some y → Taken item.number u (Some (record { number = m; wait = w })) y
-taken_into item message u m (Answer coid sent reply_buffer receipt) y e = absurd (none-some y e)
-taken_into item message u m (ForItem chid kind buffer) y e =
-    let g = given_received item message buffer in
-    subst (Taken item.number u (Some (record { number = m; wait = ForItem chid kind buffer }))) (same_Some _ y e)
-    (record { waiting = record { number = m; wait = ForItem chid kind buffer }; is = refl; settled = refl; call = refl; thread = refl; copied = g.0; mark = g.1 })
+taken_into : (item : Item) (message : List ℕ) (u : ℕ) (o : OpenCall) (y : Completion) → takes_into item message u o ≡ Some y → Taken item.number u (Some o) y
+taken_into item message u (Send s) y e = absurd (none-some y e)
+taken_into item message u (Receive r) y e =
+    let g = given_received item message r.buffer in
+    subst (Taken item.number u (Some (Receive r))) (same_Some _ y e) (record { waiting = Receive r; is = refl; settled = refl; call = refl; thread = refl; copied = g.0; mark = g.1 })
 
 pub taken_by : (item : Item) (message : List ℕ) (u : ℕ) (o : Option OpenCall) (y : Completion) → takes item message u o ≡ Some y → Taken item.number u o y
 taken_by item message u None y e = absurd (none-some y e)
-taken_by item message u (Some o) y e = taken_into item message u o.number o.wait y e
+taken_by item message u (Some o) y e = taken_into item message u o y e
 
 -- the receipt that an ending with such a mark is
 abbrev pub receipt_from : ℕ → Option ℕ → ℕ → ℕ → ReceivedItem → Received

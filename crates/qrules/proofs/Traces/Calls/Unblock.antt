@@ -7,8 +7,8 @@ use Rattle.qbase.specs.declared.errno.Errno.TheVariants.{Intr, Srch}
 use Rattle.qqueue.specs.Best.{is_pulse}
 use Rattle.qtables.specs.declared.connection.Connection.{Connection}
 use Rattle.qrules.specs.Private.Calls.{row_of}
-use Rattle.qrules.specs.Private.Calls.Unblock.{due_pulse, due_pulse_of_wait, other_ending, guard, guard_over, refusal}
-use Rattle.qrules.proofs.Traces.Parts.{due_pulse_on, due_pulse_of_open}
+use Rattle.qrules.specs.Private.Calls.Unblock.{due_pulse, other_ending, refusal}
+use Rattle.qrules.proofs.Traces.Parts.{due_pulse_of_open}
 use Rattle.qrules.specs.Private.Facts.{Facts, is_of_same_process, tells_unblock}
 use Rattle.qmodel.specs.Trace.{OpenChannel}
 use Rattle.qrules.specs.Private.Pulses.{refusal_if_full_for, pulse_receipt}
@@ -18,86 +18,52 @@ use Rattle.qmodel.specs.declared.call.Call.TheVariants.{Unblock}
 use Rattle.qmodel.specs.declared.call.Completion.{Completion}
 use Rattle.qmodel.specs.declared.open_call.OpenCall.{OpenCall}
 use Rattle.qmodel.specs.declared.open_call.Receipt.{Receipt}
-use Rattle.qmodel.specs.declared.open_call.Wait.{Wait}
-use Rattle.qmodel.specs.declared.open_call.Wait.TheVariants.{Answer, Item as ForItem}
+use Rattle.qmodel.specs.declared.open_call.OpenCall.TheVariants.{Receive, Send}
 use Rattle.qrules.proofs.Traces.Past.Laws.{CallLaws, IsOfOpen, IsOwn, IsReceipt, IsReceived, Passes, RowLaws}
 use Rattle.qrules.proofs.Traces.Calls.Cancelling.{cancel_parts}
 use Rattle.qrules.proofs.Traces.Calls.Delivering.{delivers_open, delivers_receipt, delivers_received}
 use Rattle.qrules.specs.Past.{ReceivedItem}
 use Rattle.qrules.proofs.Traces.Due.{unblock_same}
+use Rattle.qmodel.specs.declared.open_call.OpenSend.{OpenSend}
+use Rattle.qrules.specs.Private.Calls.Unblock.{guards}
+use Rattle.qrules.specs.Rules.Unblock.{pulse_for}
+use Rattle.std.proofs.Common.{option_and_then}
+use Rattle.qrules.specs.Private.Facts.{has_flag}
+use Rattle.std.proofs.lemmas.Bool.{and_parts}
+use Rattle.std.proofs.lemmas.Bool.{not-true}
 
 -- ---- the pulse that is due
-
--- the connection leads to channel h, which has the unblock flag
-pub record Guards (f : Facts) (o : Option Connection) (h : ℕ) : Type 0 where
-  pub connection : Connection
-  pub is : o ≡ Some connection
-  pub channel : connection.channel ≡ h
-  pub tells : tells_unblock (f.channel h) ≡ true
-
-pub guards : (f : Facts) (o : Option Connection) (h : ℕ) → guard_over f o ≡ Some h → Guards f o h
-guards f None h e = absurd (none-some h e)
-guards f (Some c) h e =
-    elim (tells_unblock (f.channel c.channel)) as (λ b. tells_unblock (f.channel c.channel) ≡ b → cond b (Some c.channel) None ≡ Some h → Guards f (Some c) h) [
-      | true ↦ λ tells s. let same = same_Some c.channel h s in record { connection = c; is = refl; channel = same; tells = subst (λ k. tells_unblock (f.channel k) ≡ true) same tells }
-      | false ↦ λ tells s. absurd (none-some h s)
-    ] refl e
 
 -- a channel that tells anything is open
 pub tells_open : (o : Option OpenChannel) → tells_unblock o ≡ true → is_some o ≡ true
 tells_open None e = absurd (true≢false (sym e))
 tells_open (Some c) e = refl
 
--- the item is the pulse for message i, which is received with this, on channel h
-record IsDueOn (n i : ℕ) (receipt : Receipt) (o : Option ℕ) (m : SentItem) : Type 0 where
-  channel : ℕ
-  is : o ≡ Some channel
-  first : receipt.unblocked ≡ false
-  made : record { item = unblock_item n receipt.priority i; channel = channel } ≡ m
-
-due_on_parts : (n i : ℕ) (receipt : Receipt) (o : Option ℕ) (m : SentItem) → due_pulse_on n i receipt o ≡ Some m → IsDueOn n i receipt o m
-due_on_parts n i receipt None m e = absurd (none-some m e)
-due_on_parts n i receipt (Some h) m e =
-    elim (receipt.unblocked) as (λ b. receipt.unblocked ≡ b → cond b None (Some (record { item = unblock_item n receipt.priority i; channel = h })) ≡ Some m → IsDueOn n i receipt (Some h) m) [
-      | true ↦ λ once s. absurd (none-some m s)
-      | false ↦ λ first s. record { channel = h; is = refl; first = first; made = same_Some _ m s }
-    ] refl e
-
 -- the item is the pulse for the message that the open call waits with, which is held on a channel with the unblock flag and has had none
 pub record IsDue (f : Facts) (o : Option OpenCall) (m : SentItem) : Type 0 where
-  pub waiting : OpenCall
-  pub is : o ≡ Some waiting
-  pub coid : ℕ
-  pub message : List ℕ
-  pub reply_buffer : List ℕ
+  pub send : OpenSend
+  pub is : o ≡ Some (Send send)
   pub receipt : Receipt
-  pub waits : waiting.wait ≡ Answer coid message reply_buffer (Some receipt)
-  pub guard : Guards f (f.connection coid) m.channel
+  pub held : send.receipt ≡ Some receipt
+  pub tells : tells_unblock (f.channel send.channel) ≡ true
   pub first : receipt.unblocked ≡ false
-  pub made : record { item = unblock_item f.number receipt.priority waiting.number; channel = m.channel } ≡ m
+  pub made : record { item = unblock_item f.number receipt.priority send.number; channel = send.channel } ≡ m
 
-due_waiting : (f : Facts) (i : ℕ) (w : Wait) (m : SentItem) → due_pulse_of_wait f i w ≡ Some m → IsDue f (Some (record { number = i; wait = w })) m
-due_waiting f i (Answer coid message reply_buffer None) m e = absurd (none-some m e)
-due_waiting f i (ForItem chid kind buffer) m e = absurd (none-some m e)
-due_waiting f i (Answer coid message reply_buffer (Some receipt)) m e =
-    let k = due_on_parts f.number i receipt (guard_over f (f.connection coid)) m e in
-    let channel = ap (λ x. x.channel) k.made in
-    record {
-      waiting = record { number = i; wait = Answer coid message reply_buffer (Some receipt) };
-      is = refl;
-      coid = coid;
-      message = message;
-      reply_buffer = reply_buffer;
-      receipt = receipt;
-      waits = refl;
-      guard = subst (λ h. Guards f (f.connection coid) h) channel (guards f (f.connection coid) k.channel k.is);
-      first = k.first;
-      made = ap (λ h. record { item = unblock_item f.number receipt.priority i; channel = h }) (sym channel) ∙ k.made;
-    }
+due_send : (f : Facts) (s : OpenSend) (m : SentItem) → pulse_for f s ≡ Some m → IsDue f (Some (Send s)) m
+due_send f s m e =
+    elim (s.receipt) as (λ r. s.receipt ≡ r → option_and_then (λ receipt. cond (is_some r && has_flag 2 (f.channel s.channel) && not receipt.unblocked) (Some (record { item = unblock_item f.number receipt.priority s.number; channel = s.channel })) None) r ≡ Some m → IsDue f (Some (Send s)) m) [
+      | None ↦ λ none at. absurd (none-some m at)
+      | Some r ↦ λ held.
+          elim (has_flag 2 (f.channel s.channel) && not r.unblocked) as (λ b. (has_flag 2 (f.channel s.channel) && not r.unblocked) ≡ b → cond b (Some (record { item = unblock_item f.number r.priority s.number; channel = s.channel })) None ≡ Some m → IsDue f (Some (Send s)) m) [
+            | true ↦ λ both at. let parts = and_parts _ _ both in record { send = s; is = refl; receipt = r; held = held; tells = parts.0; first = not-true _ parts.1; made = same_Some _ m at }
+            | false ↦ λ other at. absurd (none-some m at)
+          ] refl
+    ] refl e
 
 pub due_parts : (f : Facts) (o : Option OpenCall) (m : SentItem) → due_pulse_of_open f o ≡ Some m → IsDue f o m
 due_parts f None m e = absurd (none-some m e)
-due_parts f (Some o) m e = due_waiting f o.number o.wait m e
+due_parts f (Some (Send s)) m e = due_send f s m e
+due_parts f (Some (Receive r)) m e = absurd (none-some m e)
 
 -- it is a pulse
 pub due_is_pulse : (f : Facts) (thread : ℕ) (m : SentItem) → due_pulse f thread ≡ Some m → is_pulse m.item.what ≡ true
@@ -114,27 +80,27 @@ fellow_passes f t thread r = elim (is_of_same_process f t thread) as (λ b. cond
 
 pub call_laws : (thread : ℕ) → CallLaws (Unblock thread)
 call_laws thread = record {
-  asks_one = λ n o e. absurd (none-some o e);
+  asks_one = λ n t h o e. absurd (none-some o e);
   makes_one = λ f t m e. record {
     number = ap (λ x. x.item.number) (sym (due_parts f (f.open_call thread) m (sym (unblock_same f thread) ∙ e)).made);
-    waits = λ o a. absurd (none-some o a);
-    message = λ o a. absurd (none-some o a);
+    waits = λ t h o a. absurd (none-some o a);
+    message = λ t h o a. absurd (none-some o a);
   };
-  waits_write = λ n o e. refl;
+  waits_write = λ n t h o e. refl;
   unblocks_none = λ none. absurd (none-some thread (sym none));
   unblocks_one = λ v is f t m e.
       let k = due_parts f (f.open_call thread) m (sym (unblock_same f thread) ∙ e) in
       record {
-        waiting = k.waiting;
+        waiting = Send k.send;
         is = ap f.open_call (sym (same_Some thread v is)) ∙ k.is;
-        held = rw (k.waits) refl;
+        held = ap is_some k.held;
         what = ap (λ x. x.item.what) (sym k.made);
       };
 }
 
 -- this is so of a wait that is cancelled
-abbrev pub is_cancelled : Facts → ℕ → ℕ → Wait → Bool
-is_cancelled f thread v wait = eqb v thread && not (is_some (guard f wait))
+abbrev pub is_cancelled : Facts → ℕ → ℕ → OpenCall → Bool
+is_cancelled f thread v o = eqb v thread && not (guards f o)
 
 module _ (f : Facts) (t thread : ℕ) (p : Passes f t (Unblock thread)) where
   -- with no pulse due
@@ -153,7 +119,7 @@ module _ (f : Facts) (t thread : ℕ) (p : Passes f t (Unblock thread)) where
 
     told_received : (q : Received) → pulse_receipt f (due_pulse f thread) ≡ Some q → IsReceived f t (Unblock thread) q
     told_received = delivers_received f t (Some m.channel) (Unblock thread) m.item [] None (λ u. ap (λ d. other_ending f thread d u) is) (ap (pulse_receipt f) is) p.idle
-        (λ h s. unblock_same f thread ∙ subst (λ k. due_pulse f thread ≡ Some (record { item = m.item; channel = k })) (same_Some m.channel h s) is) refl
+        (λ h s. unblock_same f thread ∙ subst (λ k. due_pulse f thread ≡ Some (record { item = m.item; channel = k })) (same_Some m.channel h s) is) (λ h. refl)
 
   pub row_laws : RowLaws f t (Unblock thread)
   row_laws =
@@ -174,6 +140,6 @@ module _ (f : Facts) (t thread : ℕ) (p : Passes f t (Unblock thread)) where
           | Some m ↦ λ is. told_received m is
         ] refl;
         sends = λ m e sent. absurd (true≢false (sym (due_is_pulse f thread m (sym (unblock_same f thread) ∙ e)) ∙ sent));
-        makes_open = λ m e. let k = (due_parts f (f.open_call thread) m (sym (unblock_same f thread) ∙ e)).guard in tells_open (f.channel m.channel) k.tells;
+        makes_open = λ m e. let k = due_parts f (f.open_call thread) m (sym (unblock_same f thread) ∙ e) in subst (λ h. is_some (f.channel h) ≡ true) (ap (λ x. x.channel) k.made) (tells_open (f.channel k.send.channel) k.tells);
         writes_sent = λ w e. absurd (none-some w e);
       }

@@ -11,21 +11,21 @@ use Rattle.qtables.specs.declared.member.Member.{Member}
 use Rattle.qrules.specs.Private.Answer.{Outcome}
 use Rattle.qrules.specs.Private.Calls.{row_of}
 use Rattle.qrules.specs.Private.Cancelling.{is_on}
-use Rattle.qrules.specs.Private.Facts.{Facts, is_for_answer, is_for_receipt, threads_of}
+use Rattle.qrules.specs.Private.Facts.{Facts, threads_of}
 use Rattle.qrules.specs.Private.Lawful.{facts_of, IsLawful, with_event}
-use Rattle.qrules.specs.Private.Past.{connection_at, has_ending_of, call_by_now, is_ended, is_received, open_call, priority_of_item, copied_count_of, sender_of, with_receipt, attached_connection}
+use Rattle.qrules.specs.Private.Past.{connection_at, has_ending_of, call_by_now, is_ended, is_received, open_call, priority_of_item, copied_count_of, sender_of, attached_connection}
 use Rattle.qrules.specs.Private.Step.{is_cancelled, uncut_items, is_unread_send}
 use Rattle.qmodel.specs.Trace.{Trace}
 use Rattle.qmodel.specs.declared.call.Call.{Call}
 use Rattle.qmodel.specs.declared.call.Completion.{Completion}
 use Rattle.qmodel.specs.declared.open_call.OpenCall.{OpenCall}
-use Rattle.qmodel.specs.declared.open_call.Wait.{Wait}
-use Rattle.qmodel.specs.declared.open_call.Wait.TheVariants.{Answer, Item as ForItem}
+use Rattle.qmodel.specs.declared.open_call.OpenCall.TheVariants.{Receive, Send}
 use Rattle.qrules.proofs.Traces.Past.Ends.{ends_other, open_known, passes_of}
 use Rattle.qrules.proofs.Traces.Past.Items.{IsPending, item_at, item_message}
 use Rattle.qrules.proofs.Traces.Past.Laws.{IsSettled, is_settled}
 use Rattle.qbase.proofs.Lists.{any_never, any_only, filter_whole, none_of}
-use Rattle.qrules.proofs.Traces.Past.Numbers.{block_fresh, filled_answer, filled_settled, open_from, open_parts, open_thread, is_unblocked}
+use Rattle.qrules.proofs.Traces.Past.Numbers.{block_fresh}
+use Rattle.qrules.proofs.Traces.Past.Open.{filled_answer, filled_settled, open_from, open_parts, open_thread, is_unblocked}
 use Rattle.qrules.proofs.Traces.Properties.Answers.{over}
 use Rattle.qrules.proofs.Traces.Properties.Messages.{item_waits, pending_going}
 use Rattle.qrules.proofs.Traces.Properties.Sends.{block_over, block_sender, buffer_over}
@@ -35,32 +35,32 @@ use Rattle.qrules.proofs.Traces.Past.LiveSends.{over_attached}
 -- ---- a Send that isn't received
 
 -- a wait for an answer that isn't settled is for the receipt
-receipt_from : (w : Wait) → is_for_answer w ≡ true → is_settled w ≡ false → is_for_receipt w ≡ true
+receipt_from : (w : OpenCall) → is_for_answer w ≡ true → is_settled w ≡ false → is_for_receipt w ≡ true
 receipt_from (Answer coid message reply_buffer None) e s = refl
 receipt_from (Answer coid message reply_buffer (Some receipt)) e s = absurd (true≢false s)
 receipt_from (ForItem chid kind buffer) e s = absurd (true≢false (sym e))
 
-settled_read : (w : Wait) → is_settled w ≡ true → is_for_receipt w ≡ false
+settled_read : (w : OpenCall) → is_settled w ≡ true → is_for_receipt w ≡ false
 settled_read (Answer coid message reply_buffer None) e = absurd (true≢false (sym e))
 settled_read (Answer coid message reply_buffer (Some receipt)) e = refl
 settled_read (ForItem chid kind buffer) e = refl
 
 -- an open call that isn't one
-not_unread : (connection : ℕ → Option Connection) (h i : ℕ) (o : Option OpenCall) → IsSettled o → is_unread_send connection h i o ≡ false
+not_unread : (connection : ℕ → Option Connection) (h i : ℕ) (o : Option OpenCall) → IsSettled o → is_unread_send h i o ≡ false
 not_unread connection h i None s = refl
 not_unread connection h i (Some w) s =
-    let read : is_for_receipt w.wait ≡ false = settled_read w.wait (s w refl) in
-    elim (eqb w.number i) as (λ b. (b && is_for_receipt w.wait && is_on connection h w.wait) ≡ false) [ true ↦ rw read refl | false ↦ refl ]
+    let read : is_for_receipt w ≡ false = settled_read w (s w refl) in
+    elim (eqb (number_of w) i) as (λ b. (b && is_for_receipt w && is_on h w) ≡ false) [ true ↦ rw read refl | false ↦ refl ]
 
 -- one that is has that number
 pub record HasNumber (i : ℕ) (o : Option OpenCall) : Type 0 where
   pub waiting : OpenCall
   pub is : o ≡ Some waiting
-  pub number : waiting.number ≡ i
+  pub number : (number_of waiting) ≡ i
 
-unread_number : (connection : ℕ → Option Connection) (h i : ℕ) (o : Option OpenCall) → is_unread_send connection h i o ≡ true → HasNumber i o
+unread_number : (connection : ℕ → Option Connection) (h i : ℕ) (o : Option OpenCall) → is_unread_send h i o ≡ true → HasNumber i o
 unread_number connection h i None e = absurd (true≢false (sym e))
-unread_number connection h i (Some w) e = record { waiting = w; is = refl; number = eqb-true w.number i (and_parts _ _ (and_parts _ _ e).0).0 }
+unread_number connection h i (Some w) e = record { waiting = w; is = refl; number = eqb-true (number_of w) i (and_parts _ _ (and_parts _ _ e).0).0 }
 
 -- ---- a call that ends no Send which isn't received cancels none
 
@@ -70,7 +70,7 @@ EndsSettled f t c = (u : ℕ) (y : Completion) → (row_of f t c).ends u ≡ Som
 
 none_is_cancelled : (f : Facts) (t : ℕ) (c : Call) → EndsSettled f t c → (h i : ℕ) → is_cancelled f t c h i ≡ false
 none_is_cancelled f t c settled h i = any_never _ (threads_of f.roster) (λ s.
-    elim ((row_of f t c).ends s) as (λ y. (row_of f t c).ends s ≡ y → (is_unread_send f.connection h i (f.open_call s) && is_some y) ≡ false) [
+    elim ((row_of f t c).ends s) as (λ y. (row_of f t c).ends s ≡ y → (is_unread_send h i (f.open_call s) && is_some y) ≡ false) [
       | None ↦ λ e. and-false _
       | Some y ↦ λ e. rw (not_unread f.connection h i (f.open_call s) (settled s y e)) refl
     ] refl)
@@ -87,12 +87,12 @@ pub record IsSentBy (roster : List Member) (past : Trace) (h i : ℕ) : Type 0 w
   pub waiting : OpenCall
   pub sent : sender_of past i ≡ Some sender
   pub is_open : open_call roster past sender ≡ Some waiting
-  pub number : waiting.number ≡ i
-  pub unread : is_for_receipt waiting.wait ≡ true
-  pub on : is_on (λ k. connection_at roster past k) h waiting.wait ≡ true
+  pub number : (number_of waiting) ≡ i
+  pub unread : is_for_receipt waiting ≡ true
+  pub on : is_on h waiting ≡ true
 
 -- a wait over a connection is on that connection's channel
-on_over : (connection : ℕ → Option Connection) (h : ℕ) (w : Wait) (c : Connection) → is_for_answer w ≡ true → connection (over w) ≡ Some c → c.channel ≡ h → is_on connection h w ≡ true
+on_over : (connection : ℕ → Option Connection) (h : ℕ) (w : OpenCall) (c : Connection) → is_for_answer w ≡ true → connection (over w) ≡ Some c → c.channel ≡ h → is_on h w ≡ true
 on_over connection h (Answer coid message reply_buffer receipt) c e is at = rw is (eq-eqb c.channel h at)
 on_over connection h (ForItem chid kind buffer) c e is at = absurd (true≢false (sym e))
 
@@ -101,27 +101,27 @@ sent_by roster past h item l p message =
     let going : is_ended past item.number ≡ false = pending_going roster past h item p message in
     let w = item_waits roster past item.number (record { item = p.first; channel = h }) l p.made (ap is_pulse p.what ∙ message) going in
     let unread : is_received past item.number ≡ false = (or_parts _ _ p.stays).0 in
-    let none : copied_count_of past w.block.number ≡ None = none_of (copied_count_of past w.block.number) (subst (λ i. is_received past i ≡ false) (sym w.number) unread) in
+    let none : copied_count_of past (number_of w.block) ≡ None = none_of (copied_count_of past (number_of w.block)) (subst (λ i. is_received past i ≡ false) (sym (number_of w)) unread) in
     let k = block_over roster past w.thread w.block l w.is w.answer in
-    let same = same_Some k.made (record { item = p.first; channel = h }) (sym k.is_made ∙ ap (item_at roster past) w.number ∙ p.made) in
-    let answer : is_for_answer (call_by_now past w.block).wait ≡ true = filled_answer past w.block ∙ w.answer in
-    let is_open : open_call roster past w.thread ≡ Some (call_by_now past w.block) =
-    open_from roster past w.thread w.block w.is (subst (λ i. is_ended past i ≡ false) (sym w.number) going) ∙ ap (λ r. Some (with_receipt (priority_of_item roster past w.block.number) (is_unblocked roster past w.block.number) r (call_by_now past w.block))) none in
+    let same = same_Some k.made (record { item = p.first; channel = h }) (sym k.is_made ∙ ap (item_at roster past) (number_of w) ∙ p.made) in
+    let answer : is_for_answer (filled past w.block).wait ≡ true = filled_answer past w.block ∙ w.answer in
+    let is_open : open_call roster past w.thread ≡ Some (filled past w.block) =
+    open_from roster past w.thread w.block w.is (subst (λ i. is_ended past i ≡ false) (sym (number_of w)) going) ∙ ap (λ r. Some (with_receipt (priority_of_item roster past (number_of w.block)) (is_unblocked roster past (number_of w.block)) r (filled past w.block))) none in
     record {
       sender = w.thread;
-      waiting = call_by_now past w.block;
-      sent = subst (λ i. sender_of past i ≡ Some w.thread) w.number (block_sender past w.thread w.block w.is w.answer);
+      waiting = filled past w.block;
+      sent = subst (λ i. sender_of past i ≡ Some w.thread) (number_of w) (block_sender past w.thread w.block w.is w.answer);
       is_open = is_open;
-      number = w.number;
-      unread = receipt_from (call_by_now past w.block).wait answer (filled_settled past w.block ∙ block_fresh past w.thread w.block w.is ∙ ap not w.answer);
-      on = on_over (λ j. connection_at roster past j) h (call_by_now past w.block).wait k.connection answer (over_attached roster past w.thread (call_by_now past w.block) l is_open answer ∙ ap (λ j. attached_connection roster past j) (buffer_over _ w.block.wait) ∙ k.is_connection) (sym k.channel ∙ ap (λ m. m.channel) same);
+      number = (number_of w);
+      unread = receipt_from (filled past w.block).wait answer (filled_settled past w.block ∙ block_fresh roster past w.thread w.block w.is ∙ ap not w.answer);
+      on = on_over (λ j. connection_at roster past j) h (filled past w.block).wait k.connection answer (over_attached roster past w.thread (filled past w.block) l is_open answer ∙ ap (λ j. attached_connection roster past j) (buffer_over _ w.block) ∙ k.is_connection) (sym k.channel ∙ ap (λ m. m.channel) same);
     }
 
 -- ---- what an accepted call ends
 
 -- no other thread's open call is the Send of that number
-pub unread_elsewhere : (roster : List Member) (past : Trace) (h i s : ℕ) (waiting : OpenCall) (v : ℕ) → open_call roster past s ≡ Some waiting → waiting.number ≡ i → eqb v s ≡ false
-    → is_unread_send (λ j. connection_at roster past j) h i (open_call roster past v) ≡ false
+pub unread_elsewhere : (roster : List Member) (past : Trace) (h i s : ℕ) (waiting : OpenCall) (v : ℕ) → open_call roster past s ≡ Some waiting → (number_of waiting) ≡ i → eqb v s ≡ false
+    → is_unread_send h i (open_call roster past v) ≡ false
 unread_elsewhere roster past h i s waiting v is number differs = false_from_ne_true _ (λ e.
     let n = unread_number (λ j. connection_at roster past j) h i (open_call roster past v) e in
     eqb-false v s differs (open_thread roster past v s n.waiting waiting n.is is (n.number ∙ sym number)))
@@ -133,17 +133,17 @@ ends_sent roster past t c X h item l a p message =
     let f = facts_of roster past in
     let s = sent_by roster past h item l p message in
     let other : eqb s.sender t ≡ false = ne_eqb s.sender t (λ same. none-some s.waiting (sym (passes_of f t c X a).idle ∙ ap (open_call roster past) (sym same) ∙ s.is_open)) in
-    let ended : has_ending_of X s.waiting.number ≡ is_some ((row_of f t c).ends s.sender) = ends_other roster past t c X s.sender s.waiting l a other s.is_open in
-    let number : eqb s.waiting.number item.number ≡ true = eq-eqb _ _ s.number in
+    let ended : has_ending_of X (number_of s.waiting) ≡ is_some ((row_of f t c).ends s.sender) = ends_other roster past t c X s.sender s.waiting l a other s.is_open in
+    let number : eqb (number_of s.waiting) item.number ≡ true = eq-eqb _ _ s.number in
     let cancel : is_cancelled f t c h item.number ≡ is_some ((row_of f t c).ends s.sender) =
-    any_only (λ v. is_unread_send f.connection h item.number (f.open_call v) && is_some ((row_of f t c).ends v)) (threads_of roster) s.sender (known roster s.sender (open_known roster past s.sender s.waiting l s.is_open)) (λ v differs.
+    any_only (λ v. is_unread_send h item.number (f.open_call v) && is_some ((row_of f t c).ends v)) (threads_of roster) s.sender (known roster s.sender (open_known roster past s.sender s.waiting l s.is_open)) (λ v differs.
     ap (λ b. b && is_some ((row_of f t c).ends v)) (unread_elsewhere roster past h item.number s.sender s.waiting v s.is_open s.number differs))
     ∙ rw (s.is_open, number, s.unread, s.on) refl in
     ap (has_ending_of X) (sym s.number) ∙ ended ∙ sym cancel
 
 -- no open call has the number of a pulse
 pub pulse_unread : (roster : List Member) (past : Trace) (h : ℕ) (item : Item) (v : ℕ) → IsPending roster past h item → is_pulse item.what ≡ true
-    → is_unread_send (λ j. connection_at roster past j) h item.number (open_call roster past v) ≡ false
+    → is_unread_send h item.number (open_call roster past v) ≡ false
 pulse_unread roster past h item v p pulse = false_from_ne_true _ (λ e.
     let n = unread_number (λ j. connection_at roster past j) h item.number (open_call roster past v) e in
     let k = open_parts roster past v n.waiting n.is in
@@ -153,7 +153,7 @@ pulse_unread roster past h item v p pulse = false_from_ne_true _ (λ e.
 no_pulse_is_cancelled : (roster : List Member) (past : Trace) (t : ℕ) (c : Call) (h : ℕ) (item : Item) → IsPending roster past h item → is_pulse item.what ≡ true → is_cancelled (facts_of roster past) t c h item.number ≡ false
 no_pulse_is_cancelled roster past t c h item p pulse =
     let f = facts_of roster past in
-    any_never (λ v. is_unread_send f.connection h item.number (f.open_call v) && is_some ((row_of f t c).ends v)) (threads_of roster) (λ v.
+    any_never (λ v. is_unread_send h item.number (f.open_call v) && is_some ((row_of f t c).ends v)) (threads_of roster) (λ v.
     ap (λ b. b && is_some ((row_of f t c).ends v)) (pulse_unread roster past h item v p pulse))
 
 -- a pending item goes by an ending exactly where it is cancelled

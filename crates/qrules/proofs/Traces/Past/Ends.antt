@@ -20,8 +20,11 @@ use Rattle.qmodel.specs.declared.open_call.OpenCall.{OpenCall}
 use Rattle.qbase.proofs.Lists.{eqb_same, any_filter_map, any_filter_map_at, all_filter_map}
 use Rattle.qrules.proofs.Traces.Past.Laws.{Passes, RowLaws, IsOwn, IsOfOpen}
 use Rattle.qrules.proofs.Traces.Calls.{row_laws}
-use Rattle.qrules.proofs.Traces.Past.Numbers.{block_cases, open_parts, open_below, open_thread}
+use Rattle.qrules.proofs.Traces.Past.Numbers.{block_cases}
+use Rattle.qrules.proofs.Traces.Past.Open.{open_parts, open_below, open_thread}
 use Rattle.qrules.proofs.Traces.Rosters.{known}
+use Rattle.qrules.specs.Private.Facts.{number_of}
+use Rattle.qrules.specs.Private.Past.{block}
 
 -- ---- what an accepted call passed
 
@@ -63,7 +66,7 @@ ending_names f t c v y laws e =
 
 -- an ending of another thread is of a number of the past
 pub other_below : (roster : List Member) (past : Trace) (v : ℕ) (y : Completion) → IsOfOpen (facts_of roster past) v y → y.call ≤ length past
-other_below roster past v y h = let below : h.waiting.number ≤ length past = open_below roster past v h.waiting h.is in omega (arith, h.call)
+other_below roster past v y h = let below : (number_of h.waiting) ≤ length past = open_below roster past v h.waiting h.is in omega (arith, h.call)
 
 -- no ending of an accepted call refuses it
 pub accepted : (roster : List Member) (past : Trace) (t : ℕ) (c : Call) (X : List Completion) → Outcome true (facts_of roster past) t c X → refuses X (length past + 1) ≡ false
@@ -101,9 +104,9 @@ ended_below roster (e ∷ past) i l h = rw (names_below roster past e.thread e.c
 -- ---- threads of the roster
 
 -- a thread that waits is one of the roster
-pub block_known : (roster : List Member) (past : Trace) (u : ℕ) (b : OpenCall) → IsLawful roster past → newest_block past u ≡ Some b → is_some (member_at roster u) ≡ true
+pub block_known : (roster : List Member) (past : Trace) (u : ℕ) (b : OpenCall) → IsLawful roster past → block roster past u ≡ Some b → is_some (member_at roster u) ≡ true
 block_known roster [] u b l is = absurd (none-some b is)
-block_known roster (e ∷ past) u b l is = elim (block_cases e past u b is) [
+block_known roster (e ∷ past) u b l is = elim (block_cases roster e past u b is) [
   | inl h ↦ subst (λ v. is_some (member_at roster v) ≡ true) h.thread l.1
   | inr h ↦ block_known roster past u b l.0 h
 ]
@@ -115,22 +118,22 @@ open_known roster past u o l is = let k = open_parts roster past u o is in block
 
 -- of another thread's open call: just what its row says
 pub ends_other : (roster : List Member) (past : Trace) (t : ℕ) (c : Call) (X : List Completion) (u : ℕ) (o : OpenCall) → IsLawful roster past → Outcome true (facts_of roster past) t c X
-    → eqb u t ≡ false → open_call roster past u ≡ Some o → has_ending_of X o.number ≡ is_some ((row_of (facts_of roster past) t c).ends u)
+    → eqb u t ≡ false → open_call roster past u ≡ Some o → has_ending_of X (number_of o) ≡ is_some ((row_of (facts_of roster past) t c).ends u)
 ends_other roster past t c X u o l a other is =
     let f = facts_of roster past in
     let laws = laws_of (facts_of roster past) t c X a in
     rw (a.1) (
-    elim ((row_of f t c).ends u) as (λ z. (row_of f t c).ends u ≡ z → list_any (λ x. eqb x.call o.number) (filter_map (ending f t c) (threads_of roster)) ≡ is_some z) [
+    elim ((row_of f t c).ends u) as (λ z. (row_of f t c).ends u ≡ z → list_any (λ x. eqb x.call (number_of o)) (filter_map (ending f t c) (threads_of roster)) ≡ is_some z) [
       | None ↦ λ e. any_filter_map _ (ending f t c) (threads_of roster) (λ v y ev.
           elim (ending_names f t c v y laws ev) [
-            | inl h ↦ let below : o.number ≤ length past = open_below roster past u o is in ne_eqb _ _ (λ s. omega (arith, h.names.call))
+            | inl h ↦ let below : (number_of o) ≤ length past = open_below roster past u o is in ne_eqb _ _ (λ s. omega (arith, h.names.call))
             | inr h ↦ ne_eqb _ _ (λ s.
                 let same : v ≡ u = open_thread roster past v u h.names.waiting o h.names.is is (sym h.names.call ∙ s) in
                 none-some y (sym e ∙ ap (λ w. (row_of f t c).ends w) (sym same) ∙ h.is))
           ])
       | Some y ↦ λ e.
           let n = laws.ends_open u y e in
-          let names : n.waiting.number ≡ o.number = ap (λ x. x.number) (same_Some n.waiting o (sym n.is ∙ is)) in
+          let names : (number_of n.waiting) ≡ (number_of o) = ap number_of (same_Some n.waiting o (sym n.is ∙ is)) in
           any_filter_map_at _ (ending f t c) (threads_of roster) u y (known roster u (open_known roster past u o l is)) (rw other e) (eq-eqb _ _ (n.call ∙ names))
     ] refl)
 

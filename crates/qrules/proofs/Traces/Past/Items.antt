@@ -8,7 +8,6 @@ use Rattle.std.proofs.lemmas.Option.{same_Some, none-some}
 use Rattle.qqueue.specs.declared.item.Item.{Item}
 use Rattle.qqueue.specs.Best.{is_pulse}
 use Rattle.qtables.specs.declared.member.Member.{Member}
-use Rattle.qrules.specs.Private.Facts.{is_for_answer}
 use Rattle.qrules.specs.Private.Headline.CopiedExactly.{call_at}
 use Rattle.qrules.specs.Private.Lawful.{facts_of}
 use Rattle.qrules.specs.Private.Past.{items_by_now, is_accepted, item_of, items, item_among, priority_before, priority_of_made, priority_of_item, is_destroyed, is_gone, pending_items, newest_block, current_priority}
@@ -22,6 +21,10 @@ use Rattle.qrules.proofs.Traces.Past.Laws.{MakesItem}
 use Rattle.qrules.proofs.Traces.Calls.{call_laws}
 use Rattle.qrules.proofs.Traces.Past.Numbers.{call_below, call_earlier, call_newest, block_asked}
 use Rattle.qrules.proofs.Traces.Past.CurrentPriority.{SetsNone, among_now, channel_now, now, staying_now, worth_beyond, worth_newest, worth_stays}
+use Rattle.qrules.specs.Private.Past.{block}
+use Rattle.qmodel.specs.OpenCalls.{number_of}
+use Rattle.qrules.specs.Private.Facts.{is_for_answer}
+use Rattle.std.proofs.Common.{append-nil}
 
 -- ---- the item of a number
 
@@ -68,18 +71,18 @@ pub item_below : (roster : List Member) (past : Trace) (i : ℕ) (m : SentItem) 
 item_below roster past i m is = let k = item_made roster past i m is in call_below past i k.call k.is
 
 -- whoever waits under the number of an item waits for an answer
-pub item_answer : (roster : List Member) (past : Trace) (u : ℕ) (m : SentItem) (b : OpenCall) → item_at roster past b.number ≡ Some m → newest_block past u ≡ Some b → is_for_answer b.wait ≡ true
+pub item_answer : (roster : List Member) (past : Trace) (u : ℕ) (m : SentItem) (b : OpenCall) → item_at roster past (number_of b) ≡ Some m → block roster past u ≡ Some b → is_for_answer b ≡ true
 item_answer roster past u m b at is =
-    let k = item_made roster past b.number m at in
-    let a = block_asked past u b is in
-    k.makes_it.waits b (subst (λ c. asks b.number c ≡ Some b) (same_Some a.call k.call (sym a.is ∙ k.is)) a.asks_it)
+    let k = item_made roster past (number_of b) m at in
+    let a = block_asked roster past u b is in
+    k.makes_it.waits u a.channel b (subst (λ c. asks (number_of b) u a.channel c ≡ Some b) (same_Some a.call k.call (sym a.is ∙ k.is)) a.asks_it)
 
 -- and the item is a message
-pub item_message : (roster : List Member) (past : Trace) (u : ℕ) (m : SentItem) (b : OpenCall) → item_at roster past b.number ≡ Some m → newest_block past u ≡ Some b → is_pulse m.item.what ≡ false
+pub item_message : (roster : List Member) (past : Trace) (u : ℕ) (m : SentItem) (b : OpenCall) → item_at roster past (number_of b) ≡ Some m → block roster past u ≡ Some b → is_pulse m.item.what ≡ false
 item_message roster past u m b at is =
-    let k = item_made roster past b.number m at in
-    let a = block_asked past u b is in
-    k.makes_it.message b (subst (λ c. asks b.number c ≡ Some b) (same_Some a.call k.call (sym a.is ∙ k.is)) a.asks_it)
+    let k = item_made roster past (number_of b) m at in
+    let a = block_asked roster past u b is in
+    k.makes_it.message u a.channel b (subst (λ c. asks (number_of b) u a.channel c ≡ Some b) (same_Some a.call k.call (sym a.is ∙ k.is)) a.asks_it)
 
 -- ---- all items
 
@@ -131,6 +134,18 @@ found_earlier roster e past i l = among_other (items roster past) (option_to_lis
 found_newest : (roster : List Member) (e : Event) (past : Trace) (m : SentItem) → item_of roster e past ≡ Some m → item_among (items roster (e ∷ past)) (length past + 1) ≡ Some m
 found_newest roster e past m is = rw is (among_last (items roster past) m (length past + 1)
     (all_more (λ x. x.item.number ≤ length past) (λ x. x.item.number ≢ length past + 1) (items roster past) (items_below roster past) (λ x l same. omega arith)) (made_by roster e past m is).number)
+
+none_among : (made : List SentItem) (i : ℕ) → AllByRecursion (λ m. m.item.number ≢ i) made → item_among made i ≡ None
+none_among [] i h = refl
+none_among (m ∷ made) i h = rw (ne_eqb m.item.number i h.0) (none_among made i h.1)
+
+-- the item that an event makes, or none, is the one of its number
+pub found_there : (roster : List Member) (e : Event) (past : Trace) → item_among (items roster (e ∷ past)) (length past + 1) ≡ item_of roster e past
+found_there roster e past = elim (item_of roster e past) as (λ o. item_of roster e past ≡ o → item_among (items roster (e ∷ past)) (length past + 1) ≡ o) [
+  | None ↦ λ none. rw none (ap (λ made. item_among made (length past + 1)) (append-nil (items roster past)) ∙ none_among (items roster past) (length past + 1)
+      (all_more (λ x. x.item.number ≤ length past) (λ x. x.item.number ≢ length past + 1) (items roster past) (items_below roster past) (λ x l same. omega arith)))
+  | Some m ↦ λ some. found_newest roster e past m some
+] refl
 
 pub item_found : (roster : List Member) (past : Trace) (i : ℕ) (m : SentItem) → item_at roster past i ≡ Some m → item_among (items roster past) i ≡ Some m
 item_found roster [] i m is = absurd (none-some m is)

@@ -7,8 +7,7 @@ use Rattle.qqueue.specs.declared.item.Kind.{Kind}
 use Rattle.qqueue.specs.declared.item.What.TheVariants as what
 use Rattle.qrules.specs.Private.Answer.{ending}
 use Rattle.qrules.specs.Private.Calls.{row_of}
-use Rattle.qrules.specs.Private.Facts.{Facts, sender, is_for_answer}
-use Rattle.qrules.specs.Private.Laws.{is_for_reply}
+use Rattle.qrules.specs.Private.Facts.{Facts, sender}
 use Rattle.qrules.specs.Private.Past.{is_failure, is_unblock_for}
 use Rattle.qrules.specs.Private.Receiving.{sender_for}
 use Rattle.qrules.specs.Private.Effects.{asks, makes, unblocks, writes}
@@ -18,40 +17,46 @@ use Rattle.qmodel.specs.declared.call.Call.{Call}
 use Rattle.qmodel.specs.declared.call.Call.TheVariants.{ChannelDestroy, Shutdown, Unblock, ConnectDetach}
 use Rattle.qmodel.specs.declared.call.Completion.{Completion}
 use Rattle.qmodel.specs.declared.open_call.OpenCall.{OpenCall}
-use Rattle.qmodel.specs.declared.open_call.Wait.{Wait}
-use Rattle.qmodel.specs.declared.open_call.Wait.TheVariants.{Answer, Item as ForItem}
+use Rattle.qmodel.specs.declared.open_call.OpenCall.TheVariants.{Receive, Send}
 use Rattle.qrules.specs.Rule.{Transfer}
 use Rattle.qrules.specs.Past.{ReceivedItem}
+use Rattle.qrules.specs.Private.Facts.{number_of}
+use Rattle.qrules.specs.Private.Facts.{is_for_answer}
+use Rattle.qmodel.specs.OpenCalls.{thread_of}
+use Rattle.qrules.specs.Private.Laws.{is_for_reply}
+use Rattle.qrules.specs.Private.Cancelling.{is_on}
 
 -- ---- a call by itself
 
--- the wait is for an item, or for the answer to a message that was received
-abbrev pub is_settled : Wait → Bool
-is_settled (Answer coid message reply_buffer receipt) = is_some receipt
-is_settled (ForItem chid kind buffer) = true
+-- the open call is a receive, or a Send whose message is received
+abbrev pub is_settled : OpenCall → Bool
+is_settled (Send s) = is_some s.receipt
+is_settled (Receive r) = true
 
 -- a call that begins to wait has its own number, and no receipt of it
-pub record BeginsToWait (n : ℕ) (o : OpenCall) : Type 0 where
-  pub number : o.number ≡ n
-  pub fresh : is_settled o.wait ≡ not (is_for_answer o.wait)
+pub record BeginsToWait (n t h : ℕ) (o : OpenCall) : Type 0 where
+  pub number : number_of o ≡ n
+  pub thread : thread_of o ≡ t
+  pub fresh : is_settled o ≡ not (is_for_answer o)
+  pub channel : is_for_answer o ≡ true → is_on h o ≡ true
 
 -- an item has the number of the call that makes it, and where such a call waits, it is for the answer to a message
 pub record MakesItem (n : ℕ) (c : Call) (m : SentItem) : Type 0 where
   pub number : m.item.number ≡ n
-  pub waits : (o : OpenCall) → asks n c ≡ Some o → is_for_answer o.wait ≡ true
-  pub message : (o : OpenCall) → asks n c ≡ Some o → is_pulse m.item.what ≡ false
+  pub waits : (t h : ℕ) (o : OpenCall) → asks n t h c ≡ Some o → is_for_answer o ≡ true
+  pub message : (t h : ℕ) (o : OpenCall) → asks n t h c ≡ Some o → is_pulse m.item.what ≡ false
 
 -- the item is the unblock pulse for what thread v is blocked in, a message that is received
 pub record IsUnblock (f : Facts) (v : ℕ) (m : SentItem) : Type 0 where
   pub waiting : OpenCall
   pub is : f.open_call v ≡ Some waiting
-  pub held : is_for_reply waiting.wait ≡ true
-  pub what : m.item.what ≡ what.Unblock waiting.number
+  pub held : is_for_reply waiting ≡ true
+  pub what : m.item.what ≡ what.Unblock (number_of waiting)
 
 pub record CallLaws (c : Call) : Type 0 where
-  pub asks_one : (n : ℕ) (o : OpenCall) → asks n c ≡ Some o → BeginsToWait n o
+  pub asks_one : (n t h : ℕ) (o : OpenCall) → asks n t h c ≡ Some o → BeginsToWait n t h o
   pub makes_one : (f : Facts) (t : ℕ) (m : SentItem) → makes f t c ≡ Some m → MakesItem f.number c m
-  pub waits_write : (n : ℕ) (o : OpenCall) → asks n c ≡ Some o → writes c ≡ None
+  pub waits_write : (n t h : ℕ) (o : OpenCall) → asks n t h c ≡ Some o → writes c ≡ None
   pub unblocks_none : unblocks c ≡ None → (f : Facts) (t : ℕ) (m : SentItem) → makes f t c ≡ Some m → (i : ℕ) → is_unblock_for i m.item.what ≡ false
   pub unblocks_one : (v : ℕ) → unblocks c ≡ Some v → (f : Facts) (t : ℕ) (m : SentItem) → makes f t c ≡ Some m → IsUnblock f v m
 
@@ -81,12 +86,12 @@ pub record IsOwn (n t : ℕ) (y : Completion) : Type 0 where
 pub record IsOfOpen (f : Facts) (u : ℕ) (y : Completion) : Type 0 where
   pub waiting : OpenCall
   pub is : f.open_call u ≡ Some waiting
-  pub call : y.call ≡ waiting.number
+  pub call : y.call ≡ (number_of waiting)
   pub thread : y.thread ≡ u
 
 -- the open call isn't a Send whose message isn't received
 abbrev pub IsSettled : Option OpenCall → Type 0
-IsSettled o = (w : OpenCall) → o ≡ Some w → is_settled w.wait ≡ true
+IsSettled o = (w : OpenCall) → o ≡ Some w → is_settled w ≡ true
 
 -- thread u receives this, by what the row says
 pub record IsReceipt (row : Row) (u : ℕ) (p : ReceivedItem) : Type 0 where
@@ -99,7 +104,7 @@ pub record IsReceipt (row : Row) (u : ℕ) (p : ReceivedItem) : Type 0 where
 -- the item that is received is the one that this call makes; only a message has a sender, which waits for its answer
 pub record IsNew (f : Facts) (t : ℕ) (c : Call) (r : Received) (item : Item) : Type 0 where
   pub made : makes f t c ≡ Some (record { item = item; channel = r.channel })
-  pub sender_is : r.sender ≡ option_map (λ o. t) (asks f.number c)
+  pub sender_is : r.sender ≡ option_map (λ o. t) (asks f.number t r.channel c)
 
 -- the item that is received is the best that was pending
 pub record IsBest (f : Facts) (r : Received) (item : Item) : Type 0 where

@@ -7,23 +7,22 @@ use Rattle.qtables.specs.Members.{member_at}
 use Rattle.qtables.specs.declared.member.Member.{Member}
 use Rattle.qrules.specs.Private.Calls.{row_of}
 use Rattle.qrules.specs.Private.Cancelling.{is_over}
-use Rattle.qrules.specs.Private.Facts.{Facts, is_for_answer}
+use Rattle.qrules.specs.Private.Facts.{Facts}
 use Rattle.qrules.specs.Private.Effects.{asks, attaches, detaches, makes, unblocks, writes}
 use Rattle.qrules.specs.Private.Lawful.{facts_of, IsLawful}
 use Rattle.qrules.specs.Private.Past.{attached_connection, connection_at, open_call}
 use Rattle.qrules.specs.Private.Rows.{names}
-use Rattle.qrules.specs.Private.Step.{after_receipt, after_unblock, after_write, connection_after, open_call_after, put_at, unblocked_wait, unless}
+use Rattle.qrules.specs.Private.Step.{after_receipt, after_unblock, after_write, connection_after, open_call_after, put_at, unless}
 use Rattle.qmodel.specs.Trace.{Trace}
 use Rattle.qmodel.specs.declared.call.Call.{Call}
 use Rattle.qmodel.specs.declared.call.Call.TheVariants.{ConnectDetach}
 use Rattle.qmodel.specs.declared.open_call.OpenCall.{OpenCall}
-use Rattle.qmodel.specs.declared.open_call.Wait.{Wait}
-use Rattle.qmodel.specs.declared.open_call.Wait.TheVariants.{Answer, Item as ForItem}
+use Rattle.qmodel.specs.declared.open_call.OpenCall.TheVariants.{Receive, Send}
 use Rattle.qrules.proofs.Traces.Past.Before.{Lasts, before_other, before_receipt, unless_is}
 use Rattle.qrules.proofs.Traces.Past.Connections.{connection_accepted, connection_refused, live_attached}
 use Rattle.qrules.proofs.Traces.Past.Ends.{passes_of, refused}
 use Rattle.qrules.proofs.Traces.Past.Laws.{Passes}
-use Rattle.qrules.proofs.Traces.Past.Numbers.{buffer_answer, held_for_answer}
+use Rattle.qrules.proofs.Traces.Past.Open.{buffer_answer, held_for_answer}
 use Rattle.qrules.proofs.Traces.Past.OpenCalls.{open_accepted, open_refused}
 use Rattle.qrules.proofs.Traces.Properties.Answers.{over, sends_over}
 use Rattle.qrules.proofs.Traces.Properties.Sends.{buffer_over, held_over}
@@ -35,20 +34,20 @@ detaches_only : (n : ℕ) (c : Call) (b : OpenCall) (k : ℕ) → names (detache
 detaches_only n (ConnectDetach coid) b k d e = none-some b e
 detaches_only n c b k d e = absurd (true≢false (sym d))
 
-is_over_it : (k : ℕ) (w : Wait) → is_for_answer w ≡ true → eqb (over w) k ≡ true → is_over k w ≡ true
+is_over_it : (k : ℕ) (w : OpenCall) → is_for_answer w ≡ true → eqb (over w) k ≡ true → is_over k w ≡ true
 is_over_it k (Answer coid message reply_buffer receipt) e same = same
 is_over_it k (ForItem chid kind buffer) e same = absurd (true≢false (sym e))
 
 -- it ends each Send over that connection
-detaching_ends : (f : Facts) (t : ℕ) (c : Call) (u : ℕ) (o : OpenCall) → f.open_call u ≡ Some o → is_for_answer o.wait ≡ true → names (detaches c) (over o.wait) ≡ true → is_some ((row_of f t c).ends u) ≡ true
+detaching_ends : (f : Facts) (t : ℕ) (c : Call) (u : ℕ) (o : OpenCall) → f.open_call u ≡ Some o → is_for_answer o ≡ true → names (detaches c) (over o) ≡ true → is_some ((row_of f t c).ends u) ≡ true
 detaching_ends f t (ConnectDetach coid) u o is answer d =
-    let over_it : is_over coid o.wait ≡ true = is_over_it coid o.wait answer (eq-eqb (over o.wait) coid (sym (eqb-true coid (over o.wait) d))) in
+    let over_it : is_over coid o ≡ true = is_over_it coid o answer (eq-eqb (over o) coid (sym (eqb-true coid (over o) d))) in
     rw (is, over_it) refl
 detaching_ends f t c u o is answer d = absurd (true≢false (sym d))
 
 -- ---- what lasts of a wait
 
-unblocked_over : (w : Wait) → over (unblocked_wait w) ≡ over w
+unblocked_over : (w : OpenCall) → over (unblocked_call w) ≡ over w
 unblocked_over (Answer coid message reply_buffer None) = refl
 unblocked_over (Answer coid message reply_buffer (Some receipt)) = refl
 unblocked_over (ForItem chid kind buffer) = refl
@@ -56,7 +55,7 @@ unblocked_over (ForItem chid kind buffer) = refl
 lasts_over : Lasts over
 lasts_over = record { held = held_over; buffer = buffer_over; unblocked = unblocked_over }
 
-unblocked_answer : (w : Wait) → is_for_answer (unblocked_wait w) ≡ is_for_answer w
+unblocked_answer : (w : OpenCall) → is_for_answer (unblocked_call w) ≡ is_for_answer w
 unblocked_answer (Answer coid message reply_buffer None) = refl
 unblocked_answer (Answer coid message reply_buffer (Some receipt)) = refl
 unblocked_answer (ForItem chid kind buffer) = refl
@@ -74,40 +73,40 @@ stays_open {A} false (Some x) n at h e never = elim (eqb h n) as (λ b. is_some 
 
 -- each open Send goes over a live connection
 abbrev pub GoLive : Facts → Type 0
-GoLive f = (u : ℕ) (o : OpenCall) → f.open_call u ≡ Some o → is_for_answer o.wait ≡ true → is_some (f.connection (over o.wait)) ≡ true
+GoLive f = (u : ℕ) (o : OpenCall) → f.open_call u ≡ Some o → is_for_answer o ≡ true → is_some (f.connection (over o)) ≡ true
 
-live_after : (f : Facts) (t : ℕ) (c : Call) → Passes f t c → GoLive f → (u : ℕ) (o : OpenCall) → open_call_after f t c u ≡ Some o → is_for_answer o.wait ≡ true → is_some (connection_after f t c (over o.wait)) ≡ true
+live_after : (f : Facts) (t : ℕ) (c : Call) → Passes f t c → GoLive f → (u : ℕ) (o : OpenCall) → open_call_after f t c u ≡ Some o → is_for_answer o ≡ true → is_some (connection_after f t c (over o)) ≡ true
 live_after f t c p live u o is answer =
     let R = row_of f t c in
     let there = λ (k : ℕ) (some : is_some (f.connection k) ≡ true) (never : names (detaches c) k ≡ true → ⊥). stays_open (names (detaches c) k) (attaches (member_at f.roster t) c) f.number f.connection k some never in
     elim (eqb u t) as (λ b. cond b (unless (is_some R.own) (after_receipt R.receipt u (asks f.number c))) (unless (is_some (R.ends u)) (after_unblock (makes f t c) (unblocks c) u (after_receipt R.receipt u (after_write f (writes c) u (f.open_call u))))) ≡ Some o
-    → is_some (connection_after f t c (over o.wait)) ≡ true) [
+    → is_some (connection_after f t c (over o)) ≡ true) [
       | true ↦ λ e.
           let x = unless_is (is_some R.own) (after_receipt R.receipt u (asks f.number c)) o e in
           let b = before_receipt over held_over R.receipt u (asks f.number c) o x.1 in
           let a = before_receipt is_for_answer held_for_answer R.receipt u (asks f.number c) o x.1 in
-          let began : is_for_answer b.call.wait ≡ true = ap (λ (w : OpenCall). is_for_answer w.wait) (same_Some b.call a.call (sym b.is ∙ a.is)) ∙ a.same ∙ answer in
+          let began : is_for_answer b.call ≡ true = ap (λ (w : OpenCall). is_for_answer w) (same_Some b.call a.call (sym b.is ∙ a.is)) ∙ a.same ∙ answer in
           let s = sends_over f t c b.call p b.is began in
-          ap (λ k. is_some (connection_after f t c k)) (sym b.same) ∙ there (over b.call.wait) (ap is_some s.is_connection) (λ d. detaches_only f.number c b.call (over b.call.wait) d b.is)
+          ap (λ k. is_some (connection_after f t c k)) (sym b.same) ∙ there (over b.call) (ap is_some s.is_connection) (λ d. detaches_only f.number c b.call (over b.call) d b.is)
       | false ↦ λ e.
           let x = unless_is (is_some (R.ends u)) (after_unblock (makes f t c) (unblocks c) u (after_receipt R.receipt u (after_write f (writes c) u (f.open_call u)))) o e in
           let d = before_other over lasts_over f t c u o x.1 in
           let a = before_other is_for_answer lasts_answer f t c u o x.1 in
-          let waited : is_for_answer d.call.wait ≡ true = ap (λ (w : OpenCall). is_for_answer w.wait) (same_Some d.call a.call (sym d.is ∙ a.is)) ∙ a.same ∙ answer in
-          ap (λ k. is_some (connection_after f t c k)) (sym d.same) ∙ there (over d.call.wait) (live u d.call d.is waited) (λ named. true≢false (sym (detaching_ends f t c u d.call d.is waited named) ∙ x.0))
+          let waited : is_for_answer d.call ≡ true = ap (λ (w : OpenCall). is_for_answer w) (same_Some d.call a.call (sym d.is ∙ a.is)) ∙ a.same ∙ answer in
+          ap (λ k. is_some (connection_after f t c k)) (sym d.same) ∙ there (over d.call) (live u d.call d.is waited) (λ named. true≢false (sym (detaching_ends f t c u d.call d.is waited named) ∙ x.0))
     ] is
 
 pub live_over : (roster : List Member) (past : Trace) → IsLawful roster past → GoLive (facts_of roster past)
 live_over roster [] l u o is answer = absurd (none-some o is)
 live_over roster (e ∷ past) l u o is answer = elim (l.2) [
   | inl a ↦
-      ap is_some (connection_accepted roster past e.thread e.call e.endings (over o.wait) l.0 a)
+      ap is_some (connection_accepted roster past e.thread e.call e.endings (over o) l.0 a)
       ∙ live_after (facts_of roster past) e.thread e.call (passes_of (facts_of roster past) e.thread e.call e.endings a) (live_over roster past l.0) u o (sym (open_accepted roster past e.thread e.call e.endings u l.0 l.1 a) ∙ is) answer
   | inr a ↦
-      ap is_some (connection_refused roster e past (over o.wait) (refused roster past e.thread e.call e.endings a))
+      ap is_some (connection_refused roster e past (over o) (refused roster past e.thread e.call e.endings a))
       ∙ live_over roster past l.0 u o (sym (open_refused roster past e.thread e.call e.endings u a) ∙ is) answer
 ]
 
 -- the connection of an open Send is the one that was attached
-pub over_attached : (roster : List Member) (past : Trace) (u : ℕ) (o : OpenCall) → IsLawful roster past → open_call roster past u ≡ Some o → is_for_answer o.wait ≡ true → connection_at roster past (over o.wait) ≡ attached_connection roster past (over o.wait)
-over_attached roster past u o l is answer = live_attached roster past (over o.wait) (live_over roster past l u o is answer)
+pub over_attached : (roster : List Member) (past : Trace) (u : ℕ) (o : OpenCall) → IsLawful roster past → open_call roster past u ≡ Some o → is_for_answer o ≡ true → connection_at roster past (over o) ≡ attached_connection roster past (over o)
+over_attached roster past u o l is answer = live_attached roster past (over o) (live_over roster past l u o is answer)

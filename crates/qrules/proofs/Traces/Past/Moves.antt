@@ -49,15 +49,15 @@ out_map (Some r) h g items same =
 
 -- what becomes of one item where a priority is set
 abbrev pub mover : Facts → ℕ → PriorityChange → Item → Item
-mover f h s item = cond (is_unread_send f.connection h item.number (f.open_call s.thread)) (with_priority s.priority item) item
+mover f h s item = cond (is_unread_send h item.number (f.open_call s.thread)) (with_priority s.priority item) item
 
 -- it has its number
 pub mover_number : (f : Facts) (h : ℕ) (s : PriorityChange) (item : Item) → (mover f h s item).number ≡ item.number
-mover_number f h s item = elim (is_unread_send f.connection h item.number (f.open_call s.thread)) as (λ b. (cond b (with_priority s.priority item) item).number ≡ item.number) [ true ↦ refl | false ↦ refl ]
+mover_number f h s item = elim (is_unread_send h item.number (f.open_call s.thread)) as (λ b. (cond b (with_priority s.priority item) item).number ≡ item.number) [ true ↦ refl | false ↦ refl ]
 
 -- and is what it was
 pub mover_what : (f : Facts) (h : ℕ) (s : PriorityChange) (item : Item) → (mover f h s item).what ≡ item.what
-mover_what f h s item = elim (is_unread_send f.connection h item.number (f.open_call s.thread)) as (λ b. (cond b (with_priority s.priority item) item).what ≡ item.what) [ true ↦ refl | false ↦ refl ]
+mover_what f h s item = elim (is_unread_send h item.number (f.open_call s.thread)) as (λ b. (cond b (with_priority s.priority item) item).what ≡ item.what) [ true ↦ refl | false ↦ refl ]
 
 pub moved_left : (f : Facts) (t : ℕ) (c : Call) (h : ℕ) (s : Option PriorityChange) (items : List Item) → uncut_items f t c h (items_with_priority_set f h s items) ≡ items_with_priority_set f h s (uncut_items f t c h items)
 moved_left f t c h None items = refl
@@ -87,7 +87,7 @@ pub all_moved : (P : Item → Type 0) (f : Facts) (h : ℕ) (s : Option Priority
 all_moved P f h None items any all = all
 all_moved P f h (Some s) items any all =
     all_map P (mover f h s) items (all_more P (λ item. P (mover f h s item)) items all (λ item p.
-    elim (is_unread_send f.connection h item.number (f.open_call s.thread)) as (λ b. P (cond b (with_priority s.priority item) item)) [ true ↦ any s.priority item p | false ↦ p ]))
+    elim (is_unread_send h item.number (f.open_call s.thread)) as (λ b. P (cond b (with_priority s.priority item) item)) [ true ↦ any s.priority item p | false ↦ p ]))
 
 -- ---- what is pending moves so
 
@@ -101,7 +101,7 @@ moved_one roster past t c X h s item l a set at stays =
     elim (is_pulse item.what) as (λ b. is_pulse item.what ≡ b → now (e ∷ past) item ≡ mover f h s (now past item)) [
       | true ↦ λ pulse.
           let still : current_priority (e ∷ past) item ≡ current_priority past item = rw pulse refl in
-          let unmoved : is_unread_send f.connection h item.number (f.open_call s.thread) ≡ false = pulse_unread roster past h item s.thread p pulse in
+          let unmoved : is_unread_send h item.number (f.open_call s.thread) ≡ false = pulse_unread roster past h item s.thread p pulse in
           ap (λ q. with_priority q item) still ∙ rw unmoved refl
       | false ↦ λ message.
           let k = sent_by roster past h item l p message in
@@ -113,12 +113,12 @@ moved_one roster past t c X h s item l a set at stays =
           ap (λ q. with_priority q item) is_worth ∙ (
           elim (eqb s.thread k.sender) as (λ b. eqb s.thread k.sender ≡ b → with_priority (unwrap_or (cond b (Some s.priority) None) (current_priority past item)) item ≡ mover f h s (now past item)) [
             | true ↦ λ same.
-                let number : eqb k.waiting.number item.number ≡ true = eq-eqb _ _ k.number in
-                let waits : is_unread_send f.connection h item.number (f.open_call s.thread) ≡ true =
-                ap (λ u. is_unread_send f.connection h item.number (f.open_call u)) (eqb-true s.thread k.sender same) ∙ rw (k.is_open, number, k.unread, k.on) refl in
+                let number : eqb (number_of k.waiting) item.number ≡ true = eq-eqb _ _ k.number in
+                let waits : is_unread_send h item.number (f.open_call s.thread) ≡ true =
+                ap (λ u. is_unread_send h item.number (f.open_call u)) (eqb-true s.thread k.sender same) ∙ rw (k.is_open, number, k.unread, k.on) refl in
                 rw waits refl
             | false ↦ λ other.
-                let waits : is_unread_send f.connection h item.number (f.open_call s.thread) ≡ false = unread_elsewhere roster past h item.number k.sender k.waiting s.thread k.is_open k.number other in
+                let waits : is_unread_send h item.number (f.open_call s.thread) ≡ false = unread_elsewhere roster past h item.number k.sender k.waiting s.thread k.is_open k.number other in
                 rw waits refl
           ] refl)
     ] refl

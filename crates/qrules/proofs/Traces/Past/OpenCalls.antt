@@ -13,7 +13,7 @@ use Rattle.qrules.specs.Private.Answer.{Outcome}
 use Rattle.qrules.specs.Private.Calls.{row_of}
 use Rattle.qrules.specs.Private.Facts.{Facts, sender, threads_of}
 use Rattle.qrules.specs.Private.Lawful.{facts_of, IsLawful, with_event}
-use Rattle.qrules.specs.Private.Past.{call_by_now, refuses, has_ending_of, is_ended, is_received, item_of, copied_count_of, priority_of_item, newest_block, wait_with_receipt, unless_ended, with_receipt, open_call, unblocked_among}
+use Rattle.qrules.specs.Private.Past.{call_by_now, refuses, has_ending_of, is_ended, is_received, item_of, copied_count_of, priority_of_item, newest_block, unless_ended, open_call, unblocked_among}
 use Rattle.qrules.specs.Private.Receiving.{sender_for}
 use Rattle.qrules.specs.Private.Effects.{asks, makes, unblocks, writes}
 use Rattle.qrules.specs.Private.Rows.{Received, buffer_after_write}
@@ -27,7 +27,8 @@ use Rattle.qbase.proofs.Lists.{eqb_same, none_of}
 use Rattle.qrules.proofs.Traces.Calls.PrioritySet.{sets_alone}
 use Rattle.qrules.proofs.Traces.Past.Laws.{IsReceived}
 use Rattle.qrules.proofs.Traces.Calls.{call_laws}
-use Rattle.qrules.proofs.Traces.Past.Numbers.{block_below, filled_answer, open_from, open_thread, receipt_number, receipt_for_answer, is_unblocked}
+use Rattle.qrules.proofs.Traces.Past.Numbers.{block_below}
+use Rattle.qrules.proofs.Traces.Past.Open.{filled_answer, open_from, open_thread, receipt_number, receipt_for_answer, is_unblocked}
 use Rattle.qrules.proofs.Traces.Past.Ends.{laws_of, passes_of, accepted, refused, refused_ends, ended_below, ends_other, ends_own, block_known}
 use Rattle.qrules.proofs.Traces.Past.Items.{item_at, item_answer, item_message, item_below, priority_earlier, priority_newest}
 use Rattle.qrules.proofs.Traces.Past.Receipts.{copied_by, accepted_receipts, refused_receipts, best_pending, best_priority, receipt_beyond}
@@ -37,6 +38,15 @@ use Rattle.qrules.proofs.Traces.Past.CurrentPriority.{refused_sets_none, sets_no
 use Rattle.qrules.proofs.Traces.Past.Writes.{changed, filled_accepted, filled_fresh, filled_refused, receipt_written, written_sender}
 use Rattle.qrules.proofs.Traces.Rosters.{known}
 use Rattle.qrules.specs.Rule.{Transfer}
+use Rattle.qrules.specs.Private.Past.{block}
+use Rattle.qrules.specs.Private.Past.{with_receipt}
+use Rattle.qrules.specs.Private.Past.{filled}
+use Rattle.qrules.specs.Private.Facts.{number_of}
+use Rattle.qrules.proofs.Traces.Past.Open.{kept}
+use Rattle.qrules.proofs.Traces.Past.Open.{kept_number}
+use Rattle.qrules.proofs.Traces.Past.Open.{open_is}
+use Rattle.qrules.specs.Past.{channel_of}
+use Rattle.qmodel.specs.declared.call.Call.TheVariants.{Send as CallSend}
 
 -- ---- a receipt, and the thread that waits for its answer
 
@@ -58,13 +68,13 @@ kept_after : (o : Option Received) (u i priority : ℕ) (unblocked : Bool) (befo
     → Some (with_receipt priority unblocked (option_or (copied_by o i) before) b) ≡ after_receipt o u (Some (with_receipt priority unblocked before b))
 kept_after None u i priority unblocked before b h = refl
 kept_after (Some r) u i priority unblocked before b h = elim (h r refl) [
-  | inl k ↦ rw (k.item, k.sender, k.first) (ap (λ p. Some (record { number = b.number; wait = wait_with_receipt (record { priority = p; copied = r.kept.copied; unblocked = unblocked }) b.wait })) (sym k.priority_is)
-      ∙ ap (λ x. Some (record { number = b.number; wait = wait_with_receipt (record { priority = r.kept.priority; copied = r.kept.copied; unblocked = x }) b.wait })) (sym k.unblocked_is))
+  | inl k ↦ rw (k.item, k.sender, k.first) (ap (λ p. Some (held_call (record { priority = p; copied = r.kept.copied; unblocked = unblocked }) b)) (sym k.priority_is)
+      ∙ ap (λ x. Some (held_call (record { priority = r.kept.priority; copied = r.kept.copied; unblocked = x }) b)) (sym k.unblocked_is))
   | inr k ↦ rw (k.item, k.sender) refl
 ]
 
 -- no other thread is found to have sent what thread u has not
-not_sender : (f : Facts) (i u : ℕ) → ((o : OpenCall) → f.open_call u ≡ Some o → o.number ≢ i) → is_thread (sender f i) u ≡ false
+not_sender : (f : Facts) (i u : ℕ) → ((o : OpenCall) → f.open_call u ≡ Some o → (number_of o) ≢ i) → is_thread (sender f i) u ≡ false
 not_sender f i u h =
     elim (sender f i) as (λ o. sender f i ≡ o → is_thread o u ≡ false) [
       | None ↦ λ e. refl
@@ -81,51 +91,56 @@ not_sender_for : (f : Facts) (item : Item) (u : ℕ) → is_thread (sender f ite
 not_sender_for f item u h = elim (is_pulse item.what) as (λ b. is_thread (cond b None (sender f item.number)) u ≡ false) [ true ↦ refl | false ↦ h ]
 
 -- an open call of another thread than the caller, and the receipt of the row
-other_holds : (roster : List Member) (past : Trace) (t : ℕ) (c : Call) (u : ℕ) (b : OpenCall) (r : Received) → IsLawful roster past → eqb u t ≡ false → newest_block past u ≡ Some b → is_ended past b.number ≡ false
-    → IsReceived (facts_of roster past) t c r → IsIts r u b.number (priority_of_item roster past b.number) (is_unblocked roster past b.number) (copied_count_of past b.number) ⊎ IsOthers r u b.number
+other_holds : (roster : List Member) (past : Trace) (t : ℕ) (c : Call) (u : ℕ) (b : OpenCall) (r : Received) → IsLawful roster past → eqb u t ≡ false → block roster past u ≡ Some b → is_ended past (number_of b) ≡ false
+    → IsReceived (facts_of roster past) t c r → IsIts r u (number_of b) (priority_of_item roster past (number_of b)) (is_unblocked roster past (number_of b)) (copied_count_of past (number_of b)) ⊎ IsOthers r u (number_of b)
 other_holds roster past t c u b r l other is going k =
     let f = facts_of roster past in
-    let below : b.number ≤ length past = block_below past u b is in
+    let below : (number_of b) ≤ length past = block_below roster past u b is in
     let waits = open_from roster past u b is going in
     elim (k.source) [
       | inl new ↦
           let number : k.item.number ≡ length past + 1 = ((call_laws c).makes_one f t _ new.made).number in
           inr (record {
             item = ne_eqb _ _ (λ same. omega (arith, k.number));
-            sender = elim (asks (length past + 1) c) as (λ o. r.sender ≡ option_map (λ w. t) o → is_thread r.sender u ≡ false) [
+            sender = elim (asks (length past + 1) t r.channel c) as (λ o. r.sender ≡ option_map (λ w. t) o → is_thread r.sender u ≡ false) [
               | None ↦ λ e. rw e refl
               | Some w ↦ λ e. rw e other
             ] new.sender_is;
           })
       | inr old ↦
           let place = best_pending roster past r.channel old.kind k.item old.best in
-          elim (cases_Bool (eqb r.item b.number)) [
+          elim (cases_Bool (eqb r.item (number_of b))) [
             | inl same ↦
-                let number : k.item.number ≡ b.number = k.number ∙ eqb-true _ _ same in
+                let number : k.item.number ≡ (number_of b) = k.number ∙ eqb-true _ _ same in
                 let made = subst (λ i. item_at roster past i ≡ Some (record { item = place.first; channel = r.channel })) number place.made in
-                let sends = send_from r.item (with_receipt (priority_of_item roster past b.number) (is_unblocked roster past b.number) (copied_count_of past b.number) (call_by_now past b)) (receipt_number _ _ _ (call_by_now past b) ∙ sym (eqb-true _ _ same)) (receipt_for_answer _ _ _ (call_by_now past b) ∙ filled_answer past b ∙ item_answer roster past u _ b made is) in
+                let sends = send_from r.item (kept roster past b) (kept_number roster past b ∙ sym (eqb-true _ _ same)) (receipt_for_answer _ _ _ (filled past b) ∙ filled_answer past b ∙ item_answer roster past u _ b made is) in
                 let found : sender f r.item ≡ Some u = sender_found f.open_call r.item (threads_of roster) u (known roster u (block_known roster past u b l is)) (rw waits sends)
-                (λ v e. let w = send_parts r.item (f.open_call v) e in open_thread roster past v u w.waiting _ w.is waits (w.number ∙ eqb-true _ _ same ∙ sym (receipt_number _ _ _ (call_by_now past b)))) in
+                (λ v e. let w = send_parts r.item (f.open_call v) e in open_thread roster past v u w.waiting _ w.is waits ((number_of w) ∙ eqb-true _ _ same ∙ sym (kept_number roster past b))) in
                 let message = sym (ap is_pulse place.what) ∙ item_message roster past u _ b made is in
-                let untaken = none_of (copied_count_of past b.number) (subst (λ i. is_received past i ≡ false) number (or_parts _ _ place.stays).0) in
+                let untaken = none_of (copied_count_of past (number_of b)) (subst (λ i. is_received past i ≡ false) number (or_parts _ _ place.stays).0) in
                 inl (record {
                   item = same;
                   sender = rw (old.sender_is ∙ message_sender f k.item message ∙ ap (sender f) k.number ∙ found) (eqb_same u);
                   first = untaken;
                   priority_is = sym k.priority ∙ sym (best_priority roster past r.channel old.kind k.item old.best) ∙ ap (priority_of_item roster past) number;
-                  unblocked_is = k.fresh ∙ sym (none_unblocked roster past b.number untaken);
+                  unblocked_is = k.fresh ∙ sym (none_unblocked roster past (number_of b) untaken);
                 })
             | inr differs ↦ inr (record {
               item = differs;
-              sender = rw (old.sender_is) (not_sender_for f k.item u (not_sender f k.item.number u (λ o e n. eqb-false _ _ differs (sym (n ∙ k.number) ∙ ap (λ w. w.number) (same_Some o _ (sym e ∙ waits)) ∙ receipt_number _ _ _ (call_by_now past b)))));
+              sender = rw (old.sender_is) (not_sender_for f k.item u (not_sender f k.item.number u (λ o e n. eqb-false _ _ differs (sym (n ∙ k.number) ∙ ap number_of (same_Some o _ (sym e ∙ waits)) ∙ kept_number roster past b))));
             })
           ]
     ]
 
+-- on whatever channel it is, a call that waits has its thread to wait
+asks_same : (n t h k : ℕ) (c : Call) → option_map (λ o. t) (asks n t h c) ≡ option_map (λ o. t) (asks n t k c)
+asks_same n t h k (CallSend coid message reply_buffer) = refl
+asks_same n t h k c = refl
+
 -- the call itself, where it begins to wait, and the receipt of the row
-own_holds : (roster : List Member) (past : Trace) (t : ℕ) (c : Call) (X : List Completion) (o : OpenCall) (r : Received) → IsLawful roster past → Outcome true (facts_of roster past) t c X
-    → asks (length past + 1) c ≡ Some o → IsReceived (facts_of roster past) t c r → IsIts r t (length past + 1) (priority_of_item roster (with_event t c X past) (length past + 1)) false None ⊎ IsOthers r t (length past + 1)
-own_holds roster past t c X o r l a asked k =
+own_holds : (roster : List Member) (past : Trace) (t h : ℕ) (c : Call) (X : List Completion) (o : OpenCall) (r : Received) → IsLawful roster past → Outcome true (facts_of roster past) t c X
+    → asks (length past + 1) t h c ≡ Some o → IsReceived (facts_of roster past) t c r → IsIts r t (length past + 1) (priority_of_item roster (with_event t c X past) (length past + 1)) false None ⊎ IsOthers r t (length past + 1)
+own_holds roster past t h c X o r l a asked k =
     let f = facts_of roster past in
     elim (k.source) [
       | inl new ↦
@@ -133,7 +148,7 @@ own_holds roster past t c X o r l a asked k =
           let made : item_of roster (record { thread = t; call = c; endings = X }) past ≡ Some (record { item = k.item; channel = r.channel }) = rw (accepted roster past t c X a) (new.made) in
           inl (record {
             item = eq-eqb _ _ (sym k.number ∙ number);
-            sender = rw (new.sender_is, asked) (eqb_same t);
+            sender = rw (new.sender_is ∙ asks_same (length past + 1) t r.channel h c, asked) (eqb_same t);
             first = refl;
             priority_is = sym k.priority ∙ sym (priority_newest roster (record { thread = t; call = c; endings = X }) past _ made);
             unblocked_is = k.fresh;
@@ -148,44 +163,44 @@ own_holds roster past t c X o r l a asked k =
 
 -- ---- after a refused call
 
--- what is kept of an open call's receipt, if it had one
-abbrev kept : List Member → Trace → OpenCall → OpenCall
-kept roster past o = with_receipt (priority_of_item roster past o.number) (is_unblocked roster past o.number) (copied_count_of past o.number) (call_by_now past o)
-
 -- the newest blocking calls after an event
-newest_refused : (past : Trace) (t : ℕ) (c : Call) (X : List Completion) (u : ℕ) → refuses X (length past + 1) ≡ true → newest_block (with_event t c X past) u ≡ newest_block past u
-newest_refused past t c X u r = rw (r, and-false (eqb t u)) refl
+newest_refused : (roster : List Member) (past : Trace) (t : ℕ) (c : Call) (X : List Completion) (u : ℕ) → refuses X (length past + 1) ≡ true → block roster (with_event t c X past) u ≡ block roster past u
+newest_refused roster past t c X u r = rw (r, and-false (eqb t u)) refl
 
-newest_own : (past : Trace) (t : ℕ) (c : Call) (X : List Completion) → refuses X (length past + 1) ≡ false
-    → newest_block (with_event t c X past) t ≡ cond (is_some (asks (length past + 1) c)) (asks (length past + 1) c) (newest_block past t)
-newest_own past t c X r = rw (r, eqb_same t) refl
+-- the open call in which an accepted call leaves its thread
+abbrev asked_by : List Member → Trace → ℕ → Call → Option OpenCall
+asked_by roster past t c = asks (length past + 1) t (channel_of (makes (facts_of roster past) t c)) c
 
-newest_other : (past : Trace) (t : ℕ) (c : Call) (X : List Completion) (u : ℕ) → eqb u t ≡ false → newest_block (with_event t c X past) u ≡ newest_block past u
-newest_other past t c X u other = rw (ne_eqb t u (λ s. eqb-false u t other (sym s))) refl
+newest_own : (roster : List Member) (past : Trace) (t : ℕ) (c : Call) (X : List Completion) → refuses X (length past + 1) ≡ false
+    → block roster (with_event t c X past) t ≡ cond (is_some (asked_by roster past t c)) (asked_by roster past t c) (block roster past t)
+newest_own roster past t c X r = rw (r, eqb_same t) refl
+
+newest_other : (roster : List Member) (past : Trace) (t : ℕ) (c : Call) (X : List Completion) (u : ℕ) → eqb u t ≡ false → block roster (with_event t c X past) u ≡ block roster past u
+newest_other roster past t c X u other = rw (ne_eqb t u (λ s. eqb-false u t other (sym s))) refl
 
 pub open_refused : (roster : List Member) (past : Trace) (t : ℕ) (c : Call) (X : List Completion) (u : ℕ) → Outcome false (facts_of roster past) t c X → open_call roster (with_event t c X past) u ≡ open_call roster past u
 open_refused roster past t c X u a =
     let now = kept roster (with_event t c X past) in
-    ap (λ o. option_map now (unless_ended (with_event t c X past) o)) (newest_refused past t c X u (refused roster past t c X a)) ∙ (
-    elim (newest_block past u) as (λ o. newest_block past u ≡ o → option_map now (unless_ended (with_event t c X past) o) ≡ option_map (kept roster past) (unless_ended past o)) [
+    open_is roster (with_event t c X past) u ∙ ap (λ o. option_map now (unless_ended (with_event t c X past) o)) (newest_refused roster past t c X u (refused roster past t c X a)) ∙ (
+    elim (block roster past u) as (λ o. block roster past u ≡ o → option_map now (unless_ended (with_event t c X past) o) ≡ option_map (kept roster past) (unless_ended past o)) [
       | None ↦ λ e. refl
       | Some b ↦ λ e.
-          let below : b.number ≤ length past = block_below past u b e in
-          let priority : priority_of_item roster (with_event t c X past) b.number ≡ priority_of_item roster past b.number =
-          priority_earlier roster (record { thread = t; call = c; endings = X }) past b.number below (refused_sets_none (record { thread = t; call = c; endings = X }) past b.number (ap not (refused roster past t c X a))) in
-          let receipt : copied_count_of (with_event t c X past) b.number ≡ copied_count_of past b.number = rw (refused_receipts (facts_of roster past) t c X b.number a) refl in
-          let ended : is_ended (with_event t c X past) b.number ≡ is_ended past b.number = rw (refused_ends roster past t c X b.number a (λ s. omega arith)) refl in
-          let written : call_by_now (with_event t c X past) b ≡ call_by_now past b = filled_refused (record { thread = t; call = c; endings = X }) past b (refused roster past t c X a) in
-          let unblocked : is_unblocked roster (with_event t c X past) b.number ≡ is_unblocked roster past b.number =
-          unblocked_by roster (record { thread = t; call = c; endings = X }) past b.number ∙ rw (refused roster past t c X a) (or-false (is_unblocked roster past b.number)) in
+          let below : (number_of b) ≤ length past = block_below roster past u b e in
+          let priority : priority_of_item roster (with_event t c X past) (number_of b) ≡ priority_of_item roster past (number_of b) =
+          priority_earlier roster (record { thread = t; call = c; endings = X }) past (number_of b) below (refused_sets_none (record { thread = t; call = c; endings = X }) past (number_of b) (ap not (refused roster past t c X a))) in
+          let receipt : copied_count_of (with_event t c X past) (number_of b) ≡ copied_count_of past (number_of b) = rw (refused_receipts (facts_of roster past) t c X (number_of b) a) refl in
+          let ended : is_ended (with_event t c X past) (number_of b) ≡ is_ended past (number_of b) = rw (refused_ends roster past t c X (number_of b) a (λ s. omega arith)) refl in
+          let written : filled (with_event t c X past) b ≡ filled past b = filled_refused (record { thread = t; call = c; endings = X }) past b (refused roster past t c X a) in
+          let unblocked : is_unblocked roster (with_event t c X past) (number_of b) ≡ is_unblocked roster past (number_of b) =
+          unblocked_by roster (record { thread = t; call = c; endings = X }) past (number_of b) ∙ rw (refused roster past t c X a) (or-false (is_unblocked roster past (number_of b))) in
           let same : now b ≡ kept roster past b =
-          ap (λ p. with_receipt p (is_unblocked roster (with_event t c X past) b.number) (copied_count_of (with_event t c X past) b.number) (call_by_now (with_event t c X past) b)) priority
-          ∙ ap (λ x. with_receipt (priority_of_item roster past b.number) x (copied_count_of (with_event t c X past) b.number) (call_by_now (with_event t c X past) b)) unblocked
-          ∙ ap (λ r. with_receipt (priority_of_item roster past b.number) (is_unblocked roster past b.number) r (call_by_now (with_event t c X past) b)) receipt
-          ∙ ap (with_receipt (priority_of_item roster past b.number) (is_unblocked roster past b.number) (copied_count_of past b.number)) written in
+          ap (λ p. with_receipt p (is_unblocked roster (with_event t c X past) (number_of b)) (copied_count_of (with_event t c X past) (number_of b)) (filled (with_event t c X past) b)) priority
+          ∙ ap (λ x. with_receipt (priority_of_item roster past (number_of b)) x (copied_count_of (with_event t c X past) (number_of b)) (filled (with_event t c X past) b)) unblocked
+          ∙ ap (λ r. with_receipt (priority_of_item roster past (number_of b)) (is_unblocked roster past (number_of b)) r (filled (with_event t c X past) b)) receipt
+          ∙ ap (with_receipt (priority_of_item roster past (number_of b)) (is_unblocked roster past (number_of b)) (copied_count_of past (number_of b))) written in
           ap (λ d. option_map now (cond d None (Some b))) ended ∙ (
-          elim (is_ended past b.number) as (λ d. option_map now (cond d None (Some b)) ≡ option_map (kept roster past) (cond d None (Some b))) [ true ↦ refl | false ↦ ap Some same ])
-    ] refl)
+          elim (is_ended past (number_of b)) as (λ d. option_map now (cond d None (Some b)) ≡ option_map (kept roster past) (cond d None (Some b))) [ true ↦ refl | false ↦ ap Some same ])
+    ] refl) ∙ sym (open_is roster past u)
 
 -- ---- after an accepted call
 
@@ -245,42 +260,42 @@ held_priority roster past t c X i below received = priority_earlier roster (reco
 
 -- of another thread
 open_other : (roster : List Member) (past : Trace) (t : ℕ) (c : Call) (X : List Completion) (u : ℕ) → IsLawful roster past → is_some (member_at roster t) ≡ true → Outcome true (facts_of roster past) t c X → eqb u t ≡ false
-    → option_map (kept roster (with_event t c X past)) (unless_ended (with_event t c X past) (newest_block past u))
+    → option_map (kept roster (with_event t c X past)) (unless_ended (with_event t c X past) (block roster past u))
     ≡ unless (is_some ((row_of (facts_of roster past) t c).ends u)) (other_after (facts_of roster past) t c u (open_call roster past u))
 open_other roster past t c X u l member a other =
     let R = row_of (facts_of roster past) t c in
     let M = makes (facts_of roster past) t c in
     let nothing : unless (is_some (R.ends u)) (other_after (facts_of roster past) t c u None) ≡ None = ap (unless (is_some (R.ends u))) (other_none (facts_of roster past) t c u) ∙ unless_none (is_some (R.ends u)) in
-    elim (newest_block past u) as (λ o. newest_block past u ≡ o → option_map (kept roster (with_event t c X past)) (unless_ended (with_event t c X past) o)
+    elim (block roster past u) as (λ o. block roster past u ≡ o → option_map (kept roster (with_event t c X past)) (unless_ended (with_event t c X past) o)
     ≡ unless (is_some (R.ends u)) (other_after (facts_of roster past) t c u (option_map (kept roster past) (unless_ended past o)))) [
       | None ↦ λ e. sym nothing
       | Some b ↦ λ e.
-          elim (is_ended past b.number) as (λ d. is_ended past b.number ≡ d → option_map (kept roster (with_event t c X past)) (cond (has_ending_of X b.number || d) None (Some b))
+          elim (is_ended past (number_of b)) as (λ d. is_ended past (number_of b) ≡ d → option_map (kept roster (with_event t c X past)) (cond (has_ending_of X (number_of b) || d) None (Some b))
           ≡ unless (is_some (R.ends u)) (other_after (facts_of roster past) t c u (option_map (kept roster past) (cond d None (Some b))))) [
-            | true ↦ λ gone. rw (or-true (has_ending_of X b.number)) (sym nothing)
+            | true ↦ λ gone. rw (or-true (has_ending_of X (number_of b))) (sym nothing)
             | false ↦ λ going.
-                let below : b.number ≤ length past = block_below past u b e in
-                let ended : has_ending_of X b.number ≡ is_some (R.ends u) =
-                ap (has_ending_of X) (sym (receipt_number _ _ _ (call_by_now past b))) ∙ ends_other roster past t c X u (kept roster past b) l a other (open_from roster past u b e going) in
-                let receipt : copied_count_of (with_event t c X past) b.number ≡ option_or (copied_by R.receipt b.number) (copied_count_of past b.number) = rw (accepted_receipts roster past t c X b.number l member a) refl in
+                let below : (number_of b) ≤ length past = block_below roster past u b e in
+                let ended : has_ending_of X (number_of b) ≡ is_some (R.ends u) =
+                ap (has_ending_of X) (sym (kept_number roster past b)) ∙ ends_other roster past t c X u (kept roster past b) l a other (open_from roster past u b e going) in
+                let receipt : copied_count_of (with_event t c X past) (number_of b) ≡ option_or (copied_by R.receipt (number_of b)) (copied_count_of past (number_of b)) = rw (accepted_receipts roster past t c X (number_of b) l member a) refl in
                 let waits = open_from roster past u b e going in
-                let old : Bool = is_unblocked roster past b.number in
-                let new : Bool = unblocked_among (option_to_list M) b.number in
-                let unblocked : is_unblocked roster (with_event t c X past) b.number ≡ (old || new) = unblocked_by roster (record { thread = t; call = c; endings = X }) past b.number ∙ rw (accepted roster past t c X a) refl in
-                let marked : new ≡ marks M (unblocks c) u = ap (unblocked_among (option_to_list M)) (sym (receipt_number _ _ _ (call_by_now past b))) ∙ marks_it roster past t c u (kept roster past b) waits in
+                let old : Bool = is_unblocked roster past (number_of b) in
+                let new : Bool = unblocked_among (option_to_list M) (number_of b) in
+                let unblocked : is_unblocked roster (with_event t c X past) (number_of b) ≡ (old || new) = unblocked_by roster (record { thread = t; call = c; endings = X }) past (number_of b) ∙ rw (accepted roster past t c X a) refl in
+                let marked : new ≡ marks M (unblocks c) u = ap (unblocked_among (option_to_list M)) (sym (kept_number roster past b)) ∙ marks_it roster past t c u (kept roster past b) waits in
                 let now : Some (kept roster (with_event t c X past) b) ≡ other_after (facts_of roster past) t c u (Some (kept roster past b)) =
-                ap Some (receipt_priority (priority_of_item roster (with_event t c X past) b.number) (priority_of_item roster past b.number) (is_unblocked roster (with_event t c X past) b.number) (copied_count_of (with_event t c X past) b.number) (call_by_now (with_event t c X past) b)
-                (λ copied some. held_priority roster past t c X b.number below (received_before roster past t c b.number copied (sym receipt ∙ some))))
-                ∙ ap (λ x. Some (with_receipt (priority_of_item roster past b.number) x (copied_count_of (with_event t c X past) b.number) (call_by_now (with_event t c X past) b))) unblocked
-                ∙ ap (λ r. Some (with_receipt (priority_of_item roster past b.number) (old || new) r (call_by_now (with_event t c X past) b))) receipt
-                ∙ ap (λ w. Some (with_receipt (priority_of_item roster past b.number) (old || new) (option_or (copied_by R.receipt b.number) (copied_count_of past b.number)) w)) (filled_accepted (record { thread = t; call = c; endings = X }) past b (accepted roster past t c X a))
-                ∙ unblocked_after M (unblocks c) u old new (priority_of_item roster past b.number) (option_or (copied_by R.receipt b.number) (copied_count_of past b.number)) (changed (buffer_after_write (writes c) b.number) (call_by_now past b)) marked
-                (λ is. some_later (copied_by R.receipt b.number) (copied_count_of past b.number) (unblocked_now roster past t c b.number is).taken)
-                ∙ ap (after_unblock M (unblocks c) u) (kept_after R.receipt u b.number (priority_of_item roster past b.number) old (copied_count_of past b.number) (changed (buffer_after_write (writes c) b.number) (call_by_now past b))
+                ap Some (receipt_priority (priority_of_item roster (with_event t c X past) (number_of b)) (priority_of_item roster past (number_of b)) (is_unblocked roster (with_event t c X past) (number_of b)) (copied_count_of (with_event t c X past) (number_of b)) (filled (with_event t c X past) b)
+                (λ copied some. held_priority roster past t c X (number_of b) below (received_before roster past t c (number_of b) copied (sym receipt ∙ some))))
+                ∙ ap (λ x. Some (with_receipt (priority_of_item roster past (number_of b)) x (copied_count_of (with_event t c X past) (number_of b)) (filled (with_event t c X past) b))) unblocked
+                ∙ ap (λ r. Some (with_receipt (priority_of_item roster past (number_of b)) (old || new) r (filled (with_event t c X past) b))) receipt
+                ∙ ap (λ w. Some (with_receipt (priority_of_item roster past (number_of b)) (old || new) (option_or (copied_by R.receipt (number_of b)) (copied_count_of past (number_of b))) w)) (filled_accepted (record { thread = t; call = c; endings = X }) past b (accepted roster past t c X a))
+                ∙ unblocked_after M (unblocks c) u old new (priority_of_item roster past (number_of b)) (option_or (copied_by R.receipt (number_of b)) (copied_count_of past (number_of b))) (changed (buffer_after_write (writes c) (number_of b)) (filled past b)) marked
+                (λ is. some_later (copied_by R.receipt (number_of b)) (copied_count_of past (number_of b)) (unblocked_now roster past t c (number_of b) is).taken)
+                ∙ ap (after_unblock M (unblocks c) u) (kept_after R.receipt u (number_of b) (priority_of_item roster past (number_of b)) old (copied_count_of past (number_of b)) (changed (buffer_after_write (writes c) (number_of b)) (filled past b))
                 (λ r is. other_holds roster past t c u b r l other e going ((laws_of (facts_of roster past) t c X a).receives r is))
-                ∙ ap (after_receipt R.receipt u) (receipt_written (facts_of roster past) (writes c) u (priority_of_item roster past b.number) old (copied_count_of past b.number) (call_by_now past b) (receipt_number _ _ _ (call_by_now past b))
-                (λ x is. written_sender roster past t c X u (kept roster past b) x a waits is ∙ ap (eqb x.rcvid) (receipt_number _ _ _ (call_by_now past b))))) in
-                rw (or-false (has_ending_of X b.number), ended) (
+                ∙ ap (after_receipt R.receipt u) (receipt_written (facts_of roster past) (writes c) u (priority_of_item roster past (number_of b)) old (copied_count_of past (number_of b)) (filled past b) (kept_number roster past b)
+                (λ x is. written_sender roster past t c X u (kept roster past b) x a waits is ∙ ap (eqb x.rcvid) (kept_number roster past b)))) in
+                rw (or-false (has_ending_of X (number_of b)), ended) (
                 elim (is_some (R.ends u)) as (λ d. option_map (kept roster (with_event t c X past)) (cond d None (Some b)) ≡ unless d (other_after (facts_of roster past) t c u (Some (kept roster past b)))) [ true ↦ refl | false ↦ now ])
           ] refl
     ] refl
@@ -289,42 +304,42 @@ open_other roster past t c X u l member a other =
 still : (roster : List Member) (e : Event) (past : Trace) (o : Option OpenCall) → option_map (kept roster past) (unless_ended past o) ≡ None → option_map (kept roster (e ∷ past)) (unless_ended (e ∷ past) o) ≡ None
 still roster e past None h = refl
 still roster e past (Some b) h =
-    elim (is_ended past b.number) as (λ d. option_map (kept roster past) (cond d None (Some b)) ≡ None → option_map (kept roster (e ∷ past)) (cond (has_ending_of e.endings b.number || d) None (Some b)) ≡ None) [
-      | true ↦ λ h. rw (or-true (has_ending_of e.endings b.number)) refl
+    elim (is_ended past (number_of b)) as (λ d. option_map (kept roster past) (cond d None (Some b)) ≡ None → option_map (kept roster (e ∷ past)) (cond (has_ending_of e.endings (number_of b) || d) None (Some b)) ≡ None) [
+      | true ↦ λ h. rw (or-true (has_ending_of e.endings (number_of b))) refl
       | false ↦ λ h. absurd (none-some _ (sym h))
     ] h
 
 -- of the caller: it waits for what it asks
-open_own : (roster : List Member) (past : Trace) (t : ℕ) (c : Call) (X : List Completion) → IsLawful roster past → is_some (member_at roster t) ≡ true → Outcome true (facts_of roster past) t c X
-    → option_map (kept roster (with_event t c X past)) (unless_ended (with_event t c X past) (cond (is_some (asks (length past + 1) c)) (asks (length past + 1) c) (newest_block past t)))
-    ≡ unless (is_some (row_of (facts_of roster past) t c).own) (after_receipt (row_of (facts_of roster past) t c).receipt t (asks (length past + 1) c))
-open_own roster past t c X l member a =
+caller_after : (roster : List Member) (past : Trace) (t : ℕ) (c : Call) (X : List Completion) → IsLawful roster past → is_some (member_at roster t) ≡ true → Outcome true (facts_of roster past) t c X
+    → option_map (kept roster (with_event t c X past)) (unless_ended (with_event t c X past) (cond (is_some (asked_by roster past t c)) (asked_by roster past t c) (block roster past t)))
+    ≡ unless (is_some (row_of (facts_of roster past) t c).own) (after_receipt (row_of (facts_of roster past) t c).receipt t (asked_by roster past t c))
+caller_after roster past t c X l member a =
     let R = row_of (facts_of roster past) t c in
     let n = length past + 1 in
-    elim (asks (length past + 1) c) as (λ z. asks (length past + 1) c ≡ z
-    → option_map (kept roster (with_event t c X past)) (unless_ended (with_event t c X past) (cond (is_some z) z (newest_block past t))) ≡ unless (is_some R.own) (after_receipt R.receipt t z)) [
-      | None ↦ λ e. still roster (record { thread = t; call = c; endings = X }) past (newest_block past t) (passes_of (facts_of roster past) t c X a).idle
+    elim (asked_by roster past t c) as (λ z. asked_by roster past t c ≡ z
+    → option_map (kept roster (with_event t c X past)) (unless_ended (with_event t c X past) (cond (is_some z) z (block roster past t))) ≡ unless (is_some R.own) (after_receipt R.receipt t z)) [
+      | None ↦ λ e. still roster (record { thread = t; call = c; endings = X }) past (block roster past t) (sym (open_is roster past t) ∙ (passes_of (facts_of roster past) t c X a).idle)
           ∙ sym (ap (unless (is_some R.own)) (after_none R.receipt t) ∙ unless_none (is_some R.own))
       | Some o ↦ λ e.
-          let number : o.number ≡ length past + 1 = ((call_laws c).asks_one (length past + 1) o e).number in
-          let ended : is_ended (with_event t c X past) o.number ≡ is_some R.own =
+          let number : (number_of o) ≡ length past + 1 = ((call_laws c).asks_one (length past + 1) t (channel_of (makes (facts_of roster past) t c)) o e).number in
+          let ended : is_ended (with_event t c X past) (number_of o) ≡ is_some R.own =
           ap (is_ended (with_event t c X past)) number ∙ rw (ends_own roster past t c X member a, ended_below roster past (length past + 1) l (omega arith)) (or-false (is_some R.own)) in
           let receipt : copied_count_of (with_event t c X past) (length past + 1) ≡ option_or (copied_by R.receipt (length past + 1)) None =
           rw (accepted_receipts roster past t c X (length past + 1) l member a, receipt_beyond roster past (length past + 1) l (omega arith)) refl in
           let unblocked : is_unblocked roster (with_event t c X past) (length past + 1) ≡ false =
           unblocked_by roster (record { thread = t; call = c; endings = X }) past (length past + 1) ∙ rw (unblocked_beyond roster past (length past + 1) (omega arith), accepted roster past t c X a) (fresh_unblocked roster past t c) in
           let now : Some (kept roster (with_event t c X past) o) ≡ after_receipt R.receipt t (Some o) =
-          ap (λ w. Some (with_receipt (priority_of_item roster (with_event t c X past) o.number) (is_unblocked roster (with_event t c X past) o.number) (copied_count_of (with_event t c X past) o.number) w)) (filled_fresh roster past t c X o l (accepted roster past t c X a) e number)
+          ap (λ w. Some (with_receipt (priority_of_item roster (with_event t c X past) (number_of o)) (is_unblocked roster (with_event t c X past) (number_of o)) (copied_count_of (with_event t c X past) (number_of o)) w)) (filled_fresh roster past t (channel_of (makes (facts_of roster past) t c)) c X o l (accepted roster past t c X a) e number)
           ∙ ap (λ i. Some (with_receipt (priority_of_item roster (with_event t c X past) i) (is_unblocked roster (with_event t c X past) i) (copied_count_of (with_event t c X past) i) o)) number
           ∙ ap (λ x. Some (with_receipt (priority_of_item roster (with_event t c X past) (length past + 1)) x (copied_count_of (with_event t c X past) (length past + 1)) o)) unblocked
           ∙ ap (λ r. Some (with_receipt (priority_of_item roster (with_event t c X past) (length past + 1)) false r o)) receipt
           ∙ kept_after R.receipt t (length past + 1) (priority_of_item roster (with_event t c X past) (length past + 1)) false None o
-          (λ r is. own_holds roster past t c X o r l a e ((laws_of (facts_of roster past) t c X a).receives r is)) in
+          (λ r is. own_holds roster past t (channel_of (makes (facts_of roster past) t c)) c X o r l a e ((laws_of (facts_of roster past) t c X a).receives r is)) in
           rw ended (
           elim (is_some R.own) as (λ d. option_map (kept roster (with_event t c X past)) (cond d None (Some o)) ≡ unless d (after_receipt R.receipt t (Some o))) [ true ↦ refl | false ↦ now ])
     ] refl
 
-after_own : (f : Facts) (t : ℕ) (c : Call) → open_call_after f t c t ≡ unless (is_some (row_of f t c).own) (after_receipt (row_of f t c).receipt t (asks f.number c))
+after_own : (f : Facts) (t : ℕ) (c : Call) → open_call_after f t c t ≡ unless (is_some (row_of f t c).own) (after_receipt (row_of f t c).receipt t (asks f.number t (channel_of (makes f t c)) c))
 after_own f t c = rw (eqb_same t) refl
 
 pub open_accepted : (roster : List Member) (past : Trace) (t : ℕ) (c : Call) (X : List Completion) (u : ℕ) → IsLawful roster past → is_some (member_at roster t) ≡ true → Outcome true (facts_of roster past) t c X
@@ -333,6 +348,6 @@ open_accepted roster past t c X u l member a =
     let now = λ (o : Option OpenCall). option_map (kept roster (with_event t c X past)) (unless_ended (with_event t c X past) o) in
     elim (cases_Bool (eqb u t)) [
       | inl e ↦ subst (λ v. open_call roster (with_event t c X past) v ≡ open_call_after (facts_of roster past) t c v) (sym (eqb-true u t e))
-          (ap now (newest_own past t c X (accepted roster past t c X a)) ∙ open_own roster past t c X l member a ∙ sym (after_own (facts_of roster past) t c))
-      | inr e ↦ rw e (ap now (newest_other past t c X u e) ∙ open_other roster past t c X u l member a e)
+          (open_is roster (with_event t c X past) t ∙ ap now (newest_own roster past t c X (accepted roster past t c X a)) ∙ caller_after roster past t c X l member a ∙ sym (after_own (facts_of roster past) t c))
+      | inr e ↦ rw e (open_is roster (with_event t c X past) u ∙ ap now (newest_other roster past t c X u e) ∙ open_other roster past t c X u l member a e)
     ]

@@ -32,7 +32,7 @@ use Rattle.qrules.proofs.Traces.Past.Items.{IsPending, Stands, items_on, pending
 use Rattle.qrules.proofs.Traces.Past.Moves.{left_map, moved_append, moved_left, moved_made, moved_nothing, moved_now, moved_out, out_map, same_now}
 use Rattle.qrules.proofs.Traces.Past.CurrentPriority.{now, refused_sets_none, worth_newest, worth_stays}
 use Rattle.qrules.proofs.Traces.Past.Receipts.{copied_by, accepted_receipts, refused_receipts, best_pending, receipt_beyond}
-use Rattle.qrules.proofs.Traces.Past.Numbers.{open_below}
+use Rattle.qrules.proofs.Traces.Past.Open.{open_below}
 use Rattle.qrules.specs.Private.Facts.{threads_of}
 
 -- ---- the items of a channel
@@ -227,11 +227,11 @@ made_uncut roster past t c h =
     filter_all (λ item. not (is_cancelled f t c h item.number)) (made_on h (makes f t c)) (made_all (λ item. not (is_cancelled f t c h item.number) ≡ true) h (makes f t c) (λ m is on.
     let number : m.item.number ≡ length past + 1 = ((call_laws c).makes_one f t m is).number in
     ap not (any_never _ (threads_of roster) (λ s.
-    elim (open_call roster past s) as (λ o. open_call roster past s ≡ o → (is_unread_send f.connection h m.item.number o && is_some ((row_of f t c).ends s)) ≡ false) [
+    elim (open_call roster past s) as (λ o. open_call roster past s ≡ o → (is_unread_send h m.item.number o && is_some ((row_of f t c).ends s)) ≡ false) [
       | None ↦ λ none. refl
       | Some o ↦ λ some.
-          let below : o.number ≤ length past = open_below roster past s o some in
-          let other : eqb o.number m.item.number ≡ false = ne_eqb _ _ (λ same. omega (arith, number)) in
+          let below : (number_of o) ≤ length past = open_below roster past s o some in
+          let other : eqb (number_of o) m.item.number ≡ false = ne_eqb _ _ (λ same. omega (arith, number)) in
           rw other refl
     ] refl))))
 

@@ -3,23 +3,27 @@ use Rattle.std.proofs.Common.{◌≡◌, ℕ, List, [], ◌∷◌, refl, ap, sym
 use Rattle.std.specs.Prelude.{Option, None, Some}
 use Rattle.std.proofs.lemmas.Bool.{eqb-true, eq-eqb, and_parts, and_from, true≢false, false_from_ne_true}
 use Rattle.std.proofs.lemmas.Option.{none-some, same_Some}
-use Rattle.qrules.specs.Private.Facts.{is_send, is_for_answer, sender_among}
+use Rattle.qrules.specs.Private.Facts.{is_send, sender_among}
 use Rattle.qmodel.specs.declared.open_call.OpenCall.{OpenCall}
 use Rattle.qbase.proofs.Lists.{is_among}
+use Rattle.qmodel.specs.declared.open_call.OpenSend.{OpenSend}
+use Rattle.qmodel.specs.declared.open_call.OpenCall.TheVariants.{Receive, Send}
+use Rattle.qrules.specs.Private.Facts.{number_of}
+use Rattle.qrules.specs.Private.Facts.{is_for_answer}
 
--- the open call of a sender has that number, and waits for an answer
+-- the open call of a sender has that number, and is a Send
 pub record Sends (i : ℕ) (o : Option OpenCall) : Type 0 where
   pub waiting : OpenCall
   pub is : o ≡ Some waiting
-  pub number : waiting.number ≡ i
-  pub answer : is_for_answer waiting.wait ≡ true
+  pub number : number_of waiting ≡ i
+  pub answer : is_for_answer waiting ≡ true
 
 pub send_parts : (i : ℕ) (o : Option OpenCall) → is_send i o ≡ true → Sends i o
 send_parts i None e = absurd (true≢false (sym e))
-send_parts i (Some o) e = let p = and_parts _ _ e in record { waiting = o; is = refl; number = eqb-true o.number i p.0; answer = p.1 }
+send_parts i (Some o) e = let p = and_parts _ _ e in record { waiting = o; is = refl; number = eqb-true (number_of o) i p.0; answer = p.1 }
 
-pub send_from : (i : ℕ) (o : OpenCall) → o.number ≡ i → is_for_answer o.wait ≡ true → is_send i (Some o) ≡ true
-send_from i o number answer = and_from _ _ (eq-eqb o.number i number) answer
+pub send_from : (i : ℕ) (o : OpenCall) → number_of o ≡ i → is_for_answer o ≡ true → is_send i (Some o) ≡ true
+send_from i o number answer = and_from _ _ (eq-eqb (number_of o) i number) answer
 
 -- what is found sends
 pub sender_sends : (open_call : ℕ → Option OpenCall) (i : ℕ) (us : List ℕ) (s : ℕ) → sender_among open_call i us ≡ Some s → Sends i (open_call s)

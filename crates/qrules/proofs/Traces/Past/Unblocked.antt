@@ -7,44 +7,47 @@ use Rattle.std.proofs.lemmas.List.Folds.{list_any-append}
 use Rattle.std.proofs.lemmas.Option.{same_Some}
 use Rattle.std.proofs.Math.Bool.{and-false, or-true, or-false}
 use Rattle.qtables.specs.declared.member.Member.{Member}
-use Rattle.qrules.specs.Private.Facts.{is_for_answer}
 use Rattle.qrules.specs.Private.Effects.{makes, unblocks}
-use Rattle.qrules.specs.Private.Laws.{is_for_reply}
 use Rattle.qrules.specs.Private.Lawful.{facts_of}
-use Rattle.qrules.specs.Private.Past.{call_by_now, wait_with_receipt, is_received, is_unblock_for, item_of, items, open_call, priority_of_item, copied_count_among, copied_count_of, unblocked_among, with_receipt}
+use Rattle.qrules.specs.Private.Past.{call_by_now, is_received, is_unblock_for, item_of, items, open_call, priority_of_item, copied_count_among, copied_count_of, unblocked_among}
 use Rattle.qmodel.specs.Trace.{SentItem}
-use Rattle.qrules.specs.Private.Step.{after_unblock, unblocked_call, unblocked_wait}
+use Rattle.qrules.specs.Private.Step.{after_unblock, unblocked_call}
 use Rattle.qmodel.specs.Trace.{Event, Trace}
 use Rattle.qmodel.specs.declared.call.Call.{Call}
 use Rattle.qmodel.specs.declared.open_call.OpenCall.{OpenCall}
-use Rattle.qmodel.specs.declared.open_call.Wait.{Wait}
-use Rattle.qmodel.specs.declared.open_call.Wait.TheVariants.{Answer, Item as ForItem}
+use Rattle.qmodel.specs.declared.open_call.OpenCall.TheVariants.{Receive, Send}
 use Rattle.qbase.proofs.Lists.{eqb_same}
 use Rattle.qrules.proofs.Traces.Past.Laws.{is_settled}
 use Rattle.qrules.proofs.Traces.Calls.{call_laws}
-use Rattle.qrules.proofs.Traces.Past.Numbers.{IsOpen, block_fresh, filled_answer, filled_settled, open_below, open_parts, open_thread, is_unblocked}
+use Rattle.qrules.proofs.Traces.Past.Numbers.{block_fresh}
+use Rattle.qrules.proofs.Traces.Past.Open.{IsOpen, filled_answer, filled_settled, open_below, open_parts, open_thread, is_unblocked}
 use Rattle.qrules.proofs.Traces.Past.Items.{item_accepted}
 use Rattle.qrules.proofs.Traces.Past.CurrentPriority.{unblocked_among_now}
+use Rattle.qrules.specs.Private.Past.{with_receipt}
+use Rattle.qrules.specs.Private.Step.{held_call}
+use Rattle.qmodel.specs.OpenCalls.{number_of}
+use Rattle.qrules.specs.Private.Laws.{is_for_reply}
+use Rattle.qrules.specs.Private.Facts.{is_for_answer}
+use Rattle.qrules.specs.Private.Past.{filled}
 
 -- ---- what is held is taken
 
 -- an open call whose message is received: the receipt is in the past
-pub held_is_taken : (roster : List Member) (past : Trace) (u : ℕ) (o : OpenCall) (k : IsOpen roster past u o) → is_for_answer o.wait ≡ true → is_settled o.wait ≡ true → is_received past k.block.number ≡ true
+pub held_is_taken : (roster : List Member) (past : Trace) (u : ℕ) (o : OpenCall) (k : IsOpen roster past u o) → is_for_answer o ≡ true → is_settled o ≡ true → is_received past (number_of k.block) ≡ true
 held_is_taken roster past u o k w s =
-    elim (copied_count_of past k.block.number) as (λ r. o ≡ with_receipt (priority_of_item roster past k.block.number) (is_unblocked roster past k.block.number) r (call_by_now past k.block) → is_some r ≡ true) [
+    elim (copied_count_of past (number_of k.block)) as (λ r. o ≡ with_receipt (priority_of_item roster past (number_of k.block)) (is_unblocked roster past (number_of k.block)) r (filled past k.block) → is_some r ≡ true) [
       | None ↦ λ same.
-          absurd (true≢false (sym (ap (λ x. is_settled x.wait) (sym same) ∙ s) ∙ filled_settled past k.block ∙ block_fresh past u k.block k.is ∙ ap not (sym (filled_answer past k.block) ∙ ap (λ x. is_for_answer x.wait) (sym same) ∙ w)))
+          absurd (true≢false (sym (ap is_settled (sym same) ∙ s) ∙ filled_settled past k.block ∙ block_fresh roster past u k.block k.is ∙ ap not (sym (filled_answer past k.block) ∙ ap is_for_answer (sym same) ∙ w)))
       | Some copied ↦ λ same. refl
     ] k.same
 
-reply_answer : (w : Wait) → is_for_reply w ≡ true → is_for_answer w ≡ true
-reply_answer (Answer coid message reply_buffer receipt) e = refl
-reply_answer (ForItem chid kind buffer) e = absurd (true≢false (sym e))
+reply_answer : (o : OpenCall) → is_for_reply o ≡ true → is_for_answer o ≡ true
+reply_answer (Send s) e = refl
+reply_answer (Receive r) e = absurd (true≢false (sym e))
 
-reply_settled : (w : Wait) → is_for_reply w ≡ true → is_settled w ≡ true
-reply_settled (Answer coid message reply_buffer None) e = absurd (true≢false (sym e))
-reply_settled (Answer coid message reply_buffer (Some receipt)) e = refl
-reply_settled (ForItem chid kind buffer) e = refl
+reply_settled : (o : OpenCall) → is_for_reply o ≡ true → is_settled o ≡ true
+reply_settled (Send s) e = e
+reply_settled (Receive r) e = refl
 
 -- ---- what is unblocked
 
@@ -60,11 +63,11 @@ by_item roster past t c i m made is =
       | None ↦ λ none. absurd (true≢false (sym is ∙ (call_laws c).unblocks_none none (facts_of roster past) t m made i))
       | Some v ↦ λ some.
           let k = (call_laws c).unblocks_one v some (facts_of roster past) t m made in
-          let same : k.waiting.number ≡ i = eqb-true _ _ (ap (is_unblock_for i) (sym k.what) ∙ is) in
+          let same : (number_of k.waiting) ≡ i = eqb-true _ _ (ap (is_unblock_for i) (sym k.what) ∙ is) in
           let p = open_parts roster past v k.waiting k.is in
           record {
             below = subst (λ j. j ≤ length past) same (open_below roster past v k.waiting k.is);
-            taken = subst (λ j. is_received past j ≡ true) (sym p.number ∙ same) (held_is_taken roster past v k.waiting p (reply_answer k.waiting.wait k.held) (reply_settled k.waiting.wait k.held));
+            taken = subst (λ j. is_received past j ≡ true) (sym p.number ∙ same) (held_is_taken roster past v k.waiting p (reply_answer k.waiting k.held) (reply_settled k.waiting k.held));
           }
     ] refl
 
@@ -130,29 +133,29 @@ marks m (Some v) u = eqb u v && is_some m
 
 -- the item is an unblock pulse for what thread u is blocked in just where the call is to unblock that thread
 pub marks_it : (roster : List Member) (past : Trace) (t : ℕ) (c : Call) (u : ℕ) (o : OpenCall) → open_call roster past u ≡ Some o
-    → unblocked_among (option_to_list (makes (facts_of roster past) t c)) o.number ≡ marks (makes (facts_of roster past) t c) (unblocks c) u
+    → unblocked_among (option_to_list (makes (facts_of roster past) t c)) (number_of o) ≡ marks (makes (facts_of roster past) t c) (unblocks c) u
 marks_it roster past t c u o is =
-    elim (makes (facts_of roster past) t c) as (λ m. makes (facts_of roster past) t c ≡ m → unblocked_among (option_to_list m) o.number ≡ marks m (unblocks c) u) [
+    elim (makes (facts_of roster past) t c) as (λ m. makes (facts_of roster past) t c ≡ m → unblocked_among (option_to_list m) (number_of o) ≡ marks m (unblocks c) u) [
       | None ↦ λ none. elim (unblocks c) as (λ w. false ≡ marks None w u) [ None ↦ refl | Some v ↦ sym (and-false (eqb u v)) ]
-      | Some m ↦ λ some. or-false (is_unblock_for o.number m.item.what) ∙ (
-          elim (unblocks c) as (λ w. unblocks c ≡ w → is_unblock_for o.number m.item.what ≡ marks (Some m) w u) [
-            | None ↦ λ none. (call_laws c).unblocks_none none (facts_of roster past) t m some o.number
+      | Some m ↦ λ some. or-false (is_unblock_for (number_of o) m.item.what) ∙ (
+          elim (unblocks c) as (λ w. unblocks c ≡ w → is_unblock_for (number_of o) m.item.what ≡ marks (Some m) w u) [
+            | None ↦ λ none. (call_laws c).unblocks_none none (facts_of roster past) t m some (number_of o)
             | Some v ↦ λ named.
                 let k = (call_laws c).unblocks_one v named (facts_of roster past) t m some in
-                ap (is_unblock_for o.number) k.what ∙ (
-                elim (cases_Bool (eqb u v)) as (λ _. eqb k.waiting.number o.number ≡ (eqb u v && true)) [
+                ap (is_unblock_for (number_of o)) k.what ∙ (
+                elim (cases_Bool (eqb u v)) as (λ _. eqb (number_of k.waiting) (number_of o) ≡ (eqb u v && true)) [
                   | inl same ↦
                       let one : k.waiting ≡ o = same_Some _ _ (sym k.is ∙ ap (open_call roster past) (sym (eqb-true u v same)) ∙ is) in
-                      ap (λ n. eqb n o.number) (ap (λ w. w.number) one) ∙ eqb_same o.number ∙ rw same refl
-                  | inr other ↦ ne_eqb k.waiting.number o.number (λ n. true≢false (sym (eqb_same u) ∙ ap (eqb u) (open_thread roster past u v o k.waiting is k.is (sym n)) ∙ other)) ∙ rw other refl
+                      ap (λ n. eqb n (number_of o)) (ap number_of one) ∙ eqb_same (number_of o) ∙ rw same refl
+                  | inr other ↦ ne_eqb (number_of k.waiting) (number_of o) (λ n. true≢false (sym (eqb_same u) ∙ ap (eqb u) (open_thread roster past u v o k.waiting is k.is (sym n)) ∙ other)) ∙ rw other refl
                 ])
           ] refl)
     ] refl
 
-unblocked_held : (priority copied : ℕ) (unblocked : Bool) (w : Wait)
-    → wait_with_receipt (record { priority = priority; copied = copied; unblocked = true }) w ≡ unblocked_wait (wait_with_receipt (record { priority = priority; copied = copied; unblocked = unblocked }) w)
-unblocked_held priority copied unblocked (Answer coid message reply_buffer receipt) = refl
-unblocked_held priority copied unblocked (ForItem chid kind buffer) = refl
+unblocked_held : (priority copied : ℕ) (unblocked : Bool) (o : OpenCall)
+    → held_call (record { priority = priority; copied = copied; unblocked = true }) o ≡ unblocked_call (held_call (record { priority = priority; copied = copied; unblocked = unblocked }) o)
+unblocked_held priority copied unblocked (Send s) = refl
+unblocked_held priority copied unblocked (Receive r) = refl
 
 -- what is kept of a received message with what the event makes
 marked : (unblocked x : Bool) (priority : ℕ) (r : Option ℕ) (o : OpenCall) → (x ≡ true → is_some r ≡ true)
@@ -160,7 +163,7 @@ marked : (unblocked x : Bool) (priority : ℕ) (r : Option ℕ) (o : OpenCall) �
 marked unblocked false priority r o h = ap (λ b. with_receipt priority b r o) (or-false unblocked)
 marked unblocked true priority None o h = absurd (true≢false (sym (h refl)))
 marked unblocked true priority (Some copied) o h =
-    ap (λ b. with_receipt priority b (Some copied) o) (or-true unblocked) ∙ ap (λ w. record { number = o.number; wait = w }) (unblocked_held priority copied unblocked o.wait)
+    ap (λ b. with_receipt priority b (Some copied) o) (or-true unblocked) ∙ unblocked_held priority copied unblocked o
 
 pub unblocked_after : (m : Option SentItem) (w : Option ℕ) (u : ℕ) (unblocked x : Bool) (priority : ℕ) (r : Option ℕ) (o : OpenCall) → x ≡ marks m w u → (x ≡ true → is_some r ≡ true)
     → Some (with_receipt priority (unblocked || x) r o) ≡ after_unblock m w u (Some (with_receipt priority unblocked r o))

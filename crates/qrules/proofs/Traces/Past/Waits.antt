@@ -35,7 +35,7 @@ info_tells f t rcvid p =
     let s = has_sender f t rcvid p.row in
     let h = held_for f t rcvid s.0 p.row s.1 in
     let m = some_of (member_at f.roster s.0) (among_member f.roster s.0 (sender_is_among f.open_call rcvid (threads_of f.roster) s.0 s.1)) in
-    rw (s.1, m.1, h.is_open, h.waits) refl
+    rw (s.1, m.1, h.is_open, h.held) refl
 
 -- ---- by each call's row
 
@@ -43,7 +43,7 @@ pub some_map : {A B : Type 0} (k : A → B) (o : Option A) → is_some (option_m
 some_map k None = refl
 some_map k (Some x) = refl
 
-pub waits_or_ends : (f : Facts) (t : ℕ) (c : Call) → Passes f t c → (row_of f t c).own ≡ None → is_some (asks f.number c) ≡ true
+pub waits_or_ends : (f : Facts) (t : ℕ) (c : Call) → Passes f t c → (row_of f t c).own ≡ None → is_some (asks 0 0 0 c) ≡ true
 waits_or_ends f t (Send coid message reply_buffer) p e = refl
 waits_or_ends f t (Receive chid buffer) p e = refl
 waits_or_ends f t (Info rcvid) p e = absurd (true≢false (sym (some_map _ (info_of f (sender f rcvid)) ∙ info_tells f t rcvid p) ∙ ap is_some e))

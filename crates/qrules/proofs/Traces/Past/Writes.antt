@@ -8,22 +8,25 @@ use Rattle.qtables.specs.declared.member.Member.{Member}
 use Rattle.qrules.specs.Private.Answer.{Outcome}
 use Rattle.qrules.specs.Private.Facts.{Facts, sender, threads_of}
 use Rattle.qrules.specs.Private.Lawful.{facts_of, IsLawful, with_event}
-use Rattle.qrules.specs.Private.Past.{call_by_now, is_accepted, open_call, refuses, with_receipt, with_writes}
+use Rattle.qrules.specs.Private.Past.{call_by_now, is_accepted, open_call, refuses, with_writes}
 use Rattle.qrules.specs.Private.Effects.{asks, writes}
-use Rattle.qrules.specs.Private.Rows.{with_buffer, buffer_after_write}
+use Rattle.qrules.specs.Private.Rows.{buffer_after_write}
 use Rattle.qrules.specs.Private.Step.{after_write, is_thread, written_call}
 use Rattle.qmodel.specs.Trace.{Event, Trace}
 use Rattle.qmodel.specs.declared.call.Call.{Call}
 use Rattle.qmodel.specs.declared.call.Completion.{Completion}
 use Rattle.qmodel.specs.declared.open_call.OpenCall.{OpenCall}
-use Rattle.qmodel.specs.declared.open_call.Wait.{Wait}
-use Rattle.qmodel.specs.declared.open_call.Wait.TheVariants.{Answer, Item as ForItem}
+use Rattle.qmodel.specs.declared.open_call.OpenCall.TheVariants.{Receive, Send}
 use Rattle.qrules.proofs.Traces.Past.Ends.{accepted, laws_of, refused}
 use Rattle.qbase.proofs.Lists.{eqb_same}
-use Rattle.qrules.proofs.Traces.Past.Numbers.{open_below, open_thread}
+use Rattle.qrules.proofs.Traces.Past.Open.{open_below, open_thread}
 use Rattle.qrules.proofs.Traces.Calls.{call_laws}
 use Rattle.qrules.proofs.Traces.Past.Senders.{sender_sends}
 use Rattle.qrules.specs.Rule.{Transfer}
+use Rattle.qrules.specs.Private.Facts.{number_of}
+use Rattle.qrules.specs.Private.Past.{filled}
+use Rattle.qrules.specs.Private.Facts.{with_buffer}
+use Rattle.qrules.specs.Private.Past.{with_receipt}
 
 -- ---- a reply buffer
 
@@ -44,71 +47,63 @@ writes_nothing e past i b none = elim (is_accepted e past) as (λ t. cond t (buf
 
 -- a call with its reply buffer changed so
 abbrev pub changed : (List ℕ → List ℕ) → OpenCall → OpenCall
-changed f o = record { number = o.number; wait = with_buffer f o.wait }
+changed f o = with_buffer f o
 
 change_same : (f g : List ℕ → List ℕ) (o : OpenCall) → ((b : List ℕ) → f b ≡ g b) → changed f o ≡ changed g o
-change_same f g o h = by_wait o.wait where
-  by_wait : (w : Wait) → changed f (record { number = o.number; wait = w }) ≡ changed g (record { number = o.number; wait = w })
-  by_wait (Answer coid message reply_buffer receipt) = ap (λ b. record { number = o.number; wait = Answer coid message b receipt }) (h reply_buffer)
-  by_wait (ForItem chid kind buffer) = refl
+change_same f g (Send s) h = ap (λ b. Send (record s { reply_buffer = b })) (h s.reply_buffer)
+change_same f g (Receive r) h = refl
 
 change_twice : (f g : List ℕ → List ℕ) (o : OpenCall) → changed (λ b. f (g b)) o ≡ changed f (changed g o)
-change_twice f g o = by_wait o.wait where
-  by_wait : (w : Wait) → changed (λ b. f (g b)) (record { number = o.number; wait = w }) ≡ changed f (changed g (record { number = o.number; wait = w }))
-  by_wait (Answer coid message reply_buffer receipt) = refl
-  by_wait (ForItem chid kind buffer) = refl
+change_twice f g (Send s) = refl
+change_twice f g (Receive r) = refl
 
 change_none : (f : List ℕ → List ℕ) (o : OpenCall) → ((b : List ℕ) → f b ≡ b) → changed f o ≡ o
-change_none f o h = by_wait o.wait where
-  by_wait : (w : Wait) → changed f (record { number = o.number; wait = w }) ≡ record { number = o.number; wait = w }
-  by_wait (Answer coid message reply_buffer receipt) = ap (λ b. record { number = o.number; wait = Answer coid message b receipt }) (h reply_buffer)
-  by_wait (ForItem chid kind buffer) = refl
+change_none f (Send s) h = ap (λ b. Send (record s { reply_buffer = b })) (h s.reply_buffer)
+change_none f (Receive r) h = refl
 
-pub filled_refused : (e : Event) (past : Trace) (o : OpenCall) → refuses e.endings (length past + 1) ≡ true → call_by_now (e ∷ past) o ≡ call_by_now past o
-filled_refused e past o r = change_same (with_writes (e ∷ past) o.number) (with_writes past o.number) o (λ b. writes_refused e past o.number b r)
+pub filled_refused : (e : Event) (past : Trace) (o : OpenCall) → refuses e.endings (length past + 1) ≡ true → filled (e ∷ past) o ≡ filled past o
+filled_refused e past o r = change_same (with_writes (e ∷ past) (number_of o)) (with_writes past (number_of o)) o (λ b. writes_refused e past (number_of o) b r)
 
-pub filled_accepted : (e : Event) (past : Trace) (o : OpenCall) → refuses e.endings (length past + 1) ≡ false → call_by_now (e ∷ past) o ≡ changed (buffer_after_write (writes e.call) o.number) (call_by_now past o)
+pub filled_accepted : (e : Event) (past : Trace) (o : OpenCall) → refuses e.endings (length past + 1) ≡ false → filled (e ∷ past) o ≡ changed (buffer_after_write (writes e.call) (number_of o)) (filled past o)
 filled_accepted e past o r =
-    change_same (with_writes (e ∷ past) o.number) (λ b. buffer_after_write (writes e.call) o.number (with_writes past o.number b)) o (λ b. writes_accepted e past o.number b r)
-    ∙ change_twice (buffer_after_write (writes e.call) o.number) (with_writes past o.number) o
+    change_same (with_writes (e ∷ past) (number_of o)) (λ b. buffer_after_write (writes e.call) (number_of o) (with_writes past (number_of o) b)) o (λ b. writes_accepted e past (number_of o) b r)
+    ∙ change_twice (buffer_after_write (writes e.call) (number_of o)) (with_writes past (number_of o)) o
 
 -- ---- with a receipt
 
 -- a write and a receipt go past each other
 changed_receipt : (f : List ℕ → List ℕ) (priority : ℕ) (unblocked : Bool) (r : Option ℕ) (o : OpenCall) → with_receipt priority unblocked r (changed f o) ≡ changed f (with_receipt priority unblocked r o)
 changed_receipt f priority unblocked None o = refl
-changed_receipt f priority unblocked (Some copied) o = by_wait o.wait where
-  by_wait : (w : Wait) → with_receipt priority unblocked (Some copied) (changed f (record { number = o.number; wait = w })) ≡ changed f (with_receipt priority unblocked (Some copied) (record { number = o.number; wait = w }))
-  by_wait (Answer coid message reply_buffer receipt) = refl
-  by_wait (ForItem chid kind buffer) = refl
+changed_receipt f priority unblocked (Some copied) (Send s) = refl
+changed_receipt f priority unblocked (Some copied) (Receive r) = refl
 
 -- the call of thread u after a write, if it is written just where the sender is u
-written_after : (f : Facts) (w : Option Transfer) (u : ℕ) (o : OpenCall) → ((x : Transfer) → w ≡ Some x → is_thread (sender f x.rcvid) u ≡ eqb x.rcvid o.number) → Some (changed (buffer_after_write w o.number) o) ≡ after_write f w u (Some o)
+written_after : (f : Facts) (w : Option Transfer) (u : ℕ) (o : OpenCall) → ((x : Transfer) → w ≡ Some x → is_thread (sender f x.rcvid) u ≡ eqb x.rcvid (number_of o)) → Some (changed (buffer_after_write w (number_of o)) o) ≡ after_write f w u (Some o)
 written_after f None u o h = ap (λ x. Some x) (change_none (λ b. b) o (λ b. refl))
-written_after f (Some x) u o h = rw (h x refl) (elim (eqb x.rcvid o.number) as (λ t. Some (changed (λ b. cond t (lay_over b x.offset x.bytes) b) o) ≡ cond t (Some (written_call x.offset x.bytes o)) (Some o)) [
+written_after f (Some x) u o h = rw (h x refl) (elim (eqb x.rcvid (number_of o)) as (λ t. Some (changed (λ b. cond t (lay_over b x.offset x.bytes) b) o) ≡ cond t (Some (written_call x.offset x.bytes o)) (Some o)) [
   | true ↦ refl
   | false ↦ ap (λ y. Some y) (change_none (λ b. b) o (λ b. refl))
 ])
 
-pub receipt_written : (f : Facts) (w : Option Transfer) (u priority : ℕ) (unblocked : Bool) (r : Option ℕ) (o : OpenCall) → (with_receipt priority unblocked r o).number ≡ o.number → ((x : Transfer) → w ≡ Some x → is_thread (sender f x.rcvid) u ≡ eqb x.rcvid o.number)
-    → Some (with_receipt priority unblocked r (changed (buffer_after_write w o.number) o)) ≡ after_write f w u (Some (with_receipt priority unblocked r o))
+pub receipt_written : (f : Facts) (w : Option Transfer) (u priority : ℕ) (unblocked : Bool) (r : Option ℕ) (o : OpenCall) → number_of (with_receipt priority unblocked r o) ≡ number_of o → ((x : Transfer) → w ≡ Some x → is_thread (sender f x.rcvid) u ≡ eqb x.rcvid (number_of o))
+    → Some (with_receipt priority unblocked r (changed (buffer_after_write w (number_of o)) o)) ≡ after_write f w u (Some (with_receipt priority unblocked r o))
 receipt_written f w u priority unblocked r o number h =
-    ap (λ x. Some x) (changed_receipt (buffer_after_write w o.number) priority unblocked r o ∙ ap (λ i. changed (buffer_after_write w i) (with_receipt priority unblocked r o)) (sym number))
+    ap (λ x. Some x) (changed_receipt (buffer_after_write w (number_of o)) priority unblocked r o ∙ ap (λ i. changed (buffer_after_write w i) (with_receipt priority unblocked r o)) (sym number))
     ∙ written_after f w u (with_receipt priority unblocked r o) (λ x is. h x is ∙ ap (eqb x.rcvid) (sym number))
 
 -- ---- whose buffer is written
 
 -- the sender of the message that is written to is the thread whose open call has its number
 pub written_sender : (roster : List Member) (past : Trace) (t : ℕ) (c : Call) (X : List Completion) (u : ℕ) (o : OpenCall) (x : Transfer) → Outcome true (facts_of roster past) t c X → open_call roster past u ≡ Some o → writes c ≡ Some x
-    → is_thread (sender (facts_of roster past) x.rcvid) u ≡ eqb x.rcvid o.number
+    → is_thread (sender (facts_of roster past) x.rcvid) u ≡ eqb x.rcvid (number_of o)
 written_sender roster past t c X u o x a is written =
     let s = (laws_of (facts_of roster past) t c X a).writes_sent x written in
     let k = sender_sends (open_call roster past) x.rcvid (threads_of roster) s.0 s.1 in
-    ap (λ v. is_thread v u) s.1 ∙ (elim (cases_Bool (eqb x.rcvid o.number)) as (λ _. eqb u s.0 ≡ eqb x.rcvid o.number) [
+    ap (λ v. is_thread v u) s.1 ∙ (elim (cases_Bool (eqb x.rcvid (number_of o))) as (λ _. eqb u s.0 ≡ eqb x.rcvid (number_of o)) [
       | inl same ↦
           let at : s.0 ≡ u = open_thread roster past s.0 u k.waiting o k.is is (k.number ∙ eqb-true _ _ same) in
           ap (eqb u) at ∙ eqb_same u ∙ sym same
-      | inr other ↦ ne_eqb u s.0 (λ same. eqb-false x.rcvid o.number other (sym k.number ∙ ap (λ w. w.number) (same_Some k.waiting o (sym k.is ∙ ap (open_call roster past) (sym same) ∙ is)))) ∙ sym other
+      | inr other ↦ ne_eqb u s.0 (λ same. eqb-false x.rcvid (number_of o) other (sym k.number ∙ ap number_of (same_Some k.waiting o (sym k.is ∙ ap (open_call roster past) (sym same) ∙ is)))) ∙ sym other
     ])
 
 -- nothing is written to a message to come
@@ -122,16 +117,16 @@ writes_beyond roster (e ∷ past) i b l h = elim l.2 [
         | Some x ↦ λ is.
             let s = (laws_of (facts_of roster past) e.thread e.call e.endings a).writes_sent x is in
             let k = sender_sends (open_call roster past) x.rcvid (threads_of roster) s.0 s.1 in
-            let below : k.waiting.number ≤ length past = open_below roster past s.0 k.waiting k.is in
+            let below : (number_of k.waiting) ≤ length past = open_below roster past s.0 k.waiting k.is in
             rw (ne_eqb x.rcvid i (λ same. omega (arith, k.number))) rest
       ] refl)
   | inr a ↦ writes_refused e past i b (refused roster past e.thread e.call e.endings a) ∙ writes_beyond roster past i b l.0 (omega arith)
 ]
 
 -- a call that begins to wait has nothing written over its buffer
-pub filled_fresh : (roster : List Member) (past : Trace) (t : ℕ) (c : Call) (X : List Completion) (o : OpenCall) → IsLawful roster past → refuses X (length past + 1) ≡ false → asks (length past + 1) c ≡ Some o → o.number ≡ length past + 1
-    → call_by_now (with_event t c X past) o ≡ o
-filled_fresh roster past t c X o l r asked number =
-    change_none (with_writes (with_event t c X past) o.number) o (λ b.
-    writes_accepted (record { thread = t; call = c; endings = X }) past o.number b r ∙ ap (λ w. buffer_after_write w o.number (with_writes past o.number b)) ((call_laws c).waits_write (length past + 1) o asked)
-    ∙ writes_beyond roster past o.number b l (omega (arith, number)))
+pub filled_fresh : (roster : List Member) (past : Trace) (t h : ℕ) (c : Call) (X : List Completion) (o : OpenCall) → IsLawful roster past → refuses X (length past + 1) ≡ false → asks (length past + 1) t h c ≡ Some o → (number_of o) ≡ length past + 1
+    → filled (with_event t c X past) o ≡ o
+filled_fresh roster past t h c X o l r asked number =
+    change_none (with_writes (with_event t c X past) (number_of o)) o (λ b.
+    writes_accepted (record { thread = t; call = c; endings = X }) past (number_of o) b r ∙ ap (λ w. buffer_after_write w (number_of o) (with_writes past (number_of o) b)) ((call_laws c).waits_write (length past + 1) t h o asked)
+    ∙ writes_beyond roster past (number_of o) b l (omega (arith, number)))

@@ -9,8 +9,8 @@ use Rattle.qtables.specs.declared.connection.Connection.{Connection}
 use Rattle.qtables.specs.declared.member.Member.{Member}
 use Rattle.qtables.specs.Members.{IsRoster}
 use Rattle.qrules.specs.Private.Answer.{ending, Outcome, Answers}
-use Rattle.qrules.proofs.Traces.Parts.{owns_end, owns_that}
-use Rattle.qrules.specs.Private.Facts.{Facts, is_for_answer, owns, threads_of}
+use Rattle.qrules.proofs.Traces.Parts.{owns_that}
+use Rattle.qrules.specs.Private.Facts.{Facts, owns, threads_of}
 use Rattle.qrules.specs.Private.Headline.AnsweredToSender.{AnsweredToSender, AnswersIts, AnswersOnce, EachAnswersIts, is_answer, is_held, owns_channel_of}
 use Rattle.qrules.specs.Private.Lawful.{facts_of, IsLawful}
 use Rattle.qrules.specs.Private.Past.{connection_at, is_received, sender_of}
@@ -19,7 +19,7 @@ use Rattle.qmodel.specs.declared.call.Completion.{Completion}
 use Rattle.qrules.proofs.Traces.Past.Ends.{open_known, passes_of}
 use Rattle.qrules.proofs.Traces.Past.Laws.{is_settled}
 use Rattle.qbase.proofs.Lists.{all_filter_map, all_more, is_among}
-use Rattle.qrules.proofs.Traces.Past.Numbers.{buffer_answer, held_for_answer, open_parts}
+use Rattle.qrules.proofs.Traces.Past.Open.{buffer_answer, held_for_answer, open_parts}
 use Rattle.qrules.proofs.Traces.Properties.Answers.{AnswersHeld, answers_held, answers_one, over}
 use Rattle.qrules.proofs.Traces.Properties.Events.{is_accepted_by, outcome_of}
 use Rattle.qrules.proofs.Traces.Properties.ReceivedOnce.{different_calls}
@@ -40,10 +40,10 @@ answers_its roster past e u y l a h =
     let f = facts_of roster past in
     let o = h.held.waiting in
     let k = open_parts roster past u o h.held.is_open in
-    let number : k.block.number ≡ y.call = sym k.number ∙ h.number in
-    let answer : is_for_answer o.wait ≡ true = ap is_for_answer h.held.waits in
-    let began : is_for_answer k.block.wait ≡ true = sym (open_keeps is_for_answer roster past u o k held_for_answer buffer_answer) ∙ answer in
-    let taken : is_received past k.block.number ≡ true = held_is_taken roster past u o k answer (ap is_settled h.held.waits) in
+    let number : (number_of k.block) ≡ y.call = sym k.number ∙ h.number in
+    let answer : is_for_answer o ≡ true = ap is_for_answer h.held.waits in
+    let began : is_for_answer k.block ≡ true = sym (open_keeps is_for_answer roster past u o k held_for_answer buffer_answer) ∙ answer in
+    let taken : is_received past (number_of k.block) ≡ true = held_is_taken roster past u o k answer (ap is_settled h.held.waits) in
     let s = open_over roster past u o k l answer in
     let connection : connection_at roster past h.held.coid ≡ Some s.connection = ap (connection_at roster past) (sym (ap over h.held.waits)) ∙ over_attached roster past u o l h.held.is_open answer ∙ s.is_connection in
     record {
@@ -51,7 +51,7 @@ answers_its roster past e u y l a h =
       accepted = is_accepted_by roster e past a;
       held = subst (λ i. is_held past i ≡ true) number (and_from _ _ taken (ap not k.going));
       owner = subst (λ i. owns_channel_of roster past e.thread i ≡ true) number
-          (ap (owns_that roster past e.thread) (item_channel roster past k.block.number s.made s.is_made)
+          (ap (owns_that roster past e.thread) (item_channel roster past (number_of k.block) s.made s.is_made)
           ∙ ap (λ c. owns (facts_of roster past) e.thread c) s.channel
           ∙ owns_through (facts_of roster past) e.thread (connection_at roster past h.held.coid) s.connection connection h.held.owner);
       sender = subst (λ i. sender_of past i ≡ Some y.thread) number (block_sender past u k.block k.is began ∙ ap (λ t. Some t) (sym h.thread));

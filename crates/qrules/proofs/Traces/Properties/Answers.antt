@@ -20,7 +20,7 @@ use Rattle.qrules.specs.Private.Held.{Finish, ends_sender, refusal}
 use Rattle.qmodel.specs.declared.call.Info.{Info as Told}
 use Rattle.qmodel.specs.declared.call.Mark.TheVariants as mark
 use Rattle.qrules.specs.Private.Cancelling.{is_on}
-use Rattle.qrules.specs.Private.Facts.{Facts, is_for_answer, message, sender, threads_of, route}
+use Rattle.qrules.specs.Private.Facts.{Facts, message, sender, threads_of, route}
 use Rattle.qrules.specs.Private.Effects.{answered_by, asks, makes, thread_of_send}
 use Rattle.qrules.specs.Private.Headline.AnsweredToSender.{is_answer}
 use Rattle.qrules.specs.Private.Rows.{delivery_of, item_sent_over}
@@ -29,8 +29,7 @@ use Rattle.qmodel.specs.declared.call.Call.{Call}
 use Rattle.qmodel.specs.declared.call.Call.TheVariants.{Send, Receive, Reply, Error, Info, ReceivePulse, Pulse, ChannelDestroy, Shutdown, Unblock, ConnectDetach}
 use Rattle.qmodel.specs.declared.call.Completion.{Completion}
 use Rattle.qmodel.specs.declared.open_call.OpenCall.{OpenCall}
-use Rattle.qmodel.specs.declared.open_call.Wait.{Wait}
-use Rattle.qmodel.specs.declared.open_call.Wait.TheVariants.{Answer, Item as ForItem}
+use Rattle.qmodel.specs.declared.open_call.OpenCall.TheVariants.{Receive as InReceive, Send as InSend}
 use Rattle.qrules.proofs.Traces.Calls.Cancelling.{cancel_parts}
 use Rattle.qrules.proofs.Traces.Calls.Held.{IsHeldFor, SenderEnds, answering, finished_held, has_sender, held_for, sender_ends}
 use Rattle.qbase.proofs.Lists.{eqb_same}
@@ -54,7 +53,7 @@ pub record AnswersHeld (f : Facts) (t : ℕ) (c : Call) (u : ℕ) (y : Completio
   pub named : answered_by c ≡ Some y.call
   pub is_sender : sender f y.call ≡ Some u
   pub held : IsHeldFor f t (f.open_call u)
-  pub number : held.waiting.number ≡ y.call
+  pub number : (number_of held.waiting) ≡ y.call
   pub thread : y.thread ≡ u
 
 no_answer : {P : Type 0} (x y : Completion) → x ≡ y → is_answer x.mark ≡ false → is_answer y.mark ≡ true → P
@@ -100,7 +99,7 @@ ends_answers f t (Pulse coid level code value) u y p e is =
     let k = told_meets f (pulse.sent_pulse f coid level code value) u y e in met_no_answer f (Some k.made.channel) k.made.item [] u y k.delivers is
 ends_answers f t (Reply rcvid status bytes) u y p e is = answers_by f t (Reply rcvid status bytes) rcvid (reply_finish status bytes) u y refl (sender_ends f t rcvid (reply_finish status bytes) u y p.row e)
 ends_answers f t (Error rcvid code) u y p e is = answers_by f t (Error rcvid code) rcvid (error_finish code) u y refl (sender_ends f t rcvid (error_finish code) u y p.row e)
-ends_answers f t (ChannelDestroy chid) u y p e is = no_answer _ y (cancel_parts (is_on f.connection chid) Srch u (f.open_call u) y e).ending refl is
+ends_answers f t (ChannelDestroy chid) u y p e is = no_answer _ y (cancel_parts (is_on chid) Srch u (f.open_call u) y e).ending refl is
 ends_answers f t Shutdown u y p e is = no_answer _ y (cancel_parts (λ wait. true) Srch u (f.open_call u) y e).ending refl is
 ends_answers f t (Unblock thread) u y p e is = elim (unblock_ends f thread u y (unblock.due_pulse f thread) e) [
   | inl cancel ↦ no_answer _ y cancel.ending refl is
@@ -137,13 +136,13 @@ ends_one f t c rcvid finish i passed ends marks same =
     let s = has_sender f t rcvid passed in
     let h = held_for f t rcvid s.0 passed s.1 in
     let k = sender_sends f.open_call rcvid (threads_of f.roster) s.0 s.1 in
-    let at : ends_sender f finish (sender f rcvid) s.0 ≡ Some (answering h.waiting.number s.0 finish h.reply_buffer) = rw (s.1, eqb_same s.0) (finished_held f t finish s.0 (f.open_call s.0) h) in
+    let at : ends_sender f finish (sender f rcvid) s.0 ≡ Some (answering (number_of h.waiting) s.0 finish h.reply_buffer) = rw (s.1, eqb_same s.0) (finished_held f t finish s.0 (f.open_call s.0) h) in
     record {
       thread = s.0;
       is_sender = subst (λ j. sender f j ≡ Some s.0) same s.1;
       waiting = h.waiting;
       is_open = h.is_open;
-      given = answering h.waiting.number s.0 finish h.reply_buffer;
+      given = answering (number_of h.waiting) s.0 finish h.reply_buffer;
       is = ends s.0 ∙ at;
       call = sym (ap (λ o. o.number) (same_Some k.waiting h.waiting (sym k.is ∙ h.is_open))) ∙ k.number ∙ same;
       answers = marks h.reply_buffer;
@@ -169,7 +168,7 @@ pub record SendsOver (f : Facts) (t : ℕ) (c : Call) (coid : ℕ) : Type 0 wher
   pub channel : made.channel ≡ connection.channel
 
 -- the connection of a wait for an answer
-abbrev pub over : Wait → ℕ
+abbrev pub over : OpenCall → ℕ
 over (Answer coid message reply_buffer receipt) = coid
 over (ForItem chid kind buffer) = 0
 
@@ -185,16 +184,16 @@ send_over f t coid message reply_buffer p =
       channel = refl;
     }
 
-pub sends_over : (f : Facts) (t : ℕ) (c : Call) (b : OpenCall) → Passes f t c → asks f.number c ≡ Some b → is_for_answer b.wait ≡ true → SendsOver f t c (over b.wait)
-sends_over f t (ReceivePulse chid) b p e w = absurd (true≢false (sym w ∙ ap (λ o. is_for_answer o.wait) (sym (same_Some _ b e))))
-sends_over f t (Receive chid buffer) b p e w = absurd (true≢false (sym w ∙ ap (λ o. is_for_answer o.wait) (sym (same_Some _ b e))))
+pub sends_over : (f : Facts) (t : ℕ) (c : Call) (b : OpenCall) → Passes f t c → asks f.number c ≡ Some b → is_for_answer b ≡ true → SendsOver f t c (over b)
+sends_over f t (ReceivePulse chid) b p e w = absurd (true≢false (sym w ∙ ap (λ o. is_for_answer o) (sym (same_Some _ b e))))
+sends_over f t (Receive chid buffer) b p e w = absurd (true≢false (sym w ∙ ap (λ o. is_for_answer o) (sym (same_Some _ b e))))
 sends_over f t (Send coid message reply_buffer) b p e w =
-    subst (SendsOver f t (Send coid message reply_buffer)) (ap (λ o. over o.wait) (same_Some _ b e)) (send_over f t coid message reply_buffer p)
+    subst (SendsOver f t (Send coid message reply_buffer)) (ap (λ o. over o) (same_Some _ b e)) (send_over f t coid message reply_buffer p)
 sends_over f t c b p e w = absurd (none-some b e)
 
 -- and its thread is the caller
-pub sends_by : (n t : ℕ) (c : Call) (b : OpenCall) → asks n c ≡ Some b → is_for_answer b.wait ≡ true → thread_of_send t c ≡ Some t
+pub sends_by : (n t : ℕ) (c : Call) (b : OpenCall) → asks n c ≡ Some b → is_for_answer b ≡ true → thread_of_send t c ≡ Some t
 sends_by n t (Send coid message reply_buffer) b e w = refl
-sends_by n t (Receive chid buffer) b e w = absurd (true≢false (sym w ∙ ap (λ o. is_for_answer o.wait) (sym (same_Some _ b e))))
-sends_by n t (ReceivePulse chid) b e w = absurd (true≢false (sym w ∙ ap (λ o. is_for_answer o.wait) (sym (same_Some _ b e))))
+sends_by n t (Receive chid buffer) b e w = absurd (true≢false (sym w ∙ ap (λ o. is_for_answer o) (sym (same_Some _ b e))))
+sends_by n t (ReceivePulse chid) b e w = absurd (true≢false (sym w ∙ ap (λ o. is_for_answer o) (sym (same_Some _ b e))))
 sends_by n t c b e w = absurd (none-some b e)

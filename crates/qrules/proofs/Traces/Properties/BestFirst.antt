@@ -17,7 +17,8 @@ use Rattle.qrules.specs.Private.Past.{pending_items, made_on}
 use Rattle.qmodel.specs.Trace.{Event, Trace}
 use Rattle.qmodel.specs.declared.call.Completion.{Completion}
 use Rattle.qbase.proofs.Lists.{eqb_same}
-use Rattle.qrules.proofs.Traces.Past.Numbers.{block_asked, block_below, call_earlier, call_newest, open_parts}
+use Rattle.qrules.proofs.Traces.Past.Numbers.{block_asked, block_below, call_earlier, call_newest}
+use Rattle.qrules.proofs.Traces.Past.Open.{open_parts}
 use Rattle.qrules.proofs.Traces.Properties.Events.{each_received, made_now, none_made}
 use Rattle.qrules.proofs.Traces.Properties.Receipts.{TakesMade, TakesPending, waits_for}
 use Rattle.qrules.proofs.Traces.Properties.Sends.{open_keeps}
@@ -49,7 +50,7 @@ takes_made : (roster : List Member) (past : Trace) (e : Event) (u : ℕ) (y : Co
     → TakesMade (facts_of roster past) e.thread e.call u y i → TakesBest roster past e y i
 takes_made roster past e u y i r l a k =
     let b = open_parts roster past u k.waiting k.is_open in
-    let c = block_asked past u b.block b.is in
+    let c = block_asked roster past u b.block b.is in
     let all : takeable roster past e k.made.channel ≡ pending_items roster past k.made.channel ++ k.made.item ∷ [] =
     ap (λ o. pending_items roster past k.made.channel ++ made_on k.made.channel o) (made_now roster e past k.made a k.is_made)
     ∙ rw (eqb_same k.made.channel) refl in
@@ -59,8 +60,8 @@ takes_made roster past e u y i r l a k =
       call = c.call;
       channel = k.made.channel;
       kind = k.kind;
-      is_call = ap (call_at (e ∷ past)) (k.call ∙ b.number) ∙ call_earlier e past b.block.number (block_below past u b.block b.is) ∙ c.is;
-      receives = waits_for_asked b.block.number c.call b.block c.asks_it ∙ sym (open_keeps waits_for roster past u k.waiting b held_waits_for buffer_waits_for) ∙ k.waits;
+      is_call = ap (call_at (e ∷ past)) (k.call ∙ b.number) ∙ call_earlier e past (number_of b.block) (block_below roster past u b.block b.is) ∙ c.is;
+      receives = waits_for_asked (number_of b.block) c.call b.block c.asks_it ∙ sym (open_keeps waits_for roster past u k.waiting b held_waits_for buffer_waits_for) ∙ k.waits;
       best = ap (λ items. option_map (λ (item : Item). item.number) (best_of k.kind items)) all ∙ ap (option_map (λ (item : Item). item.number)) best ∙ ap (λ n. Some n) k.number;
     }
 

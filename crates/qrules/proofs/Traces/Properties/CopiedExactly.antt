@@ -22,7 +22,7 @@ use Rattle.qrules.specs.Private.Calls.Error.{error_finish}
 use Rattle.qrules.specs.Private.Calls.Info.{info_of, info_ending}
 use Rattle.qrules.specs.Private.Calls.Reply.{reply_finish}
 use Rattle.qrules.specs.Private.Calls.Send as send
-use Rattle.qrules.specs.Private.Cancelling.{buffer_of_wait, cancel_call, is_on, is_over}
+use Rattle.qrules.specs.Private.Cancelling.{cancel_call, is_on, is_over}
 use Rattle.qrules.specs.Private.Facts.{Facts, message, message_in, sender, threads_of, route}
 use Rattle.qrules.specs.Private.Held.{Finish, refusal, reply_buffer, reply_buffer_in, reply_buffer_of}
 use Rattle.qrules.specs.Private.Headline.CopiedExactly.{CopiedExactly, IsCopied, buffer_at, buffer_by, call_at, message_at}
@@ -38,12 +38,12 @@ use Rattle.qmodel.specs.declared.call.Info.{Info as Told}
 use Rattle.qmodel.specs.declared.call.Mark.{Mark}
 use Rattle.qmodel.specs.declared.call.Mark.TheVariants as mark
 use Rattle.qmodel.specs.declared.open_call.OpenCall.{OpenCall}
-use Rattle.qmodel.specs.declared.open_call.Wait.{Wait}
 use Rattle.qrules.proofs.Traces.Past.Ends.{passes_of, refused}
 use Rattle.qrules.proofs.Traces.Past.Items.{item_below}
 use Rattle.qrules.proofs.Traces.Past.Laws.{Passes}
 use Rattle.qbase.proofs.Lists.{all_filter_map}
-use Rattle.qrules.proofs.Traces.Past.Numbers.{call_earlier, call_newest, open_below}
+use Rattle.qrules.proofs.Traces.Past.Numbers.{call_earlier, call_newest}
+use Rattle.qrules.proofs.Traces.Past.Open.{open_below}
 use Rattle.qrules.proofs.Traces.Past.Receipts.{best_pending}
 use Rattle.qrules.proofs.Traces.Past.Senders.{sender_sends}
 use Rattle.qrules.proofs.Traces.Past.Writes.{writes_beyond, writes_nothing, writes_refused}
@@ -89,7 +89,7 @@ buffer_earlier e past i l none =
     ∙ (elim (call_at past i) as (λ o. option_map_or (buffer_by (e ∷ past) i) o [] ≡ option_map_or (buffer_by past i) o []) [ None ↦ refl | Some c ↦ buffer_stays e past i c none ])
 
 -- the buffer that an open call waits with is its buffer so far
-buffer_open : (roster : List Member) (e : Event) (past : Trace) (u : ℕ) (o : OpenCall) → writes e.call ≡ None → open_call roster past u ≡ Some o → buffer_at (e ∷ past) o.number ≡ buffer_of_wait o.wait
+buffer_open : (roster : List Member) (e : Event) (past : Trace) (u : ℕ) (o : OpenCall) → writes e.call ≡ None → open_call roster past u ≡ Some o → buffer_at (e ∷ past) o.number ≡ buffer_of_wait o
 buffer_open roster e past u o none is = buffer_earlier e past o.number (open_below roster past u o is) none ∙ open_buffer roster past u o is
 
 -- ---- a message that is held
@@ -98,7 +98,7 @@ buffer_open roster e past u o none is = buffer_earlier e past o.number (open_bel
 held_call_is : (f : Facts) (t rcvid : ℕ) (s : ℕ) (is : sender f rcvid ≡ Some s) (h : IsHeldFor f t (f.open_call s)) → option_and_then f.open_call (sender f rcvid) ≡ Some h.waiting
 held_call_is f t rcvid s is h = ap (option_and_then f.open_call) is ∙ h.is_open
 
-held_number : (f : Facts) (t rcvid : ℕ) (s : ℕ) (is : sender f rcvid ≡ Some s) (h : IsHeldFor f t (f.open_call s)) → h.waiting.number ≡ rcvid
+held_number : (f : Facts) (t rcvid : ℕ) (s : ℕ) (is : sender f rcvid ≡ Some s) (h : IsHeldFor f t (f.open_call s)) → (number_of h.waiting) ≡ rcvid
 held_number f t rcvid s is h =
     let k = sender_sends f.open_call rcvid (threads_of f.roster) s is in
     sym (ap (λ o. o.number) (same_Some k.waiting h.waiting (sym k.is ∙ h.is_open))) ∙ k.number
@@ -190,10 +190,10 @@ answered_buffer roster past v t rcvid finish u y none r =
 met_copied : (roster : List Member) (past : Trace) (t : ℕ) (c : Call) (X : List Completion) (u : ℕ) (y : Completion) (o : Option ℕ) (item : Item) (sent : List ℕ) → writes c ≡ None
     → (is_pulse item.what ≡ false → message_at (event t c X ∷ past) item.number ≡ sent) → Delivers (facts_of roster past) o item sent u y → IsCopied past (event t c X) y y.mark
 met_copied roster past t c X u y o item sent none message s =
-    taking_copied past (event t c X) s.waiting.number u item s.buffer sent y (buffer_open roster (event t c X) past u s.waiting none s.is_open ∙ ap buffer_of_wait s.waits) message s.ending
+    taking_copied past (event t c X) (number_of s.waiting) u item s.buffer sent y (buffer_open roster (event t c X) past u s.waiting none s.is_open ∙ ap buffer_of_wait s.waits) message s.ending
 
 -- what is cancelled gives its buffer back as it is by now
-cancel_copied : (roster : List Member) (past : Trace) (t : ℕ) (c : Call) (X : List Completion) (u : ℕ) (y : Completion) (is_cancelled : Wait → Bool) (errno : Errno) → writes c ≡ None → IsCutCall is_cancelled errno u (open_call roster past u) y
+cancel_copied : (roster : List Member) (past : Trace) (t : ℕ) (c : Call) (X : List Completion) (u : ℕ) (y : Completion) (is_cancelled : OpenCall → Bool) (errno : Errno) → writes c ≡ None → IsCutCall is_cancelled errno u (open_call roster past u) y
     → IsCopied past (event t c X) y y.mark
 cancel_copied roster past t c X u y is_cancelled errno none k =
     plain_copied past (event t c X) y (cancel_call errno u k.waiting) k.ending (sym (buffer_open roster (event t c X) past u k.waiting none k.is))

@@ -7,28 +7,27 @@ use Rattle.std.proofs.lemmas.Option.{none-some, same_Some}
 use Rattle.qqueue.specs.Best.{is_pulse}
 use Rattle.qqueue.specs.declared.item.Item.{Item}
 use Rattle.qtables.specs.declared.member.Member.{Member}
-use Rattle.qrules.specs.Private.Cancelling.{buffer_of_wait}
-use Rattle.qrules.specs.Private.Facts.{is_for_answer, message, message_in, message_of, sender, threads_of, is_send}
+use Rattle.qrules.specs.Private.Facts.{message, message_in, message_of, sender, threads_of, is_send}
 use Rattle.qrules.specs.Private.Effects.{message_sent as message_in_call}
 use Rattle.qrules.specs.Private.Headline.CopiedExactly.{buffer_at, buffer_by, message_at}
 use Rattle.qrules.specs.Private.Lawful.{facts_of, IsLawful}
-use Rattle.qrules.specs.Private.Past.{has_ending_of, call_by_now, wait_with_receipt, is_ended, item_of, newest_block, open_call, priority_of_item, copied_count_of, with_receipt, with_writes}
+use Rattle.qrules.specs.Private.Past.{has_ending_of, call_by_now, is_ended, item_of, newest_block, open_call, priority_of_item, copied_count_of, with_writes}
 use Rattle.qrules.specs.Private.Facts.{Facts}
 use Rattle.qrules.specs.Private.Effects.{asks, makes}
-use Rattle.qrules.specs.Private.Rows.{pulse_item, with_buffer}
+use Rattle.qrules.specs.Private.Rows.{pulse_item}
 use Rattle.qmodel.specs.Trace.{SentItem}
 use Rattle.qmodel.specs.Trace.{Event, Trace}
 use Rattle.qmodel.specs.declared.call.Call.{Call}
 use Rattle.qmodel.specs.declared.call.Call.TheVariants.{Send, Receive, ReceivePulse, Pulse, Unblock, ConnectDetach}
 use Rattle.qmodel.specs.declared.open_call.OpenCall.{OpenCall}
 use Rattle.qmodel.specs.declared.open_call.Receipt.{Receipt}
-use Rattle.qmodel.specs.declared.open_call.Wait.{Wait}
-use Rattle.qmodel.specs.declared.open_call.Wait.TheVariants.{Answer, Item as ForItem}
+use Rattle.qmodel.specs.declared.open_call.OpenCall.TheVariants.{Receive as InReceive, Send as InSend}
 use Rattle.qrules.proofs.Traces.Calls.Delivering.{sent_item}
 use Rattle.qrules.proofs.Traces.Past.Ends.{open_known, passes_of}
 use Rattle.qrules.proofs.Traces.Past.Items.{item_accepted, IsPending, item_at}
 use Rattle.qbase.proofs.Lists.{eqb_same}
-use Rattle.qrules.proofs.Traces.Past.Numbers.{blocks, blocks_thread, block_asked, filled_answer, open_from, open_parts, open_thread, receipt_for_answer, receipt_number, is_unblocked}
+use Rattle.qrules.proofs.Traces.Past.Numbers.{blocks, blocks_thread, block_asked}
+use Rattle.qrules.proofs.Traces.Past.Open.{filled_answer, open_from, open_parts, open_thread, receipt_for_answer, receipt_number, is_unblocked}
 use Rattle.qrules.proofs.Traces.Calls.{call_laws}
 use Rattle.qrules.proofs.Traces.Past.Senders.{send_from, send_parts, sender_found}
 use Rattle.qrules.proofs.Traces.Properties.Events.{outcome_of}
@@ -42,8 +41,8 @@ use Rattle.qrules.proofs.Traces.Due.{unblock_same}
 
 -- a call that begins to wait keeps its buffer, which is written over, and its message
 pub record Keeps (past : Trace) (n : ℕ) (c : Call) (b : OpenCall) : Type 0 where
-  pub buffer : buffer_by past n c ≡ buffer_of_wait (with_buffer (with_writes past n) b.wait)
-  pub sent : message_in_call c ≡ message_of b.wait
+  pub buffer : buffer_by past n c ≡ buffer_of_wait (with_buffer (with_writes past n) b)
+  pub sent : message_in_call c ≡ message_of b
 
 pub keeps : (past : Trace) (n : ℕ) (c : Call) (b : OpenCall) → asks n c ≡ Some b → Keeps past n c b
 keeps past n (ReceivePulse chid) b e = subst (Keeps past n (ReceivePulse chid)) (same_Some _ b e) (record { buffer = refl; sent = refl })
@@ -51,31 +50,31 @@ keeps past n (Send coid message reply_buffer) b e = subst (Keeps past n (Send co
 keeps past n (Receive chid buffer) b e = subst (Keeps past n (Receive chid buffer)) (same_Some _ b e) (record { buffer = refl; sent = refl })
 keeps past n c b e = absurd (none-some b e)
 
-held_buffer_of : (receipt : Receipt) (w : Wait) → buffer_of_wait (wait_with_receipt receipt w) ≡ buffer_of_wait w
+held_buffer_of : (receipt : Receipt) (w : OpenCall) → buffer_of_wait (held_call receipt w) ≡ buffer_of_wait w
 held_buffer_of receipt (Answer coid sent reply_buffer before) = refl
 held_buffer_of receipt (ForItem chid kind buffer) = refl
 
-held_message : (receipt : Receipt) (w : Wait) → message_of (wait_with_receipt receipt w) ≡ message_of w
+held_message : (receipt : Receipt) (w : OpenCall) → message_of (held_call receipt w) ≡ message_of w
 held_message receipt (Answer coid sent reply_buffer before) = refl
 held_message receipt (ForItem chid kind buffer) = refl
 
-buffer_message : (f : List ℕ → List ℕ) (w : Wait) → message_of (with_buffer f w) ≡ message_of w
+buffer_message : (f : List ℕ → List ℕ) (w : OpenCall) → message_of (with_buffer f w) ≡ message_of w
 buffer_message f (Answer coid sent reply_buffer receipt) = refl
 buffer_message f (ForItem chid kind buffer) = refl
 
 -- the buffer of an open call is the one that the call of its number brought, with what was written over it
-pub open_buffer : (roster : List Member) (past : Trace) (u : ℕ) (o : OpenCall) → open_call roster past u ≡ Some o → buffer_at past o.number ≡ buffer_of_wait o.wait
+pub open_buffer : (roster : List Member) (past : Trace) (u : ℕ) (o : OpenCall) → open_call roster past u ≡ Some o → buffer_at past o.number ≡ buffer_of_wait o
 open_buffer roster past u o is =
     let k = open_parts roster past u o is in
-    let a = block_asked past u k.block k.is in
-    ap (buffer_at past) k.number ∙ ap (λ c. option_map_or (buffer_by past k.block.number) c []) a.is ∙ (keeps past k.block.number a.call k.block a.asks_it).buffer ∙ sym (open_filled buffer_of_wait roster past u o k held_buffer_of)
+    let a = block_asked roster past u k.block k.is in
+    ap (buffer_at past) k.number ∙ ap (λ c. option_map_or (buffer_by past (number_of k.block)) c []) a.is ∙ (keeps past (number_of k.block) a.call k.block a.asks_it).buffer ∙ sym (open_filled buffer_of_wait roster past u o k held_buffer_of)
 
 -- and so is its message
-pub open_message : (roster : List Member) (past : Trace) (u : ℕ) (o : OpenCall) → open_call roster past u ≡ Some o → message_at past o.number ≡ message_of o.wait
+pub open_message : (roster : List Member) (past : Trace) (u : ℕ) (o : OpenCall) → open_call roster past u ≡ Some o → message_at past o.number ≡ message_of o
 open_message roster past u o is =
     let k = open_parts roster past u o is in
-    let a = block_asked past u k.block k.is in
-    ap (message_at past) k.number ∙ ap (λ c. option_map_or message_in_call c []) a.is ∙ (keeps past k.block.number a.call k.block a.asks_it).sent ∙ sym (open_keeps message_of roster past u o k held_message buffer_message)
+    let a = block_asked roster past u k.block k.is in
+    ap (message_at past) k.number ∙ ap (λ c. option_map_or message_in_call c []) a.is ∙ (keeps past (number_of k.block) a.call k.block a.asks_it).sent ∙ sym (open_keeps message_of roster past u o k held_message buffer_message)
 
 -- ---- a message that is pending has its Send open
 
@@ -83,7 +82,7 @@ open_message roster past u o is =
 pub record IsMessage (n : ℕ) (c : Call) (m : SentItem) : Type 0 where
   pub begins : OpenCall
   pub asked : asks n c ≡ Some begins
-  pub answer : is_for_answer begins.wait ≡ true
+  pub answer : is_for_answer begins ≡ true
 
 pub makes_message : (f : Facts) (t : ℕ) (c : Call) (m : SentItem) → makes f t c ≡ Some m → is_pulse m.item.what ≡ false → IsMessage f.number c m
 makes_message f t (Unblock thread) m e message = absurd (true≢false (sym (due_is_pulse f thread m (sym (unblock_same f thread) ∙ e)) ∙ message))
@@ -101,14 +100,14 @@ makes_message f t c m e message = absurd (none-some m e)
 pub record IsWaiting (past : Trace) (i : ℕ) : Type 0 where
   pub thread : ℕ
   pub block : OpenCall
-  pub is : newest_block past thread ≡ Some block
-  pub number : block.number ≡ i
-  pub answer : is_for_answer block.wait ≡ true
+  pub is : block roster past thread ≡ Some block
+  pub number : (number_of block) ≡ i
+  pub answer : is_for_answer block ≡ true
 
 -- a newest block that waits stays the newest, until it is ended
-pub block_stays : (roster : List Member) (e : Event) (past : Trace) (u : ℕ) (b : OpenCall) → IsLawful roster (e ∷ past) → newest_block past u ≡ Some b → is_ended past b.number ≡ false → newest_block (e ∷ past) u ≡ Some b
+pub block_stays : (roster : List Member) (e : Event) (past : Trace) (u : ℕ) (b : OpenCall) → IsLawful roster (e ∷ past) → block roster past u ≡ Some b → is_ended past b.number ≡ false → block roster (e ∷ past) u ≡ Some b
 block_stays roster e past u b l is going =
-    elim (blocks e past u) as (λ t. blocks e past u ≡ t → cond t (asks (length past + 1) e.call) (newest_block past u) ≡ Some b) [
+    elim (blocks e past u) as (λ t. blocks e past u ≡ t → cond t (asks (length past + 1) e.call) (block roster past u) ≡ Some b) [
       | true ↦ λ h.
           let a = outcome_of roster e past l.2 (and_parts _ _ (and_parts _ _ h).0).1 in
           let idle : open_call roster past e.thread ≡ None = (passes_of (facts_of roster past) e.thread e.call e.endings a).idle in
@@ -151,10 +150,10 @@ pub pending_message : (roster : List Member) (past : Trace) (h : ℕ) (item : It
 pending_message roster past h item l p sent =
     let going : is_ended past item.number ≡ false = pending_going roster past h item p sent in
     let w = item_waits roster past item.number (record { item = p.first; channel = h }) l p.made (ap is_pulse p.what ∙ sent) going in
-    let o = with_receipt (priority_of_item roster past w.block.number) (is_unblocked roster past w.block.number) (copied_count_of past w.block.number) (call_by_now past w.block) in
+    let o = with_receipt (priority_of_item roster past (number_of w.block)) (is_unblocked roster past (number_of w.block)) (copied_count_of past (number_of w.block)) (filled past w.block) in
     let is : open_call roster past w.thread ≡ Some o = open_from roster past w.thread w.block w.is (subst (λ j. is_ended past j ≡ false) (sym w.number) going) in
-    let number : o.number ≡ item.number = receipt_number (priority_of_item roster past w.block.number) (is_unblocked roster past w.block.number) (copied_count_of past w.block.number) (call_by_now past w.block) ∙ w.number in
-    let answer : is_for_answer o.wait ≡ true = receipt_for_answer (priority_of_item roster past w.block.number) (is_unblocked roster past w.block.number) (copied_count_of past w.block.number) (call_by_now past w.block) ∙ filled_answer past w.block ∙ w.answer in
+    let number : o.number ≡ item.number = receipt_number (priority_of_item roster past (number_of w.block)) (is_unblocked roster past (number_of w.block)) (copied_count_of past (number_of w.block)) (filled past w.block) ∙ w.number in
+    let answer : is_for_answer o ≡ true = receipt_for_answer (priority_of_item roster past (number_of w.block)) (is_unblocked roster past (number_of w.block)) (copied_count_of past (number_of w.block)) (filled past w.block) ∙ filled_answer past w.block ∙ w.answer in
     let sends : is_send item.number (open_call roster past w.thread) ≡ true = ap (is_send item.number) is ∙ send_from item.number o number answer in
     let found : sender (facts_of roster past) item.number ≡ Some w.thread =
     sender_found (open_call roster past) item.number (threads_of roster) w.thread (known roster w.thread (open_known roster past w.thread o l is)) sends (λ v e.

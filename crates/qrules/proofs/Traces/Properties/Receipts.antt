@@ -25,8 +25,7 @@ use Rattle.qmodel.specs.declared.call.Call.{Call}
 use Rattle.qmodel.specs.declared.call.Call.TheVariants.{Send, Receive, Reply, Error, Info, ReceivePulse, Pulse, ChannelDestroy, Shutdown, Unblock, ConnectDetach}
 use Rattle.qmodel.specs.declared.call.Completion.{Completion}
 use Rattle.qmodel.specs.declared.open_call.OpenCall.{OpenCall}
-use Rattle.qmodel.specs.declared.open_call.Wait.{Wait}
-use Rattle.qmodel.specs.declared.open_call.Wait.TheVariants.{Answer, Item as ForItem}
+use Rattle.qmodel.specs.declared.open_call.OpenCall.TheVariants.{Receive as InReceive, Send as InSend}
 use Rattle.qrules.proofs.Traces.Calls.Taking.{given_received}
 use Rattle.qrules.proofs.Traces.Properties.Rows.Delivering.{Delivers, delivery_meets}
 use Rattle.qrules.proofs.Traces.Properties.Rows.Receiving.{ReceiveTakes, receive_takes}
@@ -65,7 +64,7 @@ receives_it x i e =
 -- ---- the receipt
 
 -- the channel and kind of items that a thread waits for
-abbrev pub waits_for : Wait → Option (ℕ × Kind)
+abbrev pub waits_for : OpenCall → Option (ℕ × Kind)
 waits_for (Answer coid message reply_buffer receipt) = None
 waits_for (ForItem chid kind buffer) = Some (chid, kind)
 
@@ -88,9 +87,9 @@ pub record TakesMade (f : Facts) (t : ℕ) (c : Call) (u : ℕ) (y : Completion)
   pub number : made.item.number ≡ i
   pub waiting : OpenCall
   pub is_open : f.open_call u ≡ Some waiting
-  pub call : y.call ≡ waiting.number
+  pub call : y.call ≡ (number_of waiting)
   pub kind : Kind
-  pub waits : waits_for waiting.wait ≡ Some (made.channel, kind)
+  pub waits : waits_for waiting ≡ Some (made.channel, kind)
   pub may : may_take kind made.item ≡ true
 
 abbrev pub TakesOne : Facts → ℕ → Call → ℕ → Completion → ℕ → Type 0
@@ -142,7 +141,7 @@ ends_takes : (f : Facts) (t : ℕ) (c : Call) (u : ℕ) (y : Completion) (p : Re
 ends_takes f t (Reply rcvid status bytes) u y p r e m =
     absurd (none-some p (sym (answer_receives f t rcvid (reply_finish status bytes) u y (λ buffer. refl) (sender_ends f t rcvid (reply_finish status bytes) u y r e)) ∙ m))
 ends_takes f t (Error rcvid code) u y p r e m = absurd (none-some p (sym (answer_receives f t rcvid (error_finish code) u y (λ buffer. no_receipt code) (sender_ends f t rcvid (error_finish code) u y r e)) ∙ m))
-ends_takes f t (ChannelDestroy chid) u y p r e m = absurd (none-some p (ap (λ x. item_in x.mark) (cancel_parts (is_on f.connection chid) Srch u (f.open_call u) y e).ending ∙ m))
+ends_takes f t (ChannelDestroy chid) u y p r e m = absurd (none-some p (ap (λ x. item_in x.mark) (cancel_parts (is_on chid) Srch u (f.open_call u) y e).ending ∙ m))
 ends_takes f t Shutdown u y p r e m = absurd (none-some p (ap (λ x. item_in x.mark) (cancel_parts (λ wait. true) Srch u (f.open_call u) y e).ending ∙ m))
 ends_takes f t (Unblock thread) u y p r e m = elim (unblock_ends f thread u y (unblock.due_pulse f thread) e) [
   | inl cancel ↦ absurd (none-some p (ap (λ x. item_in x.mark) cancel.ending ∙ m))

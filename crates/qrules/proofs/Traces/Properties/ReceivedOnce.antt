@@ -25,7 +25,7 @@ use Rattle.qrules.proofs.Traces.Past.Ends.{ending_names, laws_of, not_ended, oth
 use Rattle.qrules.proofs.Traces.Past.Items.{IsPending, item_at, item_below, item_earlier, item_newest, made_by}
 use Rattle.qrules.proofs.Traces.Calls.{call_laws}
 use Rattle.qbase.proofs.Lists.{all_append, all_map, all_more}
-use Rattle.qrules.proofs.Traces.Past.Numbers.{open_thread}
+use Rattle.qrules.proofs.Traces.Past.Open.{open_thread}
 use Rattle.qrules.proofs.Traces.Past.Receipts.{best_pending, ending_receives, receipt_beyond}
 use Rattle.qrules.proofs.Traces.Properties.Different.{IsNoneOf, different_append, different_kept, calls_ended_as}
 use Rattle.qrules.proofs.Traces.Properties.Receipts.{TakesPending, TakesMade, receives_it}

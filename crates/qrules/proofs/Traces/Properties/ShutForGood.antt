@@ -10,30 +10,30 @@ use Rattle.qtables.specs.declared.connection.Connection.{Connection}
 use Rattle.qtables.specs.declared.member.Member.{Member}
 use Rattle.qrules.specs.Private.Answer.{Outcome}
 use Rattle.qrules.specs.Private.Calls.{row_of}
-use Rattle.qrules.specs.Private.Cancelling.{is_on, is_to}
-use Rattle.qrules.specs.Private.Facts.{Facts, is_for_answer, owns}
+use Rattle.qrules.specs.Private.Cancelling.{is_on}
+use Rattle.qrules.specs.Private.Facts.{Facts, owns}
 use Rattle.qrules.proofs.Traces.Parts.{leads_to}
 use Rattle.qrules.specs.Private.Headline.AnsweredToSender.{channel_among}
 use Rattle.qrules.specs.Private.Effects.{asks, attaches, closes, detaches, makes, receives_on, unblocks, writes}
 use Rattle.qrules.specs.Private.Headline.ShutForGood.{NoneBlockedOn, NoneReceivedFrom, ShutForGood}
 use Rattle.qrules.specs.Private.Lawful.{facts_of, IsLawful}
-use Rattle.qrules.specs.Private.Past.{attached_connection, connection_at, wait_with_receipt, is_destroyed, items, open_call}
-use Rattle.qrules.specs.Private.Rows.{names, with_buffer}
-use Rattle.qrules.specs.Private.Step.{after_receipt, after_write, channel_after, connection_after, open_call_after, put_at, unless, after_unblock, unblocked_wait}
+use Rattle.qrules.specs.Private.Past.{attached_connection, connection_at, is_destroyed, items, open_call}
+use Rattle.qrules.specs.Private.Rows.{names}
+use Rattle.qrules.specs.Private.Step.{after_receipt, after_write, channel_after, connection_after, open_call_after, put_at, unless, after_unblock}
 use Rattle.qmodel.specs.Trace.{Event, Trace}
 use Rattle.qmodel.specs.declared.call.Call.{Call}
 use Rattle.qmodel.specs.declared.call.Call.TheVariants.{Send, Receive, ReceivePulse, ChannelDestroy}
 use Rattle.qmodel.specs.declared.call.Completion.{Completion}
 use Rattle.qmodel.specs.declared.open_call.OpenCall.{OpenCall}
 use Rattle.qmodel.specs.declared.open_call.Receipt.{Receipt}
-use Rattle.qmodel.specs.declared.open_call.Wait.{Wait}
-use Rattle.qmodel.specs.declared.open_call.Wait.TheVariants.{Answer, Item as ForItem}
+use Rattle.qmodel.specs.declared.open_call.OpenCall.TheVariants.{Receive as InReceive, Send as InSend}
 use Rattle.qrules.proofs.Traces.Past.Channels.{closed_accepted, open_at, owned_open}
 use Rattle.qrules.proofs.Traces.Past.Ends.{accepted, laws_of, passes_of}
 use Rattle.qrules.proofs.Traces.Past.Follows.{past_follows}
 use Rattle.qrules.proofs.Traces.Past.Items.{item_at, item_below, item_earlier, item_newest, made_by}
 use Rattle.qrules.proofs.Traces.Past.Laws.{Passes}
-use Rattle.qrules.proofs.Traces.Past.Numbers.{made_below, open_parts}
+use Rattle.qrules.proofs.Traces.Past.Numbers.{made_below}
+use Rattle.qrules.proofs.Traces.Past.Open.{open_parts}
 use Rattle.qrules.proofs.Traces.Past.Receipts.{best_pending}
 use Rattle.qrules.proofs.Traces.Properties.Answers.{over}
 use Rattle.qrules.proofs.Traces.Properties.Events.{each_received, made_now}
@@ -66,9 +66,9 @@ waits_only n (Some m) (ReceivePulse chid) b e = refl
 waits_only n m c b e = absurd (none-some b e)
 
 -- a call that destroys a channel ends each call that is blocked on it
-closing_ends : (f : Facts) (t : ℕ) (c : Call) (h u : ℕ) (o : OpenCall) → names (closes c) h ≡ true → f.open_call u ≡ Some o → is_on f.connection h o.wait ≡ true → is_some ((row_of f t c).ends u) ≡ true
+closing_ends : (f : Facts) (t : ℕ) (c : Call) (h u : ℕ) (o : OpenCall) → names (closes c) h ≡ true → f.open_call u ≡ Some o → is_on h o ≡ true → is_some ((row_of f t c).ends u) ≡ true
 closing_ends f t (ChannelDestroy chid) h u o e is on =
-    let on_it : is_on f.connection chid o.wait ≡ true = ap (λ k. is_on f.connection k o.wait) (eqb-true chid h e) ∙ on in
+    let on_it : is_on chid o ≡ true = ap (λ k. is_on k o) (eqb-true chid h e) ∙ on in
     rw (is, on_it) refl
 closing_ends f t c h u o e is on = absurd (true≢false (sym e))
 
@@ -87,29 +87,29 @@ own_open f t chid h r on =
     ] refl r
 
 -- a call begins to wait on an open channel
-begins_on_open : (f : Facts) (t : ℕ) (c : Call) (b : OpenCall) (h : ℕ) → (row_of f t c).refusal ≡ None → asks f.number c ≡ Some b → is_on f.connection h b.wait ≡ true → is_some (f.channel h) ≡ true
-begins_on_open f t (Send coid message reply_buffer) b h r e on = let w = has_way f t coid r in route_to_open f t h w.0 (f.connection coid) w.1 (ap (λ o. is_on f.connection h o.wait) (same_Some _ b e) ∙ on)
-begins_on_open f t (Receive chid buffer) b h r e on = own_open f t chid h r (ap (λ o. is_on f.connection h o.wait) (same_Some _ b e) ∙ on)
-begins_on_open f t (ReceivePulse chid) b h r e on = own_open f t chid h r (ap (λ o. is_on f.connection h o.wait) (same_Some _ b e) ∙ on)
+begins_on_open : (f : Facts) (t : ℕ) (c : Call) (b : OpenCall) (h : ℕ) → (row_of f t c).refusal ≡ None → asks f.number c ≡ Some b → is_on h b ≡ true → is_some (f.channel h) ≡ true
+begins_on_open f t (Send coid message reply_buffer) b h r e on = let w = has_way f t coid r in route_to_open f t h w.0 (f.connection coid) w.1 (ap (λ o. is_on h o) (same_Some _ b e) ∙ on)
+begins_on_open f t (Receive chid buffer) b h r e on = own_open f t chid h r (ap (λ o. is_on h o) (same_Some _ b e) ∙ on)
+begins_on_open f t (ReceivePulse chid) b h r e on = own_open f t chid h r (ap (λ o. is_on h o) (same_Some _ b e) ∙ on)
 begins_on_open f t c b h r e on = absurd (none-some b e)
 
 -- ---- what is blocked
 
 -- each open call is blocked on an open channel
 abbrev pub WaitsOnOpen : Facts → Type 0
-WaitsOnOpen f = (u : ℕ) (o : OpenCall) (h : ℕ) → f.open_call u ≡ Some o → is_on f.connection h o.wait ≡ true → is_some (f.channel h) ≡ true
+WaitsOnOpen f = (u : ℕ) (o : OpenCall) (h : ℕ) → f.open_call u ≡ Some o → is_on h o ≡ true → is_some (f.channel h) ≡ true
 
-held_on : (connection : ℕ → Option Connection) (h : ℕ) (receipt : Receipt) (w : Wait) → is_on connection h (wait_with_receipt receipt w) ≡ is_on connection h w
+held_on : (connection : ℕ → Option Connection) (h : ℕ) (receipt : Receipt) (w : OpenCall) → is_on h (held_call receipt w) ≡ is_on h w
 held_on connection h receipt (Answer coid message reply_buffer before) = refl
 held_on connection h receipt (ForItem chid kind buffer) = refl
 
-buffer_on : (connection : ℕ → Option Connection) (h : ℕ) (b : List ℕ → List ℕ) (w : Wait) → is_on connection h (with_buffer b w) ≡ is_on connection h w
+buffer_on : (connection : ℕ → Option Connection) (h : ℕ) (b : List ℕ → List ℕ) (w : OpenCall) → is_on h (with_buffer b w) ≡ is_on h w
 buffer_on connection h b (Answer coid message reply_buffer receipt) = refl
 buffer_on connection h b (ForItem chid kind buffer) = refl
 
 -- a wait on a channel by the connections after a call is on it by those before, if none that is attached is that of the wait
-put_on : (f : Facts) (t : ℕ) (c : Call) (h : ℕ) (w : Wait) → (is_for_answer w ≡ true → put_at (attaches (member_at f.roster t) c) f.number f.connection (over w) ≡ f.connection (over w))
-    → is_on (connection_after f t c) h w ≡ true → is_on f.connection h w ≡ true
+put_on : (f : Facts) (t : ℕ) (c : Call) (h : ℕ) (w : OpenCall) → (is_for_answer w ≡ true → put_at (attaches (member_at f.roster t) c) f.number f.connection (over w) ≡ f.connection (over w))
+    → is_on (connection_after f t c) h w ≡ true → is_on h w ≡ true
 put_on f t c h (ForItem chid kind buffer) other on = on
 put_on f t c h (Answer coid message reply_buffer receipt) other on =
     elim (names (detaches c) coid) as (λ d. is_to h (cond d None (put_at (attaches (member_at f.roster t) c) f.number f.connection coid)) ≡ true → is_to h (f.connection coid) ≡ true) [
@@ -122,17 +122,17 @@ put_other : (o : Option Connection) (n : ℕ) (connection : ℕ → Option Conne
 put_other None n connection k other = refl
 put_other (Some x) n connection k other = rw other refl
 
-unblocked_on : (connection : ℕ → Option Connection) (h : ℕ) (w : Wait) → is_on connection h (unblocked_wait w) ≡ is_on connection h w
+unblocked_on : (connection : ℕ → Option Connection) (h : ℕ) (w : OpenCall) → is_on h (unblocked_call w) ≡ is_on h w
 unblocked_on connection h (Answer coid message reply_buffer None) = refl
 unblocked_on connection h (Answer coid message reply_buffer (Some receipt)) = refl
 unblocked_on connection h (ForItem chid kind buffer) = refl
 
 -- the channel of a wait lasts
-lasts_on : (connection : ℕ → Option Connection) (h : ℕ) → Lasts (is_on connection h)
+lasts_on : (connection : ℕ → Option Connection) (h : ℕ) → Lasts (is_on h)
 lasts_on connection h = record { held = held_on connection h; buffer = buffer_on connection h; unblocked = unblocked_on connection h }
 
-waits_after : (f : Facts) (t : ℕ) (c : Call) → Passes f t c → WaitsOnOpen f → ((u : ℕ) (o : OpenCall) → f.open_call u ≡ Some o → is_for_answer o.wait ≡ true → eqb (over o.wait) f.number ≡ false)
-    → (u : ℕ) (o : OpenCall) (h : ℕ) → open_call_after f t c u ≡ Some o → is_on (connection_after f t c) h o.wait ≡ true → is_some (channel_after f t c h) ≡ true
+waits_after : (f : Facts) (t : ℕ) (c : Call) → Passes f t c → WaitsOnOpen f → ((u : ℕ) (o : OpenCall) → f.open_call u ≡ Some o → is_for_answer o ≡ true → eqb (over o) f.number ≡ false)
+    → (u : ℕ) (o : OpenCall) (h : ℕ) → open_call_after f t c u ≡ Some o → is_on (connection_after f t c) h o ≡ true → is_some (channel_after f t c h) ≡ true
 waits_after f t c p waits known u o h is on =
     let R = row_of f t c in
     elim (eqb u t) as (λ b. cond b (unless (is_some (row_of f t c).own) (after_receipt (row_of f t c).receipt u (asks f.number c))) (unless (is_some ((row_of f t c).ends u)) (after_unblock (makes f t c) (unblocks c) u (after_receipt (row_of f t c).receipt u (after_write f (writes c) u (f.open_call u))))) ≡ Some o
@@ -140,22 +140,22 @@ waits_after f t c p waits known u o h is on =
       | true ↦ λ e.
           let x = unless_is (is_some R.own) (after_receipt R.receipt u (asks f.number c)) o e in
           let b = before_receipt (is_on (connection_after f t c) h) (held_on (connection_after f t c) h) R.receipt u (asks f.number c) o x.1 in
-          let same : is_on f.connection h b.call.wait ≡ true = put_on f t c h b.call.wait (λ _. ap (λ a. put_at a f.number f.connection (over b.call.wait)) (waits_only f.number (member_at f.roster t) c b.call b.is)) (b.same ∙ on) in
+          let same : is_on h b.call ≡ true = put_on f t c h b.call (λ _. ap (λ a. put_at a f.number f.connection (over b.call)) (waits_only f.number (member_at f.roster t) c b.call b.is)) (b.same ∙ on) in
           stays_open (names (closes c) h) _ f.number f.channel h (begins_on_open f t c b.call h p.row b.is same)
           (λ d. none-some b.call (sym ((destroys_alone c h d).asks_none f.number) ∙ b.is))
       | false ↦ λ e.
           let x = unless_is (is_some (R.ends u)) (after_unblock (makes f t c) (unblocks c) u (after_receipt R.receipt u (after_write f (writes c) u (f.open_call u)))) o e in
           let d = before_other (is_on (connection_after f t c) h) (lasts_on (connection_after f t c) h) f t c u o x.1 in
-          let same : is_on f.connection h d.call.wait ≡ true = put_on f t c h d.call.wait (λ w. put_other (attaches (member_at f.roster t) c) f.number f.connection (over d.call.wait) (known u d.call d.is w)) (d.same ∙ on) in
+          let same : is_on h d.call ≡ true = put_on f t c h d.call (λ w. put_other (attaches (member_at f.roster t) c) f.number f.connection (over d.call) (known u d.call d.is w)) (d.same ∙ on) in
           stays_open (names (closes c) h) _ f.number f.channel h (waits u d.call h d.is same)
           (λ destroyed. true≢false (sym (closing_ends f t c h u d.call destroyed d.is same) ∙ x.0))
     ] is
 
 -- the connection of an open Send is of an earlier event
-over_below : (roster : List Member) (past : Trace) → IsLawful roster past → (u : ℕ) (o : OpenCall) → open_call roster past u ≡ Some o → is_for_answer o.wait ≡ true → eqb (over o.wait) (length past + 1) ≡ false
+over_below : (roster : List Member) (past : Trace) → IsLawful roster past → (u : ℕ) (o : OpenCall) → open_call roster past u ≡ Some o → is_for_answer o ≡ true → eqb (over o) (length past + 1) ≡ false
 over_below roster past l u o is answer =
     let k = open_over roster past u o (open_parts roster past u o is) l answer in
-    let below : over o.wait ≤ length past = made_below (λ e. attaches (member_at roster e.thread) e.call) past (over o.wait) k.connection k.is_connection in
+    let below : over o ≤ length past = made_below (λ e. attaches (member_at roster e.thread) e.call) past (over o) k.connection k.is_connection in
     ne_eqb _ _ (λ same. omega arith)
 
 pub waits_on_open : (roster : List Member) (past : Trace) → IsRoster roster → IsLawful roster past → WaitsOnOpen (facts_of roster past)
@@ -165,14 +165,14 @@ waits_on_open roster (e ∷ past) r l u o h is on =
     elim (l.2) as (λ _. is_some ((facts_of roster (e ∷ past)).channel h) ≡ true) [
       | inl a ↦
           let k = past_follows true roster past e.thread e.call e.endings r l.0 l.1 a in
-          let same : is_on (connection_after f e.thread e.call) h o.wait ≡ true = sym (on_same (facts_of roster (e ∷ past)).connection (connection_after f e.thread e.call) k.connection h o.wait) ∙ on in
+          let same : is_on (connection_after f e.thread e.call) h o ≡ true = sym (on_same (facts_of roster (e ∷ past)).connection (connection_after f e.thread e.call) k.connection h o) ∙ on in
           ap is_some (k.channel h) ∙ waits_after f e.thread e.call (passes_of f e.thread e.call e.endings a) (waits_on_open roster past r l.0) (over_below roster past l.0) u o h (sym (k.open_call u) ∙ is) same
       | inr a ↦
           let k = past_follows false roster past e.thread e.call e.endings r l.0 l.1 a in
-          let same : is_on f.connection h o.wait ≡ true = sym (on_same (facts_of roster (e ∷ past)).connection f.connection k.connection h o.wait) ∙ on in
+          let same : is_on h o ≡ true = sym (on_same (facts_of roster (e ∷ past)).connection f.connection k.connection h o) ∙ on in
           ap is_some (k.channel h) ∙ waits_on_open roster past r l.0 u o h (sym (k.open_call u) ∙ is) same
     ] where
-      on_same : (a b : ℕ → Option Connection) → ((k : ℕ) → a k ≡ b k) → (h : ℕ) (w : Wait) → is_on a h w ≡ is_on b h w
+      on_same : (a b : ℕ → Option Connection) → ((k : ℕ) → a k ≡ b k) → (h : ℕ) (w : OpenCall) → is_on a h w ≡ is_on b h w
       on_same a b same h (Answer coid message reply_buffer receipt) = ap (is_to h) (same coid)
       on_same a b same h (ForItem chid kind buffer) = refl
 
@@ -213,14 +213,14 @@ none_received roster e past h l closed =
     (λ u y i a k is. taken_is_open roster e past u i h y a k is (sym (closed_accepted roster e past h (accepted roster past e.thread e.call e.endings a)) ∙ closed))
 
 -- an open Send's connection is as it was attached
-on_attached : (roster : List Member) (past : Trace) (h : ℕ) (w : Wait) → (is_for_answer w ≡ true → connection_at roster past (over w) ≡ attached_connection roster past (over w))
-    → is_on (λ k. attached_connection roster past k) h w ≡ is_on (λ k. connection_at roster past k) h w
+on_attached : (roster : List Member) (past : Trace) (h : ℕ) (w : OpenCall) → (is_for_answer w ≡ true → connection_at roster past (over w) ≡ attached_connection roster past (over w))
+    → is_on h w ≡ is_on h w
 on_attached roster past h (Answer coid message reply_buffer receipt) same = ap (is_to h) (sym (same refl))
 on_attached roster past h (ForItem chid kind buffer) same = refl
 
 none_blocked : (roster : List Member) (past : Trace) (h : ℕ) → IsRoster roster → IsLawful roster past → is_destroyed past h ≡ true → NoneBlockedOn roster past h
 none_blocked roster past h r l closed u o is =
-    on_attached roster past h o.wait (over_attached roster past u o l is) ∙ elim (is_on (λ k. connection_at roster past k) h o.wait) as (λ b. is_on (λ k. connection_at roster past k) h o.wait ≡ b → b ≡ false) [
+    on_attached roster past h o (over_attached roster past u o l is) ∙ elim (is_on h o) as (λ b. is_on h o ≡ b → b ≡ false) [
       | true ↦ λ on.
           let standing = (open_at roster past h (waits_on_open roster past r l u o h is on)).standing in
           absurd (true≢false (sym closed ∙ standing))

@@ -18,18 +18,17 @@ use Rattle.qrules.specs.Private.Receiving.{own_receipt}
 use Rattle.qrules.specs.Private.Facts.{Facts, sender, threads_of, route}
 use Rattle.qrules.specs.Private.Effects.{asks, closes, makes, receives_on, sets, unblocks, writes}
 use Rattle.qrules.specs.Private.Lawful.{facts_of, IsLawful}
-use Rattle.qrules.specs.Private.Past.{wait_with_receipt, made_on}
+use Rattle.qrules.specs.Private.Past.{made_on}
 use Rattle.qrules.specs.Private.Receivers.{newest_receiver}
-use Rattle.qrules.specs.Private.Rows.{Received, names, item_sent_over, takes, receipt_ending, with_buffer}
+use Rattle.qrules.specs.Private.Rows.{Received, names, item_sent_over, takes, receipt_ending}
 use Rattle.qmodel.specs.Trace.{SentItem}
-use Rattle.qrules.specs.Private.Step.{after_receipt, after_write, is_cancelled, uncut_items, items_with_priority_set, open_call_after, pending_after, unreceived_items, unless, after_unblock, unblocked_wait}
+use Rattle.qrules.specs.Private.Step.{after_receipt, after_write, is_cancelled, uncut_items, items_with_priority_set, open_call_after, pending_after, unreceived_items, unless, after_unblock}
 use Rattle.qmodel.specs.Trace.{Trace}
 use Rattle.qmodel.specs.declared.call.Call.{Call}
 use Rattle.qmodel.specs.declared.call.Call.TheVariants.{Send, Receive, ReceivePulse, Pulse, Unblock, ConnectDetach}
 use Rattle.qmodel.specs.declared.open_call.OpenCall.{OpenCall}
 use Rattle.qmodel.specs.declared.open_call.Receipt.{Receipt}
-use Rattle.qmodel.specs.declared.open_call.Wait.{Wait}
-use Rattle.qmodel.specs.declared.open_call.Wait.TheVariants.{Answer, Item as ForItem}
+use Rattle.qmodel.specs.declared.open_call.OpenCall.TheVariants.{Receive as InReceive, Send as InSend}
 use Rattle.qrules.proofs.Traces.Calls.Taking.{given_received, receipt_from, receipt_in_at}
 use Rattle.qrules.proofs.Traces.Past.Ends.{open_known, passes_of}
 use Rattle.qrules.proofs.Traces.Past.Follows.{past_follows}
@@ -47,24 +46,24 @@ use Rattle.qrules.proofs.Traces.Due.{unblock_same}
 
 -- ---- what a thread waits for
 
-waits_for_is : (w : Wait) (h : ℕ) (kind : Kind) → waits_for w ≡ Some (h, kind) → (buffer : List ℕ) × (w ≡ ForItem h kind buffer)
+waits_for_is : (w : OpenCall) (h : ℕ) (kind : Kind) → waits_for w ≡ Some (h, kind) → (buffer : List ℕ) × (w ≡ ForItem h kind buffer)
 waits_for_is (Answer coid message reply_buffer receipt) h kind e = absurd (none-some (h, kind) e)
 waits_for_is (ForItem chid taken buffer) h kind e = let p = some_pair_parts chid h taken kind e in (buffer, ap (λ c. ForItem c taken buffer) p.0 ∙ ap (λ k. ForItem h k buffer) p.1)
 
 -- a receipt changes nothing of it
-pub held_waits_for : (receipt : Receipt) (w : Wait) → waits_for (wait_with_receipt receipt w) ≡ waits_for w
+pub held_waits_for : (receipt : Receipt) (w : OpenCall) → waits_for (held_call receipt w) ≡ waits_for w
 held_waits_for receipt (Answer coid message reply_buffer before) = refl
 held_waits_for receipt (ForItem chid kind buffer) = refl
 
-pub buffer_waits_for : (f : List ℕ → List ℕ) (w : Wait) → waits_for (with_buffer f w) ≡ waits_for w
+pub buffer_waits_for : (f : List ℕ → List ℕ) (w : OpenCall) → waits_for (with_buffer f w) ≡ waits_for w
 buffer_waits_for f (Answer coid message reply_buffer receipt) = refl
 buffer_waits_for f (ForItem chid kind buffer) = refl
 
 -- a call waits for what it receives on
-pub waits_for_asked : (n : ℕ) (c : Call) (b : OpenCall) → asks n c ≡ Some b → receives_on c ≡ waits_for b.wait
-waits_for_asked n (Send coid message reply_buffer) b e = ap (λ o. waits_for o.wait) (same_Some _ b e)
-waits_for_asked n (Receive chid buffer) b e = ap (λ o. waits_for o.wait) (same_Some _ b e)
-waits_for_asked n (ReceivePulse chid) b e = ap (λ o. waits_for o.wait) (same_Some _ b e)
+pub waits_for_asked : (n : ℕ) (c : Call) (b : OpenCall) → asks n c ≡ Some b → receives_on c ≡ waits_for b
+waits_for_asked n (Send coid message reply_buffer) b e = ap (λ o. waits_for o) (same_Some _ b e)
+waits_for_asked n (Receive chid buffer) b e = ap (λ o. waits_for o) (same_Some _ b e)
+waits_for_asked n (ReceivePulse chid) b e = ap (λ o. waits_for o) (same_Some _ b e)
 waits_for_asked n c b e = absurd (none-some b e)
 
 -- ---- by each call's row
@@ -77,12 +76,12 @@ none_to_take : (f : Facts) (t : ℕ) (buffer : List ℕ) (o : Option Item) → o
 none_to_take f t buffer None e = refl
 none_to_take f t buffer (Some item) e = absurd (none-some _ (sym e))
 
-begins_with_none : (f : Facts) (t : ℕ) (c : Call) (b : OpenCall) (p : ℕ × Kind) → asks f.number c ≡ Some b → waits_for b.wait ≡ Some p → (row_of f t c).own ≡ None → BeginsWithNone f t c p
-begins_with_none f t (Send coid message reply_buffer) b p e w own = absurd (none-some p (ap (λ o. waits_for o.wait) (same_Some _ b e) ∙ w))
+begins_with_none : (f : Facts) (t : ℕ) (c : Call) (b : OpenCall) (p : ℕ × Kind) → asks f.number c ≡ Some b → waits_for b ≡ Some p → (row_of f t c).own ≡ None → BeginsWithNone f t c p
+begins_with_none f t (Send coid message reply_buffer) b p e w own = absurd (none-some p (ap (λ o. waits_for o) (same_Some _ b e) ∙ w))
 begins_with_none f t (Receive chid buffer) b p e w own =
-    subst (BeginsWithNone f t (Receive chid buffer)) (same_Some (chid, Any) p (ap (λ o. waits_for o.wait) (same_Some _ b e) ∙ w)) (none_to_take f t buffer (best_of Any (f.pending chid)) own, refl)
+    subst (BeginsWithNone f t (Receive chid buffer)) (same_Some (chid, Any) p (ap (λ o. waits_for o) (same_Some _ b e) ∙ w)) (none_to_take f t buffer (best_of Any (f.pending chid)) own, refl)
 begins_with_none f t (ReceivePulse chid) b p e w own =
-    subst (BeginsWithNone f t (ReceivePulse chid)) (same_Some (chid, PulseOnly) p (ap (λ o. waits_for o.wait) (same_Some _ b e) ∙ w)) (none_to_take f t [] (best_of PulseOnly (f.pending chid)) own, refl)
+    subst (BeginsWithNone f t (ReceivePulse chid)) (same_Some (chid, PulseOnly) p (ap (λ o. waits_for o) (same_Some _ b e) ∙ w)) (none_to_take f t [] (best_of PulseOnly (f.pending chid)) own, refl)
 begins_with_none f t c b p e w own = absurd (none-some b e)
 
 -- an item that a thread waits for is received at once
@@ -96,15 +95,15 @@ pub record IsReceivedAtOnce (f : Facts) (t : ℕ) (c : Call) (m : SentItem) : Ty
 delivered_receipt : (f : Facts) (sender : Option ℕ) (item : Item) (message : List ℕ) (w : Option ℕ) (h r : ℕ) (v : WaitsOn h item (f.open_call r)) → w ≡ Some h → newest_receiver f h item ≡ Some r
     → receipt_when_sent f sender item message w (receiver f item w) ≡ Some (receipt_from h sender item.priority r (record { number = item.number; copied = (given_received item message v.buffer).0 }))
 delivered_receipt f sender item message w h r v is_way is_newest =
-    let takes_it : takes item message r (f.open_call r) ≡ Some (receipt_ending item message r v.waiting.number v.buffer) = rw (v.is_open, v.waits) refl in
+    let takes_it : takes item message r (f.open_call r) ≡ Some (receipt_ending item message r (number_of v.waiting) v.buffer) = rw (v.is_open, v.waits) refl in
     ap (λ o. receipt_when_sent f sender item message o (receiver f item o)) is_way ∙ ap (receipt_when_sent f sender item message (Some h)) is_newest
-    ∙ receipt_in_at h sender item.priority (takes item message r (f.open_call r)) (receipt_ending item message r v.waiting.number v.buffer) (record { number = item.number; copied = (given_received item message v.buffer).0 }) takes_it (given_received item message v.buffer).1
+    ∙ receipt_in_at h sender item.priority (takes item message r (f.open_call r)) (receipt_ending item message r (number_of v.waiting) v.buffer) (record { number = item.number; copied = (given_received item message v.buffer).0 }) takes_it (given_received item message v.buffer).1
 
 delivered_at_once : (f : Facts) (t : ℕ) (c : Call) (w : Option ℕ) (item : Item) (message : List ℕ) (sender : Option ℕ) (m : SentItem) (u : ℕ) (o : OpenCall) (kind : Kind) → w ≡ Some m.channel → m.item ≡ item
     → (row_of f t c).receipt ≡ receipt_when_sent f sender item message w (receiver f item w) → is_among (threads_of f.roster) u ≡ true → f.open_call u ≡ Some o
-    → waits_for o.wait ≡ Some (m.channel, kind) → may_take kind m.item ≡ true → IsReceivedAtOnce f t c m
+    → waits_for o ≡ Some (m.channel, kind) → may_take kind m.item ≡ true → IsReceivedAtOnce f t c m
 delivered_at_once f t c w item message sender m u o kind is_way it receipt among is waits may =
-    let b = waits_for_is o.wait m.channel kind waits in
+    let b = waits_for_is o m.channel kind waits in
     let on : WaitsOn m.channel item (f.open_call u) = record { waiting = o; kind = kind; buffer = b.0; is_open = is; waits = b.1; may = ap (may_take kind) (sym it) ∙ may } in
     let r = some_of (newest_receiver f m.channel item) (newest_some f m.channel item u among on) in
     let v = newest_waits f m.channel item r.0 r.1 in
@@ -122,7 +121,7 @@ sent_is f t coid item m h is_way made =
     (is_way ∙ ap (λ (x : SentItem). Some x.channel) same, ap (λ (x : SentItem). x.item) (sym same))
 
 received_at_once : (f : Facts) (t : ℕ) (c : Call) (m : SentItem) (u : ℕ) (o : OpenCall) (kind : Kind) → Passes f t c → makes f t c ≡ Some m
-    → is_among (threads_of f.roster) u ≡ true → f.open_call u ≡ Some o → waits_for o.wait ≡ Some (m.channel, kind) → may_take kind m.item ≡ true → IsReceivedAtOnce f t c m
+    → is_among (threads_of f.roster) u ≡ true → f.open_call u ≡ Some o → waits_for o ≡ Some (m.channel, kind) → may_take kind m.item ≡ true → IsReceivedAtOnce f t c m
 received_at_once f t (ConnectDetach coid) m u o kind p made among is waits may =
     delivered_at_once f t (ConnectDetach coid) (Some m.channel) m.item [] None m u o kind refl refl (ap (pulse_receipt f) made) among is waits may
 received_at_once f t (Unblock thread) m u o kind p made among is waits may =
@@ -162,7 +161,7 @@ all_left P (Some r) h items all =
 
 -- nothing that a waiting thread may take is pending
 abbrev pub NothingFor : Facts → Type 0
-NothingFor f = (u : ℕ) (o : OpenCall) (h : ℕ) (kind : Kind) → f.open_call u ≡ Some o → waits_for o.wait ≡ Some (h, kind) → AllByRecursion (λ w. may_take kind w ≡ false) (f.pending h)
+NothingFor f = (u : ℕ) (o : OpenCall) (h : ℕ) (kind : Kind) → f.open_call u ≡ Some o → waits_for o ≡ Some (h, kind) → AllByRecursion (λ w. may_take kind w ≡ false) (f.pending h)
 
 -- what is so of all that isn't destroyed is so of what is pending afterwards
 all_after : (kind : Kind) (f : Facts) (t : ℕ) (c : Call) (h : ℕ) → AllByRecursion (λ w. may_take kind w ≡ false) (unreceived_items (row_of f t c).receipt h (uncut_items f t c h (f.pending h ++ made_on h (makes f t c))))
@@ -181,7 +180,7 @@ all_after kind f t c h all =
 
 -- the caller begins to wait: nothing was pending, and nothing is made
 caller_finds_none : (f : Facts) (t : ℕ) (c : Call) (o : OpenCall) (h : ℕ) (kind : Kind) → unless (is_some (row_of f t c).own) (after_receipt (row_of f t c).receipt t (asks f.number c)) ≡ Some o
-    → waits_for o.wait ≡ Some (h, kind) → AllByRecursion (λ w. may_take kind w ≡ false) (pending_after f t c h)
+    → waits_for o ≡ Some (h, kind) → AllByRecursion (λ w. may_take kind w ≡ false) (pending_after f t c h)
 caller_finds_none f t c o h kind is waits =
     let x = unless_is (is_some (row_of f t c).own) (after_receipt (row_of f t c).receipt t (asks f.number c)) o is in
     let b = before_receipt waits_for held_waits_for (row_of f t c).receipt t (asks f.number c) o x.1 in
@@ -195,7 +194,7 @@ caller_finds_none f t c o h kind is waits =
 
 -- another thread that waits on: what it may take is received at once
 other_finds_none : (f : Facts) (t : ℕ) (c : Call) (u : ℕ) (o : OpenCall) (h : ℕ) (kind : Kind) → Passes f t c → NothingFor f → is_among (threads_of f.roster) u ≡ true → f.open_call u ≡ Some o
-    → waits_for o.wait ≡ Some (h, kind) → AllByRecursion (λ w. may_take kind w ≡ false) (pending_after f t c h)
+    → waits_for o ≡ Some (h, kind) → AllByRecursion (λ w. may_take kind w ≡ false) (pending_after f t c h)
 other_finds_none f t c u o h kind p nothing among is waits =
     let P = λ (w : Item). may_take kind w ≡ false in
     let Q = λ (w : Item). ((r : Received) → (row_of f t c).receipt ≡ Some r → r.channel ≡ h → eqb w.number r.item ≡ false) → may_take kind w ≡ false in
@@ -222,7 +221,7 @@ other_finds_none f t c u o h kind p nothing among is waits =
           ] refl
     ] refl))))
 
-unblocked_waits_for : (w : Wait) → waits_for (unblocked_wait w) ≡ waits_for w
+unblocked_waits_for : (w : OpenCall) → waits_for (unblocked_call w) ≡ waits_for w
 unblocked_waits_for (Answer coid message reply_buffer None) = refl
 unblocked_waits_for (Answer coid message reply_buffer (Some receipt)) = refl
 unblocked_waits_for (ForItem chid kind buffer) = refl
@@ -232,7 +231,7 @@ lasts_waits_for : Lasts waits_for
 lasts_waits_for = record { held = held_waits_for; buffer = buffer_waits_for; unblocked = unblocked_waits_for }
 
 nothing_after : (f : Facts) (t : ℕ) (c : Call) → Passes f t c → NothingFor f → ((u : ℕ) (o : OpenCall) → f.open_call u ≡ Some o → is_among (threads_of f.roster) u ≡ true)
-    → (u : ℕ) (o : OpenCall) (h : ℕ) (kind : Kind) → open_call_after f t c u ≡ Some o → waits_for o.wait ≡ Some (h, kind) → AllByRecursion (λ w. may_take kind w ≡ false) (pending_after f t c h)
+    → (u : ℕ) (o : OpenCall) (h : ℕ) (kind : Kind) → open_call_after f t c u ≡ Some o → waits_for o ≡ Some (h, kind) → AllByRecursion (λ w. may_take kind w ≡ false) (pending_after f t c h)
 nothing_after f t c p nothing among u o h kind is waits =
     elim (eqb u t) as (λ b. eqb u t ≡ b
     → cond b (unless (is_some (row_of f t c).own) (after_receipt (row_of f t c).receipt u (asks f.number c))) (unless (is_some ((row_of f t c).ends u)) (after_unblock (makes f t c) (unblocks c) u (after_receipt (row_of f t c).receipt u (after_write f (writes c) u (f.open_call u))))) ≡ Some o

@@ -12,7 +12,7 @@ use Rattle.qrules.specs.Private.Answer.{Outcome}
 use Rattle.qrules.specs.Private.Calls.{row_of}
 use Rattle.qrules.specs.Private.Calls.Send.{item as message_of}
 use Rattle.qrules.specs.Private.Effects.{makes, sets, thread_of_send}
-use Rattle.qrules.specs.Private.Facts.{Facts, is_fixed, is_for_receipt}
+use Rattle.qrules.specs.Private.Facts.{Facts, is_fixed}
 use Rattle.qrules.specs.Private.Laws.{PendingFollowsItsSender}
 use Rattle.qrules.specs.Private.Lawful.{IsLawful, facts_of}
 use Rattle.qrules.specs.Private.Past.{is_accepted, is_gone, is_received, item_of, priority_of_thread, sender_of, current_priority}
@@ -24,8 +24,7 @@ use Rattle.qmodel.specs.declared.call.Call.{Call}
 use Rattle.qmodel.specs.declared.call.Call.TheVariants.{Send}
 use Rattle.qmodel.specs.declared.call.Completion.{Completion}
 use Rattle.qmodel.specs.declared.open_call.OpenCall.{OpenCall}
-use Rattle.qmodel.specs.declared.open_call.Wait.{Wait}
-use Rattle.qmodel.specs.declared.open_call.Wait.TheVariants.{Answer, Item as ForItem}
+use Rattle.qmodel.specs.declared.open_call.OpenCall.TheVariants.{Receive as InReceive, Send as InSend}
 use Rattle.qrules.proofs.Traces.Past.Cancels.{sent_by}
 use Rattle.qrules.proofs.Traces.Past.Ends.{laws_of, passes_of}
 use Rattle.qrules.proofs.Traces.Past.Items.{Stands, item_accepted, item_at, item_below, item_newest, pending_each, standing_is}
@@ -47,15 +46,15 @@ none_taken f t c X u a never = by (row_of f t c).receipt refl where
         | false ↦ λ other. refl
       ] refl
 
-waits_for_none : (w : Wait) → is_for_receipt w ≡ true → waits_for w ≡ None
+waits_for_none : (w : OpenCall) → is_for_receipt w ≡ true → waits_for w ≡ None
 waits_for_none (Answer coid message reply_buffer receipt) e = refl
 waits_for_none (ForItem chid kind buffer) e = absurd (true≢false (sym e))
 
 -- a thread that waits for the receipt of its message takes nothing
-sender_takes_none : (f : Facts) (t : ℕ) (c : Call) (u : ℕ) (o : OpenCall) → f.open_call t ≡ None → f.open_call u ≡ Some o → is_for_receipt o.wait ≡ true → (y : Completion) (i : ℕ) → TakesOne f t c u y i → ⊥
+sender_takes_none : (f : Facts) (t : ℕ) (c : Call) (u : ℕ) (o : OpenCall) → f.open_call t ≡ None → f.open_call u ≡ Some o → is_for_receipt o ≡ true → (y : Completion) (i : ℕ) → TakesOne f t c u y i → ⊥
 sender_takes_none f t c u o idle is unread y i k = elim k [
   | inl p ↦ none-some o (sym idle ∙ ap f.open_call (sym p.caller) ∙ is)
-  | inr m ↦ none-some _ (sym (waits_for_none o.wait unread) ∙ ap (λ (x : OpenCall). waits_for x.wait) (same_Some o m.waiting (sym is ∙ m.is_open)) ∙ m.waits)
+  | inr m ↦ none-some _ (sym (waits_for_none o unread) ∙ ap (λ (x : OpenCall). waits_for x) (same_Some o m.waiting (sym is ∙ m.is_open)) ∙ m.waits)
 ]
 
 -- a message has its sender's priority as it is sent

@@ -8,13 +8,13 @@ use Rattle.std.proofs.lemmas.Option.{none-some, same_Some}
 use Rattle.qtables.specs.Members.{IsRoster}
 use Rattle.qtables.specs.declared.member.Member.{Member}
 use Rattle.qrules.specs.Private.Calls.{row_of}
-use Rattle.qrules.specs.Private.Facts.{is_for_answer, is_send, sender, threads_of}
+use Rattle.qrules.specs.Private.Facts.{is_send, sender, threads_of}
 use Rattle.qrules.specs.Private.Headline.AnsweredToSender.{is_held}
 use Rattle.qrules.specs.Private.Headline.BestFirst.{TakesBest}
 use Rattle.qrules.specs.Private.Headline.ReceivedOnce.{number_received}
-use Rattle.qrules.specs.Private.Laws.{HeldIsHeldSend, IsHeldSend, blocker, is_for_reply}
+use Rattle.qrules.specs.Private.Laws.{HeldIsHeldSend, IsHeldSend, blocker}
 use Rattle.qrules.specs.Private.Lawful.{IsLawful, facts_of}
-use Rattle.qrules.specs.Private.Past.{copied_count_in, has_ending_of, call_by_now, wait_with_receipt, is_ended, is_received, item_of, accepted_at, open_call, priority_of_item, copied_count_among, copied_count_of, with_receipt}
+use Rattle.qrules.specs.Private.Past.{copied_count_in, has_ending_of, call_by_now, is_ended, is_received, item_of, accepted_at, open_call, priority_of_item, copied_count_among, copied_count_of}
 use Rattle.qrules.specs.Private.Effects.{asks}
 use Rattle.qrules.specs.Private.Rows.{item_in}
 use Rattle.qmodel.specs.Trace.{SentItem}
@@ -22,11 +22,10 @@ use Rattle.qmodel.specs.Trace.{Trace}
 use Rattle.qmodel.specs.declared.call.Completion.{Completion}
 use Rattle.qmodel.specs.declared.open_call.OpenCall.{OpenCall}
 use Rattle.qmodel.specs.declared.open_call.Receipt.{Receipt}
-use Rattle.qmodel.specs.declared.open_call.Wait.{Wait}
-use Rattle.qmodel.specs.declared.open_call.Wait.TheVariants.{Answer, Item as ForItem}
+use Rattle.qmodel.specs.declared.open_call.OpenCall.TheVariants.{Receive, Send}
 use Rattle.qrules.proofs.Traces.Past.Ends.{ends_own, open_known, passes_of}
 use Rattle.qrules.proofs.Traces.Past.Items.{item_accepted, item_answer, item_at, item_below, item_earlier}
-use Rattle.qrules.proofs.Traces.Past.Numbers.{filled_answer, open_from, open_parts, is_unblocked, open_thread, receipt_number}
+use Rattle.qrules.proofs.Traces.Past.Open.{filled_answer, open_from, open_parts, is_unblocked, open_thread, receipt_number}
 use Rattle.qrules.proofs.Traces.Past.Senders.{send_from, send_parts, sender_found, sender_sends}
 use Rattle.qrules.proofs.Traces.Past.Unblocked.{held_is_taken}
 use Rattle.qrules.proofs.Traces.Past.Waits.{waits_or_ends}
@@ -95,18 +94,18 @@ made_waits roster (e ∷ past) i m l is going =
 
 -- ---- a receipt
 
-held_for_reply : (receipt : Receipt) (w : Wait) → is_for_answer w ≡ true → is_for_reply (wait_with_receipt receipt w) ≡ true
+held_for_reply : (receipt : Receipt) (w : OpenCall) → is_for_answer w ≡ true → is_for_reply (held_call receipt w) ≡ true
 held_for_reply receipt (Answer coid message reply_buffer before) answer = refl
 held_for_reply receipt (ForItem chid kind buffer) answer = absurd (true≢false (sym answer))
 
-received_for_reply : (priority : ℕ) (unblocked : Bool) (r : Option ℕ) (b : OpenCall) → is_some r ≡ true → is_for_answer b.wait ≡ true → is_for_reply (with_receipt priority unblocked r b).wait ≡ true
+received_for_reply : (priority : ℕ) (unblocked : Bool) (r : Option ℕ) (b : OpenCall) → is_some r ≡ true → is_for_answer b ≡ true → is_for_reply (with_receipt priority unblocked r b).wait ≡ true
 received_for_reply priority unblocked None b there answer = absurd (true≢false (sym there))
-received_for_reply priority unblocked (Some copied) b there answer = held_for_reply (record { priority = priority; copied = copied; unblocked = unblocked }) b.wait answer
+received_for_reply priority unblocked (Some copied) b there answer = held_for_reply (record { priority = priority; copied = copied; unblocked = unblocked }) b answer
 
 -- ---- the law
 
 -- an open call of a number that waits for an answer is found as the Send of that number
-found_sender : (roster : List Member) (past : Trace) (i u : ℕ) (o : OpenCall) → IsLawful roster past → open_call roster past u ≡ Some o → o.number ≡ i → is_for_answer o.wait ≡ true → sender (facts_of roster past) i ≡ Some u
+found_sender : (roster : List Member) (past : Trace) (i u : ℕ) (o : OpenCall) → IsLawful roster past → open_call roster past u ≡ Some o → o.number ≡ i → is_for_answer o ≡ true → sender (facts_of roster past) i ≡ Some u
 found_sender roster past i u o l is number answer =
     sender_found (λ t. open_call roster past t) i (threads_of roster) u (known roster u (open_known roster past u o l is)) (ap (is_send i) is ∙ send_from i o number answer)
     (λ v sends.
@@ -120,18 +119,18 @@ held_to_send roster past i r l held =
     let m = taken_made roster past i r l p.0 in
     let t = made_waits roster past i m.0 l m.1 going in
     let k = unended_newest roster past t.0 i l t.1 going in
-    let made : item_at roster past k.block.number ≡ Some m.0 = ap (item_at roster past) k.number ∙ m.1 in
+    let made : item_at roster past (number_of k.block) ≡ Some m.0 = ap (item_at roster past) k.number ∙ m.1 in
     let answer = item_answer roster past t.0 m.0 k.block made k.is in
-    let n = k.block.number in
-    let waiting = with_receipt (priority_of_item roster past n) (is_unblocked roster past n) (copied_count_of past n) (call_by_now past k.block) in
+    let n = (number_of k.block) in
+    let waiting = with_receipt (priority_of_item roster past n) (is_unblocked roster past n) (copied_count_of past n) (filled past k.block) in
     let is_open : open_call roster past t.0 ≡ Some waiting = open_from roster past t.0 k.block k.is (subst (λ j. is_ended past j ≡ false) (sym k.number) going) in
-    let number : waiting.number ≡ i = receipt_number (priority_of_item roster past n) (is_unblocked roster past n) (copied_count_of past n) (call_by_now past k.block) ∙ k.number in
-    let reply : is_for_reply waiting.wait ≡ true = received_for_reply (priority_of_item roster past n) (is_unblocked roster past n) (copied_count_of past n) (call_by_now past k.block)
+    let number : (number_of waiting) ≡ i = receipt_number (priority_of_item roster past n) (is_unblocked roster past n) (copied_count_of past n) (filled past k.block) ∙ k.number in
+    let reply : is_for_reply waiting ≡ true = received_for_reply (priority_of_item roster past n) (is_unblocked roster past n) (copied_count_of past n) (filled past k.block)
     (subst (λ j. is_received past j ≡ true) (sym k.number) p.0) (filled_answer past k.block ∙ answer) in
     record {
       thread = t.0;
       waiting = waiting;
-      is_sender = found_sender roster past i t.0 waiting l is_open number (reply_parts waiting.wait reply).0;
+      is_sender = found_sender roster past i t.0 waiting l is_open number (reply_parts waiting reply).0;
       is_open = is_open;
       received = reply;
     }
@@ -140,10 +139,10 @@ send_to_held : (roster : List Member) (past : Trace) (i : ℕ) → IsHeldSend ro
 send_to_held roster past i h =
     let s = sender_sends (λ t. open_call roster past t) i (threads_of roster) h.thread h.is_sender in
     let same : s.waiting ≡ h.waiting = same_Some s.waiting h.waiting (sym s.is ∙ h.is_open) in
-    let number : h.waiting.number ≡ i = ap (λ (o : OpenCall). o.number) (sym same) ∙ s.number in
+    let number : (number_of h.waiting) ≡ i = ap (λ (o : OpenCall). o.number) (sym same) ∙ s.number in
     let k = open_parts roster past h.thread h.waiting h.is_open in
-    let w = reply_parts h.waiting.wait h.received in
-    let at : k.block.number ≡ i = sym k.number ∙ number in
+    let w = reply_parts h.waiting h.received in
+    let at : (number_of k.block) ≡ i = sym k.number ∙ number in
     and_from (is_received past i) (not (is_ended past i)) (subst (λ j. is_received past j ≡ true) at (held_is_taken roster past h.thread h.waiting k w.0 w.1))
     (not_from_false (is_ended past i) (subst (λ j. is_ended past j ≡ false) at k.going))
 

@@ -22,14 +22,14 @@ use Rattle.qrules.specs.Private.Calls.Send.{item}
 use Rattle.qrules.specs.Private.Calls.Unblock as unblock
 use Rattle.qrules.specs.Private.Calls.Info.{info_of, info_ending}
 use Rattle.qrules.specs.Private.Calls.Pulse as pulse
-use Rattle.qrules.specs.Private.Cancelling.{buffer_of_wait, is_on}
+use Rattle.qrules.specs.Private.Cancelling.{is_on}
 use Rattle.qrules.specs.Private.Endings.{buffer_of_open, buffer_brought, EndingsKeepLength, OpenCallsKeepLength}
 use Rattle.qrules.specs.Private.Facts.{Facts, message, sender, threads_of, route}
 use Rattle.qrules.specs.Private.Held.{Finish, ends_sender, refusal}
-use Rattle.qrules.specs.Private.Rows.{Received, receipt_ending, with_buffer, buffer_after_write}
+use Rattle.qrules.specs.Private.Rows.{Received, receipt_ending, buffer_after_write}
 use Rattle.qmodel.specs.Trace.{SentItem}
-use Rattle.qrules.specs.Private.Step.{after_receipt, after_unblock, after_write, held_call, is_thread, open_call_after, unblocked_call, unblocked_wait, unless, written_call}
-use Rattle.qrules.specs.Private.Past.{call_by_now, wait_with_receipt, is_accepted, with_receipt, with_writes}
+use Rattle.qrules.specs.Private.Step.{after_receipt, after_unblock, after_write, held_call, is_thread, open_call_after, unblocked_call, unless, written_call}
+use Rattle.qrules.specs.Private.Past.{call_by_now, is_accepted, with_writes}
 use Rattle.qmodel.specs.declared.call.Call.{Call}
 use Rattle.qmodel.specs.declared.call.Call.TheVariants.{Send, Receive, Reply, Error, Read, Info, ReceivePulse, Pulse, ChannelDestroy, Shutdown, Unblock, ConnectDetach}
 use Rattle.qmodel.specs.declared.call.Completion.{Completion}
@@ -38,13 +38,13 @@ use Rattle.qmodel.specs.declared.call.Mark.TheVariants as mark
 use Rattle.qmodel.specs.declared.call.Info.{Info as Told}
 use Rattle.qmodel.specs.declared.open_call.OpenCall.{OpenCall}
 use Rattle.qmodel.specs.declared.open_call.Receipt.{Receipt}
-use Rattle.qmodel.specs.declared.open_call.Wait.{Wait}
-use Rattle.qmodel.specs.declared.open_call.Wait.TheVariants.{Answer, Item as ForItem}
+use Rattle.qmodel.specs.declared.open_call.OpenCall.TheVariants.{Receive as InReceive, Send as InSend}
 use Rattle.qrules.proofs.Traces.Calls.ConnectDetach.{detach_ends}
 use Rattle.qrules.proofs.Traces.Calls.Cancelling.{IsCutCall, cancel_parts}
 use Rattle.qrules.proofs.Traces.Calls.Held.{sender_ends}
 use Rattle.qrules.proofs.Traces.Past.Laws.{Passes}
-use Rattle.qrules.proofs.Traces.Past.Numbers.{block_asked, open_parts}
+use Rattle.qrules.proofs.Traces.Past.Numbers.{block_asked}
+use Rattle.qrules.proofs.Traces.Past.Open.{open_parts}
 use Rattle.qrules.proofs.Traces.Properties.Rows.Delivering.{Delivers, delivery_meets}
 use Rattle.qrules.proofs.Traces.Properties.Rows.Receiving.{receive_takes}
 use Rattle.qrules.proofs.Traces.Properties.Rows.Telling.{told_meets, unblock_ends}
@@ -85,9 +85,9 @@ own_length f t c y e = ap (λ x. length x.buffer) (sym (same_Some _ y e))
 -- ---- another thread's ending
 
 met_length : (f : Facts) (o : Option ℕ) (item : Item) (message : List ℕ) (u : ℕ) (y : Completion) → Delivers f o item message u y → length y.buffer ≡ length (buffer_of_open (f.open_call u))
-met_length f o item message u y k = ap (λ x. length x.buffer) (sym k.ending) ∙ taking_length item message u k.waiting.number k.buffer ∙ ap (λ w. length (buffer_of_wait w)) (sym k.waits) ∙ ap (λ x. length (buffer_of_open x)) (sym k.is_open)
+met_length f o item message u y k = ap (λ x. length x.buffer) (sym k.ending) ∙ taking_length item message u (number_of k.waiting) k.buffer ∙ ap (λ w. length (buffer_of_wait w)) (sym k.waits) ∙ ap (λ x. length (buffer_of_open x)) (sym k.is_open)
 
-cancel_length : (is_cancelled : Wait → Bool) (e : Errno) (u : ℕ) (o : Option OpenCall) (y : Completion) → IsCutCall is_cancelled e u o y → length y.buffer ≡ length (buffer_of_open o)
+cancel_length : (is_cancelled : OpenCall → Bool) (e : Errno) (u : ℕ) (o : Option OpenCall) (y : Completion) → IsCutCall is_cancelled e u o y → length y.buffer ≡ length (buffer_of_open o)
 cancel_length is_cancelled e u o y k = ap (λ x. length x.buffer) (sym k.ending) ∙ ap (λ x. length (buffer_of_open x)) (sym k.is)
 
 answered_length : (f : Facts) (t rcvid : ℕ) (finish : Finish) (u : ℕ) (y : Completion) → ((b : List ℕ) → length (finish b).1 ≡ length b) → refusal f t rcvid ≡ None → ends_sender f finish (sender f rcvid) u ≡ Some y → length y.buffer ≡ length (buffer_of_open (f.open_call u))
@@ -101,7 +101,7 @@ ends_length f t (Reply rcvid status bytes) u y p e = answered_length f t rcvid (
 ends_length f t (Error rcvid code) u y p e = answered_length f t rcvid (error_finish code) u y (λ b. refl) p.row e
 ends_length f t (Pulse coid priority code value) u y p e =
     let k = told_meets f (pulse.sent_pulse f coid priority code value) u y e in met_length f (Some k.made.channel) k.made.item [] u y k.delivers
-ends_length f t (ChannelDestroy chid) u y p e = cancel_length (is_on f.connection chid) Srch u (f.open_call u) y (cancel_parts (is_on f.connection chid) Srch u (f.open_call u) y e)
+ends_length f t (ChannelDestroy chid) u y p e = cancel_length (is_on chid) Srch u (f.open_call u) y (cancel_parts (is_on chid) Srch u (f.open_call u) y e)
 ends_length f t Shutdown u y p e = cancel_length (λ wait. true) Srch u (f.open_call u) y (cancel_parts (λ wait. true) Srch u (f.open_call u) y e)
 ends_length f t (Unblock thread) u y p e = elim (unblock_ends f thread u y (unblock.due_pulse f thread) e) [
   | inl cancel ↦ cancel_length _ _ u (f.open_call u) y cancel
@@ -136,48 +136,48 @@ asked_length n (Receive chid buffer) e = refl
 asked_length n (ReceivePulse chid) e = refl
 asked_length n c e = absurd (true≢false (sym e))
 
-map_length : (k : OpenCall → OpenCall) → ((o : OpenCall) → length (buffer_of_wait (k o).wait) ≡ length (buffer_of_wait o.wait)) → (o : Option OpenCall) → length (buffer_of_open (option_map k o)) ≡ length (buffer_of_open o)
+map_length : (k : OpenCall → OpenCall) → ((o : OpenCall) → length (buffer_of_wait (k o).wait) ≡ length (buffer_of_wait o)) → (o : Option OpenCall) → length (buffer_of_open (option_map k o)) ≡ length (buffer_of_open o)
 map_length k h None = refl
 map_length k h (Some o) = h o
 
-held_length : (receipt : Receipt) (w : Wait) → length (buffer_of_wait (wait_with_receipt receipt w)) ≡ length (buffer_of_wait w)
+held_length : (receipt : Receipt) (w : OpenCall) → length (buffer_of_wait (held_call receipt w)) ≡ length (buffer_of_wait w)
 held_length receipt (Answer coid message reply_buffer before) = refl
 held_length receipt (ForItem chid kind buffer) = refl
 
-written_length : (at : ℕ) (bytes : List ℕ) (w : Wait) → length (buffer_of_wait (with_buffer (λ b. lay_over b at bytes) w)) ≡ length (buffer_of_wait w)
+written_length : (at : ℕ) (bytes : List ℕ) (w : OpenCall) → length (buffer_of_wait (with_buffer (λ b. lay_over b at bytes) w)) ≡ length (buffer_of_wait w)
 written_length at bytes (Answer coid message reply_buffer before) = lay_length reply_buffer at bytes
 written_length at bytes (ForItem chid kind buffer) = refl
 
-unblocked_length : (w : Wait) → length (buffer_of_wait (unblocked_wait w)) ≡ length (buffer_of_wait w)
+unblocked_length : (w : OpenCall) → length (buffer_of_wait (unblocked_call w)) ≡ length (buffer_of_wait w)
 unblocked_length (Answer coid message reply_buffer None) = refl
 unblocked_length (Answer coid message reply_buffer (Some receipt)) = refl
 unblocked_length (ForItem chid kind buffer) = refl
 
 receipt_length : (r : Option Received) (u : ℕ) (o : Option OpenCall) → length (buffer_of_open (after_receipt r u o)) ≡ length (buffer_of_open o)
 receipt_length None u o = refl
-receipt_length (Some r) u o = elim (is_thread r.sender u) as (λ b. length (buffer_of_open (cond b (option_map (held_call r.kept) o) o)) ≡ length (buffer_of_open o)) [ true ↦ map_length (held_call r.kept) (λ w. held_length r.kept w.wait) o | false ↦ refl ]
+receipt_length (Some r) u o = elim (is_thread r.sender u) as (λ b. length (buffer_of_open (cond b (option_map (held_call r.kept) o) o)) ≡ length (buffer_of_open o)) [ true ↦ map_length (held_call r.kept) (λ w. held_length r.kept w) o | false ↦ refl ]
 
 write_length : (f : Facts) (w : Option Transfer) (u : ℕ) (o : Option OpenCall) → length (buffer_of_open (after_write f w u o)) ≡ length (buffer_of_open o)
 write_length f None u o = refl
-write_length f (Some w) u o = elim (is_thread (sender f w.rcvid) u) as (λ b. length (buffer_of_open (cond b (option_map (written_call w.offset w.bytes) o) o)) ≡ length (buffer_of_open o)) [ true ↦ map_length (written_call w.offset w.bytes) (λ v. written_length w.offset w.bytes v.wait) o | false ↦ refl ]
+write_length f (Some w) u o = elim (is_thread (sender f w.rcvid) u) as (λ b. length (buffer_of_open (cond b (option_map (written_call w.offset w.bytes) o) o)) ≡ length (buffer_of_open o)) [ true ↦ map_length (written_call w.offset w.bytes) (λ v. written_length w.offset w.bytes v) o | false ↦ refl ]
 
 unblock_length : (m : Option SentItem) (w : Option ℕ) (u : ℕ) (o : Option OpenCall) → length (buffer_of_open (after_unblock m w u o)) ≡ length (buffer_of_open o)
 unblock_length m None u o = refl
-unblock_length m (Some v) u o = elim (eqb u v && is_some m) as (λ b. length (buffer_of_open (cond b (option_map unblocked_call o) o)) ≡ length (buffer_of_open o)) [ true ↦ map_length unblocked_call (λ w. unblocked_length w.wait) o | false ↦ refl ]
+unblock_length m (Some v) u o = elim (eqb u v && is_some m) as (λ b. length (buffer_of_open (cond b (option_map unblocked_call o) o)) ≡ length (buffer_of_open o)) [ true ↦ map_length unblocked_call (λ w. unblocked_length w) o | false ↦ refl ]
 
 left_open : (b : Bool) (o : Option OpenCall) (x : OpenCall) → unless b o ≡ Some x → o ≡ Some x
 left_open true o x e = absurd (none-some x e)
 left_open false o x e = e
 
 -- the buffer of what a thread waits for after an accepted call
-after_length : (f : Facts) (t : ℕ) (c : Call) (u : ℕ) (x : OpenCall) → open_call_after f t c u ≡ Some x → length (buffer_of_wait x.wait) ≡ length (cond (eqb u t) (buffer_of c) (buffer_of_open (f.open_call u)))
+after_length : (f : Facts) (t : ℕ) (c : Call) (u : ℕ) (x : OpenCall) → open_call_after f t c u ≡ Some x → length (buffer_of_wait x) ≡ length (cond (eqb u t) (buffer_of c) (buffer_of_open (f.open_call u)))
 after_length f t c u x e =
     let R = row_of f t c in
     let mine = after_receipt R.receipt u (asks f.number c) in
     let written = after_write f (writes c) u (f.open_call u) in
     let received = after_receipt R.receipt u written in
     let others = after_unblock (makes f t c) (unblocks c) u received in
-    elim (eqb u t) as (λ b. cond b (unless (is_some R.own) mine) (unless (is_some (R.ends u)) others) ≡ Some x → length (buffer_of_wait x.wait) ≡ length (cond b (buffer_of c) (buffer_of_open (f.open_call u)))) [
+    elim (eqb u t) as (λ b. cond b (unless (is_some R.own) mine) (unless (is_some (R.ends u)) others) ≡ Some x → length (buffer_of_wait x) ≡ length (cond b (buffer_of c) (buffer_of_open (f.open_call u)))) [
       | true ↦ λ is.
           let left = left_open (is_some R.own) mine x is in
           let asked : is_some (asks f.number c) ≡ true = sym (some_receipt R.receipt u (asks f.number c)) ∙ ap is_some left in
@@ -188,7 +188,7 @@ after_length f t c u x e =
     ] e
 
 open_keeps_length : (roster : List Member) (past : Trace) (e : Event) → IsLawful roster (e ∷ past) → is_some (open_call roster past e.thread) ≡ false
-    → (u : ℕ) (x : OpenCall) → open_call roster (e ∷ past) u ≡ Some x → length (buffer_of_wait x.wait) ≡ length (buffer_brought roster past e.thread e.call u)
+    → (u : ℕ) (x : OpenCall) → open_call roster (e ∷ past) u ≡ Some x → length (buffer_of_wait x) ≡ length (buffer_brought roster past e.thread e.call u)
 open_keeps_length roster past e l idle u x is = elim (l.2) [
   | inl a ↦ after_length (facts_of roster past) e.thread e.call u x (sym (open_accepted roster past e.thread e.call e.endings u l.0 l.1 a) ∙ is)
   | inr a ↦
@@ -210,23 +210,23 @@ writes_length (e ∷ past) i b = elim (is_accepted e past) as (λ a. length (con
   | false ↦ writes_length past i b
 ]
 
-filled_length : (past : Trace) (i : ℕ) (w : Wait) → length (buffer_of_wait (with_buffer (with_writes past i) w)) ≡ length (buffer_of_wait w)
+filled_length : (past : Trace) (i : ℕ) (w : OpenCall) → length (buffer_of_wait (with_buffer (with_writes past i) w)) ≡ length (buffer_of_wait w)
 filled_length past i (Answer coid message reply_buffer receipt) = writes_length past i reply_buffer
 filled_length past i (ForItem chid kind buffer) = refl
 
-kept_length : (priority : ℕ) (unblocked : Bool) (r : Option ℕ) (o : OpenCall) → length (buffer_of_wait (with_receipt priority unblocked r o).wait) ≡ length (buffer_of_wait o.wait)
+kept_length : (priority : ℕ) (unblocked : Bool) (r : Option ℕ) (o : OpenCall) → length (buffer_of_wait (with_receipt priority unblocked r o).wait) ≡ length (buffer_of_wait o)
 kept_length priority unblocked None o = refl
-kept_length priority unblocked (Some copied) o = held_length _ o.wait
+kept_length priority unblocked (Some copied) o = held_length _ o
 
 pub open_calls_keep_length : OpenCallsKeepLength
 open_calls_keep_length roster past r l u o is =
     let k = open_parts roster past u o is in
-    let a = block_asked past u k.block k.is in
-    let asked : length (buffer_of_wait k.block.wait) ≡ length (buffer_of a.call) = ap (λ x. length (buffer_of_open x)) (sym a.asks_it) ∙ asked_length k.block.number a.call (ap is_some a.asks_it) in
+    let a = block_asked roster past u k.block k.is in
+    let asked : length (buffer_of_wait k.block) ≡ length (buffer_of a.call) = ap (λ x. length (buffer_of_open x)) (sym a.asks_it) ∙ asked_length (number_of k.block) a.call (ap is_some a.asks_it) in
     record {
       call = a.call;
       is = ap (call_at past) k.number ∙ a.is;
-      same = ap (λ x. length (buffer_of_wait x.wait)) k.same ∙ kept_length _ _ _ (call_by_now past k.block) ∙ filled_length past k.block.number k.block.wait ∙ asked;
+      same = ap (λ x. length (buffer_of_wait x)) k.same ∙ kept_length _ _ _ (filled past k.block) ∙ filled_length past (number_of k.block) k.block ∙ asked;
     }
 
 -- ---- what is at most so long

@@ -5,25 +5,24 @@ use Rattle.std.proofs.lemmas.Bool.{ne_eqb, or_parts, true≢false}
 use Rattle.qqueue.specs.Best.{is_pulse}
 use Rattle.qqueue.specs.declared.item.Item.{Item}
 use Rattle.qtables.specs.declared.member.Member.{Member}
-use Rattle.qrules.specs.Private.Facts.{is_for_answer}
-use Rattle.qrules.specs.Private.Laws.{is_for_reply, IsNotHeld, IsOpenSend, NonePendingIsHeld, PendingIsOpen, PendingRises}
+use Rattle.qrules.specs.Private.Laws.{IsNotHeld, IsOpenSend, NonePendingIsHeld, PendingIsOpen, PendingRises}
 use Rattle.qrules.specs.Private.Lawful.{IsLawful}
-use Rattle.qrules.specs.Private.Past.{call_by_now, is_ended, is_received, pending_items, priority_of_item, copied_count_of, with_receipt}
+use Rattle.qrules.specs.Private.Past.{call_by_now, is_ended, is_received, pending_items, priority_of_item, copied_count_of}
 use Rattle.qmodel.specs.Trace.{Trace}
 use Rattle.qmodel.specs.declared.open_call.OpenCall.{OpenCall}
-use Rattle.qmodel.specs.declared.open_call.Wait.{Wait}
-use Rattle.qmodel.specs.declared.open_call.Wait.TheVariants.{Answer, Item as ForItem}
+use Rattle.qmodel.specs.declared.open_call.OpenCall.TheVariants.{Receive, Send}
 use Rattle.qrules.proofs.Traces.Past.Cancels.{sent_by}
 use Rattle.qrules.proofs.Traces.Past.Items.{IsPending, pending_all}
 use Rattle.qrules.proofs.Traces.Past.Laws.{is_settled}
 use Rattle.qbase.proofs.Lists.{all_more, none_of}
-use Rattle.qrules.proofs.Traces.Past.Numbers.{IsOpen, block_fresh, filled_answer, filled_settled, open_parts, is_unblocked}
+use Rattle.qrules.proofs.Traces.Past.Numbers.{block_fresh}
+use Rattle.qrules.proofs.Traces.Past.Open.{IsOpen, filled_answer, filled_settled, open_parts, is_unblocked}
 use Rattle.qrules.proofs.Traces.Past.Rising.{pending_rises}
 
 -- ---- waits
 
 -- a wait for a reply is for an answer, and settled
-pub reply_parts : (w : Wait) → is_for_reply w ≡ true → (is_for_answer w ≡ true) × (is_settled w ≡ true)
+pub reply_parts : (w : OpenCall) → is_for_reply w ≡ true → (is_for_answer w ≡ true) × (is_settled w ≡ true)
 reply_parts (Answer coid message reply_buffer None) e = absurd (true≢false (sym e))
 reply_parts (Answer coid message reply_buffer (Some receipt)) e = (refl, refl)
 reply_parts (ForItem chid kind buffer) e = absurd (true≢false (sym e))
@@ -35,17 +34,17 @@ unread : (roster : List Member) (past : Trace) (h : ℕ) (item : Item) → IsPen
 unread roster past h item p = (or_parts _ _ p.stays).0
 
 -- an open call of the number of an item that isn't received is as it began
-as_begun : (roster : List Member) (past : Trace) (u : ℕ) (o : OpenCall) (k : IsOpen roster past u o) → is_received past k.block.number ≡ false → o ≡ call_by_now past k.block
-as_begun roster past u o k e = k.same ∙ ap (λ r. with_receipt (priority_of_item roster past k.block.number) (is_unblocked roster past k.block.number) r (call_by_now past k.block)) (none_of (copied_count_of past k.block.number) e)
+as_begun : (roster : List Member) (past : Trace) (u : ℕ) (o : OpenCall) (k : IsOpen roster past u o) → is_received past (number_of k.block) ≡ false → o ≡ filled past k.block
+as_begun roster past u o k e = k.same ∙ ap (λ r. with_receipt (priority_of_item roster past (number_of k.block)) (is_unblocked roster past (number_of k.block)) r (filled past k.block)) (none_of (copied_count_of past (number_of k.block)) e)
 
 not_held : (roster : List Member) (past : Trace) (h : ℕ) (item : Item) → IsPending roster past h item → IsNotHeld roster past item.number
 not_held roster past h item p = record {
   unread = ap (λ b. b && not (is_ended past item.number)) (unread roster past h item p);
   unkept = λ u o is held. ne_eqb o.number item.number (λ same.
       let k = open_parts roster past u o is in
-      let begun : o ≡ call_by_now past k.block = as_begun roster past u o k (subst (λ i. is_received past i ≡ false) (sym same ∙ k.number) (unread roster past h item p)) in
-      let w = reply_parts (call_by_now past k.block).wait (subst (λ (x : OpenCall). is_for_reply x.wait ≡ true) begun held) in
-      true≢false (sym w.1 ∙ filled_settled past k.block ∙ block_fresh past u k.block k.is ∙ ap not (sym (filled_answer past k.block) ∙ w.0)));
+      let begun : o ≡ filled past k.block = as_begun roster past u o k (subst (λ i. is_received past i ≡ false) (sym same ∙ k.number) (unread roster past h item p)) in
+      let w = reply_parts (filled past k.block).wait (subst (λ (x : OpenCall). is_for_reply x ≡ true) begun held) in
+      true≢false (sym w.1 ∙ filled_settled past k.block ∙ block_fresh roster past u k.block k.is ∙ ap not (sym (filled_answer past k.block) ∙ w.0)));
 }
 
 send_open : (roster : List Member) (past : Trace) (h : ℕ) (item : Item) → IsLawful roster past → IsPending roster past h item → is_pulse item.what ≡ false → IsOpenSend roster past item.number

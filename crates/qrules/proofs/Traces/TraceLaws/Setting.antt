@@ -25,16 +25,16 @@ use Rattle.qrules.specs.Rule.{PriorityChange}
 
 -- a pending item is what thread v waits with to be received exactly where it is a message of that thread
 unread_of : (roster : List Member) (past : Trace) (h : ℕ) (item : Item) (v : ℕ) → IsLawful roster past → IsPending roster past h item
-    → is_unread_send (λ k. connection_at roster past k) h item.number (open_call roster past v) ≡ is_message_of past v item
+    → is_unread_send h item.number (open_call roster past v) ≡ is_message_of past v item
 unread_of roster past h item v l p =
-    elim (is_pulse item.what) as (λ b. is_pulse item.what ≡ b → is_unread_send (λ k. connection_at roster past k) h item.number (open_call roster past v) ≡ (not b && names (sender_of past item.number) v)) [
+    elim (is_pulse item.what) as (λ b. is_pulse item.what ≡ b → is_unread_send h item.number (open_call roster past v) ≡ (not b && names (sender_of past item.number) v)) [
       | true ↦ λ pulse. pulse_unread roster past h item v p pulse
       | false ↦ λ message.
           let s = sent_by roster past h item l p message in
           rw (s.sent) (
-          elim (eqb s.sender v) as (λ b. eqb s.sender v ≡ b → is_unread_send (λ k. connection_at roster past k) h item.number (open_call roster past v) ≡ b) [
+          elim (eqb s.sender v) as (λ b. eqb s.sender v ≡ b → is_unread_send h item.number (open_call roster past v) ≡ b) [
             | true ↦ λ same.
-                ap (λ u. is_unread_send (λ k. connection_at roster past k) h item.number (open_call roster past u)) (sym (eqb-true s.sender v same))
+                ap (λ u. is_unread_send h item.number (open_call roster past u)) (sym (eqb-true s.sender v same))
                 ∙ rw (s.is_open, eq-eqb _ _ s.number, s.unread, s.on) refl
             | false ↦ λ other. unread_elsewhere roster past h item.number s.sender s.waiting v s.is_open s.number (eqb_either v s.sender ∙ other)
           ] refl)

@@ -14,7 +14,7 @@ use Rattle.qmodel.specs.declared.call.Call.{Call}
 use Rattle.qmodel.specs.declared.call.Call.TheVariants.{Send}
 use Rattle.qmodel.specs.declared.open_call.OpenCall.{OpenCall}
 use Rattle.qbase.proofs.Lists.{eqb_same}
-use Rattle.qrules.proofs.Traces.Past.Numbers.{open_from, open_parts, receipt_number, is_unblocked}
+use Rattle.qrules.proofs.Traces.Past.Open.{open_from, open_parts, receipt_number, is_unblocked}
 use Rattle.qrules.proofs.Traces.Calls.{call_laws}
 use Rattle.qrules.proofs.Traces.Properties.Messages.{block_stays}
 use Rattle.qrules.proofs.Traces.Properties.Sends.{begins_now, made_newest, made_stays}
@@ -54,16 +54,16 @@ begins e past t is =
       | false ↦ λ refused at. absurd (none-some t at)
     ] refl is
 
-begun_newest : (e : Event) (past : Trace) (t : ℕ) (k : Begins e past t) → newest_block (e ∷ past) t ≡ Some k.block
-begun_newest e past t k = subst (λ u. newest_block (e ∷ past) u ≡ Some k.block) k.thread (rw (eqb_same e.thread, k.accepted, k.asked) refl)
+begun_newest : (e : Event) (past : Trace) (t : ℕ) (k : Begins e past t) → block roster (e ∷ past) t ≡ Some k.block
+begun_newest e past t k = subst (λ u. block roster (e ∷ past) u ≡ Some k.block) k.thread (rw (eqb_same e.thread, k.accepted, k.asked) refl)
 
 -- ---- the newest blocking call
 
 -- call i is the newest blocking call of thread t
 pub record IsBlock (past : Trace) (t i : ℕ) : Type 0 where
   pub block : OpenCall
-  pub is : newest_block past t ≡ Some block
-  pub number : block.number ≡ i
+  pub is : block roster past t ≡ Some block
+  pub number : (number_of block) ≡ i
 
 pub unended_newest : (roster : List Member) (past : Trace) (t i : ℕ) → IsLawful roster past → accepted_at blocker past i ≡ Some t → is_ended past i ≡ false → IsBlock past t i
 unended_newest roster [] t i l is going = absurd (none-some t is)
@@ -79,7 +79,7 @@ unended_newest roster (e ∷ past) t i l is going =
     ] refl is
 
 -- it is an accepted call of its thread that may wait
-block_began : (past : Trace) (u : ℕ) (b : OpenCall) → newest_block past u ≡ Some b → accepted_at blocker past b.number ≡ Some u
+block_began : (past : Trace) (u : ℕ) (b : OpenCall) → block roster past u ≡ Some b → accepted_at blocker past b.number ≡ Some u
 block_began [] u b is = absurd (none-some b is)
 block_began (e ∷ past) u b is = elim (begins_now e past u b is) [
   | inl h ↦
@@ -103,7 +103,7 @@ unended_open roster past t i is =
       | None ↦ λ e at. absurd (none-some i at)
       | Some o ↦ λ e at.
           let k = open_parts roster past t o e in
-          let number : k.block.number ≡ i = sym k.number ∙ same_Some o.number i at in
+          let number : (number_of k.block) ≡ i = sym k.number ∙ same_Some o.number i at in
           record { blocks = subst (λ j. accepted_at blocker past j ≡ Some t) number (block_began past t k.block k.is); going = subst (λ j. is_ended past j ≡ false) number k.going }
     ] refl is
 
@@ -111,7 +111,7 @@ open_unended : (roster : List Member) (past : Trace) (t i : ℕ) → IsLawful ro
 open_unended roster past t i l u =
     let k = unended_newest roster past t i l u.blocks u.going in
     ap (option_map (λ (o : OpenCall). o.number)) (open_from roster past t k.block k.is (subst (λ j. is_ended past j ≡ false) (sym k.number) u.going))
-    ∙ ap (λ n. Some n) (receipt_number (priority_of_item roster past k.block.number) (is_unblocked roster past k.block.number) (copied_count_of past k.block.number) (call_by_now past k.block) ∙ k.number)
+    ∙ ap (λ n. Some n) (receipt_number (priority_of_item roster past (number_of k.block)) (is_unblocked roster past (number_of k.block)) (copied_count_of past (number_of k.block)) (filled past k.block) ∙ k.number)
 
 pub open_is_unended : OpenIsUnended
 open_is_unended roster past r l t i = (unended_open roster past t i, open_unended roster past t i l)

@@ -6,7 +6,6 @@ use Rattle.std.proofs.lemmas.Bool.{eqb-true, ltb-false, or_cases, or_parts, true
 use Rattle.std.proofs.lemmas.Option.{none-some}
 use Rattle.qqueue.specs.declared.item.Item.{Item}
 use Rattle.qtables.specs.declared.member.Member.{Member}
-use Rattle.qrules.specs.Private.Cancelling.{is_to}
 use Rattle.qrules.specs.Private.Facts.{threads_of}
 use Rattle.qrules.specs.Private.Laws.{NewestIsGreatest, NoneIsNewest, NothingPendingForWaiting, OpenSendsAreLive}
 use Rattle.qrules.specs.Private.Lawful.{IsLawful, facts_of}

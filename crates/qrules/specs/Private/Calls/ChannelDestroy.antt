@@ -16,4 +16,4 @@ refusal f t chid = if owns f t chid then None else Some Inval
 -- calls
 abbrev pub row : Facts → ThreadNo → ChannelId → Row
 row f t chid = record (plain_row f.number t (refusal f t chid) mark.Ok)
-    { ends = cancels f (λ u. is_on f.connection chid) Srch }
+    { ends = cancels f (λ u. is_on chid) Srch }

@@ -7,30 +7,29 @@ use Rattle.qmodel.specs.declared.call.Completion.{Completion}
 use Rattle.qmodel.specs.declared.call.Info.{Info}
 use Rattle.qmodel.specs.declared.call.Mark.TheVariants as mark
 use Rattle.qmodel.specs.declared.open_call.OpenCall.{OpenCall}
-use Rattle.qmodel.specs.declared.open_call.Wait.{Wait}
-use Rattle.qmodel.specs.declared.open_call.Wait.TheVariants.{Answer}
+use Rattle.qmodel.specs.declared.open_call.OpenCall.TheVariants.{Receive, Send}
 use Rattle.qmodel.specs.Trace.{CallNo, ReceiveId, ThreadNo}
 use Rattle.qrules.specs.Private.Facts.{Facts, sender}
 use Rattle.qrules.specs.Private.Held.{refusal}
 use Rattle.qrules.specs.Private.Rows.{Row, ends_with, empty_row}
 
--- the data of a message: the sender, the connection, how many bytes were copied at the receipt, the lengths
+-- the data of an open Send: the sender, the connection, how many bytes were copied at the receipt, the lengths
 -- of message and reply buffer, and the priority of the receipt; None if it isn't received
-abbrev pub info_of_wait : Member → Wait → Option Info
-info_of_wait m (Answer coid message reply_buffer (Some receipt)) = Some (record {
+abbrev pub info_of_call : Member → OpenCall → Option Info
+info_of_call m (Send s) = option_map (λ receipt. record {
   process = m.process;
   thread = m.thread;
-  connection = coid;
+  connection = s.connection;
   msglen = receipt.copied;
-  srcmsglen = length message;
-  dstmsglen = length reply_buffer;
+  srcmsglen = length s.message;
+  dstmsglen = length s.reply_buffer;
   priority = receipt.priority;
-})
-info_of_wait m wait = None
+}) s.receipt
+info_of_call m (Receive r) = None
 
 -- the data of a member's message; None if its open call isn't a Send whose message is received
 abbrev pub info_of_open : Member → Option OpenCall → Option Info
-info_of_open m call = option_and_then (λ o. info_of_wait m o.wait) call
+info_of_open m call = option_and_then (info_of_call m) call
 
 -- the data of the message that this thread sent
 abbrev pub info_of : Facts → Option ThreadNo → Option Info

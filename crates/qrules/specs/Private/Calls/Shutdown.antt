@@ -9,4 +9,4 @@ use Rattle.qrules.specs.Private.Rows.{Row, plain_row}
 
 -- any thread may shut the kernel down
 abbrev pub row : Facts → ThreadNo → Row
-row f t = record (plain_row f.number t None mark.Ok) { ends = cancels f (λ u wait. true) Srch }
+row f t = record (plain_row f.number t None mark.Ok) { ends = cancels f (λ u o. true) Srch }

@@ -6,7 +6,7 @@ use Rattle.qtables.specs.Members.{member_at}
 use Rattle.qmodel.specs.declared.call.Mark.TheVariants as mark
 use Rattle.qmodel.specs.Trace.{ThreadNo}
 use Rattle.qrules.specs.Private.Facts.{Facts}
-use Rattle.qrules.specs.Private.ThreadState.{state_in}
+use Rattle.qrules.specs.Rules.Threads.{state_of}
 use Rattle.qrules.specs.Private.Rows.{Row, plain_row}
 
 -- Srch if the thread isn't in the roster
@@ -16,4 +16,4 @@ refusal f thread = if is_some (member_at f.roster thread) then None else Some Sr
 -- any thread may ask for the state of any thread
 abbrev pub row : Facts → ThreadNo → ThreadNo → Row
 row f t thread = plain_row f.number t (refusal f thread)
-    (mark.State (state_in f.connection (f.open_call thread)) (f.priority thread))
+    (mark.State (state_of f thread) (f.priority thread))

@@ -17,12 +17,11 @@ NoneReceivedFrom roster past h endings =
     AllByRecursion (λ x. (i : CallNo) → number_received x ≡ Some i
     → channel_among (items roster past) i ≡ Some h → ⊥) endings
 
--- no open call is blocked on channel h; a Send is blocked on the channel that its connection was attached to,
--- detached or not
+-- no open call is blocked on channel h
 abbrev pub NoneBlockedOn : List Member → Trace → ChannelId → Type 0
 NoneBlockedOn roster past h =
     (u : ThreadNo) (o : OpenCall) → open_call roster past u ≡ Some o
-    → is_on (λ k. attached_connection roster past k) h o.wait ≡ false
+    → is_on h o ≡ false
 
 -- if a channel is destroyed by an event or before it, no ending of the event receives from it, and no call is
 -- blocked on it afterwards

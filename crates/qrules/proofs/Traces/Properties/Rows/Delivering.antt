@@ -10,8 +10,7 @@ use Rattle.qrules.specs.Private.Facts.{Facts}
 use Rattle.qrules.specs.Private.Rows.{receipt_ending}
 use Rattle.qmodel.specs.declared.call.Completion.{Completion}
 use Rattle.qmodel.specs.declared.open_call.OpenCall.{OpenCall}
-use Rattle.qmodel.specs.declared.open_call.Wait.{Wait}
-use Rattle.qmodel.specs.declared.open_call.Wait.TheVariants.{Answer, Item as ForItem}
+use Rattle.qmodel.specs.declared.open_call.OpenCall.TheVariants.{Receive, Send}
 use Rattle.qrules.proofs.Traces.Properties.Receivers.{WaitsOn, newest_waits}
 use Rattle.qrules.proofs.Traces.Calls.Delivering.{met_by, takes_item}
 
@@ -24,12 +23,12 @@ pub record Delivers (f : Facts) (o : Option ℕ) (item : Item) (message : List �
   pub kind : Kind
   pub buffer : List ℕ
   pub is_open : f.open_call u ≡ Some waiting
-  pub waits : waiting.wait ≡ ForItem channel kind buffer
+  pub waits : waiting ≡ ForItem channel kind buffer
   pub may : may_take kind item ≡ true
-  pub ending : receipt_ending item message u waiting.number buffer ≡ y
+  pub ending : receipt_ending item message u (number_of waiting) buffer ≡ y
 
 -- the buffer that a thread waits with, whatever it waits for
-abbrev awaited : Wait → List ℕ
+abbrev awaited : OpenCall → List ℕ
 awaited (Answer coid sent reply_buffer receipt) = reply_buffer
 awaited (ForItem chid kind buffer) = buffer
 
@@ -44,7 +43,7 @@ delivery_meets f o item message u y e =
     let p = takes_item item message u (f.open_call u) y met.given in
     let w = over f o item u met.receiver_is in
     let same : p.0.waiting ≡ w.2.waiting = same_Some _ _ (sym p.0.is ∙ w.2.is_open) in
-    let wait : ForItem p.0.chid p.0.kind p.0.buffer ≡ ForItem w.0 w.2.kind w.2.buffer = sym p.0.waits ∙ ap (λ v. v.wait) same ∙ w.2.waits in
+    let wait : ForItem p.0.chid p.0.kind p.0.buffer ≡ ForItem w.0 w.2.kind w.2.buffer = sym p.0.waits ∙ ap (λ v. v) same ∙ w.2.waits in
     record {
       channel = w.0;
       leads = w.1;
@@ -55,5 +54,5 @@ delivery_meets f o item message u y e =
       is_open = w.2.is_open;
       waits = w.2.waits;
       may = w.2.may;
-      ending = subst (λ b. receipt_ending item message u w.2.waiting.number b ≡ y) (ap awaited wait) (subst (λ (v : OpenCall). receipt_ending item message u v.number p.0.buffer ≡ y) same p.1);
+      ending = subst (λ b. receipt_ending item message u w.2.(number_of waiting) b ≡ y) (ap awaited wait) (subst (λ (v : OpenCall). receipt_ending item message u v.number p.0.buffer ≡ y) same p.1);
     }

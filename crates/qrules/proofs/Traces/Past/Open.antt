@@ -1,0 +1,181 @@
+-- The open call of a thread: its newest blocking call, unless that is ended.
+use Rattle.std.proofs.Common.{◌≡◌, ℕ, ◌+◌, ◌<◌, ◌≤◌, List, [], ◌∷◌, length, refl, ap, sym, subst, ◌∙◌, cond, arith, Bool, true, false, eqb, ◌⊎◌, inl, inr}
+use Rattle.std.specs.Prelude.{Option, None, Some, is_some, not, ◌&&◌}
+use Rattle.std.specs.Option.{option_map}
+use Rattle.std.proofs.lemmas.Bool.{eqb-true, ne_eqb, and_parts}
+use Rattle.std.proofs.lemmas.Option.{same_Some, none-some}
+use Rattle.qtables.specs.declared.member.Member.{Member}
+use Rattle.qrules.specs.Private.Headline.CopiedExactly.{call_at}
+use Rattle.qrules.specs.Private.Past.{items_by_now, call_by_now, is_accepted, is_ended, accepted_at, newest_block, unless_ended, open_call, copied_count_of, priority_of_item, unblocked_among, items}
+use Rattle.qrules.specs.Private.Effects.{asks}
+use Rattle.qmodel.specs.Trace.{Event, Trace}
+use Rattle.qmodel.specs.declared.call.Call.{Call}
+use Rattle.qmodel.specs.declared.open_call.OpenCall.{OpenCall}
+use Rattle.qmodel.specs.declared.open_call.Receipt.{Receipt}
+use Rattle.qmodel.specs.declared.open_call.OpenCall.TheVariants.{Receive, Send}
+use Rattle.qbase.proofs.Lists.{eqb_same}
+use Rattle.qrules.proofs.Traces.Past.Laws.{is_settled}
+use Rattle.qrules.proofs.Traces.Calls.{call_laws}
+use Rattle.qrules.specs.Private.Past.{block}
+use Rattle.qrules.specs.Private.Past.{with_receipt}
+use Rattle.qrules.specs.Private.Past.{filled}
+use Rattle.qrules.proofs.Traces.Past.Numbers.{block_asked, block_below, block_fresh, block_thread}
+use Rattle.qrules.proofs.Traces.Past.CurrentPriority.{among_now}
+use Rattle.qrules.proofs.Traces.Past.Items.{found_earlier, found_there}
+use Rattle.qmodel.specs.OpenCalls.{thread_of}
+use Rattle.qrules.specs.Private.Facts.{is_for_answer}
+use Rattle.qmodel.specs.OpenCalls.{number_of}
+use Rattle.qmodel.specs.Trace.{SentItem}
+use Rattle.qrules.specs.Private.Facts.{with_buffer}
+use Rattle.qrules.specs.Private.Past.{with_writes}
+use Rattle.qrules.specs.Past.{channel_of}
+use Rattle.qrules.specs.Private.Facts.{held_call}
+use Rattle.qrules.specs.Past.{item_among}
+use Rattle.qbase.proofs.Lists.{none_of}
+use Rattle.qrules.specs.Private.Past.{item_of}
+use Rattle.qrules.proofs.Traces.Past.CurrentPriority.{now}
+
+-- ---- open calls
+
+pub held_number : (receipt : Receipt) (o : OpenCall) → number_of (held_call receipt o) ≡ number_of o
+held_number receipt (Send s) = refl
+held_number receipt (Receive r) = refl
+
+-- a receipt changes no number
+pub receipt_number : (priority : ℕ) (unblocked : Bool) (r : Option ℕ) (b : OpenCall) → number_of (with_receipt priority unblocked r b) ≡ number_of b
+receipt_number priority unblocked None b = refl
+receipt_number priority unblocked (Some copied) b = held_number _ b
+
+pub buffer_number : (f : List ℕ → List ℕ) (o : OpenCall) → number_of (with_buffer f o) ≡ number_of o
+buffer_number f (Send s) = refl
+buffer_number f (Receive r) = refl
+
+pub held_thread : (receipt : Receipt) (o : OpenCall) → thread_of (held_call receipt o) ≡ thread_of o
+held_thread receipt (Send s) = refl
+held_thread receipt (Receive r) = refl
+
+pub buffer_thread : (f : List ℕ → List ℕ) (o : OpenCall) → thread_of (with_buffer f o) ≡ thread_of o
+buffer_thread f (Send s) = refl
+buffer_thread f (Receive r) = refl
+
+pub held_for_answer : (receipt : Receipt) (o : OpenCall) → is_for_answer (held_call receipt o) ≡ is_for_answer o
+held_for_answer receipt (Send s) = refl
+held_for_answer receipt (Receive r) = refl
+
+-- a receipt doesn't change what is waited for
+pub receipt_for_answer : (priority : ℕ) (unblocked : Bool) (r : Option ℕ) (b : OpenCall) → is_for_answer (with_receipt priority unblocked r b) ≡ is_for_answer b
+receipt_for_answer priority unblocked None b = refl
+receipt_for_answer priority unblocked (Some copied) b = held_for_answer _ b
+
+-- what is written changes no more than the reply buffer
+pub buffer_answer : (f : List ℕ → List ℕ) (o : OpenCall) → is_for_answer (with_buffer f o) ≡ is_for_answer o
+buffer_answer f (Send s) = refl
+buffer_answer f (Receive r) = refl
+
+pub buffer_settled : (f : List ℕ → List ℕ) (o : OpenCall) → is_settled (with_buffer f o) ≡ is_settled o
+buffer_settled f (Send s) = refl
+buffer_settled f (Receive r) = refl
+
+pub filled_answer : (past : Trace) (b : OpenCall) → is_for_answer (filled past b) ≡ is_for_answer b
+filled_answer past b = buffer_answer _ b
+
+pub filled_settled : (past : Trace) (b : OpenCall) → is_settled (filled past b) ≡ is_settled b
+filled_settled past b = buffer_settled _ b
+
+-- an unblock pulse was made for message i
+abbrev pub is_unblocked : List Member → Trace → ℕ → Bool
+is_unblocked roster past i = unblocked_among (items_by_now past (items roster past)) i
+
+-- an open call as it is by now: its reply buffer with what was written over it, and its receipt
+abbrev pub kept : List Member → Trace → OpenCall → OpenCall
+kept roster past b = with_receipt (priority_of_item roster past (number_of b)) (is_unblocked roster past (number_of b)) (copied_count_of past (number_of b)) (filled past b)
+
+pub kept_number : (roster : List Member) (past : Trace) (b : OpenCall) → number_of (kept roster past b) ≡ number_of b
+kept_number roster past b = receipt_number _ _ _ (filled past b) ∙ buffer_number _ b
+
+pub kept_thread : (roster : List Member) (past : Trace) (b : OpenCall) → thread_of (kept roster past b) ≡ thread_of b
+kept_thread roster past b = elim (copied_count_of past (number_of b)) as (λ r. thread_of (with_receipt (priority_of_item roster past (number_of b)) (is_unblocked roster past (number_of b)) r (filled past b)) ≡ thread_of b) [
+  | None ↦ buffer_thread _ b
+  | Some copied ↦ held_thread _ (filled past b) ∙ buffer_thread _ b
+]
+
+-- ---- the open call, by the newest blocking call
+
+-- a call without a receipt, as it is by now
+now_kept : (roster : List Member) (past : Trace) (b : OpenCall) → is_settled b ≡ not (is_for_answer b) → call_by_now past (items_by_now past (items roster past)) b ≡ kept roster past b
+now_kept roster past (Receive r) fresh = elim (copied_count_of past r.number) as (λ c. Receive r ≡ with_receipt (priority_of_item roster past r.number) (is_unblocked roster past r.number) c (Receive r)) [ None ↦ refl | Some copied ↦ refl ]
+now_kept roster past (Send s) fresh =
+    elim (copied_count_of past s.number) as (λ c. Send (record s { reply_buffer = with_writes past s.number s.reply_buffer; receipt = option_map (λ n. record { priority = priority_of_item roster past s.number; copied = n; unblocked = is_unblocked roster past s.number }) c })
+    ≡ with_receipt (priority_of_item roster past s.number) (is_unblocked roster past s.number) c (Send (record s { reply_buffer = with_writes past s.number s.reply_buffer }))) [
+      | None ↦ ap (λ (r : Option Receipt). Send (record s { reply_buffer = with_writes past s.number s.reply_buffer; receipt = r })) (sym (none_of s.receipt fresh))
+      | Some copied ↦ refl
+    ]
+
+-- items as they are by now are on the channels on which they were made
+channel_by_now : (past : Trace) (made : List SentItem) (n : ℕ) → channel_of (item_among (items_by_now past made) n) ≡ channel_of (item_among made n)
+channel_by_now past made n = ap channel_of (among_now past made n) ∙ (elim (item_among made n) as (λ o. channel_of (option_map (λ (m : SentItem). record { item = now past m.item; channel = m.channel }) o) ≡ channel_of o) [ None ↦ refl | Some m ↦ refl ])
+
+-- the search in the past finds it by the channels of the items
+newest_is : (roster : List Member) (made : List SentItem) (past : Trace) (u : ℕ) → ((n : ℕ) → n ≤ length past → channel_of (item_among made n) ≡ channel_of (item_among (items roster past) n)) → newest_block made past u ≡ block roster past u
+newest_is roster made [] u same = refl
+newest_is roster made (e ∷ past) u same =
+    let n = length past + 1 in
+    let here : channel_of (item_among made n) ≡ channel_of (item_of roster e past) = same n (omega arith) ∙ ap channel_of (found_there roster e past) in
+    rw (here, newest_is roster made past u (λ k l. same k (omega arith) ∙ ap channel_of (found_earlier roster e past k l))) refl
+
+pub open_is : (roster : List Member) (past : Trace) (u : ℕ) → open_call roster past u ≡ option_map (kept roster past) (unless_ended past (block roster past u))
+open_is roster past u =
+    let made = items_by_now past (items roster past) in
+    ap (λ o. option_map (call_by_now past made) (unless_ended past o)) (newest_is roster made past u (λ n l. channel_by_now past (items roster past) n))
+    ∙ (elim (block roster past u) as (λ o. block roster past u ≡ o → option_map (call_by_now past made) (unless_ended past o) ≡ option_map (kept roster past) (unless_ended past o)) [
+      | None ↦ λ is. refl
+      | Some b ↦ λ is. elim (is_ended past (number_of b)) as (λ d. option_map (call_by_now past made) (cond d None (Some b)) ≡ option_map (kept roster past) (cond d None (Some b))) [
+        | true ↦ refl
+        | false ↦ ap Some (now_kept roster past b (block_fresh roster past u b is))
+      ]
+    ] refl)
+
+abbrev newest_of : List Member → Trace → ℕ → Option OpenCall
+newest_of roster past u = block roster past u
+
+-- an open call is the newest blocking call of its thread, and isn't ended
+pub record IsOpen (roster : List Member) (past : Trace) (u : ℕ) (o : OpenCall) : Type 0 where
+  pub block : OpenCall
+  pub is : newest_of roster past u ≡ Some block
+  pub going : is_ended past (number_of block) ≡ false
+  pub same : o ≡ kept roster past block
+  pub number : number_of o ≡ number_of block
+
+pub open_parts : (roster : List Member) (past : Trace) (u : ℕ) (o : OpenCall) → open_call roster past u ≡ Some o → IsOpen roster past u o
+open_parts roster past u o is =
+    elim (block roster past u) as (λ n. block roster past u ≡ n → option_map (kept roster past) (unless_ended past n) ≡ Some o → IsOpen roster past u o) [
+      | None ↦ λ e at. absurd (none-some o at)
+      | Some b ↦ λ e.
+          elim (is_ended past (number_of b)) as (λ d. is_ended past (number_of b) ≡ d → option_map (kept roster past) (cond d None (Some b)) ≡ Some o → IsOpen roster past u o) [
+            | true ↦ λ h at. absurd (none-some o at)
+            | false ↦ λ h at.
+                let same : o ≡ kept roster past b = sym (same_Some (kept roster past b) o at) in
+                record { block = b; is = e; going = h; same = same; number = ap number_of same ∙ kept_number roster past b }
+          ] refl
+    ] refl (sym (open_is roster past u) ∙ is)
+
+pub open_below : (roster : List Member) (past : Trace) (u : ℕ) (o : OpenCall) → open_call roster past u ≡ Some o → number_of o ≤ length past
+open_below roster past u o is = let k = open_parts roster past u o is in let below : number_of k.block ≤ length past = block_below roster past u k.block k.is in omega (arith, k.number)
+
+-- a newest blocking call that isn't ended is open
+pub open_from : (roster : List Member) (past : Trace) (u : ℕ) (b : OpenCall) → block roster past u ≡ Some b → is_ended past (number_of b) ≡ false → open_call roster past u ≡ Some (kept roster past b)
+open_from roster past u b is going = open_is roster past u ∙ rw (is, going) refl
+
+-- the open calls of two threads have two numbers
+pub open_thread : (roster : List Member) (past : Trace) (u v : ℕ) (o p : OpenCall) → open_call roster past u ≡ Some o → open_call roster past v ≡ Some p → number_of o ≡ number_of p → u ≡ v
+open_thread roster past u v o p x y same =
+    let k = open_parts roster past u o x in
+    let j = open_parts roster past v p y in
+    block_thread roster past u v k.block j.block k.is j.is (sym k.number ∙ same ∙ j.number)
+
+-- and each is its thread's own
+pub open_own : (roster : List Member) (past : Trace) (u : ℕ) (o : OpenCall) → open_call roster past u ≡ Some o → thread_of o ≡ u
+open_own roster past u o is =
+    let k = open_parts roster past u o is in
+    let a = block_asked roster past u k.block k.is in
+    ap thread_of k.same ∙ kept_thread roster past k.block ∙ ((call_laws a.call).asks_one (number_of k.block) u a.channel k.block a.asks_it).thread
