@@ -1,7 +1,6 @@
 -- The six properties, and those in the words of the proofs.
 pub mod Items
 pub mod Calls
-pub mod ReceivedOnce
 pub mod AnsweredToSender
 pub mod CopiedExactly
 pub mod BestFirst

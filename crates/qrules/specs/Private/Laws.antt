@@ -26,7 +26,7 @@ use Rattle.qrules.specs.Private.Effects.{asks, receives_on}
 use Rattle.qrules.specs.Private.Facts.{Facts, is_for_receipt, sender}
 use Rattle.qrules.specs.Private.Headline.AnsweredToSender.{is_held}
 use Rattle.qrules.specs.Private.Headline.CopiedExactly.{call_at}
-use Rattle.qrules.specs.Private.Headline.ReceivedOnce.{number_received}
+use Rattle.qrules.specs.Properties.{number_received}
 use Rattle.qrules.specs.Private.Headline.SentOrder.{connection_of}
 use Rattle.qrules.specs.Private.Headline.ShutForGood.{NoneReceivedFrom}
 use Rattle.qrules.specs.Private.Lawful.{IsLawful, facts_of}

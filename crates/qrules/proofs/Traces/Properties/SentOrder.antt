@@ -14,7 +14,7 @@ use Rattle.qtables.specs.Members.{IsRoster}
 use Rattle.qtables.specs.declared.member.Member.{Member}
 use Rattle.qrules.specs.Private.Effects.{receives_on}
 use Rattle.qrules.specs.Private.Headline.BestFirst.{BestFirst, TakesBest, takeable}
-use Rattle.qrules.specs.Private.Headline.ReceivedOnce.{number_received}
+use Rattle.qrules.specs.Properties.{number_received}
 use Rattle.qrules.specs.Private.Headline.SentOrder.{IsEarliest, SentOrder, TakesSent, connection_of}
 use Rattle.qrules.specs.Private.Lawful.{IsLawful}
 use Rattle.qrules.specs.Private.Past.{priority_before}

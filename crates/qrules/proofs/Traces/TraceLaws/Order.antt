@@ -16,7 +16,7 @@ use Rattle.qqueue.proofs.OrderLaws.{best-at, best_is_first}
 use Rattle.qtables.specs.declared.member.Member.{Member}
 use Rattle.qrules.specs.Private.Effects.{receives_on}
 use Rattle.qrules.specs.Private.Headline.BestFirst.{TakesBest, takeable}
-use Rattle.qrules.specs.Private.Headline.ReceivedOnce.{number_received}
+use Rattle.qrules.specs.Properties.{number_received}
 use Rattle.qrules.specs.Private.Laws.{FirstGoesFirst, HasPriority, TakesBeside}
 use Rattle.qrules.specs.Private.Past.{is_destroyed, is_gone, item_of, made_on, pending_items, priority_before}
 use Rattle.qmodel.specs.Trace.{SentItem}

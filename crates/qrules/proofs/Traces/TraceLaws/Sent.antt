@@ -1,15 +1,16 @@
 -- What is received was sent, to the channel on which it is received.
-use Rattle.std.proofs.Common.{◌≡◌, ℕ, ◌+◌, List, [], ◌∷◌, length, refl, sym, subst, cond, Bool, true, false, eqb}
-use Rattle.std.specs.Prelude.{None, Some, ◌&&◌}
+use Rattle.std.proofs.Common.{◌≡◌, ℕ, ◌+◌, List, [], ◌∷◌, ◌++◌, length, refl, sym, subst, cond, Bool, true, false, eqb}
+use Rattle.std.specs.Prelude.{None, Some, ◌&&◌, ◌||◌}
 use Rattle.std.specs.List.{list_any}
 use Rattle.std.specs.Option.{option_map, option_to_list}
-use Rattle.std.proofs.lemmas.Bool.{eq-eqb, and_from}
+use Rattle.std.proofs.lemmas.Bool.{eq-eqb, and_from, true≢false}
 use Rattle.std.proofs.lemmas.Option.{none-some, same_Some}
+use Rattle.std.proofs.Math.Bool.{or-true}
 use Rattle.qqueue.specs.Best.{best_of}
 use Rattle.qqueue.proofs.OrderLaws.{best-at}
 use Rattle.qtables.specs.declared.member.Member.{Member}
 use Rattle.qrules.specs.Private.Headline.BestFirst.{TakesBest, takeable}
-use Rattle.qrules.specs.Private.Headline.ReceivedOnce.{number_received}
+use Rattle.qrules.specs.Properties.{number_received}
 use Rattle.qrules.specs.Private.Headline.SentOrder.{connection_of}
 use Rattle.qrules.specs.Private.Laws.{LeadsTo, ReceivedWasSent, WasSent}
 use Rattle.qrules.specs.Private.Past.{item_of, items}
@@ -20,7 +21,6 @@ use Rattle.qrules.proofs.Traces.Past.Items.{item_at, item_made}
 use Rattle.qbase.proofs.Lists.{all_more}
 use Rattle.qrules.proofs.Traces.Properties.BestFirst.{best_first}
 use Rattle.qrules.proofs.Traces.Properties.Connections.{IsMadeFor, item_over, takeable_made}
-use Rattle.qrules.proofs.Traces.Properties.ReceivedOnce.{any_first, any_last}
 
 -- ---- an item that was sent over a connection
 
@@ -28,6 +28,15 @@ sent_to : (roster : List Member) (past : Trace) (i : ℕ) (m : SentItem) → ite
 sent_to roster past i m is k over = let w = item_over roster past i k m is over in record { connection = w.over; is = w.is; channel = sym w.channel }
 
 -- ---- it is among the items
+
+any_first : (p : SentItem → Bool) (xs ys : List SentItem) → list_any p xs ≡ true → list_any p (xs ++ ys) ≡ true
+any_first p [] ys e = absurd (true≢false (sym e))
+any_first p (x ∷ xs) ys e =
+    elim (p x) as (λ b. (b || list_any p xs) ≡ true → (b || list_any p (xs ++ ys)) ≡ true) [ true ↦ λ h. refl | false ↦ λ h. any_first p xs ys h ] e
+
+any_last : (p : SentItem → Bool) (xs : List SentItem) (y : SentItem) → p y ≡ true → list_any p (xs ++ y ∷ []) ≡ true
+any_last p [] y e = rw e refl
+any_last p (x ∷ xs) y e = rw (any_last p xs y e) (or-true (p x))
 
 among_items : (p : SentItem → Bool) (roster : List Member) (past : Trace) (i : ℕ) (m : SentItem) → item_at roster past i ≡ Some m → p m ≡ true → list_any p (items roster past) ≡ true
 among_items p roster [] i m is passes = absurd (none-some m is)

@@ -7,7 +7,7 @@ use Rattle.qmodel.specs.declared.call.Call.TheVariants.{Receive}
 use Rattle.qmodel.specs.declared.call.Completion.{Completion}
 use Rattle.qmodel.specs.Trace.{CallNo, ChannelId, ConnectionId}
 use Rattle.qrules.specs.Private.Headline.CopiedExactly.{call_at}
-use Rattle.qrules.specs.Private.Headline.ReceivedOnce.{number_received}
+use Rattle.qrules.specs.Properties.{number_received}
 use Rattle.qmodel.specs.Trace.{Trace}
 pub use Rattle.qrules.specs.Properties.{connection_of, IsEarliest}
 

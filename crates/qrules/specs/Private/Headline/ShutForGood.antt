@@ -7,7 +7,7 @@ use Rattle.qmodel.specs.declared.open_call.OpenCall.{OpenCall}
 use Rattle.qmodel.specs.Trace.{CallNo, ChannelId, ThreadNo}
 use Rattle.qrules.specs.Private.Cancelling.{is_on}
 use Rattle.qrules.specs.Private.Headline.AnsweredToSender.{channel_among}
-use Rattle.qrules.specs.Private.Headline.ReceivedOnce.{number_received}
+use Rattle.qrules.specs.Properties.{number_received}
 use Rattle.qrules.specs.Private.Past.{attached_connection, is_destroyed, items, open_call}
 use Rattle.qmodel.specs.Trace.{Trace}
 
