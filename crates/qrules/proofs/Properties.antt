@@ -3,7 +3,5 @@ pub mod Items
 pub mod Calls
 pub mod AnsweredToSender
 pub mod CopiedExactly
-pub mod BestFirst
-pub mod SentOrder
 pub mod ShutForGood
 pub mod All

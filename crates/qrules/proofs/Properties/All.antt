@@ -6,9 +6,7 @@ use Rattle.qmodel.specs.Trace.{Trace}
 use Rattle.qrules.specs.Properties.{HasProperties}
 use Rattle.qrules.proofs.Same.{AreOfRoster}
 use Rattle.qrules.proofs.Properties.AnsweredToSender.{same_answered_to_sender}
-use Rattle.qrules.proofs.Properties.BestFirst.{same_best_first}
 use Rattle.qrules.proofs.Properties.CopiedExactly.{same_copied_exactly}
-use Rattle.qrules.proofs.Properties.SentOrder.{same_sent_order}
 use Rattle.qrules.proofs.Properties.ShutForGood.{same_shut_for_good}
 
 pub same_properties : (roster : List Member) (past : Trace) → AreOfRoster roster past → HasProperties roster past ↔ old.HasProperties roster past
@@ -17,16 +15,16 @@ same_properties roster past l = (
     received_once = h.received_once;
     answered_to_sender = (same_answered_to_sender roster past l).0 h.answered_to_sender;
     copied_exactly = (same_copied_exactly past).0 h.copied_exactly;
-    best_first = (same_best_first roster past l).0 h.best_first;
-    sent_order = (same_sent_order roster past l).0 h.sent_order;
+    best_first = h.best_first;
+    sent_order = h.sent_order;
     shut_for_good = (same_shut_for_good roster past l).0 h.shut_for_good;
   },
   λ h. record {
     received_once = h.received_once;
     answered_to_sender = (same_answered_to_sender roster past l).1 h.answered_to_sender;
     copied_exactly = (same_copied_exactly past).1 h.copied_exactly;
-    best_first = (same_best_first roster past l).1 h.best_first;
-    sent_order = (same_sent_order roster past l).1 h.sent_order;
+    best_first = h.best_first;
+    sent_order = h.sent_order;
     shut_for_good = (same_shut_for_good roster past l).1 h.shut_for_good;
   },
 )

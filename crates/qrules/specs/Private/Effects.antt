@@ -1,7 +1,6 @@
 -- What each call does, by its rule; and the items that it makes.
 use Rattle.std.specs.Prelude.{ℕ, ℤ, Bool, List, [], Option, None, Some}
 use Rattle.std.specs.Option.{option_and_then, option_map, option_map_or, option_or}
-use Rattle.qqueue.specs.declared.item.Kind.{Kind}
 use Rattle.qtables.specs.declared.connection.Connection.{Connection}
 use Rattle.qtables.specs.declared.member.Member.{Member}
 use Rattle.qmodel.specs.declared.call.Call.{Call}
@@ -62,10 +61,6 @@ thread_of_send t c = option_map (λ s. t) (effect_of c).sends
 -- the bytes of a message that is sent
 abbrev pub message_sent : Call → List ℕ
 message_sent c = option_map_or (λ s. s.message) (effect_of c).sends []
-
--- the channel that a call receives on, and the kind of items that it may take
-abbrev pub receives_on : Call → Option (ChannelId × Kind)
-receives_on c = option_map (λ r. (r.channel, r.kind)) (effect_of c).receives
 
 -- ---- answers, and what is written
 

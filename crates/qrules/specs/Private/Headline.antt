@@ -1,6 +1,4 @@
 -- The properties of a lawful trace on which the kernel's users rely, one file for each.
 pub mod AnsweredToSender
 pub mod CopiedExactly
-pub mod BestFirst
-pub mod SentOrder
 pub mod ShutForGood

@@ -12,7 +12,6 @@ use Rattle.qqueue.specs.declared.item.Kind.{Kind}
 use Rattle.qtables.specs.Members.{IsRoster}
 use Rattle.qtables.specs.declared.connection.Connection.{Connection}
 use Rattle.qtables.specs.declared.member.Member.{Member}
-use Rattle.qmodel.specs.declared.call.Call.{Call}
 use Rattle.qmodel.specs.declared.call.Call.TheVariants.{PrioritySet}
 use Rattle.qmodel.specs.declared.call.Completion.{Completion}
 use Rattle.qmodel.specs.declared.call.Mark.TheVariants as mark
@@ -22,12 +21,11 @@ use Rattle.qmodel.specs.declared.open_call.Wait.{Wait}
 use Rattle.qmodel.specs.declared.open_call.Wait.TheVariants.{Answer, Item as ForItem}
 use Rattle.qmodel.specs.Trace.{CallNo, ChannelId, ConnectionId, Priority, ReceiveId, ThreadNo}
 use Rattle.qmodel.specs.Buffers.{buffer_of}
-use Rattle.qrules.specs.Private.Effects.{asks, receives_on}
+use Rattle.qrules.specs.Private.Effects.{asks}
 use Rattle.qrules.specs.Private.Facts.{Facts, is_for_receipt, sender}
 use Rattle.qrules.specs.Private.Headline.AnsweredToSender.{is_held}
-use Rattle.qrules.specs.Private.Headline.CopiedExactly.{call_at}
-use Rattle.qrules.specs.Properties.{number_received}
-use Rattle.qrules.specs.Private.Headline.SentOrder.{connection_of}
+use Rattle.qrules.specs.Properties.{connection_of, number_received, request_of}
+use Rattle.qrules.specs.Rule.{ReceiveRequest}
 use Rattle.qrules.specs.Private.Headline.ShutForGood.{NoneReceivedFrom}
 use Rattle.qrules.specs.Private.Lawful.{IsLawful, facts_of}
 use Rattle.qrules.specs.Private.Pulses.{pulses_among}
@@ -57,13 +55,10 @@ is_made_on roster past i h = list_any (λ m. (m.item.number == i) && (m.channel 
 -- item i, which the ending receives, was made by then, on the channel on which the ended call receives; if it
 -- was sent over a connection, that leads to this channel
 pub record WasSent (roster : List Member) (past : Trace) (x : Completion) (i : CallNo) : Type 0 where
-  pub call : Call
-  pub channel : ChannelId
-  pub kind : Kind
-  pub is_call : call_at past x.call ≡ Some call
-  pub receives : receives_on call ≡ Some (channel, kind)
-  pub made : is_made_on roster past i channel ≡ true
-  pub sent : (k : ConnectionId) → connection_of past i ≡ Some k → LeadsTo roster past k channel
+  pub request : ReceiveRequest
+  pub call : request_of past x.call ≡ Some request
+  pub made : is_made_on roster past i request.channel ≡ true
+  pub sent : (k : ConnectionId) → connection_of past i ≡ Some k → LeadsTo roster past k request.channel
 
 -- each item that the newest event of a lawful trace receives was made in this way, by an earlier event or by
 -- this one
@@ -188,11 +183,10 @@ PendingFollowsItsSender = (roster : List Member) (past : Trace) → IsRoster ros
 
 -- item i is received by a call that receives on channel h and may take item x
 pub record TakesBeside (past : Trace) (z : Completion) (i : CallNo) (h : ChannelId) (x : Item) : Type 0 where
-  pub call : Call
-  pub kind : Kind
-  pub is_call : call_at past z.call ≡ Some call
-  pub receives : receives_on call ≡ Some (h, kind)
-  pub may : may_take kind x ≡ true
+  pub request : ReceiveRequest
+  pub call : request_of past z.call ≡ Some request
+  pub channel : request.channel ≡ h
+  pub may : may_take request.kind x ≡ true
   pub item : number_received z ≡ Some i
 
 -- the priority in x is the present priority of the item of its number

@@ -7,10 +7,9 @@ use Rattle.std.proofs.lemmas.Option.{none-some, same_Some}
 use Rattle.qqueue.specs.declared.item.Item.{Item}
 use Rattle.qtables.specs.declared.connection.Connection.{Connection}
 use Rattle.qtables.specs.declared.member.Member.{Member}
-use Rattle.qrules.specs.Private.Headline.BestFirst.{takeable}
-use Rattle.qrules.specs.Private.Headline.CopiedExactly.{call_at}
+use Rattle.qrules.specs.Properties.{connection_of, takeable}
+use Rattle.qrules.specs.Trace.{call_at}
 use Rattle.qrules.specs.Private.Effects.{makes, sends_over}
-use Rattle.qrules.specs.Private.Headline.SentOrder.{connection_of}
 use Rattle.qrules.specs.Private.Past.{item_of, pending_items, priority_before, attached_connection, made_on}
 use Rattle.qrules.specs.Private.Rows.{message_item, pulse_item, item_sent_over}
 use Rattle.qmodel.specs.Trace.{SentItem}

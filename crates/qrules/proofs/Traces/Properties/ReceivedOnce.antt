@@ -93,8 +93,8 @@ each_call roster (e ∷ past) r l =
 -- ---- no item is received twice
 
 -- what the caller takes was pending
-pending_taken : (roster : List Member) (past : Trace) (t : ℕ) (c : Call) (u : ℕ) (y : Completion) (i : ℕ) (k : TakesPending (facts_of roster past) t c u y i) → IsPending roster past k.channel k.item
-pending_taken roster past t c u y i k = best_pending roster past k.channel k.kind k.item k.best
+pending_taken : (roster : List Member) (past : Trace) (t : ℕ) (c : Call) (u : ℕ) (y : Completion) (i : ℕ) (k : TakesPending (facts_of roster past) t c u y i) → IsPending roster past k.request.channel k.item
+pending_taken roster past t c u y i k = best_pending roster past k.request.channel k.request.kind k.item k.best
 
 -- the item that a call makes has its number
 made_number : (f : Facts) (t : ℕ) (c : Call) (u : ℕ) (y : Completion) (i : ℕ) → TakesMade f t c u y i → i ≡ f.number
@@ -179,7 +179,7 @@ early roster past e a =
     elim k as (λ _. Made i) [
       | inl k ↦
           let b = pending_taken roster past e.thread e.call u y i k in
-          let before : SentItem = record { item = b.first; channel = k.channel } in
+          let before : SentItem = record { item = b.first; channel = k.request.channel } in
           subst Made k.number
           (is_made_at roster (e ∷ past) k.item.number before
           (item_earlier roster e past k.item.number (item_below roster past k.item.number before b.made) ∙ b.made))

@@ -14,9 +14,10 @@ use Rattle.qrules.specs.Private.Cancelling.{is_on, is_to}
 use Rattle.qrules.specs.Private.Facts.{Facts, is_for_answer, owns}
 use Rattle.qrules.proofs.Traces.Parts.{leads_to}
 use Rattle.qrules.specs.Private.Headline.AnsweredToSender.{channel_among}
-use Rattle.qrules.specs.Private.Effects.{asks, attaches, closes, detaches, makes, receives_on, unblocks, writes}
+use Rattle.qrules.specs.Private.Effects.{asks, attaches, closes, detaches, makes, unblocks, writes}
 use Rattle.qrules.specs.Private.Headline.ShutForGood.{NoneBlockedOn, NoneReceivedFrom, ShutForGood}
 use Rattle.qrules.specs.Private.Lawful.{facts_of, IsLawful}
+use Rattle.qrules.specs.Rules.{effect_of}
 use Rattle.qrules.specs.Private.Past.{attached_connection, connection_at, wait_with_receipt, is_destroyed, items, open_call}
 use Rattle.qrules.specs.Private.Rows.{names, with_buffer}
 use Rattle.qrules.specs.Private.Step.{after_receipt, after_write, channel_after, connection_after, open_call_after, put_at, unless, after_unblock, unblocked_wait}
@@ -48,7 +49,7 @@ use Rattle.qrules.proofs.Traces.Past.LiveSends.{over_attached, stays_open}
 -- a call that destroys a channel does nothing else of its own
 record DestroysAlone (c : Call) : Type 0 where
   asks_none : (n : ℕ) → asks n c ≡ None
-  receives_none : receives_on c ≡ None
+  receives_none : (effect_of c).receives ≡ None
   makes_none : (f : Facts) (t : ℕ) → makes f t c ≡ None
 
 destroys_alone : (c : Call) (h : ℕ) → names (closes c) h ≡ true → DestroysAlone c
@@ -185,14 +186,14 @@ taken_is_open roster e past u i h y a k is closed =
     let f = facts_of roster past in
     elim k [
       | inl p ↦
-          let b = best_pending roster past p.channel p.kind p.item p.best in
-          let made = subst (λ j. item_at roster past j ≡ Some (record { item = b.first; channel = p.channel })) p.number b.made in
-          let at : p.channel ≡ h = same_Some p.channel h (sym (item_channel roster (e ∷ past) i _ (item_earlier roster e past i (item_below roster past i _ made) ∙ made)) ∙ is) in
+          let b = best_pending roster past p.request.channel p.request.kind p.item p.best in
+          let made = subst (λ j. item_at roster past j ≡ Some (record { item = b.first; channel = p.request.channel })) p.number b.made in
+          let at : p.request.channel ≡ h = same_Some p.request.channel h (sym (item_channel roster (e ∷ past) i _ (item_earlier roster e past i (item_below roster past i _ made) ∙ made)) ∙ is) in
           elim (or_cases (names (closes e.call) h) (is_destroyed past h) closed) [
-            | inl now ↦ none-some (p.channel, p.kind) (sym (destroys_alone e.call h now).receives_none ∙ p.receives)
+            | inl now ↦ none-some p.request (sym (destroys_alone e.call h now).receives_none ∙ p.receives)
             | inr before ↦
-                let none : f.pending p.channel ≡ [] = ap f.pending at ∙ rw before refl in
-                none-some p.item (sym (ap (best_of p.kind) none) ∙ p.best)
+                let none : f.pending p.request.channel ≡ [] = ap f.pending at ∙ rw before refl in
+                none-some p.item (sym (ap (best_of p.request.kind) none) ∙ p.best)
           ]
       | inr m ↦
           let now = made_now roster e past m.made a m.is_made in

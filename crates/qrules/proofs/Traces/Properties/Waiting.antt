@@ -2,6 +2,7 @@
 use Rattle.std.proofs.Common.{◌≡◌, ◌∙◌, ℕ, List, [], ◌∷◌, ◌++◌, refl, ap, sym, subst, cond, eqb, Bool, true, false, inl, inr}
 use Rattle.std.specs.Prelude.{Option, None, Some, is_some, not, filter}
 use Rattle.std.specs.List.{AllByRecursion}
+use Rattle.std.specs.Option.{option_map}
 use Rattle.std.proofs.lemmas.Bool.{eqb-true, eqb-false, not-true}
 use Rattle.std.proofs.lemmas.Option.{none-some, same_Some, some_pair_parts}
 use Rattle.qqueue.specs.Best.{best_of, may_take, with_priority, without_item}
@@ -16,8 +17,10 @@ use Rattle.qrules.specs.Private.Calls.Send.{item}
 use Rattle.qrules.specs.Private.Delivering.{receiver, receipt_when_sent}
 use Rattle.qrules.specs.Private.Receiving.{own_receipt}
 use Rattle.qrules.specs.Private.Facts.{Facts, sender, threads_of, route}
-use Rattle.qrules.specs.Private.Effects.{asks, closes, makes, receives_on, sets, unblocks, writes}
+use Rattle.qrules.specs.Private.Effects.{asks, closes, makes, sets, unblocks, writes}
 use Rattle.qrules.specs.Private.Lawful.{facts_of, IsLawful}
+use Rattle.qrules.specs.Rule.{ReceiveRequest}
+use Rattle.qrules.specs.Rules.{effect_of}
 use Rattle.qrules.specs.Private.Past.{wait_with_receipt, made_on}
 use Rattle.qrules.specs.Private.Receivers.{newest_receiver}
 use Rattle.qrules.specs.Private.Rows.{Received, names, item_sent_over, takes, receipt_ending, with_buffer}
@@ -60,8 +63,12 @@ pub buffer_waits_for : (f : List ℕ → List ℕ) (w : Wait) → waits_for (wit
 buffer_waits_for f (Answer coid message reply_buffer receipt) = refl
 buffer_waits_for f (ForItem chid kind buffer) = refl
 
--- a call waits for what it receives on
-pub waits_for_asked : (n : ℕ) (c : Call) (b : OpenCall) → asks n c ≡ Some b → receives_on c ≡ waits_for b.wait
+-- where a request receives, and what
+abbrev pub place_of : ReceiveRequest → ℕ × Kind
+place_of r = (r.channel, r.kind)
+
+-- a call waits for what it asks to receive
+pub waits_for_asked : (n : ℕ) (c : Call) (b : OpenCall) → asks n c ≡ Some b → option_map place_of (effect_of c).receives ≡ waits_for b.wait
 waits_for_asked n (Send coid message reply_buffer) b e = ap (λ o. waits_for o.wait) (same_Some _ b e)
 waits_for_asked n (Receive chid buffer) b e = ap (λ o. waits_for o.wait) (same_Some _ b e)
 waits_for_asked n (ReceivePulse chid) b e = ap (λ o. waits_for o.wait) (same_Some _ b e)

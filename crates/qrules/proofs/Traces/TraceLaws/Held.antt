@@ -10,8 +10,7 @@ use Rattle.qtables.specs.declared.member.Member.{Member}
 use Rattle.qrules.specs.Private.Calls.{row_of}
 use Rattle.qrules.specs.Private.Facts.{is_for_answer, is_send, sender, threads_of}
 use Rattle.qrules.specs.Private.Headline.AnsweredToSender.{is_held}
-use Rattle.qrules.specs.Private.Headline.BestFirst.{TakesBest}
-use Rattle.qrules.specs.Properties.{number_received}
+use Rattle.qrules.specs.Properties.{number_received, TakesBest}
 use Rattle.qrules.specs.Private.Laws.{HeldIsHeldSend, IsHeldSend, blocker, is_for_reply}
 use Rattle.qrules.specs.Private.Lawful.{IsLawful, facts_of}
 use Rattle.qrules.specs.Private.Past.{copied_count_in, has_ending_of, call_by_now, wait_with_receipt, is_ended, is_received, item_of, accepted_at, open_call, priority_of_item, copied_count_among, copied_count_of, with_receipt}
@@ -61,7 +60,7 @@ taken_made roster (e ∷ past) i r l taken =
       | None ↦ λ none s. let k = taken_made roster past i r l.0 s in (k.0, item_earlier roster e past i (item_below roster past i k.0 k.1) ∙ k.1)
       | Some copied ↦ λ some s.
           of_received (λ j. (m : SentItem) × (item_at roster (e ∷ past) j ≡ Some m)) e.endings i copied
-          (all_of e.endings (best_first roster (e ∷ past) r l).0) some
+          (all_of e.endings (best_first roster (e ∷ past) r l).1) some
     ] refl taken
   where
     all_of : (X : List Completion) → AllByRecursion (λ x. (j : ℕ) → number_received x ≡ Some j → TakesBest roster past e x j) X
