@@ -1,7 +1,5 @@
 -- The six properties, and those in the words of the proofs.
 pub mod Items
-pub mod Calls
 pub mod AnsweredToSender
-pub mod CopiedExactly
 pub mod ShutForGood
 pub mod All

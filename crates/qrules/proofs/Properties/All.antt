@@ -6,7 +6,6 @@ use Rattle.qmodel.specs.Trace.{Trace}
 use Rattle.qrules.specs.Properties.{HasProperties}
 use Rattle.qrules.proofs.Same.{AreOfRoster}
 use Rattle.qrules.proofs.Properties.AnsweredToSender.{same_answered_to_sender}
-use Rattle.qrules.proofs.Properties.CopiedExactly.{same_copied_exactly}
 use Rattle.qrules.proofs.Properties.ShutForGood.{same_shut_for_good}
 
 pub same_properties : (roster : List Member) (past : Trace) → AreOfRoster roster past → HasProperties roster past ↔ old.HasProperties roster past
@@ -14,7 +13,7 @@ same_properties roster past l = (
   λ h. record {
     received_once = h.received_once;
     answered_to_sender = (same_answered_to_sender roster past l).0 h.answered_to_sender;
-    copied_exactly = (same_copied_exactly past).0 h.copied_exactly;
+    copied_exactly = h.copied_exactly;
     best_first = h.best_first;
     sent_order = h.sent_order;
     shut_for_good = (same_shut_for_good roster past l).0 h.shut_for_good;
@@ -22,7 +21,7 @@ same_properties roster past l = (
   λ h. record {
     received_once = h.received_once;
     answered_to_sender = (same_answered_to_sender roster past l).1 h.answered_to_sender;
-    copied_exactly = (same_copied_exactly past).1 h.copied_exactly;
+    copied_exactly = h.copied_exactly;
     best_first = h.best_first;
     sent_order = h.sent_order;
     shut_for_good = (same_shut_for_good roster past l).1 h.shut_for_good;

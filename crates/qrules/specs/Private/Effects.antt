@@ -1,5 +1,5 @@
 -- What each call does, by its rule; and the items that it makes.
-use Rattle.std.specs.Prelude.{ℕ, ℤ, Bool, List, [], Option, None, Some}
+use Rattle.std.specs.Prelude.{ℕ, Bool, List, [], Option, None, Some}
 use Rattle.std.specs.Option.{option_and_then, option_map, option_map_or, option_or}
 use Rattle.qtables.specs.declared.connection.Connection.{Connection}
 use Rattle.qtables.specs.declared.member.Member.{Member}
@@ -67,10 +67,6 @@ message_sent c = option_map_or (λ s. s.message) (effect_of c).sends []
 -- the message that a call answers
 abbrev pub answered_by : Call → Option ReceiveId
 answered_by c = (effect_of c).answers
-
--- the status and the bytes that a call answers with
-abbrev pub replies_with : Call → Option (ℤ × List ℕ)
-replies_with c = (effect_of c).replies
 
 -- what a call writes
 abbrev pub writes : Call → Option Transfer

@@ -1,4 +1,3 @@
 -- The properties of a lawful trace on which the kernel's users rely, one file for each.
 pub mod AnsweredToSender
-pub mod CopiedExactly
 pub mod ShutForGood

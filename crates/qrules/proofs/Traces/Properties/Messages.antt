@@ -1,6 +1,6 @@
 -- The messages and buffers of open calls are those that their calls brought, and a message that is pending has its Send open.
 use Rattle.std.proofs.Common.{◌≡◌, ◌∙◌, ℕ, ◌+◌, List, [], ◌∷◌, length, refl, ap, sym, subst, cond, eqb, true, false}
-use Rattle.std.specs.Prelude.{None, Some, not, ◌&&◌}
+use Rattle.std.specs.Prelude.{None, Some, is_some, not, ◌&&◌}
 use Rattle.std.specs.Option.{option_and_then, option_map_or}
 use Rattle.std.proofs.lemmas.Bool.{eqb-true, or_parts, and_parts, true≢false}
 use Rattle.std.proofs.lemmas.Option.{none-some, same_Some}
@@ -10,7 +10,9 @@ use Rattle.qtables.specs.declared.member.Member.{Member}
 use Rattle.qrules.specs.Private.Cancelling.{buffer_of_wait}
 use Rattle.qrules.specs.Private.Facts.{is_for_answer, message, message_in, message_of, sender, threads_of, is_send}
 use Rattle.qrules.specs.Private.Effects.{message_sent as message_in_call}
-use Rattle.qrules.specs.Private.Headline.CopiedExactly.{buffer_at, buffer_by, message_at}
+use Rattle.qrules.specs.Properties.{buffer_at, message_at}
+use Rattle.qrules.specs.Rule.{buffer_of}
+use Rattle.qrules.specs.Rules.{effect_of}
 use Rattle.qrules.specs.Private.Lawful.{facts_of, IsLawful}
 use Rattle.qrules.specs.Private.Past.{has_ending_of, call_by_now, wait_with_receipt, is_ended, item_of, newest_block, open_call, priority_of_item, copied_count_of, with_receipt, with_writes}
 use Rattle.qrules.specs.Private.Facts.{Facts}
@@ -39,6 +41,10 @@ use Rattle.qrules.proofs.Traces.Rosters.{known}
 use Rattle.qrules.proofs.Traces.Due.{unblock_same}
 
 -- ---- what a call brings is what it waits with
+
+-- the buffer of call i, where it is this call
+abbrev pub buffer_by : Trace → ℕ → Call → List ℕ
+buffer_by past i c = cond (is_some (effect_of c).sends) (with_writes past i (buffer_of (effect_of c))) (buffer_of (effect_of c))
 
 -- a call that begins to wait keeps its buffer, which is written over, and its message
 pub record Keeps (past : Trace) (n : ℕ) (c : Call) (b : OpenCall) : Type 0 where
