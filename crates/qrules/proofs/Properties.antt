@@ -1,5 +1,3 @@
 -- The six properties, and those in the words of the proofs.
-pub mod Items
-pub mod AnsweredToSender
 pub mod ShutForGood
 pub mod All

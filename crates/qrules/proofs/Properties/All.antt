@@ -5,14 +5,13 @@ use Rattle.qrules.specs.Private.Properties as old
 use Rattle.qmodel.specs.Trace.{Trace}
 use Rattle.qrules.specs.Properties.{HasProperties}
 use Rattle.qrules.proofs.Same.{AreOfRoster}
-use Rattle.qrules.proofs.Properties.AnsweredToSender.{same_answered_to_sender}
 use Rattle.qrules.proofs.Properties.ShutForGood.{same_shut_for_good}
 
 pub same_properties : (roster : List Member) (past : Trace) → AreOfRoster roster past → HasProperties roster past ↔ old.HasProperties roster past
 same_properties roster past l = (
   λ h. record {
     received_once = h.received_once;
-    answered_to_sender = (same_answered_to_sender roster past l).0 h.answered_to_sender;
+    answered_to_sender = h.answered_to_sender;
     copied_exactly = h.copied_exactly;
     best_first = h.best_first;
     sent_order = h.sent_order;
@@ -20,7 +19,7 @@ same_properties roster past l = (
   },
   λ h. record {
     received_once = h.received_once;
-    answered_to_sender = (same_answered_to_sender roster past l).1 h.answered_to_sender;
+    answered_to_sender = h.answered_to_sender;
     copied_exactly = h.copied_exactly;
     best_first = h.best_first;
     sent_order = h.sent_order;

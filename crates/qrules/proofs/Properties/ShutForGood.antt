@@ -5,12 +5,11 @@ use Rattle.std.specs.List.{cons_option, filter_map, AllByRecursion}
 use Rattle.std.specs.Option.{option_map_or}
 use Rattle.std.proofs.lemmas.Bool.{eqb-true, eq-eqb, false_from_ne_true, true≢false}
 use Rattle.std.proofs.lemmas.Option.{none-some, same_Some}
-use Rattle.qbase.proofs.Lists.{all_filter_map, all_more, is_among}
+use Rattle.qbase.proofs.Lists.{all_filter_map, is_among}
 use Rattle.qtables.specs.declared.connection.Connection.{Connection}
 use Rattle.qtables.specs.declared.member.Member.{Member}
 use Rattle.qrules.specs.Private.Cancelling.{is_on}
 use Rattle.qrules.specs.Private.Facts.{threads_of, Facts as OldFacts}
-use Rattle.qrules.specs.Private.Headline.AnsweredToSender.{channel_among as old_channel_among}
 use Rattle.qrules.specs.Private.Headline.ShutForGood as old
 use Rattle.qrules.specs.Private.Lawful as old_lawful
 use Rattle.qrules.specs.Private.Past as past_of
@@ -24,7 +23,6 @@ use Rattle.qrules.specs.Lawful.{facts_of}
 use Rattle.qrules.specs.Past.{attached_connection, item_among}
 use Rattle.qrules.specs.Properties.{items, number_received, IsShut, ShutForGood}
 use Rattle.qrules.proofs.Past.Facts.{facts_known}
-use Rattle.qrules.proofs.Properties.Items.{same_channel_among}
 use Rattle.qrules.specs.Facts.{receive_in, send_in}
 use Rattle.qrules.specs.Private.Facts.{receive_view, send_view}
 use Rattle.qrules.proofs.Same.{AreOfRoster}
@@ -101,12 +99,9 @@ module _ (roster : List Member) (past : Trace) (h : ℕ) where
   abbrev from_elsewhere : Completion → Type 0
   from_elsewhere x = (i : ℕ) → number_received x ≡ Some i → option_map (λ m. m.channel) (item_among (items roster past) i) ≡ Some h → ⊥
 
-  same_channel_of : AreOfRoster roster past → (i : ℕ) → option_map (λ m. m.channel) (item_among (items roster past) i) ≡ old_channel_among (past_of.items roster past) i
-  same_channel_of l i = same_channel_among (past_of.items roster past) i
-
   shut_as_before : (endings : List Completion) → AreOfRoster roster past → IsShut roster past endings h → old.NoneReceivedFrom roster past h endings × old.NoneBlockedOn roster past h
   shut_as_before endings l shut = (
-    all_more from_elsewhere _ endings shut.none_received (λ x off i is from. off i is (same_channel_of l i ∙ from)),
+    shut.none_received,
     none_as_before l shut.no_send shut.no_receive,
   )
 
@@ -114,7 +109,7 @@ module _ (roster : List Member) (past : Trace) (h : ℕ) where
   shut_by_rules endings l shut =
       let f : OldFacts = old_lawful.facts_of roster past in
       record {
-        none_received = all_more _ from_elsewhere endings shut.0 (λ x off i is from. off i is (sym (same_channel_of l i) ∙ from));
+        none_received = shut.0;
         no_send = all_filter_map (send_elsewhere roster past h) (λ v. send_view v (f.open_call v)) (threads_of roster) (λ u s e. send_off shut.1 u s (f.open_call u) refl e);
         no_receive = all_filter_map (receive_elsewhere h) (λ v. receive_view v (f.open_call v)) (threads_of roster) (λ u r e. receive_off shut.1 u r (f.open_call u) refl e);
       }

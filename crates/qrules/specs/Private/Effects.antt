@@ -5,7 +5,7 @@ use Rattle.qtables.specs.declared.connection.Connection.{Connection}
 use Rattle.qtables.specs.declared.member.Member.{Member}
 use Rattle.qmodel.specs.declared.call.Call.{Call}
 use Rattle.qmodel.specs.declared.call.Call.TheVariants as calls
-use Rattle.qmodel.specs.Trace.{ChannelId, ConnectionId, OpenChannel, ReceiveId, SentItem, ThreadNo}
+use Rattle.qmodel.specs.Trace.{ChannelId, ConnectionId, OpenChannel, SentItem, ThreadNo}
 use Rattle.qrules.specs.Rule.{PriorityChange, Transfer}
 use Rattle.qrules.specs.Rules.{effect_of}
 use Rattle.qrules.specs.Private.Facts.{Facts}
@@ -63,10 +63,6 @@ abbrev pub message_sent : Call → List ℕ
 message_sent c = option_map_or (λ s. s.message) (effect_of c).sends []
 
 -- ---- answers, and what is written
-
--- the message that a call answers
-abbrev pub answered_by : Call → Option ReceiveId
-answered_by c = (effect_of c).answers
 
 -- what a call writes
 abbrev pub writes : Call → Option Transfer

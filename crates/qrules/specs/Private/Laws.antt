@@ -23,7 +23,6 @@ use Rattle.qmodel.specs.Trace.{CallNo, ChannelId, ConnectionId, Priority, Receiv
 use Rattle.qmodel.specs.Buffers.{buffer_of}
 use Rattle.qrules.specs.Private.Effects.{asks}
 use Rattle.qrules.specs.Private.Facts.{Facts, is_for_receipt, sender}
-use Rattle.qrules.specs.Private.Headline.AnsweredToSender.{is_held}
 use Rattle.qrules.specs.Properties.{connection_of, number_received, request_of}
 use Rattle.qrules.specs.Rule.{ReceiveRequest}
 use Rattle.qrules.specs.Private.Headline.ShutForGood.{NoneReceivedFrom}
@@ -32,7 +31,7 @@ use Rattle.qrules.specs.Private.Pulses.{pulses_among}
 use Rattle.qrules.specs.Private.Past.{accepted_at, attached_connection, channel_at, connection_at}
 use Rattle.qrules.specs.Private.Past.{is_accepted}
 use Rattle.qrules.specs.Private.Past.{is_destroyed}
-use Rattle.qrules.specs.Private.Past.{is_down, is_ended, is_gone, items, open_call, pending_items}
+use Rattle.qrules.specs.Private.Past.{is_down, is_ended, is_gone, is_received, items, open_call, pending_items}
 use Rattle.qrules.specs.Private.Past.{priority_of_item}
 use Rattle.qrules.specs.Private.Past.{priority_of_thread, sender_of}
 use Rattle.qrules.specs.Private.Receivers.{newest_receiver, wait_on}
@@ -147,7 +146,7 @@ PendingRises = (roster : List Member) (past : Trace) → IsRoster roster → IsL
 
 -- item i isn't a message that is received and not answered, neither by the past nor by the open calls
 pub record IsNotHeld (roster : List Member) (past : Trace) (i : CallNo) : Type 0 where
-  pub unread : is_held past i ≡ false
+  pub unread : (is_received past i && not (is_ended past i)) ≡ false
   pub unkept : (u : ThreadNo) (o : OpenCall) → open_call roster past u ≡ Some o → is_for_reply o.wait ≡ true
       → (o.number == i) ≡ false
 
@@ -250,7 +249,7 @@ pub record IsHeldSend (roster : List Member) (past : Trace) (i : ReceiveId) : Ty
 -- is held by the definition that the rows use
 abbrev pub HeldIsHeldSend : Type 0
 HeldIsHeldSend = (roster : List Member) (past : Trace) → IsRoster roster → IsLawful roster past
-    → (i : ReceiveId) → (is_held past i ≡ true) ↔ IsHeldSend roster past i
+    → (i : ReceiveId) → ((is_received past i && not (is_ended past i)) ≡ true) ↔ IsHeldSend roster past i
 
 -- ---- refusals
 

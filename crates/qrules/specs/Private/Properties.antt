@@ -2,8 +2,7 @@
 use Rattle.std.specs.Prelude.{List}
 use Rattle.qtables.specs.declared.member.Member.{Member}
 use Rattle.qmodel.specs.Trace.{Trace}
-use Rattle.qrules.specs.Properties.{BestFirst, CopiedExactly, ReceivedOnce, SentOrder}
-use Rattle.qrules.specs.Private.Headline.AnsweredToSender.{AnsweredToSender}
+use Rattle.qrules.specs.Properties.{AnsweredToSender, BestFirst, CopiedExactly, ReceivedOnce, SentOrder}
 use Rattle.qrules.specs.Private.Headline.ShutForGood.{ShutForGood}
 
 -- all of them

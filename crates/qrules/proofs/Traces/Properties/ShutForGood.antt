@@ -1,6 +1,7 @@
 -- Nothing is received from a channel that is destroyed, and no thread is blocked on it.
 use Rattle.std.proofs.Common.{◌≡◌, ◌∙◌, ℕ, ◌+◌, ◌≤◌, List, [], ◌∷◌, length, refl, ap, sym, subst, cond, arith, eqb, true, false, inl, inr}
 use Rattle.std.specs.Prelude.{Option, None, Some, is_some, ◌||◌}
+use Rattle.std.specs.Option.{option_map}
 use Rattle.std.proofs.lemmas.Bool.{eqb-true, ne_eqb, or_cases, true≢false}
 use Rattle.std.proofs.lemmas.Option.{none-some, same_Some}
 use Rattle.qbase.specs.declared.errno.Errno.TheVariants.{Srch}
@@ -13,7 +14,7 @@ use Rattle.qrules.specs.Private.Calls.{row_of}
 use Rattle.qrules.specs.Private.Cancelling.{is_on, is_to}
 use Rattle.qrules.specs.Private.Facts.{Facts, is_for_answer, owns}
 use Rattle.qrules.proofs.Traces.Parts.{leads_to}
-use Rattle.qrules.specs.Private.Headline.AnsweredToSender.{channel_among}
+use Rattle.qrules.specs.Past.{item_among}
 use Rattle.qrules.specs.Private.Effects.{asks, attaches, closes, detaches, makes, unblocks, writes}
 use Rattle.qrules.specs.Private.Headline.ShutForGood.{NoneBlockedOn, NoneReceivedFrom, ShutForGood}
 use Rattle.qrules.specs.Private.Lawful.{facts_of, IsLawful}
@@ -32,14 +33,14 @@ use Rattle.qmodel.specs.declared.open_call.Wait.TheVariants.{Answer, Item as For
 use Rattle.qrules.proofs.Traces.Past.Channels.{closed_accepted, open_at, owned_open}
 use Rattle.qrules.proofs.Traces.Past.Ends.{accepted, laws_of, passes_of}
 use Rattle.qrules.proofs.Traces.Past.Follows.{past_follows}
-use Rattle.qrules.proofs.Traces.Past.Items.{item_at, item_below, item_earlier, item_newest, made_by}
+use Rattle.qrules.proofs.Traces.Past.Items.{item_at, item_below, item_earlier, item_found, item_newest, made_by}
 use Rattle.qrules.proofs.Traces.Past.Laws.{Passes}
 use Rattle.qrules.proofs.Traces.Past.Numbers.{made_below, open_parts}
 use Rattle.qrules.proofs.Traces.Past.Receipts.{best_pending}
 use Rattle.qrules.proofs.Traces.Properties.Answers.{over}
 use Rattle.qrules.proofs.Traces.Properties.Events.{each_received, made_now}
 use Rattle.qrules.proofs.Traces.Properties.Receipts.{TakesOne}
-use Rattle.qrules.proofs.Traces.Properties.Sends.{item_channel, open_over}
+use Rattle.qrules.proofs.Traces.Properties.Sends.{open_over}
 use Rattle.qrules.proofs.Traces.Past.Before.{Lasts, before_other, before_receipt, unless_is}
 use Rattle.qrules.proofs.Traces.Routes.{has_way, leads_over}
 use Rattle.qrules.proofs.Traces.Past.LiveSends.{over_attached, stays_open}
@@ -181,14 +182,14 @@ waits_on_open roster (e ∷ past) r l u o h is on =
 
 -- an item that an accepted call's endings receive is of a channel that isn't destroyed
 taken_is_open : (roster : List Member) (e : Event) (past : Trace) (u i h : ℕ) (y : Completion) → Outcome true (facts_of roster past) e.thread e.call e.endings → TakesOne (facts_of roster past) e.thread e.call u y i
-    → channel_among (items roster (e ∷ past)) i ≡ Some h → (names (closes e.call) h || is_destroyed past h) ≡ true → ⊥
+    → option_map (λ m. m.channel) (item_among (items roster (e ∷ past)) i) ≡ Some h → (names (closes e.call) h || is_destroyed past h) ≡ true → ⊥
 taken_is_open roster e past u i h y a k is closed =
     let f = facts_of roster past in
     elim k [
       | inl p ↦
           let b = best_pending roster past p.request.channel p.request.kind p.item p.best in
           let made = subst (λ j. item_at roster past j ≡ Some (record { item = b.first; channel = p.request.channel })) p.number b.made in
-          let at : p.request.channel ≡ h = same_Some p.request.channel h (sym (item_channel roster (e ∷ past) i _ (item_earlier roster e past i (item_below roster past i _ made) ∙ made)) ∙ is) in
+          let at : p.request.channel ≡ h = same_Some p.request.channel h (sym (ap (option_map (λ m. m.channel)) (item_found roster (e ∷ past) i _ (item_earlier roster e past i (item_below roster past i _ made) ∙ made))) ∙ is) in
           elim (or_cases (names (closes e.call) h) (is_destroyed past h) closed) [
             | inl now ↦ none-some p.request (sym (destroys_alone e.call h now).receives_none ∙ p.receives)
             | inr before ↦
@@ -201,7 +202,7 @@ taken_is_open roster e past u i h y a k is closed =
           let open_there = open_at roster past m.made.channel number in
           let newest : item_at roster (e ∷ past) (length past + 1) ≡ Some m.made = item_newest roster e past ∙ now in
           let made = subst (λ j. item_at roster (e ∷ past) j ≡ Some m.made) (sym ((made_by roster e past m.made now).number) ∙ m.number) newest in
-          let at : m.made.channel ≡ h = same_Some m.made.channel h (sym (item_channel roster (e ∷ past) i m.made made) ∙ is) in
+          let at : m.made.channel ≡ h = same_Some m.made.channel h (sym (ap (option_map (λ m. m.channel)) (item_found roster (e ∷ past) i m.made made)) ∙ is) in
           elim (or_cases (names (closes e.call) h) (is_destroyed past h) closed) [
             | inl now ↦ none-some m.made (sym ((destroys_alone e.call h now).makes_none f e.thread) ∙ m.is_made)
             | inr before ↦ true≢false (sym before ∙ ap (is_destroyed past) (sym at) ∙ open_there.standing)
@@ -210,7 +211,7 @@ taken_is_open roster e past u i h y a k is closed =
 
 none_received : (roster : List Member) (e : Event) (past : Trace) (h : ℕ) → IsLawful roster (e ∷ past) → is_destroyed (e ∷ past) h ≡ true → NoneReceivedFrom roster (e ∷ past) h e.endings
 none_received roster e past h l closed =
-    each_received (λ x i. channel_among (items roster (e ∷ past)) i ≡ Some h → ⊥) roster past e.thread e.call e.endings l.2
+    each_received (λ x i. option_map (λ m. m.channel) (item_among (items roster (e ∷ past)) i) ≡ Some h → ⊥) roster past e.thread e.call e.endings l.2
     (λ u y i a k is. taken_is_open roster e past u i h y a k is (sym (closed_accepted roster e past h (accepted roster past e.thread e.call e.endings a)) ∙ closed))
 
 -- an open Send's connection is as it was attached

@@ -1,6 +1,6 @@
 -- A message is held by what the past says exactly where it is by what its sender waits for.
 use Rattle.std.proofs.Common.{◌≡◌, ◌∙◌, ◌+◌, ℕ, List, [], ◌∷◌, length, refl, ap, sym, subst, cond, eqb, true, false}
-use Rattle.std.specs.Prelude.{Option, None, Some, is_some, not, Bool}
+use Rattle.std.specs.Prelude.{Option, None, Some, is_some, not, ◌&&◌, Bool}
 use Rattle.std.specs.List.{AllByRecursion}
 use Rattle.std.specs.Option.{option_map, option_or}
 use Rattle.std.proofs.lemmas.Bool.{and_from, and_parts, eqb-true, not-true, not_from_false, or_parts, true≢false}
@@ -9,7 +9,6 @@ use Rattle.qtables.specs.Members.{IsRoster}
 use Rattle.qtables.specs.declared.member.Member.{Member}
 use Rattle.qrules.specs.Private.Calls.{row_of}
 use Rattle.qrules.specs.Private.Facts.{is_for_answer, is_send, sender, threads_of}
-use Rattle.qrules.specs.Private.Headline.AnsweredToSender.{is_held}
 use Rattle.qrules.specs.Properties.{number_received, TakesBest}
 use Rattle.qrules.specs.Private.Laws.{HeldIsHeldSend, IsHeldSend, blocker, is_for_reply}
 use Rattle.qrules.specs.Private.Lawful.{IsLawful, facts_of}
@@ -112,7 +111,7 @@ found_sender roster past i u o l is number answer =
     let s = send_parts i (open_call roster past v) sends in
     open_thread roster past v u s.waiting o s.is is (s.number ∙ sym number))
 
-held_to_send : (roster : List Member) (past : Trace) (i : ℕ) → IsRoster roster → IsLawful roster past → is_held past i ≡ true → IsHeldSend roster past i
+held_to_send : (roster : List Member) (past : Trace) (i : ℕ) → IsRoster roster → IsLawful roster past → (is_received past i && not (is_ended past i)) ≡ true → IsHeldSend roster past i
 held_to_send roster past i r l held =
     let p = and_parts (is_received past i) (not (is_ended past i)) held in
     let going : is_ended past i ≡ false = not-true (is_ended past i) p.1 in
@@ -135,7 +134,7 @@ held_to_send roster past i r l held =
       received = reply;
     }
 
-send_to_held : (roster : List Member) (past : Trace) (i : ℕ) → IsHeldSend roster past i → is_held past i ≡ true
+send_to_held : (roster : List Member) (past : Trace) (i : ℕ) → IsHeldSend roster past i → (is_received past i && not (is_ended past i)) ≡ true
 send_to_held roster past i h =
     let s = sender_sends (λ t. open_call roster past t) i (threads_of roster) h.thread h.is_sender in
     let same : s.waiting ≡ h.waiting = same_Some s.waiting h.waiting (sym s.is ∙ h.is_open) in

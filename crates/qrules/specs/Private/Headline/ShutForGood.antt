@@ -6,16 +6,16 @@ use Rattle.qmodel.specs.declared.call.Completion.{Completion}
 use Rattle.qmodel.specs.declared.open_call.OpenCall.{OpenCall}
 use Rattle.qmodel.specs.Trace.{CallNo, ChannelId, ThreadNo}
 use Rattle.qrules.specs.Private.Cancelling.{is_on}
-use Rattle.qrules.specs.Private.Headline.AnsweredToSender.{channel_among}
 use Rattle.qrules.specs.Properties.{number_received}
-use Rattle.qrules.specs.Private.Past.{attached_connection, is_destroyed, items, open_call}
+use Rattle.std.specs.Option.{option_map}
+use Rattle.qrules.specs.Private.Past.{attached_connection, is_destroyed, item_among, items, open_call}
 use Rattle.qmodel.specs.Trace.{Trace}
 
 -- none of these endings receives an item of channel h
 abbrev pub NoneReceivedFrom : List Member → Trace → ChannelId → List Completion → Type 0
 NoneReceivedFrom roster past h endings =
     AllByRecursion (λ x. (i : CallNo) → number_received x ≡ Some i
-    → channel_among (items roster past) i ≡ Some h → ⊥) endings
+    → option_map (λ m. m.channel) (item_among (items roster past) i) ≡ Some h → ⊥) endings
 
 -- no open call is blocked on channel h; a Send is blocked on the channel that its connection was attached to,
 -- detached or not
