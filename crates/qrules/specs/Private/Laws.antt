@@ -25,13 +25,12 @@ use Rattle.qrules.specs.Private.Effects.{asks}
 use Rattle.qrules.specs.Private.Facts.{Facts, is_for_receipt, sender}
 use Rattle.qrules.specs.Properties.{connection_of, number_received, request_of}
 use Rattle.qrules.specs.Rule.{ReceiveRequest}
-use Rattle.qrules.specs.Private.Headline.ShutForGood.{NoneReceivedFrom}
 use Rattle.qrules.specs.Private.Lawful.{IsLawful, facts_of}
 use Rattle.qrules.specs.Private.Pulses.{pulses_among}
 use Rattle.qrules.specs.Private.Past.{accepted_at, attached_connection, channel_at, connection_at}
 use Rattle.qrules.specs.Private.Past.{is_accepted}
 use Rattle.qrules.specs.Private.Past.{is_destroyed}
-use Rattle.qrules.specs.Private.Past.{is_down, is_ended, is_gone, is_received, items, open_call, pending_items}
+use Rattle.qrules.specs.Private.Past.{is_down, is_ended, is_gone, is_received, item_among, items, open_call, pending_items}
 use Rattle.qrules.specs.Private.Past.{priority_of_item}
 use Rattle.qrules.specs.Private.Past.{priority_of_thread, sender_of}
 use Rattle.qrules.specs.Private.Receivers.{newest_receiver, wait_on}
@@ -278,7 +277,9 @@ RefusedChangesNothing = (roster : List Member) (past : Trace) (e : Event) → Is
 abbrev pub NothingFromDestroyed : Type 0
 NothingFromDestroyed = (roster : List Member) (past : Trace) (e : Event) → IsRoster roster
     → IsLawful roster (e ∷ past)
-    → (h : ChannelId) → is_destroyed (e ∷ past) h ≡ true → NoneReceivedFrom roster (e ∷ past) h e.endings
+    → (h : ChannelId) → is_destroyed (e ∷ past) h ≡ true
+    → AllByRecursion (λ x. (i : CallNo) → number_received x ≡ Some i
+    → option_map (λ m. m.channel) (item_among (items roster (e ∷ past)) i) ≡ Some h → ⊥) e.endings
 
 -- after an accepted Shutdown each call is refused: its event has one ending, its own, with Down and the
 -- buffer that the call brought

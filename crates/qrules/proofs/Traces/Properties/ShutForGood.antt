@@ -1,10 +1,12 @@
 -- Nothing is received from a channel that is destroyed, and no thread is blocked on it.
 use Rattle.std.proofs.Common.{◌≡◌, ◌∙◌, ℕ, ◌+◌, ◌≤◌, List, [], ◌∷◌, length, refl, ap, sym, subst, cond, arith, eqb, true, false, inl, inr}
 use Rattle.std.specs.Prelude.{Option, None, Some, is_some, ◌||◌}
-use Rattle.std.specs.Option.{option_map}
-use Rattle.std.proofs.lemmas.Bool.{eqb-true, ne_eqb, or_cases, true≢false}
+use Rattle.std.specs.List.{AllByRecursion}
+use Rattle.std.specs.Option.{option_and_then, option_map}
+use Rattle.std.proofs.lemmas.Bool.{eq-eqb, eqb-true, ne_eqb, or_cases, true≢false}
 use Rattle.std.proofs.lemmas.Option.{none-some, same_Some}
 use Rattle.qbase.specs.declared.errno.Errno.TheVariants.{Srch}
+use Rattle.qbase.proofs.Lists.{all_filter_map}
 use Rattle.qqueue.specs.Best.{best_of}
 use Rattle.qtables.specs.Members.{IsRoster, member_at}
 use Rattle.qtables.specs.declared.connection.Connection.{Connection}
@@ -16,7 +18,8 @@ use Rattle.qrules.specs.Private.Facts.{Facts, is_for_answer, owns}
 use Rattle.qrules.proofs.Traces.Parts.{leads_to}
 use Rattle.qrules.specs.Past.{item_among}
 use Rattle.qrules.specs.Private.Effects.{asks, attaches, closes, detaches, makes, unblocks, writes}
-use Rattle.qrules.specs.Private.Headline.ShutForGood.{NoneBlockedOn, NoneReceivedFrom, ShutForGood}
+use Rattle.qrules.specs.Facts.{receive_in, receive_of, send_in, send_of, threads_of, OpenReceive, OpenSend}
+use Rattle.qrules.specs.Properties.{number_received, IsShut, ShutForGood}
 use Rattle.qrules.specs.Private.Lawful.{facts_of, IsLawful}
 use Rattle.qrules.specs.Rules.{effect_of}
 use Rattle.qrules.specs.Private.Past.{attached_connection, connection_at, wait_with_receipt, is_destroyed, items, open_call}
@@ -209,26 +212,56 @@ taken_is_open roster e past u i h y a k is closed =
           ]
     ]
 
-none_received : (roster : List Member) (e : Event) (past : Trace) (h : ℕ) → IsLawful roster (e ∷ past) → is_destroyed (e ∷ past) h ≡ true → NoneReceivedFrom roster (e ∷ past) h e.endings
+none_received : (roster : List Member) (e : Event) (past : Trace) (h : ℕ) → IsLawful roster (e ∷ past) → is_destroyed (e ∷ past) h ≡ true
+    → AllByRecursion (λ x. (i : ℕ) → number_received x ≡ Some i → option_map (λ m. m.channel) (item_among (items roster (e ∷ past)) i) ≡ Some h → ⊥) e.endings
 none_received roster e past h l closed =
     each_received (λ x i. option_map (λ m. m.channel) (item_among (items roster (e ∷ past)) i) ≡ Some h → ⊥) roster past e.thread e.call e.endings l.2
     (λ u y i a k is. taken_is_open roster e past u i h y a k is (sym (closed_accepted roster e past h (accepted roster past e.thread e.call e.endings a)) ∙ closed))
 
--- an open Send's connection is as it was attached
-on_attached : (roster : List Member) (past : Trace) (h : ℕ) (w : Wait) → (is_for_answer w ≡ true → connection_at roster past (over w) ≡ attached_connection roster past (over w))
-    → is_on (λ k. attached_connection roster past k) h w ≡ is_on (λ k. connection_at roster past k) h w
-on_attached roster past h (Answer coid message reply_buffer receipt) same = ap (is_to h) (sym (same refl))
-on_attached roster past h (ForItem chid kind buffer) same = refl
+-- ---- what is open
 
-none_blocked : (roster : List Member) (past : Trace) (h : ℕ) → IsRoster roster → IsLawful roster past → is_destroyed past h ≡ true → NoneBlockedOn roster past h
-none_blocked roster past h r l closed u o is =
-    on_attached roster past h o.wait (over_attached roster past u o l is) ∙ elim (is_on (λ k. connection_at roster past k) h o.wait) as (λ b. is_on (λ k. connection_at roster past k) h o.wait ≡ b → b ≡ false) [
-      | true ↦ λ on.
-          let standing = (open_at roster past h (waits_on_open roster past r l u o h is on)).standing in
-          absurd (true≢false (sym closed ∙ standing))
-      | false ↦ λ off. refl
-    ] refl
+-- a connection that was attached to channel h leads to it
+led : (connection : Option Connection) (h : ℕ) → option_map (λ c. c.channel) connection ≡ Some h → is_to h connection ≡ true
+led None h e = absurd (none-some h e)
+led (Some c) h e = eq-eqb c.channel h (same_Some c.channel h e)
+
+module _ (roster : List Member) (past : Trace) (h : ℕ) where
+  -- the channel of an open Send's connection
+  abbrev channel_of : OpenSend → Option ℕ
+  channel_of s = option_map (λ c. c.channel) (attached_connection roster past s.connection)
+
+  -- an open Send whose connection was attached to the channel is on it, and so is a receive that names it
+  send_on : (u n : ℕ) (w : Wait) (s : OpenSend) → (is_for_answer w ≡ true → connection_at roster past (over w) ≡ attached_connection roster past (over w)) → send_in u n w ≡ Some s → channel_of s ≡ Some h
+      → is_on (connection_at roster past) h w ≡ true
+  send_on u n (Answer coid message reply_buffer receipt) s live is on = led (connection_at roster past coid) h (ap (option_map (λ c. c.channel)) (live refl) ∙ ap channel_of (same_Some _ s is) ∙ on)
+  send_on u n (ForItem chid kind buffer) s live is on = absurd (none-some s is)
+
+  receive_on : (u n : ℕ) (w : Wait) (r : OpenReceive) → receive_in u n w ≡ Some r → r.channel ≡ h → is_on (connection_at roster past) h w ≡ true
+  receive_on u n (Answer coid message reply_buffer receipt) r is on = absurd (none-some r is)
+  receive_on u n (ForItem chid kind buffer) r is on = eq-eqb chid h (ap (λ (r : OpenReceive). r.channel) (same_Some _ r is) ∙ on)
+
+  module _ (rises : IsRoster roster) (l : IsLawful roster past) (closed : is_destroyed past h ≡ true) where
+    -- no open call is on a channel that is destroyed
+    none_on : (u : ℕ) (o : OpenCall) → open_call roster past u ≡ Some o → is_on (connection_at roster past) h o.wait ≡ true → ⊥
+    none_on u o is on = true≢false (sym closed ∙ (open_at roster past h (waits_on_open roster past rises l u o h is on)).standing)
+
+    no_send : (u : ℕ) (s : OpenSend) (o : Option OpenCall) → open_call roster past u ≡ o → option_and_then (λ o. send_in u o.number o.wait) o ≡ Some s → channel_of s ≡ Some h → ⊥
+    no_send u s None is e on = none-some s e
+    no_send u s (Some o) is e on = none_on u o is (send_on u o.number o.wait s (over_attached roster past u o l is) e on)
+
+    no_receive : (u : ℕ) (r : OpenReceive) (o : Option OpenCall) → open_call roster past u ≡ o → option_and_then (λ o. receive_in u o.number o.wait) o ≡ Some r → r.channel ≡ h → ⊥
+    no_receive u r None is e on = none-some r e
+    no_receive u r (Some o) is e on = none_on u o is (receive_on u o.number o.wait r e on)
+
+is_shut : (roster : List Member) (e : Event) (past : Trace) (h : ℕ) → IsRoster roster → IsLawful roster (e ∷ past) → is_destroyed (e ∷ past) h ≡ true → IsShut roster (e ∷ past) e.endings h
+is_shut roster e past h r l closed =
+    let f = facts_of roster (e ∷ past) in
+    record {
+      none_received = none_received roster e past h l closed;
+      no_send = all_filter_map (λ s. channel_of roster (e ∷ past) h s ≡ Some h → ⊥) (send_of f) (threads_of roster) (λ u s is. no_send roster (e ∷ past) h r l closed u s (f.open_call u) refl is);
+      no_receive = all_filter_map (λ r. r.channel ≡ h → ⊥) (receive_of f) (threads_of roster) (λ u s is. no_receive roster (e ∷ past) h r l closed u s (f.open_call u) refl is);
+    }
 
 pub shut_for_good : (roster : List Member) (past : Trace) → IsRoster roster → IsLawful roster past → ShutForGood roster past
 shut_for_good roster [] r l = tt
-shut_for_good roster (e ∷ past) r l = ((λ h closed. (none_received roster e past h l closed, none_blocked roster (e ∷ past) h r l closed)), shut_for_good roster past r l.0)
+shut_for_good roster (e ∷ past) r l = (shut_for_good roster past r l.0, λ h closed. is_shut roster e past h r l closed)

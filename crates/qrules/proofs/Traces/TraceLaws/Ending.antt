@@ -24,7 +24,7 @@ use Rattle.qrules.proofs.Traces.Properties.Sends.{begins_now}
 use Rattle.qrules.proofs.Traces.Properties.ShutForGood.{shut_for_good}
 
 pub nothing_from_destroyed : NothingFromDestroyed
-nothing_from_destroyed roster past e r l h closed = ((shut_for_good roster (e ∷ past) r l).0 h closed).0
+nothing_from_destroyed roster past e r l h closed = ((shut_for_good roster (e ∷ past) r l).1 h closed).none_received
 
 -- ---- after a Shutdown
 
