@@ -3,14 +3,11 @@ use Rattle.std.specs.Option.{option_map}
 use Rattle.std.specs.Prelude.{List, Option}
 use Rattle.std.specs.List.{filter_map}
 use Rattle.qtables.specs.declared.connection.Connection.{Connection}
-use Rattle.qtables.specs.declared.member.Member.{Member}
 use Rattle.qmodel.specs.declared.open_call.Blocked.{Blocked}
 use Rattle.qmodel.specs.declared.open_call.OpenCall.{OpenCall}
 use Rattle.qmodel.specs.Trace.{ConnectionId, ThreadNo}
 use Rattle.qrules.specs.Private.Facts.{Facts, threads_of}
-use Rattle.qrules.specs.Private.Lawful.{facts_of}
 use Rattle.qrules.specs.Private.ThreadState.{state_of}
-use Rattle.qmodel.specs.Trace.{Trace}
 
 -- the record of a blocked thread; None if it has no open call
 abbrev pub blocked_thread : (ConnectionId → Option Connection) → ThreadNo → Option OpenCall → Option Blocked
@@ -20,7 +17,3 @@ blocked_thread connection u call =
 -- the threads that are blocked, in rising number
 abbrev pub blocked_threads_in : Facts → List Blocked
 blocked_threads_in f = filter_map (λ u. blocked_thread f.connection u (f.open_call u)) (threads_of f.roster)
-
--- the threads that are blocked after these events, in rising number
-abbrev pub blocked_threads_at : List Member → Trace → List Blocked
-blocked_threads_at roster past = blocked_threads_in (facts_of roster past)

@@ -3,7 +3,6 @@ use Rattle.std.specs.Prelude.{◌≡◌, ◌↔◌, ℕ, ◌+◌, ◌≤◌, ◌
 use Rattle.std.specs.Prelude.{length, List, [], ◌∷◌, ◌++◌, map, not, Option, None, Some, if◌then◌else◌}
 use Rattle.std.specs.List.{AllByRecursion, list_any}
 use Rattle.std.specs.Option.{option_map}
-use Rattle.qbase.specs.declared.errno.Errno.TheVariants.{Down}
 use Rattle.qqueue.specs.Best.{is_pulse, may_take, with_priority}
 use Rattle.qqueue.specs.Contents.{IsRising}
 use Rattle.qqueue.specs.Order.{comes_before}
@@ -14,13 +13,11 @@ use Rattle.qtables.specs.declared.connection.Connection.{Connection}
 use Rattle.qtables.specs.declared.member.Member.{Member}
 use Rattle.qmodel.specs.declared.call.Call.TheVariants.{PrioritySet}
 use Rattle.qmodel.specs.declared.call.Completion.{Completion}
-use Rattle.qmodel.specs.declared.call.Mark.TheVariants as mark
 use Rattle.qmodel.specs.declared.open_call.OpenCall.{OpenCall}
 use Rattle.qmodel.specs.declared.open_call.Receipt.{Receipt}
 use Rattle.qmodel.specs.declared.open_call.Wait.{Wait}
 use Rattle.qmodel.specs.declared.open_call.Wait.TheVariants.{Answer, Item as ForItem}
 use Rattle.qmodel.specs.Trace.{CallNo, ChannelId, ConnectionId, Priority, ReceiveId, ThreadNo}
-use Rattle.qmodel.specs.Buffers.{buffer_of}
 use Rattle.qrules.specs.Private.Effects.{asks}
 use Rattle.qrules.specs.Private.Facts.{Facts, is_for_receipt, sender}
 use Rattle.qrules.specs.Properties.{connection_of, number_received, request_of}
@@ -30,10 +27,9 @@ use Rattle.qrules.specs.Private.Pulses.{pulses_among}
 use Rattle.qrules.specs.Private.Past.{accepted_at, attached_connection, channel_at, connection_at}
 use Rattle.qrules.specs.Private.Past.{is_accepted}
 use Rattle.qrules.specs.Private.Past.{is_destroyed}
-use Rattle.qrules.specs.Private.Past.{is_down, is_ended, is_gone, is_received, item_among, items, open_call, pending_items}
+use Rattle.qrules.specs.Private.Past.{is_ended, is_gone, is_received, item_among, items, open_call, pending_items}
 use Rattle.qrules.specs.Private.Past.{priority_of_item}
 use Rattle.qrules.specs.Private.Past.{priority_of_thread, sender_of}
-use Rattle.qrules.specs.Private.Receivers.{newest_receiver, wait_on}
 use Rattle.qrules.specs.Private.Rows.{names}
 use Rattle.qmodel.specs.Trace.{Event, Trace}
 pub use Rattle.qrules.specs.Trace.{RiseByThread}
@@ -103,25 +99,6 @@ OpenSendsAreLive = (roster : List Member) (past : Trace) → IsRoster roster →
     → IsLiveWay roster past coid
 
 -- ---- receivers
-
--- thread u waits for such an item, and no thread waits for one in a later call
-pub record IsLastWait (f : Facts) (h : ChannelId) (item : Item) (u : ThreadNo) : Type 0 where
-  pub number : CallNo
-  pub waits : wait_on h item (f.open_call u) ≡ Some number
-  pub greatest : (v : ThreadNo) (n : CallNo) → wait_on h item (f.open_call v) ≡ Some n → n ≤ number
-
--- the newest receiver of an item is the thread whose call has the greatest number of all calls that may take
--- it
-abbrev pub NewestIsGreatest : Type 0
-NewestIsGreatest = (roster : List Member) (past : Trace) → IsRoster roster → IsLawful roster past
-    → (h : ChannelId) (u : ThreadNo) (item : Item) → newest_receiver (facts_of roster past) h item ≡ Some u
-    → IsLastWait (facts_of roster past) h item u
-
--- there is no newest receiver exactly if no thread waits that may take the item
-abbrev pub NoneIsNewest : Type 0
-NoneIsNewest = (roster : List Member) (past : Trace) → IsRoster roster → IsLawful roster past
-    → (h : ChannelId) (item : Item) → (newest_receiver (facts_of roster past) h item ≡ None)
-    ↔ ((u : ThreadNo) → wait_on h item (open_call roster past u) ≡ None)
 
 -- no item is pending on a channel that a thread which waits there may take
 abbrev pub NothingPendingForWaiting : Type 0
@@ -271,7 +248,7 @@ RefusedChangesNothing = (roster : List Member) (past : Trace) (e : Event) → Is
     → IsLawful roster (e ∷ past)
     → is_accepted e past ≡ false → IsOnlyCounted (facts_of roster past) (facts_of roster (e ∷ past))
 
--- ---- the end of a channel, and of the kernel
+-- ---- the end of a channel
 
 -- nothing is received from a channel that is destroyed
 abbrev pub NothingFromDestroyed : Type 0
@@ -280,15 +257,6 @@ NothingFromDestroyed = (roster : List Member) (past : Trace) (e : Event) → IsR
     → (h : ChannelId) → is_destroyed (e ∷ past) h ≡ true
     → AllByRecursion (λ x. (i : CallNo) → number_received x ≡ Some i
     → option_map (λ m. m.channel) (item_among (items roster (e ∷ past)) i) ≡ Some h → ⊥) e.endings
-
--- after an accepted Shutdown each call is refused: its event has one ending, its own, with Down and the
--- buffer that the call brought
-abbrev pub OnlyRefusedWhenDown : Type 0
-OnlyRefusedWhenDown = (roster : List Member) (past : Trace) (e : Event) → IsRoster roster
-    → IsLawful roster (e ∷ past)
-    → is_down past ≡ true → e.endings
-    ≡ record { call = length past + 1; thread = e.thread; mark = mark.Failed Down; buffer = buffer_of e.call }
-    ∷ []
 
 -- ---- endings
 

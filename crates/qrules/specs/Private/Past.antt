@@ -2,12 +2,12 @@
 use Rattle.std.specs.Prelude.{ℕ, ◌==◌, ◌&&◌, Bool, List, [], ◌∷◌}
 use Rattle.std.specs.Prelude.{length, Option, None, Some, if◌then◌else◌, option_and_then}
 use Rattle.std.specs.List.{list_any}
-use Rattle.std.specs.Option.{option_map_or, option_or}
+use Rattle.std.specs.Option.{option_map_or}
 use Rattle.qqueue.specs.declared.item.Item.{Item}
 use Rattle.qtables.specs.declared.member.Member.{Member}
 use Rattle.qmodel.specs.declared.call.Completion.{Completion}
 use Rattle.qmodel.specs.declared.open_call.OpenCall.{OpenCall}
-use Rattle.qmodel.specs.Trace.{CallNo, ChannelId, ConnectionId, Priority, ThreadNo}
+use Rattle.qmodel.specs.Trace.{CallNo, ChannelId, Priority, ThreadNo}
 use Rattle.qmodel.specs.Trace.{Event, Trace}
 use Rattle.qrules.specs.Private.Facts.{count_to, is_fixed}
 use Rattle.qmodel.specs.Trace.{OpenChannel}
@@ -45,10 +45,6 @@ is_down past = was_done (λ e. e.shuts_down) past
 -- how many channels are open
 abbrev pub open_channels : List Member → Trace → ℕ
 open_channels roster past = count_to (channel_at roster past) (length past)
-
--- connection k is detached
-abbrev pub is_detached : Trace → ConnectionId → Bool
-is_detached past k = was_done (λ e. is_number e.detaches k) past
 
 -- how many connections are live
 abbrev pub live_connections : List Member → Trace → ℕ
@@ -103,14 +99,6 @@ carried_priority channel made =
 abbrev pub priority_from_ending : (CallNo → Option Priority) → ThreadNo → Completion → Option Priority
 priority_from_ending priority t x =
     if x.thread == t then option_and_then (λ r. priority r.number) (item_in x.mark) else None
-
--- the priority that thread t takes by event e, given all items made by then: an accepted PrioritySet sets it,
--- or the thread receives an item and takes the priority that this had before the event
-abbrev pub priority_from_event : List Member → Event → Trace → List SentItem → ThreadNo → Option Priority
-priority_from_event roster e past made t =
-    option_or (priority_set_by e past t)
-    (first_among (priority_from_ending
-    (λ i. carried_priority (channel_at roster past) (item_among (items_by_now past made) i)) t) e.endings)
 
 -- a thread's priority: the one that an event changed it to last, or else the one in the roster
 abbrev pub priority_of_thread : List Member → Trace → ThreadNo → Priority

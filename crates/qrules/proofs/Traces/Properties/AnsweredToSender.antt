@@ -70,11 +70,6 @@ each_answers_its roster past e l a = elim a [
 
 -- ---- an accepted call that answers has one answer
 
-and_false_where : (x y : Bool) → (x ≡ true → y ≡ true → ⊥) → (x && y) ≡ false
-and_false_where true true h = absurd (h refl refl)
-and_false_where true false h = refl
-and_false_where false y h = refl
-
 count_more : {Y : Type 0} (p : Y → Bool) (y : Y) (ys : List Y) (b : Bool) (n : ℕ) → p y ≡ b → count_by p ys ≡ n → count_by p (y ∷ ys) ≡ cond b 1 0 + n
 count_more p y ys b n e rest = sum_by-cons (λ x. cond (p x) 1 0) y ys ∙ ap (λ k. cond k 1 0 + count_by p ys) e ∙ ap (λ k. cond b 1 0 + k) rest
 
