@@ -1,6 +1,6 @@
 -- What each call does, by its rule; and the items that it makes.
-use Rattle.std.specs.Prelude.{ℕ, Bool, List, [], Option, None, Some}
-use Rattle.std.specs.Option.{option_and_then, option_map, option_map_or, option_or}
+use Rattle.std.specs.Prelude.{Bool, Option, None, Some}
+use Rattle.std.specs.Option.{option_and_then, option_map, option_or}
 use Rattle.qtables.specs.declared.connection.Connection.{Connection}
 use Rattle.qtables.specs.declared.member.Member.{Member}
 use Rattle.qmodel.specs.declared.call.Call.{Call}
@@ -50,17 +50,9 @@ shuts_down c = (effect_of c).shuts_down
 abbrev pub makes : Facts → ThreadNo → Call → Option SentItem
 makes f t c = (effect_of c).makes f t
 
--- the connection that a call sends over
-abbrev pub sends_over : Call → Option ConnectionId
-sends_over c = option_or (option_map (λ s. s.connection) (effect_of c).sends) (effect_of c).pulses_over
-
 -- the thread, if the call is a Send
 abbrev pub thread_of_send : ThreadNo → Call → Option ThreadNo
 thread_of_send t c = option_map (λ s. t) (effect_of c).sends
-
--- the bytes of a message that is sent
-abbrev pub message_sent : Call → List ℕ
-message_sent c = option_map_or (λ s. s.message) (effect_of c).sends []
 
 -- ---- answers, and what is written
 

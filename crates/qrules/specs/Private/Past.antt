@@ -14,14 +14,13 @@ use Rattle.qmodel.specs.Trace.{OpenChannel}
 use Rattle.qrules.specs.Private.Rows.{item_in}
 use Rattle.qmodel.specs.Trace.{SentItem}
 pub use Rattle.qrules.specs.Past.{accepted_at, attached_connection, channel_at, connection_at}
-pub use Rattle.qrules.specs.Past.{created_channel}
-pub use Rattle.qrules.specs.Past.{is_accepted, is_destroyed, is_ended, is_failure, is_number, is_unblock_for}
-pub use Rattle.qrules.specs.Past.{item_among, item_in, priority_set_by, sender_of, was_done, with_writes}
+pub use Rattle.qrules.specs.Past.{is_accepted, is_destroyed, is_ended, is_failure, is_unblock_for}
+pub use Rattle.qrules.specs.Past.{item_among, priority_set_by, sender_of, was_done, with_writes}
 pub use Rattle.qrules.specs.Past.{copied_count_of, current_priority}
-pub use Rattle.qrules.specs.Past.{first_among, is_gone, is_received, items_by_now, pending_among}
-pub use Rattle.qrules.specs.Past.{priority_set_since, ReceivedItem}
-pub use Rattle.qrules.specs.Past.{newest_block, open_call_by, wait_with_receipt}
-use Rattle.qrules.specs.Past.{with_buffer}
+pub use Rattle.qrules.specs.Past.{first_among, is_gone, is_received, items_by_now}
+pub use Rattle.qrules.specs.Past.{priority_set_since}
+pub use Rattle.qrules.specs.Past.{newest_block, wait_with_receipt}
+use Rattle.qrules.specs.Past.{open_call_by, pending_among, with_buffer, ReceivedItem}
 use Rattle.qmodel.specs.Trace.{ReceiveId}
 use Rattle.qrules.specs.Lawful.{facts_of, item_made_by, items_and_priorities}
 pub use Rattle.qrules.specs.Properties.{items, priority_before}

@@ -17,7 +17,7 @@ use Rattle.qtables.specs.declared.member.Member.{Member}
 use Rattle.qrules.specs.Private.Answer.{ending, Answers}
 use Rattle.qrules.specs.Private.Calls.{row_of}
 use Rattle.qmodel.specs.Buffers.{buffer_of}
-use Rattle.qrules.specs.Private.Effects.{message_sent, writes}
+use Rattle.qrules.specs.Private.Effects.{writes}
 use Rattle.qrules.specs.Private.Calls.Error.{error_finish}
 use Rattle.qrules.specs.Private.Calls.Info.{info_of, info_ending}
 use Rattle.qrules.specs.Private.Calls.Reply.{reply_finish}
@@ -49,7 +49,7 @@ use Rattle.qrules.proofs.Traces.Past.Numbers.{call_earlier, call_newest, open_be
 use Rattle.qrules.proofs.Traces.Past.Receipts.{best_pending}
 use Rattle.qrules.proofs.Traces.Past.Senders.{sender_sends}
 use Rattle.qrules.proofs.Traces.Past.Writes.{writes_beyond, writes_nothing, writes_refused}
-use Rattle.qrules.proofs.Traces.Properties.Messages.{buffer_by, open_buffer, open_message, pending_message}
+use Rattle.qrules.proofs.Traces.Properties.Messages.{buffer_by, message_sent, open_buffer, open_message, pending_message}
 use Rattle.qrules.proofs.Traces.Properties.Receipts.{ending_of}
 use Rattle.qrules.proofs.Traces.Laying.{lay_nothing, count_nothing}
 use Rattle.qrules.proofs.Traces.Properties.Rows.Receiving.{ReceiveTakes, receive_takes}

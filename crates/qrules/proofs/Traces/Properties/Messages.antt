@@ -9,7 +9,6 @@ use Rattle.qqueue.specs.declared.item.Item.{Item}
 use Rattle.qtables.specs.declared.member.Member.{Member}
 use Rattle.qrules.specs.Private.Cancelling.{buffer_of_wait}
 use Rattle.qrules.specs.Private.Facts.{is_for_answer, message, message_in, message_of, sender, threads_of, is_send}
-use Rattle.qrules.specs.Private.Effects.{message_sent as message_in_call}
 use Rattle.qrules.specs.Properties.{buffer_at, message_at}
 use Rattle.qrules.specs.Rule.{buffer_of}
 use Rattle.qrules.specs.Rules.{effect_of}
@@ -42,6 +41,10 @@ use Rattle.qrules.proofs.Traces.Due.{unblock_same}
 
 -- ---- what a call brings is what it waits with
 
+-- the bytes of the message that a call sends
+abbrev pub message_sent : Call → List ℕ
+message_sent c = option_map_or (λ s. s.message) (effect_of c).sends []
+
 -- the buffer of call i, where it is this call
 abbrev pub buffer_by : Trace → ℕ → Call → List ℕ
 buffer_by past i c = cond (is_some (effect_of c).sends) (with_writes past i (buffer_of (effect_of c))) (buffer_of (effect_of c))
@@ -49,7 +52,7 @@ buffer_by past i c = cond (is_some (effect_of c).sends) (with_writes past i (buf
 -- a call that begins to wait keeps its buffer, which is written over, and its message
 pub record Keeps (past : Trace) (n : ℕ) (c : Call) (b : OpenCall) : Type 0 where
   pub buffer : buffer_by past n c ≡ buffer_of_wait (with_buffer (with_writes past n) b.wait)
-  pub sent : message_in_call c ≡ message_of b.wait
+  pub sent : message_sent c ≡ message_of b.wait
 
 pub keeps : (past : Trace) (n : ℕ) (c : Call) (b : OpenCall) → asks n c ≡ Some b → Keeps past n c b
 keeps past n (ReceivePulse chid) b e = subst (Keeps past n (ReceivePulse chid)) (same_Some _ b e) (record { buffer = refl; sent = refl })
@@ -81,7 +84,7 @@ pub open_message : (roster : List Member) (past : Trace) (u : ℕ) (o : OpenCall
 open_message roster past u o is =
     let k = open_parts roster past u o is in
     let a = block_asked past u k.block k.is in
-    ap (message_at past) k.number ∙ ap (λ c. option_map_or message_in_call c []) a.is ∙ (keeps past k.block.number a.call k.block a.asks_it).sent ∙ sym (open_keeps message_of roster past u o k held_message buffer_message)
+    ap (message_at past) k.number ∙ ap (λ c. option_map_or message_sent c []) a.is ∙ (keeps past k.block.number a.call k.block a.asks_it).sent ∙ sym (open_keeps message_of roster past u o k held_message buffer_message)
 
 -- ---- a message that is pending has its Send open
 
