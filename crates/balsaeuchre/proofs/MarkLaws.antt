@@ -24,7 +24,6 @@ use Rattle.qrules.specs.Private.Calls.Unblock as unblock
 use Rattle.qrules.specs.Private.Cancelling.{is_on}
 use Rattle.qrules.specs.Private.Effects.{asks}
 use Rattle.qrules.specs.Private.Facts.{Facts, message, route, sender, threads_of}
-use Rattle.qrules.specs.Private.Headline.CopiedExactly.{call_at as old_call_at}
 use Rattle.qrules.specs.Private.Held.{Finish}
 use Rattle.qrules.specs.Private.Lawful.{facts_of}
 use Rattle.qrules.specs.Private.Past.{call_by_now, wait_with_receipt, with_receipt}
@@ -140,8 +139,8 @@ received_fits priority unblocked (Some copied) o m = elim (o.wait) as (λ w. fit
 ]
 
 -- what is known of the ending of call i
-of_call : (past : Trace) (x : Completion) (i : ℕ) (c : Call) → x.call ≡ i → old_call_at past i ≡ Some c → fits c x.mark ≡ true → option_map (λ c. fits c x.mark) (call_at past x.call) ≡ Some true
-of_call past x i c at is fit = ap (option_map (λ c. fits c x.mark)) (ap (old_call_at past) at ∙ is) ∙ ap Some fit
+of_call : (past : Trace) (x : Completion) (i : ℕ) (c : Call) → x.call ≡ i → call_at past i ≡ Some c → fits c x.mark ≡ true → option_map (λ c. fits c x.mark) (call_at past x.call) ≡ Some true
+of_call past x i c at is fit = ap (option_map (λ c. fits c x.mark)) (ap (call_at past) at ∙ is) ∙ ap Some fit
 
 pub endings_fit : EndingsFit
 endings_fit roster past e r l =

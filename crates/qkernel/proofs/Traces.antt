@@ -22,7 +22,6 @@ use Rattle.qrules.specs.Trace.{followed_by, Event, Trace}
 use Rattle.qrules.proofs.Lawful.{of_roster, same_lawful}
 use Rattle.qrules.proofs.Outcomes.{same_answers}
 use Rattle.qrules.proofs.Past.Facts.{facts_known}
-use Rattle.qrules.proofs.Properties.All.{same_properties}
 use Rattle.qrules.proofs.Rows.Held.{info_same}
 use Rattle.qstate.specs.Kept.{members_of}
 use Rattle.qkernel.specs.Kernel.{State}
@@ -47,7 +46,7 @@ module _ (roster : List Member) (past : Trace) (lawful : IsLawful roster past) w
   info_before i = info_same (old_lawful.facts_of roster past) i (facts_known roster past of)
 
   pub properties_of : IsRoster roster → HasProperties roster past
-  properties_of rises = (same_properties roster past of).1 (has_properties roster past rises before)
+  properties_of rises = has_properties roster past rises before
 
 pub followed_push : (past : Trace) (events : List Event) (e : Event) → followed_by past (events ++ e ∷ []) ≡ e ∷ followed_by past events
 followed_push past [] e = refl

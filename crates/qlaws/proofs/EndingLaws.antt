@@ -1,36 +1,27 @@
 -- The laws of the endings of one event.
 use mathlib.Core.Path.{fun_ext}
-use Rattle.std.proofs.Common.{◌≡◌, ◌∙◌, ℕ, ◌+◌, List, [], ◌∷◌, length, refl, ap, sym, subst, cond, true, eqb}
-use Rattle.std.specs.Prelude.{Option, None, Some, ◌&&◌, option_map}
-use Rattle.std.specs.List.{list_any, AllByRecursion}
-use Rattle.std.proofs.lemmas.Option.{none-some, same_Some}
+use Rattle.std.proofs.Common.{◌≡◌, ◌∙◌, ℕ, ◌+◌, List, [], ◌∷◌, length, refl, ap, sym, cond, eqb}
+use Rattle.std.specs.Prelude.{Some, option_map}
+use Rattle.std.specs.List.{AllByRecursion}
 use Rattle.qbase.proofs.Lists.{all_more}
-use Rattle.qqueue.specs.declared.item.Kind.{Kind}
 use Rattle.qtables.specs.declared.member.Member.{Member}
 use Rattle.qrules.specs.Private.Endings as old_endings
 use Rattle.qrules.specs.Private.Facts.{Facts as OldFacts}
-use Rattle.qrules.specs.Private.Headline.CopiedExactly.{call_at as old_call_at}
-use Rattle.qrules.specs.Private.Headline.SentOrder.{connection_of as old_connection_of}
 use Rattle.qrules.specs.Private.Laws as old_laws
 use Rattle.qrules.specs.Private.Lawful as old
-use Rattle.qrules.specs.Private.Past.{items as old_items, open_call}
+use Rattle.qrules.specs.Private.Past.{open_call}
 use Rattle.qmodel.specs.Trace.{Trace}
-use Rattle.qmodel.specs.declared.call.Call.{Call}
 use Rattle.qmodel.specs.declared.call.Completion.{Completion}
 use Rattle.qrules.proofs.Traces.TraceLaws.Blocked as blocked
 use Rattle.qrules.proofs.Traces.TraceLaws.Ending as ending
 use Rattle.qrules.proofs.Traces.TraceLaws.Lengths as lengths
 use Rattle.qrules.proofs.Traces.TraceLaws.Refused as refused
 use Rattle.qrules.proofs.Traces.TraceLaws.Sent as sent
-use Rattle.qrules.specs.Lawful.{IsLawful}
-use Rattle.qrules.specs.Rule.{buffer_of, ReceiveRequest}
+use Rattle.qrules.specs.Rule.{buffer_of}
 use Rattle.qrules.specs.Rules.{effect_of}
-use Rattle.qrules.proofs.Lawful.{of_roster}
 use Rattle.qrules.proofs.Outcomes.{same_buffer}
-use Rattle.qrules.proofs.Properties.BestFirst.{request_from}
-use Rattle.qrules.proofs.Properties.Items.{same_channel_among}
 use Rattle.qlaws.specs.Endings
-use Rattle.qlaws.proofs.Waits.{place_of, before, buffer_at}
+use Rattle.qlaws.proofs.Waits.{before, buffer_at}
 
 -- ---- whose they are
 
@@ -79,29 +70,21 @@ endings_keep_length roster past e r l =
 
 -- ---- what they receive
 
-module _ (roster : List Member) (past : Trace) (l : IsLawful roster past) where
+module _ (roster : List Member) (past : Trace) where
   leads : (k h : ℕ) → old_laws.LeadsTo roster past k h → Endings.LeadsTo roster past k h
   leads k h to = ap (option_map (λ c. c.channel)) to.is ∙ ap Some to.channel
 
-  was_sent : (x : Completion) (i : ℕ) (c : Call) (channel : ℕ) (kind : Kind) (request : Option ReceiveRequest) → old_call_at past x.call ≡ Some c → (effect_of c).receives ≡ request → option_map place_of request ≡ Some (channel, kind)
-      → list_any (λ m. eqb m.item.number i && eqb m.channel channel) (old_items roster past) ≡ true
-      → ((k : ℕ) → old_connection_of past i ≡ Some k → old_laws.LeadsTo roster past k channel)
-      → Endings.WasSent roster past x i
-  was_sent x i c channel kind None is asks place made over = absurd (none-some (channel, kind) place)
-  was_sent x i c channel kind (Some request) is asks place made over =
-      let on : channel ≡ request.channel = ap (λ (p : ℕ × Kind). p.0) (sym (same_Some (place_of request) (channel, kind) place)) in
-      record {
-        request = request;
-        call = request_from past x.call c request is asks;
-        made = subst (λ h. list_any (λ m. eqb m.item.number i && eqb m.channel h) (old_items roster past) ≡ true) on made;
-        sent = λ k sent. subst (Endings.LeadsTo roster past k) on (leads k channel (over k sent));
-      }
+  was_sent : (x : Completion) (i : ℕ) → old_laws.WasSent roster past x i → Endings.WasSent roster past x i
+  was_sent x i w = record {
+    request = w.request;
+    call = w.call;
+    made = w.made;
+    sent = λ k sent. leads k w.request.channel (w.sent k sent);
+  }
 
 pub received_was_sent : Endings.ReceivedWasSent
 received_was_sent roster past e r l =
-    all_more _ _ e.endings (sent.received_was_sent roster past e r (before roster (e ∷ past) l)) (λ x was i is.
-    let w = was i is in
-    was_sent roster (e ∷ past) l x i w.call w.channel w.kind (effect_of w.call).receives w.is_call refl w.receives w.made w.sent)
+    all_more _ _ e.endings (sent.received_was_sent roster past e r (before roster (e ∷ past) l)) (λ x was i is. was_sent roster (e ∷ past) x i (was i is))
 
 all_for : {X : Type 0} (Q : ℕ → Type 0) (P : ℕ → X → Type 0) (xs : List X) → ((h : ℕ) → Q h → AllByRecursion (P h) xs) → AllByRecursion (λ x. (h : ℕ) → Q h → P h x) xs
 all_for Q P [] f = tt
@@ -109,10 +92,7 @@ all_for Q P (x ∷ xs) f = (λ h q. (f h q).0, all_for Q P xs (λ h q. (f h q).1
 
 pub nothing_from_destroyed : Endings.NothingFromDestroyed
 nothing_from_destroyed roster past e r l =
-    let of = of_roster roster (e ∷ past) l in
-    all_more _ _ e.endings (all_for _ _ e.endings (ending.nothing_from_destroyed roster past e r (before roster (e ∷ past) l))) (λ x none h i destroyed is on.
-    none h destroyed i is
-    (sym (same_channel_among (old_items roster (e ∷ past)) i) ∙ on))
+    all_more _ _ e.endings (all_for _ _ e.endings (ending.nothing_from_destroyed roster past e r (before roster (e ∷ past) l))) (λ x none h i destroyed is on. none h destroyed i is on)
 
 -- ---- refusals
 

@@ -13,7 +13,6 @@ use Rattle.qtables.specs.declared.member.Member.{Member}
 use Rattle.qrules.specs.Private.Cancelling.{cancel_where, cancels}
 use Rattle.qrules.specs.Private.Effects.{asks, shuts_down}
 use Rattle.qrules.specs.Private.Facts.{Facts as OldFacts}
-use Rattle.qrules.specs.Private.Headline.AnsweredToSender.{is_held as was_held}
 use Rattle.qrules.specs.Private.Laws as old_laws
 use Rattle.qrules.specs.Private.Lawful as old
 use Rattle.qrules.specs.Private.Past.{is_down, accepted_at, open_call}
@@ -80,14 +79,14 @@ open_sends_are_routed roster past r l = all_sends roster past l (laws.IsRouted (
 abbrev has_receipt : Facts → ℕ → Bool
 has_receipt f i = option_map_or (λ s. is_some s.receipt) (open_send f i) false
 
-module _ (roster : List Member) (past : Trace) (i : ℕ) (law : (was_held past i ≡ true) ↔ old_laws.IsHeldSend roster past i) where
+module _ (roster : List Member) (past : Trace) (i : ℕ) (law : (laws.is_held past i ≡ true) ↔ old_laws.IsHeldSend roster past i) where
   abbrev facts : OldFacts
   facts = old.facts_of roster past
 
-  no_send : NoSend facts i → was_held past i ≡ false
+  no_send : NoSend facts i → laws.is_held past i ≡ false
   no_send k = false_from_ne_true _ (λ held. none-some _ (sym k.none ∙ (law.0 held).is_sender))
 
-  one_send : (receipt : Option OldReceipt) (k : OneSend facts i) → k.receipt ≡ receipt → was_held past i ≡ is_some receipt
+  one_send : (receipt : Option OldReceipt) (k : OneSend facts i) → k.receipt ≡ receipt → laws.is_held past i ≡ is_some receipt
   one_send None k e = false_from_ne_true _ (λ held.
       let h = law.0 held in
       let thread : k.thread ≡ h.thread = same_Some _ _ (sym k.sent ∙ h.is_sender) in
@@ -106,7 +105,7 @@ pub held_is_open_send : laws.HeldIsOpenSend
 held_is_open_send roster past r l i =
     let law = held.held_is_held_send roster past r (before roster past l) i in
     let f : OldFacts = old.facts_of roster past in
-    elim (send_cases f i) as (λ k. was_held past i ≡ has_receipt f i) [
+    elim (send_cases f i) as (λ k. laws.is_held past i ≡ has_receipt f i) [
       | inl k ↦ no_send roster past i law k ∙ ap (λ o. option_map_or (λ (s : OpenSend). is_some s.receipt) o false) (sym k.new)
       | inr k ↦ one_send roster past i law k.receipt k refl ∙ ap (λ o. option_map_or (λ (s : OpenSend). is_some s.receipt) o false) (sym k.new)
     ]

@@ -1,6 +1,6 @@
 -- The laws of the items that wait to be received.
 use Rattle.std.proofs.Common.{◌≡◌, ◌∙◌, ℕ, List, ◌∷◌, ◌++◌, refl, ap, sym, subst, true}
-use Rattle.std.specs.Prelude.{None, Some, option_map}
+use Rattle.std.specs.Prelude.{None, Some}
 use Rattle.std.specs.List.{AllByRecursion}
 use Rattle.std.proofs.lemmas.Bool.{true≢false}
 use Rattle.qbase.proofs.Lists.{all_more}
@@ -23,9 +23,8 @@ use Rattle.qrules.proofs.Traces.TraceLaws.CurrentPriority as current_priority
 use Rattle.qrules.specs.Lawful.{facts_of, IsLawful}
 use Rattle.qrules.specs.Past.{is_gone, sender_of}
 use Rattle.qrules.specs.Private.Facts.{send_view}
-use Rattle.qrules.proofs.Properties.BestFirst.{asks_of}
 use Rattle.qlaws.specs.Pending as laws
-use Rattle.qlaws.proofs.Waits.{place_of, before}
+use Rattle.qlaws.proofs.Waits.{before}
 
 -- ---- what is pending
 
@@ -66,15 +65,7 @@ pending_follows_its_sender roster past r l h =
 
 takes_before : (past : Trace) (z : Completion) (i h : ℕ) (x : Item) → laws.TakesBeside past z i h x → old_laws.TakesBeside past z i h x
 takes_before past z i h x k =
-    let asks = asks_of past z.call k.request k.call in
-    record {
-      call = asks.call;
-      kind = k.request.kind;
-      is_call = asks.is;
-      receives = ap (option_map place_of) asks.receives ∙ ap (λ h. Some (h, k.request.kind)) k.channel;
-      may = k.may;
-      item = k.item;
-    }
+    record { request = k.request; call = k.call; channel = k.channel; may = k.may; item = k.item }
 
 first_by_rules : (past : Trace) (roster : List Member) (later : Trace) (e : Event) → IsRoster roster → IsLawful roster (e ∷ later ++ past) → (h : ℕ)
     → AllByRecursion (λ x. AllByRecursion (λ y. comes_before x y ≡ true → laws.HasPriority roster (later ++ past) x → laws.HasPriority roster (later ++ past) y

@@ -5,7 +5,6 @@ use Rattle.std.specs.Option.{option_or}
 use Rattle.std.specs.List.{AllByRecursion}
 use Rattle.std.proofs.lemmas.Option.{none-some, same_Some}
 use Rattle.qbase.proofs.Lists.{all_filter_map}
-use Rattle.qqueue.specs.declared.item.Kind.{Kind}
 use Rattle.qtables.specs.declared.member.Member.{Member}
 use Rattle.qrules.specs.Private.Cancelling.{buffer_of_wait}
 use Rattle.qrules.specs.Private.Endings.{buffer_of_open}
@@ -18,16 +17,11 @@ use Rattle.qmodel.specs.declared.open_call.Receipt.{Receipt as OldReceipt}
 use Rattle.qmodel.specs.declared.open_call.OpenCall.TheVariants.{Receive, Send}
 use Rattle.qrules.specs.Facts.{OpenReceive, OpenSend}
 use Rattle.qrules.specs.Lawful.{facts_of, IsLawful}
-use Rattle.qrules.specs.Rule.{ReceiveRequest}
 use Rattle.qrules.specs.Facts.{receive_in, send_in}
 use Rattle.qrules.specs.Private.Facts.{receive_view, send_view}
 use Rattle.qrules.proofs.Lawful.{same_lawful}
 use Rattle.qlaws.specs.Endings.{waiting_buffer}
 use Rattle.qrules.specs.Facts.{open_receives, open_sends}
-
--- where a call asks to receive, and what
-abbrev pub place_of : ReceiveRequest → ℕ × Kind
-place_of r = (r.channel, r.kind)
 
 -- a lawful trace is so in the words of the proofs
 pub before : (roster : List Member) (past : Trace) → IsLawful roster past → old.IsLawful roster past

@@ -10,5 +10,4 @@ pub mod Rows
 pub mod Outcomes
 pub mod Past
 pub mod Lawful
-pub mod Properties
 pub mod Once

@@ -8,4 +8,3 @@ pub mod Properties
 pub mod TraceLaws
 pub mod Rosters
 pub mod OnlyRun
-pub mod Following

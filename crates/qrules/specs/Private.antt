@@ -17,7 +17,5 @@ pub mod Lawful
 pub mod Step
 pub mod OnlyRun
 pub mod Blocked
-pub mod Headline
 pub mod Laws
 pub mod Endings
-pub mod Properties

@@ -1,10 +1,9 @@
 -- Parts of the look-ups, each by what was found so far, which is what the proofs split on.
-use Rattle.std.specs.Prelude.{◌&&◌, Bool, false, is_some, ℤ, List, Option, None, Some, if◌then◌else◌}
+use Rattle.std.specs.Prelude.{◌&&◌, Bool, false, is_some, ℤ, Option, None, Some, if◌then◌else◌}
 use Rattle.std.specs.Option.{option_and_then, option_map_or}
 use Rattle.qbase.specs.declared.errno.Errno.{Errno}
 use Rattle.qbase.specs.declared.errno.Errno.TheVariants.{Badf, Inval}
 use Rattle.qtables.specs.declared.connection.Connection.{Connection}
-use Rattle.qtables.specs.declared.member.Member.{Member}
 use Rattle.qmodel.specs.declared.open_call.OpenCall.{OpenCall}
 use Rattle.qmodel.specs.declared.open_call.Receipt.{Receipt}
 use Rattle.qrules.specs.Private.Calls.ConnectDetach.{detach_pulse, is_last_connection}
@@ -13,7 +12,6 @@ use Rattle.qrules.specs.Private.Facts.{Facts, is_of_process, owns}
 use Rattle.qmodel.specs.Trace.{OpenChannel}
 use Rattle.qrules.specs.Private.Held.{is_held_by}
 use Rattle.qmodel.specs.Trace.{CallNo, ChannelId, ReceiveId, ThreadNo}
-use Rattle.qrules.specs.Private.Lawful.{facts_of}
 use Rattle.qrules.specs.Private.Pulses.{refusal_if_full}
 use Rattle.qrules.specs.Private.Rows.{unblock_item}
 use Rattle.qmodel.specs.Trace.{SentItem}
@@ -48,7 +46,3 @@ is_own f t connection = option_map_or (λ c. is_of_process f t c.process) connec
 -- why a pulse to this channel is refused
 abbrev pub refusal_on : Facts → ℤ → Option ChannelId → Option Errno
 refusal_on f code channel = option_map_or (λ h. if is_negative code then Some Inval else refusal_if_full f h) channel (Some Badf)
-
--- the thread's process owns this channel
-abbrev pub owns_that : List Member → Trace → ThreadNo → Option ChannelId → Bool
-owns_that roster past t channel = option_map_or (λ h. owns (facts_of roster past) t h) channel false

@@ -1,12 +1,11 @@
 -- What each call does, by its rule; and the items that it makes.
-use Rattle.std.specs.Prelude.{ℕ, ℤ, Bool, List, [], Option, None, Some}
-use Rattle.std.specs.Option.{option_and_then, option_map, option_map_or, option_or}
-use Rattle.qqueue.specs.declared.item.Kind.{Kind}
+use Rattle.std.specs.Prelude.{Bool, Option, None, Some}
+use Rattle.std.specs.Option.{option_and_then, option_map, option_or}
 use Rattle.qtables.specs.declared.connection.Connection.{Connection}
 use Rattle.qtables.specs.declared.member.Member.{Member}
 use Rattle.qmodel.specs.declared.call.Call.{Call}
 use Rattle.qmodel.specs.declared.call.Call.TheVariants as calls
-use Rattle.qmodel.specs.Trace.{ChannelId, ConnectionId, OpenChannel, ReceiveId, SentItem, ThreadNo}
+use Rattle.qmodel.specs.Trace.{ChannelId, ConnectionId, OpenChannel, SentItem, ThreadNo}
 use Rattle.qrules.specs.Rule.{PriorityChange, Transfer}
 use Rattle.qrules.specs.Rules.{effect_of}
 use Rattle.qrules.specs.Private.Facts.{Facts}
@@ -44,31 +43,11 @@ shuts_down c = (effect_of c).shuts_down
 abbrev pub makes : Facts → ThreadNo → Call → Option SentItem
 makes f t c = (effect_of c).makes f t
 
--- the connection that a call sends over
-abbrev pub sends_over : Call → Option ConnectionId
-sends_over c = option_or (option_map (λ s. s.connection) (effect_of c).sends) (effect_of c).pulses_over
-
 -- the thread, if the call is a Send
 abbrev pub thread_of_send : ThreadNo → Call → Option ThreadNo
 thread_of_send t c = option_map (λ s. t) (effect_of c).sends
 
--- the bytes of a message that is sent
-abbrev pub message_sent : Call → List ℕ
-message_sent c = option_map_or (λ s. s.message) (effect_of c).sends []
-
--- the channel that a call receives on, and the kind of items that it may take
-abbrev pub receives_on : Call → Option (ChannelId × Kind)
-receives_on c = option_map (λ r. (r.channel, r.kind)) (effect_of c).receives
-
 -- ---- answers, and what is written
-
--- the message that a call answers
-abbrev pub answered_by : Call → Option ReceiveId
-answered_by c = (effect_of c).answers
-
--- the status and the bytes that a call answers with
-abbrev pub replies_with : Call → Option (ℤ × List ℕ)
-replies_with c = (effect_of c).replies
 
 -- what a call writes
 abbrev pub writes : Call → Option Transfer

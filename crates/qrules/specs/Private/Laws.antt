@@ -3,7 +3,6 @@ use Rattle.std.specs.Prelude.{◌≡◌, ◌↔◌, ℕ, ◌+◌, ◌≤◌, ◌
 use Rattle.std.specs.Prelude.{length, List, [], ◌∷◌, ◌++◌, map, not, Option, None, Some, if◌then◌else◌}
 use Rattle.std.specs.List.{AllByRecursion, list_any}
 use Rattle.std.specs.Option.{option_map}
-use Rattle.qbase.specs.declared.errno.Errno.TheVariants.{Down}
 use Rattle.qqueue.specs.Best.{is_pulse, may_take, with_priority}
 use Rattle.qqueue.specs.Contents.{IsRising}
 use Rattle.qqueue.specs.Order.{comes_before}
@@ -12,10 +11,8 @@ use Rattle.qqueue.specs.declared.item.Kind.{Kind}
 use Rattle.qtables.specs.Members.{IsRoster}
 use Rattle.qtables.specs.declared.connection.Connection.{Connection}
 use Rattle.qtables.specs.declared.member.Member.{Member}
-use Rattle.qmodel.specs.declared.call.Call.{Call}
 use Rattle.qmodel.specs.declared.call.Call.TheVariants.{PrioritySet}
 use Rattle.qmodel.specs.declared.call.Completion.{Completion}
-use Rattle.qmodel.specs.declared.call.Mark.TheVariants as mark
 use Rattle.qmodel.specs.declared.open_call.OpenCall.{OpenCall}
 use Rattle.qmodel.specs.declared.open_call.Receipt.{Receipt}
 use Rattle.qmodel.specs.declared.open_call.OpenCall.TheVariants.{Send, Receive}
@@ -25,20 +22,18 @@ use Rattle.qmodel.specs.Trace.{CallNo, ChannelId, ConnectionId, Priority, Receiv
 use Rattle.qmodel.specs.Buffers.{buffer_of}
 use Rattle.qrules.specs.Private.Effects.{asks, receives_on}
 use Rattle.qrules.specs.Private.Facts.{Facts, sender}
-use Rattle.qrules.specs.Private.Headline.AnsweredToSender.{is_held}
-use Rattle.qrules.specs.Private.Headline.CopiedExactly.{call_at}
-use Rattle.qrules.specs.Private.Headline.ReceivedOnce.{number_received}
-use Rattle.qrules.specs.Private.Headline.SentOrder.{connection_of}
-use Rattle.qrules.specs.Private.Headline.ShutForGood.{NoneReceivedFrom}
+use Rattle.qrules.specs.Private.Effects.{asks}
+use Rattle.qrules.specs.Private.Facts.{Facts, is_for_receipt, sender}
+use Rattle.qrules.specs.Properties.{connection_of, number_received, request_of}
+use Rattle.qrules.specs.Rule.{ReceiveRequest}
 use Rattle.qrules.specs.Private.Lawful.{IsLawful, facts_of}
 use Rattle.qrules.specs.Private.Pulses.{pulses_among}
 use Rattle.qrules.specs.Private.Past.{accepted_at, attached_connection, channel_at, connection_at}
 use Rattle.qrules.specs.Private.Past.{is_accepted}
 use Rattle.qrules.specs.Private.Past.{is_destroyed}
-use Rattle.qrules.specs.Private.Past.{is_down, is_ended, is_gone, items, open_call, pending_items}
+use Rattle.qrules.specs.Private.Past.{is_ended, is_gone, is_received, item_among, items, open_call, pending_items}
 use Rattle.qrules.specs.Private.Past.{priority_of_item}
 use Rattle.qrules.specs.Private.Past.{priority_of_thread, sender_of}
-use Rattle.qrules.specs.Private.Receivers.{newest_receiver, wait_on}
 use Rattle.qrules.specs.Private.Rows.{names}
 use Rattle.qmodel.specs.Trace.{Event, Trace}
 pub use Rattle.qrules.specs.Trace.{RiseByThread}
@@ -60,13 +55,10 @@ is_made_on roster past i h = list_any (λ m. (m.item.number == i) && (m.channel 
 -- item i, which the ending receives, was made by then, on the channel on which the ended call receives; if it
 -- was sent over a connection, that leads to this channel
 pub record WasSent (roster : List Member) (past : Trace) (x : Completion) (i : CallNo) : Type 0 where
-  pub call : Call
-  pub channel : ChannelId
-  pub kind : Kind
-  pub is_call : call_at past x.call ≡ Some call
-  pub receives : receives_on call ≡ Some (channel, kind)
-  pub made : is_made_on roster past i channel ≡ true
-  pub sent : (k : ConnectionId) → connection_of past i ≡ Some k → LeadsTo roster past k channel
+  pub request : ReceiveRequest
+  pub call : request_of past x.call ≡ Some request
+  pub made : is_made_on roster past i request.channel ≡ true
+  pub sent : (k : ConnectionId) → connection_of past i ≡ Some k → LeadsTo roster past k request.channel
 
 -- each item that the newest event of a lawful trace receives was made in this way, by an earlier event or by
 -- this one
@@ -113,25 +105,6 @@ OpenSendsAreLive = (roster : List Member) (past : Trace) → IsRoster roster →
 
 -- ---- receivers
 
--- thread u waits for such an item, and no thread waits for one in a later call
-pub record IsLastWait (f : Facts) (h : ChannelId) (item : Item) (u : ThreadNo) : Type 0 where
-  pub number : CallNo
-  pub waits : wait_on h item (f.open_call u) ≡ Some number
-  pub greatest : (v : ThreadNo) (n : CallNo) → wait_on h item (f.open_call v) ≡ Some n → n ≤ number
-
--- the newest receiver of an item is the thread whose call has the greatest number of all calls that may take
--- it
-abbrev pub NewestIsGreatest : Type 0
-NewestIsGreatest = (roster : List Member) (past : Trace) → IsRoster roster → IsLawful roster past
-    → (h : ChannelId) (u : ThreadNo) (item : Item) → newest_receiver (facts_of roster past) h item ≡ Some u
-    → IsLastWait (facts_of roster past) h item u
-
--- there is no newest receiver exactly if no thread waits that may take the item
-abbrev pub NoneIsNewest : Type 0
-NoneIsNewest = (roster : List Member) (past : Trace) → IsRoster roster → IsLawful roster past
-    → (h : ChannelId) (item : Item) → (newest_receiver (facts_of roster past) h item ≡ None)
-    ↔ ((u : ThreadNo) → wait_on h item (open_call roster past u) ≡ None)
-
 -- no item is pending on a channel that a thread which waits there may take
 abbrev pub NothingPendingForWaiting : Type 0
 NothingPendingForWaiting = (roster : List Member) (past : Trace) → IsRoster roster → IsLawful roster past
@@ -152,7 +125,7 @@ PendingRises = (roster : List Member) (past : Trace) → IsRoster roster → IsL
 
 -- item i isn't a message that is received and not answered, neither by the past nor by the open calls
 pub record IsNotHeld (roster : List Member) (past : Trace) (i : CallNo) : Type 0 where
-  pub unread : is_held past i ≡ false
+  pub unread : (is_received past i && not (is_ended past i)) ≡ false
   pub unkept : (u : ThreadNo) (o : OpenCall) → open_call roster past u ≡ Some o → is_for_reply o ≡ true
       → (number_of o == i) ≡ false
 
@@ -188,11 +161,10 @@ PendingFollowsItsSender = (roster : List Member) (past : Trace) → IsRoster ros
 
 -- item i is received by a call that receives on channel h and may take item x
 pub record TakesBeside (past : Trace) (z : Completion) (i : CallNo) (h : ChannelId) (x : Item) : Type 0 where
-  pub call : Call
-  pub kind : Kind
-  pub is_call : call_at past z.call ≡ Some call
-  pub receives : receives_on call ≡ Some (h, kind)
-  pub may : may_take kind x ≡ true
+  pub request : ReceiveRequest
+  pub call : request_of past z.call ≡ Some request
+  pub channel : request.channel ≡ h
+  pub may : may_take request.kind x ≡ true
   pub item : number_received z ≡ Some i
 
 -- the priority in x is the present priority of the item of its number
@@ -256,7 +228,7 @@ pub record IsHeldSend (roster : List Member) (past : Trace) (i : ReceiveId) : Ty
 -- is held by the definition that the rows use
 abbrev pub HeldIsHeldSend : Type 0
 HeldIsHeldSend = (roster : List Member) (past : Trace) → IsRoster roster → IsLawful roster past
-    → (i : ReceiveId) → (is_held past i ≡ true) ↔ IsHeldSend roster past i
+    → (i : ReceiveId) → ((is_received past i && not (is_ended past i)) ≡ true) ↔ IsHeldSend roster past i
 
 -- ---- refusals
 
@@ -279,22 +251,15 @@ RefusedChangesNothing = (roster : List Member) (past : Trace) (e : Event) → Is
     → IsLawful roster (e ∷ past)
     → is_accepted e past ≡ false → IsOnlyCounted (facts_of roster past) (facts_of roster (e ∷ past))
 
--- ---- the end of a channel, and of the kernel
+-- ---- the end of a channel
 
 -- nothing is received from a channel that is destroyed
 abbrev pub NothingFromDestroyed : Type 0
 NothingFromDestroyed = (roster : List Member) (past : Trace) (e : Event) → IsRoster roster
     → IsLawful roster (e ∷ past)
-    → (h : ChannelId) → is_destroyed (e ∷ past) h ≡ true → NoneReceivedFrom roster (e ∷ past) h e.endings
-
--- after an accepted Shutdown each call is refused: its event has one ending, its own, with Down and the
--- buffer that the call brought
-abbrev pub OnlyRefusedWhenDown : Type 0
-OnlyRefusedWhenDown = (roster : List Member) (past : Trace) (e : Event) → IsRoster roster
-    → IsLawful roster (e ∷ past)
-    → is_down past ≡ true → e.endings
-    ≡ record { call = length past + 1; thread = e.thread; mark = mark.Failed Down; buffer = buffer_of e.call }
-    ∷ []
+    → (h : ChannelId) → is_destroyed (e ∷ past) h ≡ true
+    → AllByRecursion (λ x. (i : CallNo) → number_received x ≡ Some i
+    → option_map (λ m. m.channel) (item_among (items roster (e ∷ past)) i) ≡ Some h → ⊥) e.endings
 
 -- ---- endings
 

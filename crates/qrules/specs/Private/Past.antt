@@ -2,26 +2,29 @@
 use Rattle.std.specs.Prelude.{ℕ, ◌==◌, ◌&&◌, Bool, List, [], ◌∷◌}
 use Rattle.std.specs.Prelude.{length, Option, None, Some, if◌then◌else◌, option_and_then}
 use Rattle.std.specs.List.{list_any}
-use Rattle.std.specs.Option.{option_map_or, option_or}
+use Rattle.std.specs.Option.{option_map_or}
 use Rattle.qqueue.specs.declared.item.Item.{Item}
 use Rattle.qtables.specs.declared.member.Member.{Member}
 use Rattle.qmodel.specs.declared.call.Completion.{Completion}
 use Rattle.qmodel.specs.declared.open_call.OpenCall.{OpenCall}
-use Rattle.qmodel.specs.Trace.{CallNo, ChannelId, ConnectionId, Priority, ThreadNo}
+use Rattle.qmodel.specs.Trace.{CallNo, ChannelId, Priority, ThreadNo}
 use Rattle.qmodel.specs.Trace.{Event, Trace}
 use Rattle.qrules.specs.Private.Facts.{count_to, is_fixed}
 use Rattle.qmodel.specs.Trace.{OpenChannel}
 use Rattle.qrules.specs.Private.Rows.{item_in}
 use Rattle.qmodel.specs.Trace.{SentItem}
 pub use Rattle.qrules.specs.Past.{accepted_at, attached_connection, channel_at, connection_at}
-pub use Rattle.qrules.specs.Past.{created_channel}
-pub use Rattle.qrules.specs.Past.{is_accepted, is_destroyed, is_ended, is_failure, is_number, is_unblock_for}
-pub use Rattle.qrules.specs.Past.{item_among, item_in, priority_set_by, sender_of, was_done, with_writes}
+pub use Rattle.qrules.specs.Past.{is_accepted, is_destroyed, is_ended, is_failure, is_unblock_for}
+pub use Rattle.qrules.specs.Past.{item_among, priority_set_by, sender_of, was_done, with_writes}
 pub use Rattle.qrules.specs.Past.{copied_count_of, current_priority}
 pub use Rattle.qrules.specs.Past.{first_among, is_gone, is_received, items_by_now, pending_among}
 pub use Rattle.qrules.specs.Past.{priority_set_since, ReceivedItem}
 pub use Rattle.qrules.specs.Past.{asks, call_by_now, newest_block, open_call_by, send_by_now}
 use Rattle.qmodel.specs.OpenCalls.{number_of}
+pub use Rattle.qrules.specs.Past.{first_among, is_gone, is_received, items_by_now}
+pub use Rattle.qrules.specs.Past.{priority_set_since}
+pub use Rattle.qrules.specs.Past.{newest_block}
+use Rattle.qrules.specs.Past.{open_call_by, pending_among, ReceivedItem}
 use Rattle.qmodel.specs.Trace.{ReceiveId}
 use Rattle.qrules.specs.Lawful.{facts_of, item_made_by, items_and_priorities}
 pub use Rattle.qrules.specs.Properties.{items, priority_before}
@@ -50,10 +53,6 @@ is_down past = was_done (λ e. e.shuts_down) past
 -- how many channels are open
 abbrev pub open_channels : List Member → Trace → ℕ
 open_channels roster past = count_to (channel_at roster past) (length past)
-
--- connection k is detached
-abbrev pub is_detached : Trace → ConnectionId → Bool
-is_detached past k = was_done (λ e. is_number e.detaches k) past
 
 -- how many connections are live
 abbrev pub live_connections : List Member → Trace → ℕ

@@ -56,27 +56,6 @@ pub count_same : {A : Type 0} (p q : ℕ → Option A) (n : ℕ) → ((k : ℕ) 
 count_same p q zero h = refl
 count_same p q (suc n) h = rw (h (n + 1) (omega arith), count_same p q n (λ k l. h k (omega arith))) refl
 
-pub count_refused : {A : Type 0} (make : Event → Option A) (e : Event) (past : Trace) → refuses e.endings (length past + 1) ≡ true
-    → count_to (accepted_at make (e ∷ past)) (length (e ∷ past)) ≡ count_to (accepted_at make past) (length past)
-count_refused make e past r =
-    rw (
-      made_refused make e past (length past + 1) r,
-      made_beyond make past (length past + 1) (omega arith),
-      count_same (accepted_at make (e ∷ past)) (accepted_at make past) (length past) (λ k l. made_refused make e past k r),
-    ) (omega arith)
-
-pub count_accepted : {A : Type 0} (make : Event → Option A) (e : Event) (past : Trace) → refuses e.endings (length past + 1) ≡ false
-    → count_to (accepted_at make (e ∷ past)) (length (e ∷ past)) ≡ count_to (accepted_at make past) (length past) + one_for (make e)
-count_accepted {A} make e past r =
-    let rest : count_to (accepted_at make (e ∷ past)) (length past) ≡ count_to (accepted_at make past) (length past) =
-    count_same (accepted_at make (e ∷ past)) (accepted_at make past) (length past) (λ k l. rw (ne_eqb k (length past + 1) (λ s. omega arith)) refl) in
-    let top : accepted_at make (e ∷ past) (length past + 1) ≡ make e = rw (eqb_same (length past + 1), r) refl in
-    rw (top, rest) (
-    elim (make e) as (λ (o : Option A). cond (is_some o) 1 0 + count_to (accepted_at make past) (length past) ≡ count_to (accepted_at make past) (length past) + one_for o) [
-      | None ↦ omega arith
-      | Some x ↦ omega arith
-    ])
-
 -- one of those that are counted is taken away
 pub count_less : {A : Type 0} (p q : ℕ → Option A) (n h : ℕ) → 1 ≤ h → h ≤ n → is_some (q h) ≡ true → ((k : ℕ) → k ≤ n → p k ≡ cond (eqb h k) None (q k)) → count_to p n + 1 ≡ count_to q n
 count_less p q zero h above below there less = absurd (omega arith)

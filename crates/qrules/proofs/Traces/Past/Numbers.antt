@@ -5,8 +5,10 @@ use Rattle.std.specs.Option.{option_map}
 use Rattle.std.proofs.lemmas.Bool.{eqb-true, ne_eqb, and_parts}
 use Rattle.std.proofs.lemmas.Option.{same_Some, none-some}
 use Rattle.qtables.specs.declared.member.Member.{Member}
-use Rattle.qrules.specs.Private.Headline.CopiedExactly.{call_at}
 use Rattle.qrules.specs.Private.Past.{items_by_now, call_by_now, is_accepted, is_ended, accepted_at, newest_block, unless_ended, open_call, copied_count_of, priority_of_item, unblocked_among, items}
+use Rattle.qrules.specs.Private.Facts.{is_for_answer}
+use Rattle.qrules.specs.Trace.{call_at}
+use Rattle.qrules.specs.Private.Past.{items_by_now, call_by_now, is_accepted, is_ended, accepted_at, newest_block, unless_ended, with_receipt, open_call, copied_count_of, priority_of_item, unblocked_among, items}
 use Rattle.qrules.specs.Private.Effects.{asks}
 use Rattle.qmodel.specs.Trace.{Event, Trace}
 use Rattle.qmodel.specs.declared.call.Call.{Call}

@@ -2,6 +2,7 @@
 use Rattle.std.proofs.Common.{◌≡◌, ◌≢◌, ◌∙◌, ℕ, ◌+◌, ◌<◌, List, [], ◌∷◌, refl, ap, sym, subst, arith, cond, eqb, Bool, true, false, inl, inr}
 use Rattle.std.specs.Prelude.{Option, None, Some, not, ◌&&◌, count_by}
 use Rattle.std.specs.List.{AllByRecursion, filter_map, cons_option}
+use Rattle.std.specs.Option.{option_map_or}
 use Rattle.std.proofs.lemmas.Bool.{and_from, cases_Bool, ne_eqb, eq-eqb, eqb-true, eqb-false, true≢false}
 use Rattle.std.proofs.lemmas.List.Sums.{sum_by-cons}
 use Rattle.std.proofs.lemmas.Option.{none-some}
@@ -9,23 +10,25 @@ use Rattle.qtables.specs.declared.connection.Connection.{Connection}
 use Rattle.qtables.specs.declared.member.Member.{Member}
 use Rattle.qtables.specs.Members.{IsRoster}
 use Rattle.qrules.specs.Private.Answer.{ending, Outcome, Answers}
-use Rattle.qrules.proofs.Traces.Parts.{owns_that}
-use Rattle.qrules.specs.Private.Facts.{Facts, owns, threads_of}
-use Rattle.qrules.specs.Private.Headline.AnsweredToSender.{AnsweredToSender, AnswersIts, AnswersOnce, EachAnswersIts, is_answer, is_held, owns_channel_of}
+use Rattle.qrules.proofs.Traces.Parts.{owns_end}
+use Rattle.qrules.specs.Private.Facts.{Facts, is_for_answer, owns, threads_of}
+use Rattle.qrules.specs.Properties.{is_answer, items, AnsweredToSender, AnswersIts, AnswersOnce}
+use Rattle.qrules.specs.Past.{item_among}
 use Rattle.qrules.specs.Private.Lawful.{facts_of, IsLawful}
-use Rattle.qrules.specs.Private.Past.{connection_at, is_received, sender_of}
-use Rattle.qmodel.specs.Trace.{Event, Trace}
+use Rattle.qrules.specs.Private.Past.{connection_at, is_ended, is_received, sender_of}
+use Rattle.qmodel.specs.Trace.{Event, SentItem, Trace}
 use Rattle.qmodel.specs.declared.call.Completion.{Completion}
 use Rattle.qrules.proofs.Traces.Past.Ends.{open_known, passes_of}
+use Rattle.qrules.proofs.Traces.Past.Items.{item_found}
 use Rattle.qrules.proofs.Traces.Past.Laws.{is_settled}
 use Rattle.qbase.proofs.Lists.{all_filter_map, all_more, is_among}
-use Rattle.qrules.proofs.Traces.Past.Open.{buffer_answer, held_for_answer, open_parts}
+use Rattle.qrules.proofs.Traces.Past.Numbers.{buffer_answer, held_for_answer, open_parts}
 use Rattle.qrules.proofs.Traces.Properties.Answers.{AnswersHeld, answers_held, answers_one, over}
 use Rattle.qrules.proofs.Traces.Properties.Events.{is_accepted_by, outcome_of}
 use Rattle.qrules.proofs.Traces.Properties.ReceivedOnce.{different_calls}
 use Rattle.qrules.proofs.Traces.Past.Unblocked.{held_is_taken}
 use Rattle.qrules.proofs.Traces.Rosters.{known}
-use Rattle.qrules.proofs.Traces.Properties.Sends.{block_sender, item_channel, open_keeps, open_over}
+use Rattle.qrules.proofs.Traces.Properties.Sends.{block_sender, open_keeps, open_over}
 use Rattle.qrules.proofs.Traces.Past.LiveSends.{over_attached}
 
 -- ---- each answer is one to the message that the call names
@@ -49,15 +52,16 @@ answers_its roster past e u y l a h =
     record {
       named = h.named;
       accepted = is_accepted_by roster e past a;
-      held = subst (λ i. is_held past i ≡ true) number (and_from _ _ taken (ap not k.going));
-      owner = subst (λ i. owns_channel_of roster past e.thread i ≡ true) number
-          (ap (owns_that roster past e.thread) (item_channel roster past (number_of k.block) s.made s.is_made)
-          ∙ ap (λ c. owns (facts_of roster past) e.thread c) s.channel
+      held = subst (λ i. (is_received past i && not (is_ended past i)) ≡ true) number (and_from _ _ taken (ap not k.going));
+      owner = subst (λ i. option_map_or (λ m. owns f e.thread m.channel) (item_among (items roster past) i) false ≡ true) number
+          (ap (λ o. option_map_or (λ (m : SentItem). owns f e.thread m.channel) o false) (item_found roster past (number_of k.block) s.made s.is_made)
+          ∙ ap (λ c. owns f e.thread c) s.channel
           ∙ owns_through (facts_of roster past) e.thread (connection_at roster past h.held.coid) s.connection connection h.held.owner);
       sender = subst (λ i. sender_of past i ≡ Some y.thread) number (block_sender past u k.block k.is began ∙ ap (λ t. Some t) (sym h.thread));
     }
 
-each_answers_its : (roster : List Member) (past : Trace) (e : Event) → IsLawful roster past → Answers (facts_of roster past) e.thread e.call e.endings → EachAnswersIts roster past e
+each_answers_its : (roster : List Member) (past : Trace) (e : Event) → IsLawful roster past → Answers (facts_of roster past) e.thread e.call e.endings
+    → AllByRecursion (λ x. is_answer x.mark ≡ true → AnswersIts roster past e x) e.endings
 each_answers_its roster past e l a = elim a [
   | inl a ↦ subst (AllByRecursion (λ x. is_answer x.mark ≡ true → AnswersIts roster past e x)) (sym a.1) (all_filter_map (λ x. is_answer x.mark ≡ true → AnswersIts roster past e x) (ending (facts_of roster past) e.thread e.call) (threads_of roster) (λ u y is answers.
       answers_its roster past e u y l a (answers_held (facts_of roster past) e.thread e.call u y (passes_of (facts_of roster past) e.thread e.call e.endings a) is answers)))
@@ -65,11 +69,6 @@ each_answers_its roster past e l a = elim a [
 ]
 
 -- ---- an accepted call that answers has one answer
-
-and_false_where : (x y : Bool) → (x ≡ true → y ≡ true → ⊥) → (x && y) ≡ false
-and_false_where true true h = absurd (h refl refl)
-and_false_where true false h = refl
-and_false_where false y h = refl
 
 count_more : {Y : Type 0} (p : Y → Bool) (y : Y) (ys : List Y) (b : Bool) (n : ℕ) → p y ≡ b → count_by p ys ≡ n → count_by p (y ∷ ys) ≡ cond b 1 0 + n
 count_more p y ys b n e rest = sum_by-cons (λ x. cond (p x) 1 0) y ys ∙ ap (λ k. cond k 1 0 + count_by p ys) e ∙ ap (λ k. cond b 1 0 + k) rest
@@ -118,4 +117,4 @@ answers_once roster past e r l a i answered was =
 
 pub answered_to_sender : (roster : List Member) (past : Trace) → IsRoster roster → IsLawful roster past → AnsweredToSender roster past
 answered_to_sender roster [] r l = tt
-answered_to_sender roster (e ∷ past) r l = (each_answers_its roster past e l.0 l.2, answers_once roster past e r l.0 l.2, answered_to_sender roster past r l.0)
+answered_to_sender roster (e ∷ past) r l = (answered_to_sender roster past r l.0, (each_answers_its roster past e l.0 l.2, answers_once roster past e r l.0 l.2))

@@ -20,9 +20,10 @@ use Rattle.qrules.specs.Private.Held.{Finish, ends_sender, refusal}
 use Rattle.qmodel.specs.declared.call.Info.{Info as Told}
 use Rattle.qmodel.specs.declared.call.Mark.TheVariants as mark
 use Rattle.qrules.specs.Private.Cancelling.{is_on}
-use Rattle.qrules.specs.Private.Facts.{Facts, message, sender, threads_of, route}
-use Rattle.qrules.specs.Private.Effects.{answered_by, asks, makes, thread_of_send}
-use Rattle.qrules.specs.Private.Headline.AnsweredToSender.{is_answer}
+use Rattle.qrules.specs.Private.Facts.{Facts, is_for_answer, message, sender, threads_of, route}
+use Rattle.qrules.specs.Private.Effects.{asks, makes, thread_of_send}
+use Rattle.qrules.specs.Properties.{is_answer}
+use Rattle.qrules.specs.Rules.{effect_of}
 use Rattle.qrules.specs.Private.Rows.{delivery_of, item_sent_over}
 use Rattle.qmodel.specs.Trace.{SentItem}
 use Rattle.qmodel.specs.declared.call.Call.{Call}
@@ -50,7 +51,7 @@ use Rattle.qrules.proofs.Traces.Properties.Rows.Telling.{told_meets, unblock_end
 
 -- the call names the message of the ending, which thread u sent and is held for the caller
 pub record AnswersHeld (f : Facts) (t : ℕ) (c : Call) (u : ℕ) (y : Completion) : Type 0 where
-  pub named : answered_by c ≡ Some y.call
+  pub named : (effect_of c).answers ≡ Some y.call
   pub is_sender : sender f y.call ≡ Some u
   pub held : IsHeldFor f t (f.open_call u)
   pub number : (number_of held.waiting) ≡ y.call
@@ -82,7 +83,7 @@ own_answers f t (Info rcvid) u y e is = absurd (true≢false (sym is ∙ tells_o
 own_answers f t c u y e is = no_answer _ y (same_Some _ y e) refl is
 
 -- the Send that a call ends is the one that it names
-answers_by : (f : Facts) (t : ℕ) (c : Call) (rcvid : ℕ) (finish : Finish) (u : ℕ) (y : Completion) → answered_by c ≡ Some rcvid → SenderEnds f t rcvid finish u y → AnswersHeld f t c u y
+answers_by : (f : Facts) (t : ℕ) (c : Call) (rcvid : ℕ) (finish : Finish) (u : ℕ) (y : Completion) → (effect_of c).answers ≡ Some rcvid → SenderEnds f t rcvid finish u y → AnswersHeld f t c u y
 answers_by f t c rcvid finish u y named r =
     let call : rcvid ≡ y.call = ap (λ x. x.call) r.ending in
     record {
@@ -152,7 +153,7 @@ ends_one f t c rcvid finish i passed ends marks same =
 error_answers : (code : ℤ) → is_answer (mark_of code) ≡ true
 error_answers code = elim (int_eq code (pos 0)) as (λ b. is_answer (cond b (mark.Replied (pos 0) 0) (mark.Errored code)) ≡ true) [ true ↦ refl | false ↦ refl ]
 
-pub answers_one : (f : Facts) (t : ℕ) (c : Call) (i : ℕ) → Passes f t c → answered_by c ≡ Some i → AnswersOne f t c i
+pub answers_one : (f : Facts) (t : ℕ) (c : Call) (i : ℕ) → Passes f t c → (effect_of c).answers ≡ Some i → AnswersOne f t c i
 answers_one f t (Reply rcvid status bytes) i p e = ends_one f t (Reply rcvid status bytes) rcvid (reply_finish status bytes) i p.row (λ u. refl) (λ buffer. refl) (same_Some rcvid i e)
 answers_one f t (Error rcvid code) i p e = ends_one f t (Error rcvid code) rcvid (error_finish code) i p.row (λ u. refl) (λ buffer. error_answers code) (same_Some rcvid i e)
 answers_one f t c i p e = absurd (none-some i e)

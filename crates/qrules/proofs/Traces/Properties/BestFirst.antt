@@ -1,8 +1,9 @@
 -- A receipt takes the item of greatest priority, and among equals the one that was made first.
 use Rattle.std.proofs.Common.{◌≡◌, ◌∙◌, ℕ, List, [], ◌∷◌, ◌++◌, refl, ap, sym, true, false, inl, inr}
-use Rattle.std.specs.Prelude.{Some}
+use Rattle.std.specs.Prelude.{Option, None, Some}
 use Rattle.std.specs.List.{AllByRecursion}
-use Rattle.std.specs.Option.{option_map}
+use Rattle.std.specs.Option.{option_and_then, option_map}
+use Rattle.std.proofs.lemmas.Option.{none-some, same_Some}
 use Rattle.std.proofs.lemmas.List.{append-nil}
 use Rattle.qqueue.specs.Best.{best_of, may_take}
 use Rattle.qqueue.specs.declared.item.Item.{Item}
@@ -10,33 +11,48 @@ use Rattle.qqueue.specs.declared.item.Kind.{Kind}
 use Rattle.qtables.specs.Members.{IsRoster}
 use Rattle.qtables.specs.declared.member.Member.{Member}
 use Rattle.qrules.specs.Private.Answer.{Outcome}
-use Rattle.qrules.specs.Private.Headline.BestFirst.{BestFirst, TakesBest, takeable}
-use Rattle.qrules.specs.Private.Headline.CopiedExactly.{call_at}
+use Rattle.qrules.specs.Properties.{request_of, takeable, BestFirst, TakesBest}
+use Rattle.qrules.specs.Rule.{ReceiveRequest}
+use Rattle.qrules.specs.Rules.{effect_of}
+use Rattle.qrules.specs.Trace.{call_at}
 use Rattle.qrules.specs.Private.Lawful.{facts_of, IsLawful}
 use Rattle.qrules.specs.Private.Past.{pending_items, made_on}
 use Rattle.qmodel.specs.Trace.{Event, Trace}
+use Rattle.qmodel.specs.declared.call.Call.{Call}
 use Rattle.qmodel.specs.declared.call.Completion.{Completion}
 use Rattle.qbase.proofs.Lists.{eqb_same}
-use Rattle.qrules.proofs.Traces.Past.Numbers.{block_asked, block_below, call_earlier, call_newest}
-use Rattle.qrules.proofs.Traces.Past.Open.{open_parts}
+use Rattle.qrules.proofs.Traces.Past.Numbers.{block_asked, block_below, call_earlier, call_newest, open_parts}
 use Rattle.qrules.proofs.Traces.Properties.Events.{each_received, made_now, none_made}
 use Rattle.qrules.proofs.Traces.Properties.Receipts.{TakesMade, TakesPending, waits_for}
 use Rattle.qrules.proofs.Traces.Properties.Sends.{open_keeps}
-use Rattle.qrules.proofs.Traces.Properties.Waiting.{buffer_waits_for, held_waits_for, nothing_for, waits_for_asked}
+use Rattle.qrules.proofs.Traces.Properties.Waiting.{buffer_waits_for, held_waits_for, nothing_for, place_of, waits_for_asked}
+
+-- ---- what a call asks to receive
+
+request_from : (past : Trace) (i : ℕ) (c : Call) (request : ReceiveRequest) → call_at past i ≡ Some c → (effect_of c).receives ≡ Some request → request_of past i ≡ Some request
+request_from past i c request is receives = ap (option_and_then (λ c. (effect_of c).receives)) is ∙ receives
+
+-- the request that asks for this kind of items of this channel
+record Asks (receives : Option ReceiveRequest) (place : ℕ × Kind) : Type 0 where
+  request : ReceiveRequest
+  is : receives ≡ Some request
+  at : place_of request ≡ place
+
+asks_at : (receives : Option ReceiveRequest) (place : ℕ × Kind) → option_map place_of receives ≡ Some place → Asks receives place
+asks_at None place e = absurd (none-some place e)
+asks_at (Some r) place e = record { request = r; is = refl; at = same_Some (place_of r) place e }
 
 -- ---- the caller takes the best of what was pending
 
 takes_pending : (roster : List Member) (past : Trace) (e : Event) (u : ℕ) (y : Completion) (i : ℕ) → TakesPending (facts_of roster past) e.thread e.call u y i → TakesBest roster past e y i
 takes_pending roster past e u y i k =
-    let all : takeable roster past e k.channel ≡ pending_items roster past k.channel =
-    ap (λ o. pending_items roster past k.channel ++ made_on k.channel o) (none_made roster e past k.makes_none) ∙ append-nil (pending_items roster past k.channel) in
+    let h : ℕ = k.request.channel in
+    let all : takeable roster past e h ≡ pending_items roster past h =
+    ap (λ o. pending_items roster past h ++ made_on h o) (none_made roster e past k.makes_none) ∙ append-nil (pending_items roster past h) in
     record {
-      call = e.call;
-      channel = k.channel;
-      kind = k.kind;
-      is_call = ap (call_at (e ∷ past)) k.call ∙ call_newest e past;
-      receives = k.receives;
-      best = ap (λ items. option_map (λ (item : Item). item.number) (best_of k.kind items)) all ∙ ap (option_map (λ (item : Item). item.number)) k.best ∙ ap (λ n. Some n) k.number;
+      request = k.request;
+      call = request_from (e ∷ past) y.call e.call k.request (ap (call_at (e ∷ past)) k.call ∙ call_newest e past) k.receives;
+      best = ap (λ items. option_map (λ (item : Item). item.number) (best_of k.request.kind items)) all ∙ ap (option_map (λ (item : Item). item.number)) k.best ∙ ap (λ n. Some n) k.number;
     }
 
 -- ---- a thread that waited takes what is made, since nothing that it may take was pending
@@ -56,22 +72,21 @@ takes_made roster past e u y i r l a k =
     ∙ rw (eqb_same k.made.channel) refl in
     let best : best_of k.kind (pending_items roster past k.made.channel ++ k.made.item ∷ []) ≡ Some k.made.item =
     best_behind k.kind (pending_items roster past k.made.channel) k.made.item (nothing_for roster past r l u k.waiting k.made.channel k.kind k.is_open k.waits) k.may in
+    let asks = asks_at (effect_of c.call).receives (k.made.channel, k.kind) (waits_for_asked (number_of b.block) c.call b.block c.asks_it ∙ sym (open_keeps waits_for roster past u k.waiting b held_waits_for buffer_waits_for) ∙ k.waits) in
     record {
-      call = c.call;
-      channel = k.made.channel;
-      kind = k.kind;
-      is_call = ap (call_at (e ∷ past)) (k.call ∙ b.number) ∙ call_earlier e past (number_of b.block) (block_below roster past u b.block b.is) ∙ c.is;
-      receives = waits_for_asked (number_of b.block) c.call b.block c.asks_it ∙ sym (open_keeps waits_for roster past u k.waiting b held_waits_for buffer_waits_for) ∙ k.waits;
-      best = ap (λ items. option_map (λ (item : Item). item.number) (best_of k.kind items)) all ∙ ap (option_map (λ (item : Item). item.number)) best ∙ ap (λ n. Some n) k.number;
+      request = asks.request;
+      call = request_from (e ∷ past) y.call c.call asks.request (ap (call_at (e ∷ past)) (k.call ∙ b.number) ∙ call_earlier e past (number_of b.block) (block_below roster past u b.block b.is) ∙ c.is) asks.is;
+      best = ap (λ place. option_map (λ (item : Item). item.number) (best_of place.1 (takeable roster past e place.0))) asks.at
+          ∙ ap (λ items. option_map (λ (item : Item). item.number) (best_of k.kind items)) all ∙ ap (option_map (λ (item : Item). item.number)) best ∙ ap (λ n. Some n) k.number;
     }
 
 pub best_first : (roster : List Member) (past : Trace) → IsRoster roster → IsLawful roster past → BestFirst roster past
 best_first roster [] r l = tt
 best_first roster (e ∷ past) r l = (
+  best_first roster past r l.0,
   each_received (λ x i. TakesBest roster past e x i) roster past e.thread e.call e.endings l.2 (λ u y i a k.
       elim k as (λ _. TakesBest roster past e y i) [
         | inl k ↦ takes_pending roster past e u y i k
         | inr k ↦ takes_made roster past e u y i r l.0 a k
       ]),
-  best_first roster past r l.0,
 )

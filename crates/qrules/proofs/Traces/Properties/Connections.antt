@@ -2,15 +2,15 @@
 use Rattle.std.proofs.Common.{◌≡◌, ◌∙◌, ℕ, ◌+◌, List, [], ◌∷◌, length, refl, ap, sym, subst, cond, eqb, true, false}
 use Rattle.std.specs.Prelude.{Option, None, Some, is_some}
 use Rattle.std.specs.List.{AllByRecursion}
-use Rattle.std.specs.Option.{option_and_then}
+use Rattle.std.specs.Option.{option_and_then, option_map, option_or}
 use Rattle.std.proofs.lemmas.Option.{none-some, same_Some}
 use Rattle.qqueue.specs.declared.item.Item.{Item}
 use Rattle.qtables.specs.declared.connection.Connection.{Connection}
 use Rattle.qtables.specs.declared.member.Member.{Member}
-use Rattle.qrules.specs.Private.Headline.BestFirst.{takeable}
-use Rattle.qrules.specs.Private.Headline.CopiedExactly.{call_at}
-use Rattle.qrules.specs.Private.Effects.{makes, sends_over}
-use Rattle.qrules.specs.Private.Headline.SentOrder.{connection_of}
+use Rattle.qrules.specs.Properties.{connection_of, takeable}
+use Rattle.qrules.specs.Trace.{call_at}
+use Rattle.qrules.specs.Private.Effects.{makes}
+use Rattle.qrules.specs.Rules.{effect_of}
 use Rattle.qrules.specs.Private.Past.{item_of, pending_items, priority_before, attached_connection, made_on}
 use Rattle.qrules.specs.Private.Rows.{message_item, pulse_item, item_sent_over}
 use Rattle.qmodel.specs.Trace.{SentItem}
@@ -57,6 +57,10 @@ pub record IsOver (connection : ℕ → Option Connection) (k : ℕ) (m : SentIt
   pub over : Connection
   pub is : connection k ≡ Some over
   pub channel : m.channel ≡ over.channel
+
+-- the connection over which a call sends
+abbrev sends_over : Call → Option ℕ
+sends_over c = option_or (option_map (λ s. s.connection) (effect_of c).sends) (effect_of c).pulses_over
 
 sent_is_over : (connection : ℕ → Option Connection) (k : ℕ) (item : Item) (m : SentItem) → item_sent_over (connection k) item ≡ Some m → IsOver connection k m
 sent_is_over connection k item m e =

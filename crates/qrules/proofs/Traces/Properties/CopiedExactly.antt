@@ -17,7 +17,7 @@ use Rattle.qtables.specs.declared.member.Member.{Member}
 use Rattle.qrules.specs.Private.Answer.{ending, Answers}
 use Rattle.qrules.specs.Private.Calls.{row_of}
 use Rattle.qmodel.specs.Buffers.{buffer_of}
-use Rattle.qrules.specs.Private.Effects.{message_sent, replies_with, writes}
+use Rattle.qrules.specs.Private.Effects.{writes}
 use Rattle.qrules.specs.Private.Calls.Error.{error_finish}
 use Rattle.qrules.specs.Private.Calls.Info.{info_of, info_ending}
 use Rattle.qrules.specs.Private.Calls.Reply.{reply_finish}
@@ -25,7 +25,9 @@ use Rattle.qrules.specs.Private.Calls.Send as send
 use Rattle.qrules.specs.Private.Cancelling.{cancel_call, is_on, is_over}
 use Rattle.qrules.specs.Private.Facts.{Facts, message, message_in, sender, threads_of, route}
 use Rattle.qrules.specs.Private.Held.{Finish, refusal, reply_buffer, reply_buffer_in, reply_buffer_of}
-use Rattle.qrules.specs.Private.Headline.CopiedExactly.{CopiedExactly, IsCopied, buffer_at, buffer_by, call_at, message_at}
+use Rattle.qrules.specs.Properties.{buffer_at, message_at, CopiedExactly, IsCopied}
+use Rattle.qrules.specs.Rules.{effect_of}
+use Rattle.qrules.specs.Trace.{call_at}
 use Rattle.qrules.specs.Private.Lawful.{facts_of, IsLawful}
 use Rattle.qrules.specs.Private.Past.{open_call, refuses}
 use Rattle.qrules.specs.Private.Rows.{receipt_ending}
@@ -47,7 +49,7 @@ use Rattle.qrules.proofs.Traces.Past.Open.{open_below}
 use Rattle.qrules.proofs.Traces.Past.Receipts.{best_pending}
 use Rattle.qrules.proofs.Traces.Past.Senders.{sender_sends}
 use Rattle.qrules.proofs.Traces.Past.Writes.{writes_beyond, writes_nothing, writes_refused}
-use Rattle.qrules.proofs.Traces.Properties.Messages.{open_buffer, open_message, pending_message}
+use Rattle.qrules.proofs.Traces.Properties.Messages.{buffer_by, message_sent, open_buffer, open_message, pending_message}
 use Rattle.qrules.proofs.Traces.Properties.Receipts.{ending_of}
 use Rattle.qrules.proofs.Traces.Laying.{lay_nothing, count_nothing}
 use Rattle.qrules.proofs.Traces.Properties.Rows.Receiving.{ReceiveTakes, receive_takes}
@@ -133,16 +135,16 @@ taking_copied past e m u item buffer bytes y b s is = subst (λ (x : Completion)
   by false s = rw (b, s refl) (refl, refl)
 
 -- the bytes of a Reply are laid over the buffer
-replied_copied : (past : Trace) (e : Event) (m u : ℕ) (status : ℤ) (bytes buffer : List ℕ) (y : Completion) → replies_with e.call ≡ Some (status, bytes) → buffer_at (e ∷ past) m ≡ buffer → answering m u (reply_finish status bytes) buffer ≡ y
+replied_copied : (past : Trace) (e : Event) (m u : ℕ) (status : ℤ) (bytes buffer : List ℕ) (y : Completion) → (effect_of e.call).replies ≡ Some (status, bytes) → buffer_at (e ∷ past) m ≡ buffer → answering m u (reply_finish status bytes) buffer ≡ y
     → IsCopied past e y y.mark
-replied_copied past e m u status bytes buffer y says b is = subst (λ (x : Completion). IsCopied past e x x.mark) is (bytes, says, rw b refl, rw b refl)
+replied_copied past e m u status bytes buffer y says b is = subst (λ (x : Completion). IsCopied past e x x.mark) is (bytes, says, (rw b refl, rw b refl))
 
 -- an Error leaves the buffer
-errored_copied : (past : Trace) (e : Event) (m u : ℕ) (code : ℤ) (buffer : List ℕ) (y : Completion) → replies_with e.call ≡ cond (int_eq code (pos 0)) (Some (pos 0, [])) None → buffer_at (e ∷ past) m ≡ buffer → answering m u (error_finish code) buffer ≡ y
+errored_copied : (past : Trace) (e : Event) (m u : ℕ) (code : ℤ) (buffer : List ℕ) (y : Completion) → (effect_of e.call).replies ≡ cond (int_eq code (pos 0)) (Some (pos 0, [])) None → buffer_at (e ∷ past) m ≡ buffer → answering m u (error_finish code) buffer ≡ y
     → IsCopied past e y y.mark
 errored_copied past e m u code buffer y says b is = subst (λ (x : Completion). IsCopied past e x x.mark) is (
-    elim (int_eq code (pos 0)) as (λ t. replies_with e.call ≡ cond t (Some (pos 0, [])) None → IsCopied past e (record { call = m; thread = u; mark = cond t (mark.Replied (pos 0) 0) (mark.Errored code); buffer = buffer }) (cond t (mark.Replied (pos 0) 0) (mark.Errored code))) [
-      | true ↦ λ says. ([], says, rw b (lay_nothing buffer), rw b (count_nothing buffer))
+    elim (int_eq code (pos 0)) as (λ t. (effect_of e.call).replies ≡ cond t (Some (pos 0, [])) None → IsCopied past e (record { call = m; thread = u; mark = cond t (mark.Replied (pos 0) 0) (mark.Errored code); buffer = buffer }) (cond t (mark.Replied (pos 0) 0) (mark.Errored code))) [
+      | true ↦ λ says. ([], says, (rw b (lay_nothing buffer), rw b (count_nothing buffer)))
       | false ↦ λ says. sym b
     ] says)
 
@@ -259,4 +261,4 @@ all_copied roster past t c X l a = elim a [
 
 pub copied_exactly : (roster : List Member) (past : Trace) → IsLawful roster past → CopiedExactly past
 copied_exactly roster [] l = tt
-copied_exactly roster (e ∷ past) l = (all_copied roster past e.thread e.call e.endings l.0 l.2, copied_exactly roster past l.0)
+copied_exactly roster (e ∷ past) l = (copied_exactly roster past l.0, all_copied roster past e.thread e.call e.endings l.0 l.2)

@@ -1,5 +1,5 @@
 -- Lists of numbers of which no two are equal.
-use Rattle.std.proofs.Common.{◌≡◌, ℕ, ◌<◌, List, [], ◌∷◌, ◌++◌, refl, ap, eqb, false}
+use Rattle.std.proofs.Common.{◌≡◌, ℕ, ◌<◌, List, [], ◌∷◌, ◌++◌, map, refl, ap, eqb, false}
 use Rattle.std.specs.Prelude.{Option, None, Some}
 use Rattle.std.specs.List.{filter_map, cons_option, AllByRecursion}
 use Rattle.std.specs.Option.{option_and_then}
@@ -7,7 +7,7 @@ use Rattle.qtables.specs.declared.member.Member.{Member}
 use Rattle.qtables.specs.Members.{IsRoster}
 use Rattle.qmodel.specs.declared.call.Completion.{Completion}
 use Rattle.qrules.specs.Private.Facts.{threads_of}
-use Rattle.qrules.specs.Private.Headline.ReceivedOnce.{AllDifferent, calls_ended}
+use Rattle.qrules.specs.Properties.{AllDifferent}
 use Rattle.qbase.proofs.Lists.{all_append}
 
 -- a number is none of these
@@ -26,9 +26,9 @@ filter_map_twice {X} {Y} {Z} k g (x ∷ xs) =
       | Some y ↦ ap (λ rest. cons_option (k y) rest) (filter_map_twice k g xs)
     ]
 
-pub calls_ended_as : (endings : List Completion) → calls_ended endings ≡ filter_map (λ x. Some x.call) endings
-calls_ended_as [] = refl
-calls_ended_as (x ∷ endings) = ap (λ rest. x.call ∷ rest) (calls_ended_as endings)
+pub calls_as : (endings : List Completion) → map (λ x. x.call) endings ≡ filter_map (λ x. Some x.call) endings
+calls_as [] = refl
+calls_as (x ∷ endings) = ap (λ rest. x.call ∷ rest) (calls_as endings)
 
 -- two threads are given different numbers
 abbrev pub GivesDifferent : (ℕ → Option ℕ) → Type 0

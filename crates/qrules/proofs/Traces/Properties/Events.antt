@@ -7,7 +7,7 @@ use Rattle.std.proofs.lemmas.Option.{none-some}
 use Rattle.qtables.specs.declared.member.Member.{Member}
 use Rattle.qrules.specs.Private.Answer.{ending, Outcome, Answers}
 use Rattle.qrules.specs.Private.Facts.{Facts, threads_of}
-use Rattle.qrules.specs.Private.Headline.ReceivedOnce.{number_received}
+use Rattle.qrules.specs.Properties.{number_received}
 use Rattle.qrules.specs.Private.Lawful.{facts_of}
 use Rattle.qrules.specs.Private.Past.{is_accepted, item_of}
 use Rattle.qrules.specs.Private.Effects.{makes}

@@ -1,20 +1,22 @@
 -- The messages and buffers of open calls are those that their calls brought, and a message that is pending has its Send open.
 use Rattle.std.proofs.Common.{◌≡◌, ◌∙◌, ℕ, ◌+◌, List, [], ◌∷◌, length, refl, ap, sym, subst, cond, eqb, true, false}
-use Rattle.std.specs.Prelude.{None, Some, not, ◌&&◌}
+use Rattle.std.specs.Prelude.{None, Some, is_some, not, ◌&&◌}
 use Rattle.std.specs.Option.{option_and_then, option_map_or}
 use Rattle.std.proofs.lemmas.Bool.{eqb-true, or_parts, and_parts, true≢false}
 use Rattle.std.proofs.lemmas.Option.{none-some, same_Some}
 use Rattle.qqueue.specs.Best.{is_pulse}
 use Rattle.qqueue.specs.declared.item.Item.{Item}
 use Rattle.qtables.specs.declared.member.Member.{Member}
-use Rattle.qrules.specs.Private.Facts.{message, message_in, message_of, sender, threads_of, is_send}
-use Rattle.qrules.specs.Private.Effects.{message_sent as message_in_call}
-use Rattle.qrules.specs.Private.Headline.CopiedExactly.{buffer_at, buffer_by, message_at}
+use Rattle.qrules.specs.Private.Cancelling.{buffer_of_wait}
+use Rattle.qrules.specs.Private.Facts.{is_for_answer, message, message_in, message_of, sender, threads_of, is_send}
+use Rattle.qrules.specs.Properties.{buffer_at, message_at}
+use Rattle.qrules.specs.Rule.{buffer_of}
+use Rattle.qrules.specs.Rules.{effect_of}
 use Rattle.qrules.specs.Private.Lawful.{facts_of, IsLawful}
-use Rattle.qrules.specs.Private.Past.{has_ending_of, call_by_now, is_ended, item_of, newest_block, open_call, priority_of_item, copied_count_of, with_writes}
+use Rattle.qrules.specs.Private.Past.{has_ending_of, call_by_now, wait_with_receipt, is_ended, item_of, newest_block, open_call, priority_of_item, copied_count_of, with_receipt, with_writes}
 use Rattle.qrules.specs.Private.Facts.{Facts}
 use Rattle.qrules.specs.Private.Effects.{asks, makes}
-use Rattle.qrules.specs.Private.Rows.{pulse_item}
+use Rattle.qrules.specs.Private.Rows.{pulse_item, with_buffer}
 use Rattle.qmodel.specs.Trace.{SentItem}
 use Rattle.qmodel.specs.Trace.{Event, Trace}
 use Rattle.qmodel.specs.declared.call.Call.{Call}
@@ -26,8 +28,7 @@ use Rattle.qrules.proofs.Traces.Calls.Delivering.{sent_item}
 use Rattle.qrules.proofs.Traces.Past.Ends.{open_known, passes_of}
 use Rattle.qrules.proofs.Traces.Past.Items.{item_accepted, IsPending, item_at}
 use Rattle.qbase.proofs.Lists.{eqb_same}
-use Rattle.qrules.proofs.Traces.Past.Numbers.{blocks, blocks_thread, block_asked}
-use Rattle.qrules.proofs.Traces.Past.Open.{filled_answer, open_from, open_parts, open_thread, receipt_for_answer, receipt_number, is_unblocked}
+use Rattle.qrules.proofs.Traces.Past.Numbers.{blocks, blocks_thread, block_asked, filled_answer, open_from, open_parts, open_thread, receipt_for_answer, receipt_number, is_unblocked}
 use Rattle.qrules.proofs.Traces.Calls.{call_laws}
 use Rattle.qrules.proofs.Traces.Past.Senders.{send_from, send_parts, sender_found}
 use Rattle.qrules.proofs.Traces.Properties.Events.{outcome_of}
@@ -39,10 +40,18 @@ use Rattle.qrules.proofs.Traces.Due.{unblock_same}
 
 -- ---- what a call brings is what it waits with
 
+-- the bytes of the message that a call sends
+abbrev pub message_sent : Call → List ℕ
+message_sent c = option_map_or (λ s. s.message) (effect_of c).sends []
+
+-- the buffer of call i, where it is this call
+abbrev pub buffer_by : Trace → ℕ → Call → List ℕ
+buffer_by past i c = cond (is_some (effect_of c).sends) (with_writes past i (buffer_of (effect_of c))) (buffer_of (effect_of c))
+
 -- a call that begins to wait keeps its buffer, which is written over, and its message
 pub record Keeps (past : Trace) (n : ℕ) (c : Call) (b : OpenCall) : Type 0 where
   pub buffer : buffer_by past n c ≡ buffer_of_wait (with_buffer (with_writes past n) b)
-  pub sent : message_in_call c ≡ message_of b
+  pub sent : message_sent c ≡ message_of b
 
 pub keeps : (past : Trace) (n : ℕ) (c : Call) (b : OpenCall) → asks n c ≡ Some b → Keeps past n c b
 keeps past n (ReceivePulse chid) b e = subst (Keeps past n (ReceivePulse chid)) (same_Some _ b e) (record { buffer = refl; sent = refl })
@@ -74,7 +83,7 @@ pub open_message : (roster : List Member) (past : Trace) (u : ℕ) (o : OpenCall
 open_message roster past u o is =
     let k = open_parts roster past u o is in
     let a = block_asked roster past u k.block k.is in
-    ap (message_at past) k.number ∙ ap (λ c. option_map_or message_in_call c []) a.is ∙ (keeps past (number_of k.block) a.call k.block a.asks_it).sent ∙ sym (open_keeps message_of roster past u o k held_message buffer_message)
+    ap (message_at past) k.number ∙ ap (λ c. option_map_or message_sent c []) a.is ∙ (keeps past (number_of k.block) a.call k.block a.asks_it).sent ∙ sym (open_keeps message_of roster past u o k held_message buffer_message)
 
 -- ---- a message that is pending has its Send open
 

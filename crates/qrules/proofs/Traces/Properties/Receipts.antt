@@ -17,8 +17,10 @@ use Rattle.qrules.specs.Private.Calls.Reply.{reply_finish}
 use Rattle.qrules.specs.Private.Calls.Send.{item}
 use Rattle.qrules.specs.Private.Cancelling.{is_on}
 use Rattle.qrules.specs.Private.Facts.{Facts, message, sender, route}
-use Rattle.qrules.specs.Private.Effects.{makes, receives_on}
-use Rattle.qrules.specs.Private.Headline.ReceivedOnce.{number_received}
+use Rattle.qrules.specs.Private.Effects.{makes}
+use Rattle.qrules.specs.Rule.{ReceiveRequest}
+use Rattle.qrules.specs.Rules.{effect_of}
+use Rattle.qrules.specs.Properties.{number_received}
 use Rattle.qrules.specs.Private.Rows.{item_in}
 use Rattle.qmodel.specs.Trace.{SentItem}
 use Rattle.qmodel.specs.declared.call.Call.{Call}
@@ -72,12 +74,11 @@ waits_for (ForItem chid kind buffer) = Some (chid, kind)
 pub record TakesPending (f : Facts) (t : ℕ) (c : Call) (u : ℕ) (y : Completion) (i : ℕ) : Type 0 where
   pub caller : u ≡ t
   pub call : y.call ≡ f.number
-  pub channel : ℕ
-  pub kind : Kind
+  pub request : ReceiveRequest
   pub item : Item
-  pub receives : receives_on c ≡ Some (channel, kind)
+  pub receives : (effect_of c).receives ≡ Some request
   pub makes_none : makes f t c ≡ None
-  pub best : best_of kind (f.pending channel) ≡ Some item
+  pub best : best_of request.kind (f.pending request.channel) ≡ Some item
   pub number : item.number ≡ i
 
 -- a thread that waited takes the item that the call makes
@@ -96,13 +97,12 @@ abbrev pub TakesOne : Facts → ℕ → Call → ℕ → Completion → ℕ → 
 TakesOne f t c u y i = TakesPending f t c u y i ⊎ TakesMade f t c u y i
 
 -- a receive that takes the best
-takes_best : (f : Facts) (t : ℕ) (c : Call) (chid : ℕ) (kind : Kind) (buffer : List ℕ) (u : ℕ) (y : Completion) (p : ReceivedItem) → u ≡ t → receives_on c ≡ Some (chid, kind) → makes f t c ≡ None
+takes_best : (f : Facts) (t : ℕ) (c : Call) (chid : ℕ) (kind : Kind) (buffer : List ℕ) (u : ℕ) (y : Completion) (p : ReceivedItem) → u ≡ t → (effect_of c).receives ≡ Some (record { channel = chid; kind = kind; buffer = buffer }) → makes f t c ≡ None
     → ReceiveTakes f t chid kind buffer y → item_in y.mark ≡ Some p → TakesOne f t c u y p.number
 takes_best f t c chid kind buffer u y p same receives none r m = inl (record {
   caller = same;
   call = sym (ap (λ x. x.call) r.ending);
-  channel = chid;
-  kind = kind;
+  request = record { channel = chid; kind = kind; buffer = buffer };
   item = r.item;
   receives = receives;
   makes_none = none;

@@ -1,33 +1,34 @@
 -- No item is received twice, none before it was made, and no call is ended twice.
-use Rattle.std.proofs.Common.{◌≡◌, ◌≢◌, ◌∙◌, ℕ, ◌+◌, ◌≤◌, List, [], ◌∷◌, ◌++◌, length, refl, ap, sym, subst, arith, cond, eqb, Bool, true, false, inl, inr}
-use Rattle.std.specs.Prelude.{Option, None, Some, is_some, ◌||◌}
-use Rattle.std.specs.List.{AllByRecursion, filter_map, cons_option, list_any}
-use Rattle.std.specs.Option.{option_map, option_to_list, option_or}
-use Rattle.std.proofs.lemmas.Bool.{or_parts, ne_eqb, eqb-false, eqb-true, eq-eqb, true≢false}
+use Rattle.std.proofs.Common.{◌≡◌, ◌≢◌, ◌∙◌, ℕ, ◌+◌, ◌≤◌, List, [], ◌∷◌, ◌++◌, length, map, refl, ap, sym, subst, arith, cond, eqb, true, false, inl, inr}
+use Rattle.std.specs.Prelude.{Option, None, Some, is_some}
+use Rattle.std.specs.List.{AllByRecursion, filter_map, cons_option}
+use Rattle.std.specs.Option.{option_map, option_or}
+use Rattle.std.proofs.lemmas.Bool.{or_parts, ne_eqb, eqb-false, true≢false}
 use Rattle.std.proofs.lemmas.List.{map-append}
 use Rattle.std.proofs.lemmas.List.Elements.{filter_map-append}
-use Rattle.std.proofs.lemmas.Option.{none-some, same_Some, option_and_then_some}
-use Rattle.std.proofs.Math.Bool.{or-true}
+use Rattle.std.proofs.lemmas.Option.{same_Some, option_and_then_some}
 use Rattle.qtables.specs.declared.member.Member.{Member}
 use Rattle.qtables.specs.Members.{IsRoster}
 use Rattle.qrules.specs.Private.Answer.{ending, Answers, Outcome}
 use Rattle.qrules.specs.Private.Facts.{Facts, threads_of}
-use Rattle.qrules.specs.Private.Headline.ReceivedOnce.{AllDifferent, NoneEarly, ReceivedOnce, calls_ended, number_received, items_received, is_made}
+use Rattle.qrules.specs.Properties.{AllDifferent, ReceivedOnce, items, number_received}
+use Rattle.qrules.specs.Past.{item_among}
+use Rattle.qrules.specs.Trace.{InEachEvent}
 use Rattle.qrules.specs.Trace.{endings_of}
 use Rattle.qrules.specs.Private.Lawful.{facts_of, IsLawful}
-use Rattle.qrules.specs.Private.Past.{copied_count_in, has_ending_of, is_ended, is_received, item_of, items, copied_count_among, copied_count_of}
+use Rattle.qrules.specs.Private.Past.{copied_count_in, has_ending_of, is_ended, is_received, copied_count_among, copied_count_of}
 use Rattle.qrules.specs.Private.Rows.{item_in}
 use Rattle.qmodel.specs.Trace.{SentItem}
-use Rattle.qmodel.specs.Trace.{Trace}
+use Rattle.qmodel.specs.Trace.{Event, Trace}
 use Rattle.qmodel.specs.declared.call.Call.{Call}
 use Rattle.qmodel.specs.declared.call.Completion.{Completion}
 use Rattle.qrules.proofs.Traces.Past.Ends.{ending_names, laws_of, not_ended, other_below}
-use Rattle.qrules.proofs.Traces.Past.Items.{IsPending, item_at, item_below, item_earlier, item_newest, made_by}
+use Rattle.qrules.proofs.Traces.Past.Items.{IsPending, item_at, item_below, item_earlier, item_found, item_newest}
 use Rattle.qrules.proofs.Traces.Calls.{call_laws}
 use Rattle.qbase.proofs.Lists.{all_append, all_map, all_more}
 use Rattle.qrules.proofs.Traces.Past.Open.{open_thread}
 use Rattle.qrules.proofs.Traces.Past.Receipts.{best_pending, ending_receives, receipt_beyond}
-use Rattle.qrules.proofs.Traces.Properties.Different.{IsNoneOf, different_append, different_kept, calls_ended_as}
+use Rattle.qrules.proofs.Traces.Properties.Different.{IsNoneOf, different_append, different_kept, calls_as}
 use Rattle.qrules.proofs.Traces.Properties.Receipts.{TakesPending, TakesMade, receives_it}
 use Rattle.qrules.proofs.Traces.Properties.Events.{each_received, made_now}
 
@@ -55,9 +56,9 @@ different_calls roster past t c X a u v y z apart yis zis =
     ]
 
 -- the endings of one event are of different calls
-event_calls : (roster : List Member) (past : Trace) (t : ℕ) (c : Call) (X : List Completion) → IsRoster roster → Answers (facts_of roster past) t c X → AllDifferent (calls_ended X)
+event_calls : (roster : List Member) (past : Trace) (t : ℕ) (c : Call) (X : List Completion) → IsRoster roster → Answers (facts_of roster past) t c X → AllDifferent (map (λ x. x.call) X)
 event_calls roster past t c X r a = elim a [
-  | inl a ↦ rw (a.1, calls_ended_as (filter_map (ending (facts_of roster past) t c) (threads_of roster)))
+  | inl a ↦ rw (a.1, calls_as (filter_map (ending (facts_of roster past) t c) (threads_of roster)))
       (different_kept (λ x. Some x.call) (ending (facts_of roster past) t c) roster r (λ u v i j less eu ev.
       option_and_then_some (λ (x : Completion). Some x.call) (ending (facts_of roster past) t c u) i eu (λ y yis yi.
       option_and_then_some (λ (x : Completion). Some x.call) (ending (facts_of roster past) t c v) j ev (λ z zis zj.
@@ -66,34 +67,34 @@ event_calls roster past t c X r a = elim a [
   | inr a ↦ rw (a.2) (tt, tt)
 ]
 
-none_ends : (X : List Completion) (i : ℕ) → has_ending_of X i ≡ false → IsNoneOf i (calls_ended X)
+none_ends : (X : List Completion) (i : ℕ) → has_ending_of X i ≡ false → IsNoneOf i (map (λ x. x.call) X)
 none_ends [] i e = tt
 none_ends (x ∷ X) i e = let p = or_parts _ _ e in (eqb_flip x.call i p.0, none_ends X i p.1)
 
 -- a call that isn't ended is none of those that are
-unended : (past : Trace) (i : ℕ) → is_ended past i ≡ false → IsNoneOf i (calls_ended (endings_of past))
+unended : (past : Trace) (i : ℕ) → is_ended past i ≡ false → IsNoneOf i (map (λ x. x.call) (endings_of past))
 unended [] i e = tt
 unended (e ∷ past) i is =
     let p = or_parts (has_ending_of e.endings i) (is_ended past i) is in
     rw (map-append (λ (x : Completion). x.call) e.endings (endings_of past))
-    (all_append (λ m. eqb i m ≡ false) (calls_ended e.endings) (calls_ended (endings_of past)) (none_ends e.endings i p.0) (unended past i p.1))
+    (all_append (λ m. eqb i m ≡ false) (map (λ x. x.call) e.endings) (map (λ x. x.call) (endings_of past)) (none_ends e.endings i p.0) (unended past i p.1))
 
-pub each_call : (roster : List Member) (past : Trace) → IsRoster roster → IsLawful roster past → AllDifferent (calls_ended (endings_of past))
+pub each_call : (roster : List Member) (past : Trace) → IsRoster roster → IsLawful roster past → AllDifferent (map (λ x. x.call) (endings_of past))
 each_call roster [] r l = tt
 each_call roster (e ∷ past) r l =
     rw (map-append (λ (x : Completion). x.call) e.endings (endings_of past))
-    (different_append (calls_ended e.endings) (calls_ended (endings_of past))
+    (different_append (map (λ x. x.call) e.endings) (map (λ x. x.call) (endings_of past))
     (event_calls roster past e.thread e.call e.endings r l.2)
     (each_call roster past r l.0)
-    (all_map (λ i. IsNoneOf i (calls_ended (endings_of past))) (λ x. x.call) e.endings
-    (all_more (λ x. is_ended past x.call ≡ false) (λ x. IsNoneOf x.call (calls_ended (endings_of past))) e.endings
+    (all_map (λ i. IsNoneOf i (map (λ x. x.call) (endings_of past))) (λ x. x.call) e.endings
+    (all_more (λ x. is_ended past x.call ≡ false) (λ x. IsNoneOf x.call (map (λ x. x.call) (endings_of past))) e.endings
     (not_ended roster past e.thread e.call e.endings l.0 l.2) (λ x is. unended past x.call is))))
 
 -- ---- no item is received twice
 
 -- what the caller takes was pending
-pending_taken : (roster : List Member) (past : Trace) (t : ℕ) (c : Call) (u : ℕ) (y : Completion) (i : ℕ) (k : TakesPending (facts_of roster past) t c u y i) → IsPending roster past k.channel k.item
-pending_taken roster past t c u y i k = best_pending roster past k.channel k.kind k.item k.best
+pending_taken : (roster : List Member) (past : Trace) (t : ℕ) (c : Call) (u : ℕ) (y : Completion) (i : ℕ) (k : TakesPending (facts_of roster past) t c u y i) → IsPending roster past k.request.channel k.item
+pending_taken roster past t c u y i k = best_pending roster past k.request.channel k.request.kind k.item k.best
 
 -- the item that a call makes has its number
 made_number : (f : Facts) (t : ℕ) (c : Call) (u : ℕ) (y : Completion) (i : ℕ) → TakesMade f t c u y i → i ≡ f.number
@@ -109,7 +110,7 @@ all_kept {Y} {Z} P k (x ∷ xs) a =
 
 -- what an event receives wasn't taken before
 untaken_yet : (roster : List Member) (past : Trace) (t : ℕ) (c : Call) (X : List Completion) → IsLawful roster past → Answers (facts_of roster past) t c X
-    → AllByRecursion (λ i. is_received past i ≡ false) (items_received X)
+    → AllByRecursion (λ i. is_received past i ≡ false) (filter_map number_received X)
 untaken_yet roster past t c X l a = all_kept (λ i. is_received past i ≡ false) number_received X (each_received (λ x i. is_received past i ≡ false) roster past t c X a (λ u y i _ k.
     elim k as (λ _. is_received past i ≡ false) [
       | inl k ↦ let b = pending_taken roster past t c u y i k in subst (λ j. is_received past j ≡ false) k.number (or_parts _ _ b.stays).0
@@ -117,7 +118,7 @@ untaken_yet roster past t c X l a = all_kept (λ i. is_received past i ≡ false
     ]))
 
 -- the endings of one event receive different items: there is one receipt at most
-event_items : (roster : List Member) (past : Trace) (t : ℕ) (c : Call) (X : List Completion) → IsRoster roster → Answers (facts_of roster past) t c X → AllDifferent (items_received X)
+event_items : (roster : List Member) (past : Trace) (t : ℕ) (c : Call) (X : List Completion) → IsRoster roster → Answers (facts_of roster past) t c X → AllDifferent (filter_map number_received X)
 event_items roster past t c X r a = elim a [
   | inl a ↦ rw (a.1) (different_kept number_received (ending (facts_of roster past) t c) roster r (λ u v i j less eu ev.
       let f = facts_of roster past in
@@ -131,74 +132,66 @@ event_items roster past t c X r a = elim a [
   | inr a ↦ rw (a.2) tt
 ]
 
-none_received : (X : List Completion) (i : ℕ) → is_some (copied_count_among X i) ≡ false → IsNoneOf i (items_received X)
+none_received : (X : List Completion) (i : ℕ) → is_some (copied_count_among X i) ≡ false → IsNoneOf i (filter_map number_received X)
 none_received [] i e = tt
 none_received (x ∷ X) i e =
-    elim (item_in x.mark) as (λ o. is_some (option_or (copied_count_in i o) (copied_count_among X i)) ≡ false → IsNoneOf i (cons_option (option_map (λ r. r.number) o) (items_received X))) [
+    elim (item_in x.mark) as (λ o. is_some (option_or (copied_count_in i o) (copied_count_among X i)) ≡ false → IsNoneOf i (cons_option (option_map (λ r. r.number) o) (filter_map number_received X))) [
       | None ↦ λ h. none_received X i h
       | Some r ↦ λ h.
-          elim (eqb r.number i) as (λ b. eqb r.number i ≡ b → is_some (option_or (cond b (Some r.copied) None) (copied_count_among X i)) ≡ false → IsNoneOf i (r.number ∷ items_received X)) [
+          elim (eqb r.number i) as (λ b. eqb r.number i ≡ b → is_some (option_or (cond b (Some r.copied) None) (copied_count_among X i)) ≡ false → IsNoneOf i (r.number ∷ filter_map number_received X)) [
             | true ↦ λ same s. absurd (true≢false s)
             | false ↦ λ other s. (eqb_flip r.number i other, none_received X i s)
           ] refl h
     ] e
 
 -- an item that isn't taken is none of those that are
-untaken : (past : Trace) (i : ℕ) → is_received past i ≡ false → IsNoneOf i (items_received (endings_of past))
+untaken : (past : Trace) (i : ℕ) → is_received past i ≡ false → IsNoneOf i (filter_map number_received (endings_of past))
 untaken [] i e = tt
 untaken (e ∷ past) i is =
-    elim (copied_count_among e.endings i) as (λ o. copied_count_among e.endings i ≡ o → is_some (option_or o (copied_count_of past i)) ≡ false → IsNoneOf i (items_received (e.endings ++ endings_of past))) [
+    elim (copied_count_among e.endings i) as (λ o. copied_count_among e.endings i ≡ o → is_some (option_or o (copied_count_of past i)) ≡ false → IsNoneOf i (filter_map number_received (e.endings ++ endings_of past))) [
       | None ↦ λ none s. rw (filter_map-append number_received e.endings (endings_of past))
-          (all_append (λ m. eqb i m ≡ false) (items_received e.endings) (items_received (endings_of past)) (none_received e.endings i (ap is_some none)) (untaken past i s))
+          (all_append (λ m. eqb i m ≡ false) (filter_map number_received e.endings) (filter_map number_received (endings_of past)) (none_received e.endings i (ap is_some none)) (untaken past i s))
       | Some copied ↦ λ some s. absurd (true≢false s)
     ] refl is
 
-pub each_item : (roster : List Member) (past : Trace) → IsRoster roster → IsLawful roster past → AllDifferent (items_received (endings_of past))
+pub each_item : (roster : List Member) (past : Trace) → IsRoster roster → IsLawful roster past → AllDifferent (filter_map number_received (endings_of past))
 each_item roster [] r l = tt
 each_item roster (e ∷ past) r l =
     rw (filter_map-append number_received e.endings (endings_of past))
-    (different_append (items_received e.endings) (items_received (endings_of past))
+    (different_append (filter_map number_received e.endings) (filter_map number_received (endings_of past))
     (event_items roster past e.thread e.call e.endings r l.2)
     (each_item roster past r l.0)
-    (all_more (λ i. is_received past i ≡ false) (λ i. IsNoneOf i (items_received (endings_of past))) (items_received e.endings)
+    (all_more (λ i. is_received past i ≡ false) (λ i. IsNoneOf i (filter_map number_received (endings_of past))) (filter_map number_received e.endings)
     (untaken_yet roster past e.thread e.call e.endings l.0 l.2) (λ i is. untaken past i is)))
 
 -- ---- none before it was made
 
-pub any_first : (p : SentItem → Bool) (xs ys : List SentItem) → list_any p xs ≡ true → list_any p (xs ++ ys) ≡ true
-any_first p [] ys e = absurd (true≢false (sym e))
-any_first p (x ∷ xs) ys e =
-    elim (p x) as (λ b. (b || list_any p xs) ≡ true → (b || list_any p (xs ++ ys)) ≡ true) [ true ↦ λ h. refl | false ↦ λ h. any_first p xs ys h ] e
-
-pub any_last : (p : SentItem → Bool) (xs : List SentItem) (y : SentItem) → p y ≡ true → list_any p (xs ++ y ∷ []) ≡ true
-any_last p [] y e = rw e refl
-any_last p (x ∷ xs) y e = rw (any_last p xs y e) (or-true (p x))
-
 -- an item that was made is among all items
-is_made_at : (roster : List Member) (past : Trace) (i : ℕ) (m : SentItem) → item_at roster past i ≡ Some m → is_made roster past i ≡ true
-is_made_at roster [] i m is = absurd (none-some m is)
-is_made_at roster (e ∷ past) i m is =
-    elim (eqb i (length past + 1)) as (λ b. eqb i (length past + 1) ≡ b → cond b (item_of roster e past) (item_at roster past i) ≡ Some m → is_made roster (e ∷ past) i ≡ true) [
-      | true ↦ λ same at. rw at (any_last (λ k. eqb k.item.number i) (items roster past) m (eq-eqb m.item.number i ((made_by roster e past m at).number ∙ sym (eqb-true _ _ same))))
-      | false ↦ λ other at. any_first (λ k. eqb k.item.number i) (items roster past) (option_to_list (item_of roster e past)) (is_made_at roster past i m at)
-    ] refl is
+is_made_at : (roster : List Member) (past : Trace) (i : ℕ) (m : SentItem) → item_at roster past i ≡ Some m → is_some (item_among (items roster past) i) ≡ true
+is_made_at roster past i m is = ap is_some (item_found roster past i m is)
 
-none_early : (roster : List Member) (past : Trace) → IsLawful roster past → NoneEarly roster past
+-- what an event receives is made by then
+early : (roster : List Member) (past : Trace) (e : Event) → Answers (facts_of roster past) e.thread e.call e.endings
+    → AllByRecursion (λ i. is_some (item_among (items roster (e ∷ past)) i) ≡ true) (filter_map number_received e.endings)
+early roster past e a =
+    let Made = λ (i : ℕ). is_some (item_among (items roster (e ∷ past)) i) ≡ true in
+    all_kept Made number_received e.endings (each_received (λ x i. Made i) roster past e.thread e.call e.endings a (λ u y i o k.
+    elim k as (λ _. Made i) [
+      | inl k ↦
+          let b = pending_taken roster past e.thread e.call u y i k in
+          let before : SentItem = record { item = b.first; channel = k.request.channel } in
+          subst Made k.number
+          (is_made_at roster (e ∷ past) k.item.number before
+          (item_earlier roster e past k.item.number (item_below roster past k.item.number before b.made) ∙ b.made))
+      | inr k ↦
+          subst Made (sym (made_number (facts_of roster past) e.thread e.call u y i k))
+          (is_made_at roster (e ∷ past) (length past + 1) k.made (item_newest roster e past ∙ made_now roster e past k.made o k.is_made))
+    ]))
+
+none_early : (roster : List Member) (past : Trace) → IsLawful roster past
+    → InEachEvent (λ past e. AllByRecursion (λ i. is_some (item_among (items roster (e ∷ past)) i) ≡ true) (filter_map number_received e.endings)) past
 none_early roster [] l = tt
-none_early roster (e ∷ past) l = (
-  all_kept (λ i. is_made roster (e ∷ past) i ≡ true) number_received e.endings (each_received (λ x i. is_made roster (e ∷ past) i ≡ true) roster past e.thread e.call e.endings l.2 (λ u y i a k.
-      elim k as (λ _. is_made roster (e ∷ past) i ≡ true) [
-        | inl k ↦
-            let b = pending_taken roster past e.thread e.call u y i k in
-            subst (λ j. is_made roster (e ∷ past) j ≡ true) k.number
-            (is_made_at roster (e ∷ past) k.item.number (record { item = b.first; channel = k.channel })
-            (item_earlier roster e past k.item.number (item_below roster past k.item.number (record { item = b.first; channel = k.channel }) b.made) ∙ b.made))
-        | inr k ↦
-            subst (λ j. is_made roster (e ∷ past) j ≡ true) (sym (made_number (facts_of roster past) e.thread e.call u y i k))
-            (is_made_at roster (e ∷ past) (length past + 1) k.made (item_newest roster e past ∙ made_now roster e past k.made a k.is_made))
-      ])),
-  none_early roster past l.0,
-)
+none_early roster (e ∷ past) l = (none_early roster past l.0, early roster past e l.2)
 
 pub received_once : (roster : List Member) (past : Trace) → IsRoster roster → IsLawful roster past → ReceivedOnce roster past
 received_once roster past r l = record { each_item = each_item roster past r l; none_early = none_early roster past l; each_call = each_call roster past r l }

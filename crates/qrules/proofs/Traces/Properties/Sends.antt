@@ -1,26 +1,24 @@
 -- A Send that waits: its thread, and the connection and channel of its item.
-use Rattle.std.proofs.Common.{◌≡◌, ◌≢◌, ◌∙◌, ℕ, ◌+◌, ◌≤◌, List, [], ◌∷◌, ◌++◌, length, refl, ap, sym, subst, arith, cond, eqb, true, false, inl, inr, ◌⊎◌}
+use Rattle.std.proofs.Common.{◌≡◌, ◌∙◌, ℕ, ◌+◌, ◌≤◌, List, [], ◌∷◌, length, refl, ap, sym, subst, arith, cond, true, false, inl, inr, ◌⊎◌}
 use Rattle.std.specs.Prelude.{Option, None, Some, is_some}
-use Rattle.std.specs.List.{AllByRecursion}
-use Rattle.std.specs.Option.{option_to_list}
-use Rattle.std.proofs.lemmas.Bool.{ne_eqb, eq-eqb, eqb-true, and_parts}
+use Rattle.std.proofs.lemmas.Bool.{ne_eqb, and_parts}
 use Rattle.std.proofs.lemmas.Option.{none-some}
 use Rattle.qtables.specs.declared.connection.Connection.{Connection}
 use Rattle.qtables.specs.declared.member.Member.{Member}
-use Rattle.qrules.specs.Private.Headline.AnsweredToSender.{channel_among}
+use Rattle.qrules.specs.Private.Facts.{is_for_answer}
 use Rattle.qrules.specs.Private.Lawful.{facts_of, IsLawful}
 use Rattle.qrules.specs.Private.Effects.{asks, thread_of_send}
-use Rattle.qrules.specs.Private.Past.{call_by_now, is_accepted, item_of, items, accepted_at, newest_block, priority_of_item, copied_count_of, sender_of, with_writes, attached_connection}
+use Rattle.qrules.specs.Private.Past.{call_by_now, is_accepted, accepted_at, newest_block, priority_of_item, copied_count_of, sender_of, with_receipt, with_writes, wait_with_receipt, attached_connection}
+use Rattle.qrules.specs.Private.Rows.{with_buffer}
 use Rattle.qmodel.specs.Trace.{SentItem}
 use Rattle.qmodel.specs.Trace.{Event, Trace}
 use Rattle.qmodel.specs.declared.open_call.OpenCall.{OpenCall}
 use Rattle.qmodel.specs.declared.open_call.Receipt.{Receipt}
 use Rattle.qmodel.specs.declared.open_call.OpenCall.TheVariants.{Receive, Send}
 use Rattle.qrules.proofs.Traces.Past.Ends.{passes_of}
-use Rattle.qrules.proofs.Traces.Past.Items.{item_at, item_below, item_earlier, item_newest, items_below, made_by}
-use Rattle.qbase.proofs.Lists.{eqb_same, all_more}
-use Rattle.qrules.proofs.Traces.Past.Numbers.{blocks, blocks_thread, made_below}
-use Rattle.qrules.proofs.Traces.Past.Open.{IsOpen, buffer_answer, held_for_answer, is_unblocked}
+use Rattle.qrules.proofs.Traces.Past.Items.{item_at, item_below, item_earlier, item_newest}
+use Rattle.qbase.proofs.Lists.{eqb_same}
+use Rattle.qrules.proofs.Traces.Past.Numbers.{IsOpen, blocks, blocks_thread, buffer_answer, held_for_answer, made_below, is_unblocked}
 use Rattle.qrules.proofs.Traces.Calls.{call_laws}
 use Rattle.qrules.proofs.Traces.Properties.Answers.{over, sends_by, sends_over}
 use Rattle.qrules.proofs.Traces.Properties.Events.{made_now, outcome_of}
@@ -132,32 +130,3 @@ pub open_over : (roster : List Member) (past : Trace) (u : ℕ) (o : OpenCall) (
 open_over roster past u o k l w =
     subst (λ coid. IsSentOver roster past coid (number_of k.block)) (sym (open_keeps over roster past u o k held_over buffer_over))
     (block_over roster past u k.block l k.is (sym (open_keeps is_for_answer roster past u o k held_for_answer buffer_answer) ∙ w))
-
--- ---- channels of items
-
-channel_other : (xs ys : List SentItem) (i : ℕ) → AllByRecursion (λ m. m.item.number ≢ i) ys → channel_among (xs ++ ys) i ≡ channel_among xs i
-channel_other [] [] i h = refl
-channel_other [] (y ∷ ys) i h = rw (ne_eqb y.item.number i h.0) (channel_other [] ys i h.1)
-channel_other (x ∷ xs) ys i h = rw (channel_other xs ys i h) refl
-
-channel_last : (xs : List SentItem) (m : SentItem) (i : ℕ) → AllByRecursion (λ x. x.item.number ≢ i) xs → m.item.number ≡ i → channel_among (xs ++ m ∷ []) i ≡ Some m.channel
-channel_last [] m i h same = rw (eq-eqb m.item.number i same) refl
-channel_last (x ∷ xs) m i h same = rw (ne_eqb x.item.number i h.0) (channel_last xs m i h.1 same)
-
-pub item_channel : (roster : List Member) (past : Trace) (i : ℕ) (m : SentItem) → item_at roster past i ≡ Some m → channel_among (items roster past) i ≡ Some m.channel
-item_channel roster [] i m is = absurd (none-some m is)
-item_channel roster (e ∷ past) i m is =
-    elim (eqb i (length past + 1)) as (λ b. eqb i (length past + 1) ≡ b → cond b (item_of roster e past) (item_at roster past i) ≡ Some m → channel_among (items roster (e ∷ past)) i ≡ Some m.channel) [
-      | true ↦ λ same at.
-          let number : i ≡ length past + 1 = eqb-true _ _ same in
-          rw at (channel_last (items roster past) m i
-          (all_more (λ x. x.item.number ≤ length past) (λ x. x.item.number ≢ i) (items roster past) (items_below roster past) (λ x l s. omega arith)) ((made_by roster e past m at).number ∙ sym number))
-      | false ↦ λ other at.
-          let below : i ≤ length past = item_below roster past i m at in
-          channel_other (items roster past) (option_to_list (item_of roster e past)) i (
-          elim (item_of roster e past) as (λ o. item_of roster e past ≡ o → AllByRecursion (λ x. x.item.number ≢ i) (option_to_list o)) [
-            | None ↦ λ none. tt
-            | Some x ↦ λ some. let number : x.item.number ≡ length past + 1 = (made_by roster e past x some).number in ((λ s. omega arith), tt)
-          ] refl)
-          ∙ item_channel roster past i m at
-    ] refl is

@@ -12,15 +12,11 @@ use Rattle.qqueue.specs.declared.item.Kind.TheVariants.{Any}
 use Rattle.qqueue.proofs.OrderLaws.{best-at}
 use Rattle.qtables.specs.Members.{IsRoster}
 use Rattle.qtables.specs.declared.member.Member.{Member}
-use Rattle.qrules.specs.Private.Effects.{receives_on}
-use Rattle.qrules.specs.Private.Headline.BestFirst.{BestFirst, TakesBest, takeable}
-use Rattle.qrules.specs.Private.Headline.ReceivedOnce.{number_received}
-use Rattle.qrules.specs.Private.Headline.SentOrder.{IsEarliest, SentOrder, TakesSent, connection_of}
+use Rattle.qrules.specs.Properties.{connection_of, number_received, takeable, BestFirst, IsEarliest, SentOrder, TakesBest, TakesSent}
+use Rattle.qrules.specs.Rule.{ReceiveRequest}
 use Rattle.qrules.specs.Private.Lawful.{IsLawful}
 use Rattle.qrules.specs.Private.Past.{priority_before}
 use Rattle.qmodel.specs.Trace.{Event, Trace}
-use Rattle.qmodel.specs.declared.call.Call.{Call}
-use Rattle.qmodel.specs.declared.call.Call.TheVariants.{Receive}
 use Rattle.qmodel.specs.declared.call.Completion.{Completion}
 use Rattle.qrules.proofs.Traces.Past.Best.{best_earliest, some_number}
 use Rattle.qbase.proofs.Lists.{all_more}
@@ -29,8 +25,8 @@ use Rattle.qrules.proofs.Traces.Properties.BestFirst.{best_first}
 use Rattle.qrules.proofs.Traces.Properties.Connections.{IsMadeFor, item_over, takeable_made, takeable_priorities}
 
 -- a Receive may take any item
-plain_takes : (c : Call) (chid : ℕ) (buffer : List ℕ) (p : ℕ × Kind) (item : Item) → c ≡ Receive chid buffer → receives_on c ≡ Some p → may_take p.1 item ≡ true
-plain_takes c chid buffer p item is e = ap (λ q. may_take q.1 item) (sym (same_Some (chid, Any) p (ap receives_on (sym is) ∙ e)))
+takes_any : (asked request : ReceiveRequest) (item : Item) → Some asked ≡ Some request → request.kind ≡ Any → may_take asked.kind item ≡ true
+takes_any asked request item same any = ap (λ kind. may_take kind item) (ap (λ (r : ReceiveRequest). r.kind) (same_Some asked request same) ∙ any)
 
 -- the best of rising items is no later than any other of its priority
 first_of_equals : (kind : Kind) (items : List Item) (x : Item) → IsRising items → best_of kind items ≡ Some x → ((w : Item) → may_take kind w ≡ true)
@@ -44,19 +40,19 @@ abbrev IsEarliestOn : List Member → Trace → Event → ℕ → ℕ → ℕ �
 IsEarliestOn roster past e j k h = AllByRecursion (λ w. connection_of (e ∷ past) w.number ≡ Some k → w.priority ≡ priority_before roster past e j → j ≤ w.number) (takeable roster past e h)
 
 is_earliest : (roster : List Member) (past : Trace) (e : Event) (y : Completion) (j k : ℕ) → TakesSent (e ∷ past) y j k → TakesBest roster past e y j → IsEarliest roster past e j k
-is_earliest roster past e y j k plain b h =
-    let x = some_number (best_of b.kind (takeable roster past e b.channel)) j b.best in
-    let at : IsMadeFor roster (e ∷ past) b.channel x.0 = best-at (IsMadeFor roster (e ∷ past) b.channel) b.kind (takeable roster past e b.channel) x.0 (takeable_made roster past e b.channel) x.1 in
-    let from = item_over roster (e ∷ past) x.0.number k (record { item = at.0; channel = b.channel }) at.1 (ap (connection_of (e ∷ past)) x.2 ∙ plain.connection) in
+is_earliest roster past e y j k sent b h =
+    let x = some_number (best_of b.request.kind (takeable roster past e b.request.channel)) j b.best in
+    let at : IsMadeFor roster (e ∷ past) b.request.channel x.0 = best-at (IsMadeFor roster (e ∷ past) b.request.channel) b.request.kind (takeable roster past e b.request.channel) x.0 (takeable_made roster past e b.request.channel) x.1 in
+    let from = item_over roster (e ∷ past) x.0.number k (record { item = at.0; channel = b.request.channel }) at.1 (ap (connection_of (e ∷ past)) x.2 ∙ sent.connection) in
     let priority : priority_before roster past e j ≡ x.0.priority =
     ap (priority_before roster past e) (sym x.2)
-    ∙ best-at (λ (w : Item). priority_before roster past e w.number ≡ w.priority) b.kind (takeable roster past e b.channel) x.0 (takeable_priorities roster past e b.channel) x.1 in
-    elim (cases_eq h b.channel) as (λ _. IsEarliestOn roster past e j k h) [
+    ∙ best-at (λ (w : Item). priority_before roster past e w.number ≡ w.priority) b.request.kind (takeable roster past e b.request.channel) x.0 (takeable_priorities roster past e b.request.channel) x.1 in
+    elim (cases_eq h b.request.channel) as (λ _. IsEarliestOn roster past e j k h) [
       | inl same ↦
           subst (IsEarliestOn roster past e j k) (sym same)
           (all_more (λ w. w.priority ≡ x.0.priority → x.0.number ≤ w.number) (λ w. connection_of (e ∷ past) w.number ≡ Some k → w.priority ≡ priority_before roster past e j → j ≤ w.number)
-          (takeable roster past e b.channel)
-          (first_of_equals b.kind (takeable roster past e b.channel) x.0 (takeable_rises roster e past b.channel) x.1 (λ w. plain_takes b.call plain.channel plain.buffer (b.channel, b.kind) w (same_Some b.call (Receive plain.channel plain.buffer) (sym b.is_call ∙ plain.call)) b.receives))
+          (takeable roster past e b.request.channel)
+          (first_of_equals b.request.kind (takeable roster past e b.request.channel) x.0 (takeable_rises roster e past b.request.channel) x.1 (λ w. takes_any b.request sent.request w (sym b.call ∙ sent.call) sent.any))
           (λ w first _ equal. let no_earlier : x.0.number ≤ w.number = first (equal ∙ priority) in omega (arith, x.2)))
       | inr other ↦
           all_more (IsMadeFor roster (e ∷ past) h) (λ w. connection_of (e ∷ past) w.number ≡ Some k → w.priority ≡ priority_before roster past e j → j ≤ w.number)
@@ -69,10 +65,10 @@ is_earliest roster past e y j k plain b h =
 order_from : (roster : List Member) (past : Trace) → BestFirst roster past → SentOrder roster past
 order_from roster [] b = tt
 order_from roster (e ∷ past) b = (
+  order_from roster past b.0,
   all_more (λ x. (i : ℕ) → number_received x ≡ Some i → TakesBest roster past e x i)
-      (λ x. (j k : ℕ) → TakesSent (e ∷ past) x j k → IsEarliest roster past e j k) e.endings b.0
+      (λ x. (j k : ℕ) → TakesSent (e ∷ past) x j k → IsEarliest roster past e j k) e.endings b.1
       (λ x takes j k sent. is_earliest roster past e x j k sent (takes j sent.item)),
-  order_from roster past b.1,
 )
 
 pub sent_order : (roster : List Member) (past : Trace) → IsRoster roster → IsLawful roster past → SentOrder roster past

@@ -1,25 +1,30 @@
 -- Nothing is received from a channel that is destroyed, and no thread is blocked on it.
 use Rattle.std.proofs.Common.{◌≡◌, ◌∙◌, ℕ, ◌+◌, ◌≤◌, List, [], ◌∷◌, length, refl, ap, sym, subst, cond, arith, eqb, true, false, inl, inr}
 use Rattle.std.specs.Prelude.{Option, None, Some, is_some, ◌||◌}
-use Rattle.std.proofs.lemmas.Bool.{eqb-true, ne_eqb, or_cases, true≢false}
+use Rattle.std.specs.List.{AllByRecursion}
+use Rattle.std.specs.Option.{option_and_then, option_map}
+use Rattle.std.proofs.lemmas.Bool.{eq-eqb, eqb-true, ne_eqb, or_cases, true≢false}
 use Rattle.std.proofs.lemmas.Option.{none-some, same_Some}
 use Rattle.qbase.specs.declared.errno.Errno.TheVariants.{Srch}
+use Rattle.qbase.proofs.Lists.{all_filter_map}
 use Rattle.qqueue.specs.Best.{best_of}
 use Rattle.qtables.specs.Members.{IsRoster, member_at}
 use Rattle.qtables.specs.declared.connection.Connection.{Connection}
 use Rattle.qtables.specs.declared.member.Member.{Member}
 use Rattle.qrules.specs.Private.Answer.{Outcome}
 use Rattle.qrules.specs.Private.Calls.{row_of}
-use Rattle.qrules.specs.Private.Cancelling.{is_on}
-use Rattle.qrules.specs.Private.Facts.{Facts, owns}
+use Rattle.qrules.specs.Private.Cancelling.{is_on, is_to}
+use Rattle.qrules.specs.Private.Facts.{Facts, is_for_answer, owns}
 use Rattle.qrules.proofs.Traces.Parts.{leads_to}
-use Rattle.qrules.specs.Private.Headline.AnsweredToSender.{channel_among}
-use Rattle.qrules.specs.Private.Effects.{asks, attaches, closes, detaches, makes, receives_on, unblocks, writes}
-use Rattle.qrules.specs.Private.Headline.ShutForGood.{NoneBlockedOn, NoneReceivedFrom, ShutForGood}
+use Rattle.qrules.specs.Past.{item_among}
+use Rattle.qrules.specs.Private.Effects.{asks, attaches, closes, detaches, makes, unblocks, writes}
+use Rattle.qrules.specs.Facts.{receive_in, receive_of, send_in, send_of, threads_of, OpenReceive, OpenSend}
+use Rattle.qrules.specs.Properties.{number_received, IsShut, ShutForGood}
 use Rattle.qrules.specs.Private.Lawful.{facts_of, IsLawful}
-use Rattle.qrules.specs.Private.Past.{attached_connection, connection_at, is_destroyed, items, open_call}
-use Rattle.qrules.specs.Private.Rows.{names}
-use Rattle.qrules.specs.Private.Step.{after_receipt, after_write, channel_after, connection_after, open_call_after, put_at, unless, after_unblock}
+use Rattle.qrules.specs.Rules.{effect_of}
+use Rattle.qrules.specs.Private.Past.{attached_connection, connection_at, wait_with_receipt, is_destroyed, items, open_call}
+use Rattle.qrules.specs.Private.Rows.{names, with_buffer}
+use Rattle.qrules.specs.Private.Step.{after_receipt, after_write, channel_after, connection_after, open_call_after, put_at, unless, after_unblock, unblocked_wait}
 use Rattle.qmodel.specs.Trace.{Event, Trace}
 use Rattle.qmodel.specs.declared.call.Call.{Call}
 use Rattle.qmodel.specs.declared.call.Call.TheVariants.{Send, Receive, ReceivePulse, ChannelDestroy}
@@ -30,15 +35,14 @@ use Rattle.qmodel.specs.declared.open_call.OpenCall.TheVariants.{Receive as InRe
 use Rattle.qrules.proofs.Traces.Past.Channels.{closed_accepted, open_at, owned_open}
 use Rattle.qrules.proofs.Traces.Past.Ends.{accepted, laws_of, passes_of}
 use Rattle.qrules.proofs.Traces.Past.Follows.{past_follows}
-use Rattle.qrules.proofs.Traces.Past.Items.{item_at, item_below, item_earlier, item_newest, made_by}
+use Rattle.qrules.proofs.Traces.Past.Items.{item_at, item_below, item_earlier, item_found, item_newest, made_by}
 use Rattle.qrules.proofs.Traces.Past.Laws.{Passes}
-use Rattle.qrules.proofs.Traces.Past.Numbers.{made_below}
-use Rattle.qrules.proofs.Traces.Past.Open.{open_parts}
+use Rattle.qrules.proofs.Traces.Past.Numbers.{made_below, open_parts}
 use Rattle.qrules.proofs.Traces.Past.Receipts.{best_pending}
 use Rattle.qrules.proofs.Traces.Properties.Answers.{over}
 use Rattle.qrules.proofs.Traces.Properties.Events.{each_received, made_now}
 use Rattle.qrules.proofs.Traces.Properties.Receipts.{TakesOne}
-use Rattle.qrules.proofs.Traces.Properties.Sends.{item_channel, open_over}
+use Rattle.qrules.proofs.Traces.Properties.Sends.{open_over}
 use Rattle.qrules.proofs.Traces.Past.Before.{Lasts, before_other, before_receipt, unless_is}
 use Rattle.qrules.proofs.Traces.Routes.{has_way, leads_over}
 use Rattle.qrules.proofs.Traces.Past.LiveSends.{over_attached, stays_open}
@@ -48,7 +52,7 @@ use Rattle.qrules.proofs.Traces.Past.LiveSends.{over_attached, stays_open}
 -- a call that destroys a channel does nothing else of its own
 record DestroysAlone (c : Call) : Type 0 where
   asks_none : (n : ℕ) → asks n c ≡ None
-  receives_none : receives_on c ≡ None
+  receives_none : (effect_of c).receives ≡ None
   makes_none : (f : Facts) (t : ℕ) → makes f t c ≡ None
 
 destroys_alone : (c : Call) (h : ℕ) → names (closes c) h ≡ true → DestroysAlone c
@@ -135,11 +139,11 @@ waits_after : (f : Facts) (t : ℕ) (c : Call) → Passes f t c → WaitsOnOpen 
     → (u : ℕ) (o : OpenCall) (h : ℕ) → open_call_after f t c u ≡ Some o → is_on (connection_after f t c) h o ≡ true → is_some (channel_after f t c h) ≡ true
 waits_after f t c p waits known u o h is on =
     let R = row_of f t c in
-    elim (eqb u t) as (λ b. cond b (unless (is_some (row_of f t c).own) (after_receipt (row_of f t c).receipt u (asks f.number c))) (unless (is_some ((row_of f t c).ends u)) (after_unblock (makes f t c) (unblocks c) u (after_receipt (row_of f t c).receipt u (after_write f (writes c) u (f.open_call u))))) ≡ Some o
+    elim (eqb u t) as (λ b. cond b (unless (is_some (row_of f t c).own) (after_receipt (row_of f t c).receipt u (asks f.number u (channel_of (makes f u c)) c))) (unless (is_some ((row_of f t c).ends u)) (after_unblock (makes f t c) (unblocks c) u (after_receipt (row_of f t c).receipt u (after_write f (writes c) u (f.open_call u))))) ≡ Some o
     → is_some (channel_after f t c h) ≡ true) [
       | true ↦ λ e.
-          let x = unless_is (is_some R.own) (after_receipt R.receipt u (asks f.number c)) o e in
-          let b = before_receipt (is_on (connection_after f t c) h) (held_on (connection_after f t c) h) R.receipt u (asks f.number c) o x.1 in
+          let x = unless_is (is_some R.own) (after_receipt R.receipt u (asks f.number u (channel_of (makes f u c)) c)) o e in
+          let b = before_receipt (is_on (connection_after f t c) h) (held_on (connection_after f t c) h) R.receipt u (asks f.number u (channel_of (makes f u c)) c) o x.1 in
           let same : is_on h b.call ≡ true = put_on f t c h b.call (λ _. ap (λ a. put_at a f.number f.connection (over b.call)) (waits_only f.number (member_at f.roster t) c b.call b.is)) (b.same ∙ on) in
           stays_open (names (closes c) h) _ f.number f.channel h (begins_on_open f t c b.call h p.row b.is same)
           (λ d. none-some b.call (sym ((destroys_alone c h d).asks_none f.number) ∙ b.is))
@@ -180,19 +184,19 @@ waits_on_open roster (e ∷ past) r l u o h is on =
 
 -- an item that an accepted call's endings receive is of a channel that isn't destroyed
 taken_is_open : (roster : List Member) (e : Event) (past : Trace) (u i h : ℕ) (y : Completion) → Outcome true (facts_of roster past) e.thread e.call e.endings → TakesOne (facts_of roster past) e.thread e.call u y i
-    → channel_among (items roster (e ∷ past)) i ≡ Some h → (names (closes e.call) h || is_destroyed past h) ≡ true → ⊥
+    → option_map (λ m. m.channel) (item_among (items roster (e ∷ past)) i) ≡ Some h → (names (closes e.call) h || is_destroyed past h) ≡ true → ⊥
 taken_is_open roster e past u i h y a k is closed =
     let f = facts_of roster past in
     elim k [
       | inl p ↦
-          let b = best_pending roster past p.channel p.kind p.item p.best in
-          let made = subst (λ j. item_at roster past j ≡ Some (record { item = b.first; channel = p.channel })) p.number b.made in
-          let at : p.channel ≡ h = same_Some p.channel h (sym (item_channel roster (e ∷ past) i _ (item_earlier roster e past i (item_below roster past i _ made) ∙ made)) ∙ is) in
+          let b = best_pending roster past p.request.channel p.request.kind p.item p.best in
+          let made = subst (λ j. item_at roster past j ≡ Some (record { item = b.first; channel = p.request.channel })) p.number b.made in
+          let at : p.request.channel ≡ h = same_Some p.request.channel h (sym (ap (option_map (λ m. m.channel)) (item_found roster (e ∷ past) i _ (item_earlier roster e past i (item_below roster past i _ made) ∙ made))) ∙ is) in
           elim (or_cases (names (closes e.call) h) (is_destroyed past h) closed) [
-            | inl now ↦ none-some (p.channel, p.kind) (sym (destroys_alone e.call h now).receives_none ∙ p.receives)
+            | inl now ↦ none-some p.request (sym (destroys_alone e.call h now).receives_none ∙ p.receives)
             | inr before ↦
-                let none : f.pending p.channel ≡ [] = ap f.pending at ∙ rw before refl in
-                none-some p.item (sym (ap (best_of p.kind) none) ∙ p.best)
+                let none : f.pending p.request.channel ≡ [] = ap f.pending at ∙ rw before refl in
+                none-some p.item (sym (ap (best_of p.request.kind) none) ∙ p.best)
           ]
       | inr m ↦
           let now = made_now roster e past m.made a m.is_made in
@@ -200,33 +204,63 @@ taken_is_open roster e past u i h y a k is closed =
           let open_there = open_at roster past m.made.channel number in
           let newest : item_at roster (e ∷ past) (length past + 1) ≡ Some m.made = item_newest roster e past ∙ now in
           let made = subst (λ j. item_at roster (e ∷ past) j ≡ Some m.made) (sym ((made_by roster e past m.made now).number) ∙ m.number) newest in
-          let at : m.made.channel ≡ h = same_Some m.made.channel h (sym (item_channel roster (e ∷ past) i m.made made) ∙ is) in
+          let at : m.made.channel ≡ h = same_Some m.made.channel h (sym (ap (option_map (λ m. m.channel)) (item_found roster (e ∷ past) i m.made made)) ∙ is) in
           elim (or_cases (names (closes e.call) h) (is_destroyed past h) closed) [
             | inl now ↦ none-some m.made (sym ((destroys_alone e.call h now).makes_none f e.thread) ∙ m.is_made)
             | inr before ↦ true≢false (sym before ∙ ap (is_destroyed past) (sym at) ∙ open_there.standing)
           ]
     ]
 
-none_received : (roster : List Member) (e : Event) (past : Trace) (h : ℕ) → IsLawful roster (e ∷ past) → is_destroyed (e ∷ past) h ≡ true → NoneReceivedFrom roster (e ∷ past) h e.endings
+none_received : (roster : List Member) (e : Event) (past : Trace) (h : ℕ) → IsLawful roster (e ∷ past) → is_destroyed (e ∷ past) h ≡ true
+    → AllByRecursion (λ x. (i : ℕ) → number_received x ≡ Some i → option_map (λ m. m.channel) (item_among (items roster (e ∷ past)) i) ≡ Some h → ⊥) e.endings
 none_received roster e past h l closed =
-    each_received (λ x i. channel_among (items roster (e ∷ past)) i ≡ Some h → ⊥) roster past e.thread e.call e.endings l.2
+    each_received (λ x i. option_map (λ m. m.channel) (item_among (items roster (e ∷ past)) i) ≡ Some h → ⊥) roster past e.thread e.call e.endings l.2
     (λ u y i a k is. taken_is_open roster e past u i h y a k is (sym (closed_accepted roster e past h (accepted roster past e.thread e.call e.endings a)) ∙ closed))
 
--- an open Send's connection is as it was attached
-on_attached : (roster : List Member) (past : Trace) (h : ℕ) (w : OpenCall) → (is_for_answer w ≡ true → connection_at roster past (over w) ≡ attached_connection roster past (over w))
-    → is_on h w ≡ is_on h w
-on_attached roster past h (Answer coid message reply_buffer receipt) same = ap (is_to h) (sym (same refl))
-on_attached roster past h (ForItem chid kind buffer) same = refl
+-- ---- what is open
 
-none_blocked : (roster : List Member) (past : Trace) (h : ℕ) → IsRoster roster → IsLawful roster past → is_destroyed past h ≡ true → NoneBlockedOn roster past h
-none_blocked roster past h r l closed u o is =
-    on_attached roster past h o (over_attached roster past u o l is) ∙ elim (is_on h o) as (λ b. is_on h o ≡ b → b ≡ false) [
-      | true ↦ λ on.
-          let standing = (open_at roster past h (waits_on_open roster past r l u o h is on)).standing in
-          absurd (true≢false (sym closed ∙ standing))
-      | false ↦ λ off. refl
-    ] refl
+-- a connection that was attached to channel h leads to it
+led : (connection : Option Connection) (h : ℕ) → option_map (λ c. c.channel) connection ≡ Some h → is_to h connection ≡ true
+led None h e = absurd (none-some h e)
+led (Some c) h e = eq-eqb c.channel h (same_Some c.channel h e)
+
+module _ (roster : List Member) (past : Trace) (h : ℕ) where
+  -- the channel of an open Send's connection
+  abbrev channel_of : OpenSend → Option ℕ
+  channel_of s = option_map (λ c. c.channel) (attached_connection roster past s.connection)
+
+  -- an open Send whose connection was attached to the channel is on it, and so is a receive that names it
+  send_on : (u n : ℕ) (w : OpenCall) (s : OpenSend) → (is_for_answer w ≡ true → connection_at roster past (over w) ≡ attached_connection roster past (over w)) → send_in u n w ≡ Some s → channel_of s ≡ Some h
+      → is_on (connection_at roster past) h w ≡ true
+  send_on u n (Answer coid message reply_buffer receipt) s live is on = led (connection_at roster past coid) h (ap (option_map (λ c. c.channel)) (live refl) ∙ ap channel_of (same_Some _ s is) ∙ on)
+  send_on u n (ForItem chid kind buffer) s live is on = absurd (none-some s is)
+
+  receive_on : (u n : ℕ) (w : OpenCall) (r : OpenReceive) → receive_in u n w ≡ Some r → r.channel ≡ h → is_on (connection_at roster past) h w ≡ true
+  receive_on u n (Answer coid message reply_buffer receipt) r is on = absurd (none-some r is)
+  receive_on u n (ForItem chid kind buffer) r is on = eq-eqb chid h (ap (λ (r : OpenReceive). r.channel) (same_Some _ r is) ∙ on)
+
+  module _ (rises : IsRoster roster) (l : IsLawful roster past) (closed : is_destroyed past h ≡ true) where
+    -- no open call is on a channel that is destroyed
+    none_on : (u : ℕ) (o : OpenCall) → open_call roster past u ≡ Some o → is_on (connection_at roster past) h o ≡ true → ⊥
+    none_on u o is on = true≢false (sym closed ∙ (open_at roster past h (waits_on_open roster past rises l u o h is on)).standing)
+
+    no_send : (u : ℕ) (s : OpenSend) (o : Option OpenCall) → open_call roster past u ≡ o → option_and_then (λ o. send_in u o.number o) o ≡ Some s → channel_of s ≡ Some h → ⊥
+    no_send u s None is e on = none-some s e
+    no_send u s (Some o) is e on = none_on u o is (send_on u o.number o s (over_attached roster past u o l is) e on)
+
+    no_receive : (u : ℕ) (r : OpenReceive) (o : Option OpenCall) → open_call roster past u ≡ o → option_and_then (λ o. receive_in u o.number o) o ≡ Some r → r.channel ≡ h → ⊥
+    no_receive u r None is e on = none-some r e
+    no_receive u r (Some o) is e on = none_on u o is (receive_on u o.number o r e on)
+
+is_shut : (roster : List Member) (e : Event) (past : Trace) (h : ℕ) → IsRoster roster → IsLawful roster (e ∷ past) → is_destroyed (e ∷ past) h ≡ true → IsShut roster (e ∷ past) e.endings h
+is_shut roster e past h r l closed =
+    let f = facts_of roster (e ∷ past) in
+    record {
+      none_received = none_received roster e past h l closed;
+      no_send = all_filter_map (λ s. channel_of roster (e ∷ past) h s ≡ Some h → ⊥) (send_of f) (threads_of roster) (λ u s is. no_send roster (e ∷ past) h r l closed u s (f.open_call u) refl is);
+      no_receive = all_filter_map (λ r. r.channel ≡ h → ⊥) (receive_of f) (threads_of roster) (λ u s is. no_receive roster (e ∷ past) h r l closed u s (f.open_call u) refl is);
+    }
 
 pub shut_for_good : (roster : List Member) (past : Trace) → IsRoster roster → IsLawful roster past → ShutForGood roster past
 shut_for_good roster [] r l = tt
-shut_for_good roster (e ∷ past) r l = ((λ h closed. (none_received roster e past h l closed, none_blocked roster (e ∷ past) h r l closed)), shut_for_good roster past r l.0)
+shut_for_good roster (e ∷ past) r l = (shut_for_good roster past r l.0, λ h closed. is_shut roster e past h r l closed)

@@ -2,6 +2,7 @@
 use Rattle.std.proofs.Common.{◌≡◌, ◌∙◌, ℕ, List, [], ◌∷◌, ◌++◌, refl, ap, sym, subst, cond, eqb, Bool, true, false, inl, inr}
 use Rattle.std.specs.Prelude.{Option, None, Some, is_some, not, filter}
 use Rattle.std.specs.List.{AllByRecursion}
+use Rattle.std.specs.Option.{option_map}
 use Rattle.std.proofs.lemmas.Bool.{eqb-true, eqb-false, not-true}
 use Rattle.std.proofs.lemmas.Option.{none-some, same_Some, some_pair_parts}
 use Rattle.qqueue.specs.Best.{best_of, may_take, with_priority, without_item}
@@ -16,13 +17,15 @@ use Rattle.qrules.specs.Private.Calls.Send.{item}
 use Rattle.qrules.specs.Private.Delivering.{receiver, receipt_when_sent}
 use Rattle.qrules.specs.Private.Receiving.{own_receipt}
 use Rattle.qrules.specs.Private.Facts.{Facts, sender, threads_of, route}
-use Rattle.qrules.specs.Private.Effects.{asks, closes, makes, receives_on, sets, unblocks, writes}
+use Rattle.qrules.specs.Private.Effects.{asks, closes, makes, sets, unblocks, writes}
 use Rattle.qrules.specs.Private.Lawful.{facts_of, IsLawful}
-use Rattle.qrules.specs.Private.Past.{made_on}
+use Rattle.qrules.specs.Rule.{ReceiveRequest}
+use Rattle.qrules.specs.Rules.{effect_of}
+use Rattle.qrules.specs.Private.Past.{wait_with_receipt, made_on}
 use Rattle.qrules.specs.Private.Receivers.{newest_receiver}
-use Rattle.qrules.specs.Private.Rows.{Received, names, item_sent_over, takes, receipt_ending}
+use Rattle.qrules.specs.Private.Rows.{Received, names, item_sent_over, takes, receipt_ending, with_buffer}
 use Rattle.qmodel.specs.Trace.{SentItem}
-use Rattle.qrules.specs.Private.Step.{after_receipt, after_write, is_cancelled, uncut_items, items_with_priority_set, open_call_after, pending_after, unreceived_items, unless, after_unblock}
+use Rattle.qrules.specs.Private.Step.{after_receipt, after_write, is_cancelled, uncut_items, items_with_priority_set, open_call_after, pending_after, unreceived_items, unless, after_unblock, unblocked_wait}
 use Rattle.qmodel.specs.Trace.{Trace}
 use Rattle.qmodel.specs.declared.call.Call.{Call}
 use Rattle.qmodel.specs.declared.call.Call.TheVariants.{Send, Receive, ReceivePulse, Pulse, Unblock, ConnectDetach}
@@ -59,8 +62,12 @@ pub buffer_waits_for : (f : List ℕ → List ℕ) (w : OpenCall) → waits_for 
 buffer_waits_for f (Answer coid message reply_buffer receipt) = refl
 buffer_waits_for f (ForItem chid kind buffer) = refl
 
--- a call waits for what it receives on
-pub waits_for_asked : (n : ℕ) (c : Call) (b : OpenCall) → asks n c ≡ Some b → receives_on c ≡ waits_for b
+-- where a request receives, and what
+abbrev pub place_of : ReceiveRequest → ℕ × Kind
+place_of r = (r.channel, r.kind)
+
+-- a call waits for what it asks to receive
+pub waits_for_asked : (n : ℕ) (c : Call) (b : OpenCall) → asks n c ≡ Some b → option_map place_of (effect_of c).receives ≡ waits_for b
 waits_for_asked n (Send coid message reply_buffer) b e = ap (λ o. waits_for o) (same_Some _ b e)
 waits_for_asked n (Receive chid buffer) b e = ap (λ o. waits_for o) (same_Some _ b e)
 waits_for_asked n (ReceivePulse chid) b e = ap (λ o. waits_for o) (same_Some _ b e)
@@ -179,11 +186,11 @@ all_after kind f t c h all =
     same_kind PulseOnly priority x = refl
 
 -- the caller begins to wait: nothing was pending, and nothing is made
-caller_finds_none : (f : Facts) (t : ℕ) (c : Call) (o : OpenCall) (h : ℕ) (kind : Kind) → unless (is_some (row_of f t c).own) (after_receipt (row_of f t c).receipt t (asks f.number c)) ≡ Some o
+caller_finds_none : (f : Facts) (t : ℕ) (c : Call) (o : OpenCall) (h : ℕ) (kind : Kind) → unless (is_some (row_of f t c).own) (after_receipt (row_of f t c).receipt t (asks f.number t (channel_of (makes f t c)) c)) ≡ Some o
     → waits_for o ≡ Some (h, kind) → AllByRecursion (λ w. may_take kind w ≡ false) (pending_after f t c h)
 caller_finds_none f t c o h kind is waits =
-    let x = unless_is (is_some (row_of f t c).own) (after_receipt (row_of f t c).receipt t (asks f.number c)) o is in
-    let b = before_receipt waits_for held_waits_for (row_of f t c).receipt t (asks f.number c) o x.1 in
+    let x = unless_is (is_some (row_of f t c).own) (after_receipt (row_of f t c).receipt t (asks f.number t (channel_of (makes f t c)) c)) o is in
+    let b = before_receipt waits_for held_waits_for (row_of f t c).receipt t (asks f.number t (channel_of (makes f t c)) c) o x.1 in
     let k = begins_with_none f t c b.call (h, kind) b.is (b.same ∙ waits) (none_of (row_of f t c).own x.0) in
     let P = λ (w : Item). may_take kind w ≡ false in
     let none : AllByRecursion (λ (w : Item). may_take kind w ≡ false) (f.pending h) = none-may kind (f.pending h) k.0 in
@@ -234,7 +241,7 @@ nothing_after : (f : Facts) (t : ℕ) (c : Call) → Passes f t c → NothingFor
     → (u : ℕ) (o : OpenCall) (h : ℕ) (kind : Kind) → open_call_after f t c u ≡ Some o → waits_for o ≡ Some (h, kind) → AllByRecursion (λ w. may_take kind w ≡ false) (pending_after f t c h)
 nothing_after f t c p nothing among u o h kind is waits =
     elim (eqb u t) as (λ b. eqb u t ≡ b
-    → cond b (unless (is_some (row_of f t c).own) (after_receipt (row_of f t c).receipt u (asks f.number c))) (unless (is_some ((row_of f t c).ends u)) (after_unblock (makes f t c) (unblocks c) u (after_receipt (row_of f t c).receipt u (after_write f (writes c) u (f.open_call u))))) ≡ Some o
+    → cond b (unless (is_some (row_of f t c).own) (after_receipt (row_of f t c).receipt u (asks f.number u (channel_of (makes f u c)) c))) (unless (is_some ((row_of f t c).ends u)) (after_unblock (makes f t c) (unblocks c) u (after_receipt (row_of f t c).receipt u (after_write f (writes c) u (f.open_call u))))) ≡ Some o
     → AllByRecursion (λ w. may_take kind w ≡ false) (pending_after f t c h)) [
       | true ↦ λ same e.
           caller_finds_none f t c o h kind

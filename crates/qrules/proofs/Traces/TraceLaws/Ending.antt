@@ -1,21 +1,19 @@
--- Whose calls end, in which order, and what ends after a channel is destroyed or the kernel is shut down.
-use Rattle.std.proofs.Common.{◌≡◌, ◌∙◌, ℕ, ◌+◌, ◌<◌, ◌≤◌, List, [], ◌∷◌, length, refl, ap, sym, subst, arith, eqb, true, false, inl, inr}
+-- Whose calls end, in which order, and that nothing is received from a destroyed channel.
+use Rattle.std.proofs.Common.{◌≡◌, ◌∙◌, ℕ, ◌+◌, ◌<◌, ◌≤◌, List, [], ◌∷◌, length, refl, ap, sym, subst, arith, eqb, false, inl, inr}
 use Rattle.std.specs.Prelude.{Option, None, Some}
 use Rattle.std.specs.List.{AllByRecursion, cons_option, filter_map}
-use Rattle.std.proofs.lemmas.Bool.{ne_eqb, true≢false}
-use Rattle.std.proofs.lemmas.Option.{none-some, same_Some}
-use Rattle.qbase.specs.declared.errno.Errno.{Errno}
-use Rattle.qbase.specs.declared.errno.Errno.TheVariants.{Down}
-use Rattle.qrules.specs.Private.Answer.{ending, refusal_ending, refusal, MayRefuse}
+use Rattle.std.proofs.lemmas.Bool.{ne_eqb}
+use Rattle.std.proofs.lemmas.Option.{none-some}
+use Rattle.qrules.specs.Private.Answer.{ending}
 use Rattle.qrules.specs.Private.Facts.{Facts, threads_of}
-use Rattle.qrules.specs.Private.Laws.{EndingsNameOwnCalls, EndingsRiseByThread, NothingFromDestroyed, OnlyRefusedWhenDown, RiseByThread, thread_at}
+use Rattle.qrules.specs.Private.Laws.{EndingsNameOwnCalls, EndingsRiseByThread, NothingFromDestroyed, RiseByThread, thread_at}
 use Rattle.qrules.specs.Private.Lawful.{facts_of}
 use Rattle.qrules.specs.Private.Past.{newest_block}
 use Rattle.qmodel.specs.Trace.{Event, Trace}
 use Rattle.qmodel.specs.declared.call.Call.{Call}
 use Rattle.qmodel.specs.declared.call.Completion.{Completion}
 use Rattle.qmodel.specs.declared.open_call.OpenCall.{OpenCall}
-use Rattle.qrules.proofs.Traces.Past.Ends.{ending_names, laws_of, passes_of}
+use Rattle.qrules.proofs.Traces.Past.Ends.{ending_names, laws_of}
 use Rattle.qrules.proofs.Traces.Past.Laws.{RowLaws}
 use Rattle.qrules.proofs.Traces.Rosters.{Rises, rises}
 use Rattle.qbase.proofs.Lists.{all_filter_map, eqb_same}
@@ -25,23 +23,7 @@ use Rattle.qrules.proofs.Traces.Properties.Sends.{begins_now}
 use Rattle.qrules.proofs.Traces.Properties.ShutForGood.{shut_for_good}
 
 pub nothing_from_destroyed : NothingFromDestroyed
-nothing_from_destroyed roster past e r l h closed = ((shut_for_good roster (e ∷ past) r l).0 h closed).0
-
--- ---- after a Shutdown
-
-down_refusal : (f : Facts) (t : ℕ) (c : Call) (e : Errno) → f.down ≡ true → MayRefuse f t c e → e ≡ Down
-down_refusal f t c e down may =
-    let first : refusal f t c ≡ Some Down = rw down refl in
-    elim may [
-      | inl is ↦ sym (same_Some Down e (sym first ∙ is))
-      | inr none ↦ absurd (none-some Down (sym none.0 ∙ first))
-    ]
-
-pub only_refused_when_down : OnlyRefusedWhenDown
-only_refused_when_down roster past e r l down = elim (l.2) [
-  | inl a ↦ absurd (true≢false (sym down ∙ (passes_of (facts_of roster past) e.thread e.call e.endings a).up))
-  | inr a ↦ a.2 ∙ ap (λ errno. refusal_ending (facts_of roster past) e.thread e.call errno ∷ []) (down_refusal (facts_of roster past) e.thread e.call a.0 down a.1)
-]
+nothing_from_destroyed roster past e r l h closed = ((shut_for_good roster (e ∷ past) r l).1 h closed).none_received
 
 -- ---- in rising thread number
 

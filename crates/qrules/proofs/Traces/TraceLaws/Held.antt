@@ -1,6 +1,6 @@
 -- A message is held by what the past says exactly where it is by what its sender waits for.
 use Rattle.std.proofs.Common.{◌≡◌, ◌∙◌, ◌+◌, ℕ, List, [], ◌∷◌, length, refl, ap, sym, subst, cond, eqb, true, false}
-use Rattle.std.specs.Prelude.{Option, None, Some, is_some, not, Bool}
+use Rattle.std.specs.Prelude.{Option, None, Some, is_some, not, ◌&&◌, Bool}
 use Rattle.std.specs.List.{AllByRecursion}
 use Rattle.std.specs.Option.{option_map, option_or}
 use Rattle.std.proofs.lemmas.Bool.{and_from, and_parts, eqb-true, not-true, not_from_false, or_parts, true≢false}
@@ -8,13 +8,11 @@ use Rattle.std.proofs.lemmas.Option.{none-some, same_Some}
 use Rattle.qtables.specs.Members.{IsRoster}
 use Rattle.qtables.specs.declared.member.Member.{Member}
 use Rattle.qrules.specs.Private.Calls.{row_of}
-use Rattle.qrules.specs.Private.Facts.{is_send, sender, threads_of}
-use Rattle.qrules.specs.Private.Headline.AnsweredToSender.{is_held}
-use Rattle.qrules.specs.Private.Headline.BestFirst.{TakesBest}
-use Rattle.qrules.specs.Private.Headline.ReceivedOnce.{number_received}
-use Rattle.qrules.specs.Private.Laws.{HeldIsHeldSend, IsHeldSend, blocker}
+use Rattle.qrules.specs.Private.Facts.{is_for_answer, is_send, sender, threads_of}
+use Rattle.qrules.specs.Properties.{number_received, TakesBest}
+use Rattle.qrules.specs.Private.Laws.{HeldIsHeldSend, IsHeldSend, blocker, is_for_reply}
 use Rattle.qrules.specs.Private.Lawful.{IsLawful, facts_of}
-use Rattle.qrules.specs.Private.Past.{copied_count_in, has_ending_of, call_by_now, is_ended, is_received, item_of, accepted_at, open_call, priority_of_item, copied_count_among, copied_count_of}
+use Rattle.qrules.specs.Private.Past.{copied_count_in, has_ending_of, call_by_now, wait_with_receipt, is_ended, is_received, item_of, accepted_at, open_call, priority_of_item, copied_count_among, copied_count_of, with_receipt}
 use Rattle.qrules.specs.Private.Effects.{asks}
 use Rattle.qrules.specs.Private.Rows.{item_in}
 use Rattle.qmodel.specs.Trace.{SentItem}
@@ -25,7 +23,7 @@ use Rattle.qmodel.specs.declared.open_call.Receipt.{Receipt}
 use Rattle.qmodel.specs.declared.open_call.OpenCall.TheVariants.{Receive, Send}
 use Rattle.qrules.proofs.Traces.Past.Ends.{ends_own, open_known, passes_of}
 use Rattle.qrules.proofs.Traces.Past.Items.{item_accepted, item_answer, item_at, item_below, item_earlier}
-use Rattle.qrules.proofs.Traces.Past.Open.{filled_answer, open_from, open_parts, is_unblocked, open_thread, receipt_number}
+use Rattle.qrules.proofs.Traces.Past.Numbers.{filled_answer, open_from, open_parts, is_unblocked, open_thread, receipt_number}
 use Rattle.qrules.proofs.Traces.Past.Senders.{send_from, send_parts, sender_found, sender_sends}
 use Rattle.qrules.proofs.Traces.Past.Unblocked.{held_is_taken}
 use Rattle.qrules.proofs.Traces.Past.Waits.{waits_or_ends}
@@ -60,7 +58,7 @@ taken_made roster (e ∷ past) i r l taken =
       | None ↦ λ none s. let k = taken_made roster past i r l.0 s in (k.0, item_earlier roster e past i (item_below roster past i k.0 k.1) ∙ k.1)
       | Some copied ↦ λ some s.
           of_received (λ j. (m : SentItem) × (item_at roster (e ∷ past) j ≡ Some m)) e.endings i copied
-          (all_of e.endings (best_first roster (e ∷ past) r l).0) some
+          (all_of e.endings (best_first roster (e ∷ past) r l).1) some
     ] refl taken
   where
     all_of : (X : List Completion) → AllByRecursion (λ x. (j : ℕ) → number_received x ≡ Some j → TakesBest roster past e x j) X
@@ -89,7 +87,7 @@ made_waits roster (e ∷ past) i m l is going =
         let a = item_accepted roster e past m at in
         let o = outcome_of roster e past l.2 a.0 in
         let none : (row_of f e.thread e.call).own ≡ None = no_own ((row_of f e.thread e.call).own) (sym (ends_own roster past e.thread e.call e.endings l.1 o) ∙ unended) in
-        let waits : is_some (asks 0 e.call) ≡ true = sym (asks_any (length past + 1) e.call) ∙ waits_or_ends f e.thread e.call (passes_of f e.thread e.call e.endings o) none in
+        let waits : is_some (asks 0 0 0 e.call) ≡ true = sym (asks_any (length past + 1) e.call) ∙ waits_or_ends f e.thread e.call (passes_of f e.thread e.call e.endings o) none in
         (e.thread, subst (λ j. accepted_at blocker (e ∷ past) j ≡ Some e.thread) (sym number) (made_newest blocker e past a.0 ∙ rw waits refl))
 
 -- ---- a receipt
@@ -112,7 +110,7 @@ found_sender roster past i u o l is number answer =
     let s = send_parts i (open_call roster past v) sends in
     open_thread roster past v u s.waiting o s.is is (s.number ∙ sym number))
 
-held_to_send : (roster : List Member) (past : Trace) (i : ℕ) → IsRoster roster → IsLawful roster past → is_held past i ≡ true → IsHeldSend roster past i
+held_to_send : (roster : List Member) (past : Trace) (i : ℕ) → IsRoster roster → IsLawful roster past → (is_received past i && not (is_ended past i)) ≡ true → IsHeldSend roster past i
 held_to_send roster past i r l held =
     let p = and_parts (is_received past i) (not (is_ended past i)) held in
     let going : is_ended past i ≡ false = not-true (is_ended past i) p.1 in
@@ -135,7 +133,7 @@ held_to_send roster past i r l held =
       received = reply;
     }
 
-send_to_held : (roster : List Member) (past : Trace) (i : ℕ) → IsHeldSend roster past i → is_held past i ≡ true
+send_to_held : (roster : List Member) (past : Trace) (i : ℕ) → IsHeldSend roster past i → (is_received past i && not (is_ended past i)) ≡ true
 send_to_held roster past i h =
     let s = sender_sends (λ t. open_call roster past t) i (threads_of roster) h.thread h.is_sender in
     let same : s.waiting ≡ h.waiting = same_Some s.waiting h.waiting (sym s.is ∙ h.is_open) in

@@ -50,7 +50,7 @@ use Rattle.qrules.proofs.Traces.Properties.Rows.Receiving.{receive_takes}
 use Rattle.qrules.proofs.Traces.Properties.Rows.Telling.{told_meets, unblock_ends}
 use Rattle.qtables.specs.Members.{IsRoster}
 use Rattle.qtables.specs.declared.member.Member.{Member}
-use Rattle.qrules.specs.Private.Headline.CopiedExactly.{call_at}
+use Rattle.qrules.specs.Trace.{call_at}
 use Rattle.qrules.specs.Private.Lawful.{facts_of, IsLawful}
 use Rattle.qrules.specs.Private.Past.{open_call}
 use Rattle.qmodel.specs.Trace.{Event, Trace}
@@ -173,15 +173,15 @@ left_open false o x e = e
 after_length : (f : Facts) (t : ℕ) (c : Call) (u : ℕ) (x : OpenCall) → open_call_after f t c u ≡ Some x → length (buffer_of_wait x) ≡ length (cond (eqb u t) (buffer_of c) (buffer_of_open (f.open_call u)))
 after_length f t c u x e =
     let R = row_of f t c in
-    let mine = after_receipt R.receipt u (asks f.number c) in
+    let mine = after_receipt R.receipt u (asks f.number u (channel_of (makes f u c)) c) in
     let written = after_write f (writes c) u (f.open_call u) in
     let received = after_receipt R.receipt u written in
     let others = after_unblock (makes f t c) (unblocks c) u received in
     elim (eqb u t) as (λ b. cond b (unless (is_some R.own) mine) (unless (is_some (R.ends u)) others) ≡ Some x → length (buffer_of_wait x) ≡ length (cond b (buffer_of c) (buffer_of_open (f.open_call u)))) [
       | true ↦ λ is.
           let left = left_open (is_some R.own) mine x is in
-          let asked : is_some (asks f.number c) ≡ true = sym (some_receipt R.receipt u (asks f.number c)) ∙ ap is_some left in
-          ap (λ o. length (buffer_of_open o)) (sym left) ∙ receipt_length R.receipt u (asks f.number c) ∙ asked_length f.number c asked
+          let asked : is_some (asks f.number c) ≡ true = sym (some_receipt R.receipt u (asks f.number u (channel_of (makes f u c)) c)) ∙ ap is_some left in
+          ap (λ o. length (buffer_of_open o)) (sym left) ∙ receipt_length R.receipt u (asks f.number u (channel_of (makes f u c)) c) ∙ asked_length f.number c asked
       | false ↦ λ is.
           let left = left_open (is_some (R.ends u)) others x is in
           ap (λ o. length (buffer_of_open o)) (sym left) ∙ unblock_length (makes f t c) (unblocks c) u received ∙ receipt_length R.receipt u written ∙ write_length f (writes c) u (f.open_call u)

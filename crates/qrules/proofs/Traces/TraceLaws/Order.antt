@@ -6,7 +6,7 @@ use Rattle.std.specs.Option.{option_map}
 use Rattle.std.proofs.lemmas.Bool.{true≢false}
 use Rattle.std.proofs.lemmas.Bool.Decides.{nat_tests}
 use Rattle.std.proofs.lemmas.List.Elements.{recursion_from_All}
-use Rattle.std.proofs.lemmas.Option.{none-some, same_Some, some_pair_parts}
+use Rattle.std.proofs.lemmas.Option.{none-some, same_Some}
 use Rattle.qqueue.specs.Best.{best_of, is_pulse, may_take}
 use Rattle.qqueue.specs.Order.{comes_before}
 use Rattle.qqueue.specs.declared.item.Item.{Item}
@@ -14,9 +14,8 @@ use Rattle.qqueue.specs.declared.item.Kind.{Kind}
 use Rattle.qqueue.specs.declared.item.Kind.TheVariants.{Any, PulseOnly}
 use Rattle.qqueue.proofs.OrderLaws.{best-at, best_is_first}
 use Rattle.qtables.specs.declared.member.Member.{Member}
-use Rattle.qrules.specs.Private.Effects.{receives_on}
-use Rattle.qrules.specs.Private.Headline.BestFirst.{TakesBest, takeable}
-use Rattle.qrules.specs.Private.Headline.ReceivedOnce.{number_received}
+use Rattle.qrules.specs.Properties.{number_received, takeable, TakesBest}
+use Rattle.qrules.specs.Rule.{ReceiveRequest}
 use Rattle.qrules.specs.Private.Laws.{FirstGoesFirst, HasPriority, TakesBeside}
 use Rattle.qrules.specs.Private.Past.{is_destroyed, is_gone, item_of, made_on, pending_items, priority_before}
 use Rattle.qmodel.specs.Trace.{SentItem}
@@ -120,23 +119,24 @@ gone_first : (roster : List Member) (past later : Trace) (e : Event) (h : ℕ) (
     → HasPriority roster (later ++ past) x → HasPriority roster (later ++ past) y → TakesBest roster (later ++ past) e z y.number → TakesBeside (e ∷ later ++ past) z y.number h x → is_gone (later ++ past) x ≡ true
 gone_first roster past later e h x y z px py before has_x has_y b t =
     let L = later ++ past in
-    let same = some_pair_parts b.channel h b.kind t.kind (sym b.receives ∙ ap receives_on (same_Some b.call t.call (sym b.is_call ∙ t.is_call)) ∙ t.receives) in
-    let best = subst (λ k. option_map (λ (item : Item). item.number) (best_of k (takeable roster L e h)) ≡ Some y.number) same.1 (subst (λ c. option_map (λ (item : Item). item.number) (best_of b.kind (takeable roster L e c)) ≡ Some y.number) same.0 b.best) in
-    let w = some_number (best_of t.kind (takeable roster L e h)) y.number best in
+    let same : b.request ≡ t.request = same_Some b.request t.request (sym b.call ∙ t.call) in
+    let best = subst (λ c. option_map (λ (item : Item). item.number) (best_of t.request.kind (takeable roster L e c)) ≡ Some y.number) t.channel
+    (subst (λ (r : ReceiveRequest). option_map (λ (item : Item). item.number) (best_of r.kind (takeable roster L e r.channel)) ≡ Some y.number) same b.best) in
+    let w = some_number (best_of t.request.kind (takeable roster L e h)) y.number best in
     let at : item_at roster L x.number ≡ Some (record { item = px.first; channel = h }) = item_later roster past later x.number _ px.made in
     let y_at : item_at roster L y.number ≡ Some (record { item = py.first; channel = h }) = item_later roster past later y.number _ py.made in
     let number : px.first.number ≡ x.number = (item_made roster L x.number _ at).makes_it.number in
     let below : y.number ≤ length L = item_below roster L y.number _ y_at in
-    let w_priority : w.0.priority ≡ y.priority = sym (was_priority roster L e h t.kind w.0 w.1) ∙ ap (priority_before roster L e) w.2 ∙ before_earlier roster e L y.number below ∙ has_y in
+    let w_priority : w.0.priority ≡ y.priority = sym (was_priority roster L e h t.request.kind w.0 w.1) ∙ ap (priority_before roster L e) w.2 ∙ before_earlier roster e L y.number below ∙ has_y in
     let v = now L px.first in
     let v_priority : v.priority ≡ x.priority = sym (item_priority roster L x.number _ at) ∙ has_x in
-    let may : may_take t.kind px.first ≡ true = kind_of t.kind px.first x px.what ∙ t.may in
+    let may : may_take t.request.kind px.first ≡ true = kind_of t.request.kind px.first x px.what ∙ t.may in
     let as_first : is_gone L px.first ≡ is_gone L x = gone_of L px.first x number px.what in
     elim (is_gone L x) as (λ d. is_gone L x ≡ d → d ≡ true) [
       | true ↦ λ _. refl
       | false ↦ λ stays.
-          let open_still = standing roster L e h t.kind w.0 w.1 (let b_below : w.0.number ≤ length L = omega (arith, w.2, below) in b_below) in
-          let after = behind_one roster L e h t.kind w.0 w.1 x.number px.first at (as_first ∙ stays) open_still may
+          let open_still = standing roster L e h t.request.kind w.0 w.1 (let b_below : w.0.number ≤ length L = omega (arith, w.2, below) in b_below) in
+          let after = behind_one roster L e h t.request.kind w.0 w.1 x.number px.first at (as_first ∙ stays) open_still may
           (λ one. differ x y w.0 v w.2 w_priority number v_priority before (ap (λ (i : Item). i.number) one) (ap (λ (i : Item). i.priority) one)) in
           absurd (never_both x y w.0 v w.2 w_priority number v_priority before after)
     ] refl
@@ -156,5 +156,5 @@ first_goes_first roster past later e r l h =
     → AllByRecursion (λ z. TakesBeside (e ∷ L) z y.number h x → is_gone L x ≡ true) e.endings) (pending_items roster past h)) (pending_items roster past h) (pending_all roster past h) (λ x px.
     all_more (IsPending roster past h) (λ y. comes_before x y ≡ true → HasPriority roster L x → HasPriority roster L y
     → AllByRecursion (λ z. TakesBeside (e ∷ L) z y.number h x → is_gone L x ≡ true) e.endings) (pending_items roster past h) (pending_all roster past h) (λ y py before has_x has_y.
-    all_more (λ z. (i : ℕ) → number_received z ≡ Some i → TakesBest roster L e z i) (λ z. TakesBeside (e ∷ L) z y.number h x → is_gone L x ≡ true) e.endings (best_first roster (e ∷ L) r l).0 (λ z best t.
+    all_more (λ z. (i : ℕ) → number_received z ≡ Some i → TakesBest roster L e z i) (λ z. TakesBeside (e ∷ L) z y.number h x → is_gone L x ≡ true) e.endings (best_first roster (e ∷ L) r l).1 (λ z best t.
     gone_first roster past later e h x y z px py before has_x has_y (best y.number t.item) t)))

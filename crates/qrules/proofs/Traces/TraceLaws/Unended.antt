@@ -33,9 +33,9 @@ record Begins (e : Event) (past : Trace) (t : ℕ) : Type 0 where
   pub block : OpenCall
   pub asked : asks (length past + 1) e.call ≡ Some block
 
-may_wait : (e : Event) (t : ℕ) → blocker e ≡ Some t → (is_some (asks 0 e.call) ≡ true) × (e.thread ≡ t)
+may_wait : (e : Event) (t : ℕ) → blocker e ≡ Some t → (is_some (asks 0 0 0 e.call) ≡ true) × (e.thread ≡ t)
 may_wait e t is =
-    elim (is_some (asks 0 e.call)) as (λ b. cond b (Some e.thread) None ≡ Some t → (b ≡ true) × (e.thread ≡ t)) [
+    elim (is_some (asks 0 0 0 e.call)) as (λ b. cond b (Some e.thread) None ≡ Some t → (b ≡ true) × (e.thread ≡ t)) [
       | true ↦ λ at. (refl, same_Some e.thread t at)
       | false ↦ λ at. absurd (none-some t at)
     ] is
@@ -83,7 +83,7 @@ block_began : (past : Trace) (u : ℕ) (b : OpenCall) → block roster past u �
 block_began [] u b is = absurd (none-some b is)
 block_began (e ∷ past) u b is = elim (begins_now e past u b is) [
   | inl h ↦
-      let waits : is_some (asks 0 e.call) ≡ true = sym (asks_any (length past + 1) e.call) ∙ ap is_some h.asked in
+      let waits : is_some (asks 0 0 0 e.call) ≡ true = sym (asks_any (length past + 1) e.call) ∙ ap is_some h.asked in
       let blocks : blocker e ≡ Some u = rw (waits, h.thread) refl in
       subst (λ i. accepted_at blocker (e ∷ past) i ≡ Some u) (sym h.number) (made_newest blocker e past h.accepted ∙ blocks)
   | inr h ↦ made_stays blocker e past b.number u (block_began past u b h)

@@ -1,7 +1,0 @@
--- The properties of a lawful trace on which the kernel's users rely, one file for each.
-pub mod ReceivedOnce
-pub mod AnsweredToSender
-pub mod CopiedExactly
-pub mod BestFirst
-pub mod SentOrder
-pub mod ShutForGood
