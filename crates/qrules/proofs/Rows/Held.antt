@@ -28,6 +28,7 @@ use Rattle.qrules.proofs.Rows.Same.{after_own, alone, ending_of, own_alone, Same
 use Rattle.qrules.proofs.View.{IsKnown}
 use Rattle.qrules.specs.Facts.{Receipt}
 use Rattle.std.proofs.Common.{length}
+use Rattle.qrules.proofs.Messages.{OneSend}
 
 pub held_same : (f : OldFacts) (t i : ℕ) → refusal_unless_held f t i ≡ refusal f t i
 held_same f t i = elim (send_cases f i) [
@@ -101,29 +102,26 @@ member_thread (x ∷ roster) t m e =
       | false ↦ λ is e. member_thread roster t m e
     ] refl e
 
+info_of_sender : (f : OldFacts) (i : ℕ) (k : OneSend f i) (m : Member) → member_at f.roster k.thread ≡ Some m → k.send.thread ≡ k.thread → info_of f i ≡ old_info_of f (sender f i)
+info_of_sender f i k m is own = rw (k.sent, k.new, k.is, is) (ap (λ v. told v v) own ∙ ap (λ v. told k.thread v) (sym (member_thread f.roster k.thread m is)) ∙ rw is refl)
+  where
+    told : ℕ → ℕ → Option Info
+    told v w = option_map (λ (receipt : Receipt). record {
+      process = option_map_or (λ (x : Member). x.process) (member_at f.roster v) 0;
+      thread = w;
+      connection = k.send.connection;
+      msglen = receipt.copied;
+      srcmsglen = length k.send.message;
+      dstmsglen = length k.send.reply_buffer;
+      priority = receipt.priority;
+    }) k.send.receipt
+
 pub info_same : (f : OldFacts) (i : ℕ) → IsKnown f → info_of f i ≡ old_info_of f (sender f i)
 info_same f i known = elim (send_cases f i) [
   | inl k ↦ rw (k.none, k.new) refl
   | inr k ↦
-      let own : k.send.thread ≡ k.thread = known.own k.thread (Send k.send) k.is in
       let m = some_of (member_at f.roster k.thread) (among_member f.roster k.thread (known.among k.thread (ap is_some k.is))) in
-      rw (k.sent, k.new, k.is, m.1) (ap (λ v. option_map (λ (receipt : Receipt). record {
-        process = option_map_or (λ (x : Member). x.process) (member_at f.roster v) 0;
-        thread = k.send.thread;
-        connection = k.send.connection;
-        msglen = receipt.copied;
-        srcmsglen = length k.send.message;
-        dstmsglen = length k.send.reply_buffer;
-        priority = receipt.priority;
-      }) k.send.receipt) own ∙ rw m.1 (ap (λ v. option_map (λ (receipt : Receipt). record {
-        process = m.0.process;
-        thread = v;
-        connection = k.send.connection;
-        msglen = receipt.copied;
-        srcmsglen = length k.send.message;
-        dstmsglen = length k.send.reply_buffer;
-        priority = receipt.priority;
-      }) k.send.receipt) (own ∙ sym (member_thread f.roster k.thread m.0 m.1))))
+      info_of_sender f i k m.0 m.1 (known.own k.thread (Send k.send) k.is)
 ]
 
 own_thread : (f : OldFacts) (t : ℕ) (told : Option Info) (x : Completion) → option_map (λ told. ends_with f.number t (mark.Info told)) told ≡ Some x → x.thread ≡ t

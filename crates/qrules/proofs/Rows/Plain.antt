@@ -32,7 +32,7 @@ channel_destroy f t chid known = record {
   refusal = refl;
   memory = λ p. refl;
   endings = λ p idle u. after_own (ends_with f.number t mark.Ok) _ _ t u refl
-      (cancel_same f (λ s. leads_to f s.connection chid) (λ r. r.channel == chid) (λ v. is_on chid) Srch u known (λ s. refl) (λ r. refl));
+      (cancel_same f (λ s. s.channel == chid) (λ r. r.channel == chid) (λ v. is_on chid) Srch u known (λ s. refl) (λ r. refl));
 }
 
 pub shutdown : (f : OldFacts) (t : ℕ) → IsKnown f → SameRow f t calls.Shutdown

@@ -12,7 +12,6 @@ use Rattle.qmodel.specs.declared.open_call.OpenCall.{OpenCall}
 use Rattle.qmodel.specs.Trace.{ThreadNo}
 use Rattle.qmodel.specs.Buffers.{buffer_of}
 use Rattle.qmodel.specs.OpenCalls.{buffer_in, number_of}
-use Rattle.qrules.specs.Private.Cancelling.{buffer_of_wait}
 use Rattle.qrules.specs.Trace.{call_at}
 use Rattle.qrules.specs.Private.Lawful.{IsLawful}
 use Rattle.qrules.specs.Private.Past.{has_ending_of, open_call}

@@ -84,11 +84,11 @@ after_unblock m (Some thread) u o = if (u == thread) && is_some m then option_ma
 abbrev pub unless : Bool → Option OpenCall → Option OpenCall
 unless b o = if b then None else o
 
--- what the caller u waits for after its call with this row: its request, with the receipt if the message is
+-- what the caller t, which is thread u, waits for after its call with this row: its request, with the receipt if the message is
 -- received at once; nothing if the call has ended
-abbrev pub own_call_after : Facts → Call → Row → ThreadNo → Option OpenCall
-own_call_after f c row u =
-    unless (is_some row.own) (after_receipt row.receipt u (asks f.number u (channel_of (makes f u c)) c))
+abbrev pub own_call_after : Facts → ThreadNo → Call → Row → ThreadNo → Option OpenCall
+own_call_after f t c row u =
+    unless (is_some row.own) (after_receipt row.receipt u (asks f.number t (channel_of (makes f t c)) c))
 
 -- what another thread u waited for as the call leaves it: written over, received, unblocked
 abbrev pub call_left_by : Facts → ThreadNo → Call → Row → ThreadNo → Option OpenCall
@@ -101,7 +101,7 @@ other_call_after f t c row u = unless (is_some (row.ends u)) (call_left_by f t c
 
 -- what thread u waits for after the call
 abbrev pub open_call_after : Facts → ThreadNo → Call → ThreadNo → Option OpenCall
-open_call_after f t c u = if u == t then own_call_after f c (row_of f t c) u
+open_call_after f t c u = if u == t then own_call_after f t c (row_of f t c) u
     else other_call_after f t c (row_of f t c) u
 
 -- the open call is the Send of number i, blocked on channel h, and not received

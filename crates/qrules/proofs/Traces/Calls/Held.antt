@@ -81,7 +81,7 @@ sender_ends f t rcvid finish u y r e =
     let p = ends_parts f finish (sender f rcvid) u y e in
     let h = held_for f t rcvid u r p.0 in
     let s = sender_sends f.open_call rcvid (threads_of f.roster) u p.0 in
-    let same : Send s.send ≡ Send h.send = same_Some _ _ (sym s.is ∙ h.is_open) in
+    let same : s.waiting ≡ Send h.send = same_Some _ _ (sym s.is ∙ h.is_open) in
     let number : h.send.number ≡ rcvid = sym (ap number_of same) ∙ s.number in
     record {
       is_sender = p.0;

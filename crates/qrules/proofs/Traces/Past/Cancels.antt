@@ -31,24 +31,30 @@ use Rattle.qrules.proofs.Traces.Properties.Messages.{item_waits, pending_going}
 use Rattle.qrules.proofs.Traces.Properties.Sends.{block_over, block_sender, buffer_over}
 use Rattle.qrules.proofs.Traces.Rosters.{known}
 use Rattle.qrules.proofs.Traces.Past.LiveSends.{over_attached}
+use Rattle.qrules.specs.Private.Facts.{number_of}
+use Rattle.qrules.specs.Private.Facts.{is_for_receipt}
+use Rattle.qrules.specs.Private.Facts.{is_for_answer}
+use Rattle.qrules.specs.Private.Past.{filled}
+use Rattle.qrules.specs.Private.Past.{with_receipt}
+use Rattle.qrules.proofs.Traces.Past.Open.{buffer_on}
+use Rattle.qrules.proofs.Traces.Properties.Sends.{block_on}
+use Rattle.qrules.proofs.Traces.Past.Open.{buffer_number}
 
 -- ---- a Send that isn't received
 
--- a wait for an answer that isn't settled is for the receipt
-receipt_from : (w : OpenCall) → is_for_answer w ≡ true → is_settled w ≡ false → is_for_receipt w ≡ true
-receipt_from (Answer coid message reply_buffer None) e s = refl
-receipt_from (Answer coid message reply_buffer (Some receipt)) e s = absurd (true≢false s)
-receipt_from (ForItem chid kind buffer) e s = absurd (true≢false (sym e))
+-- a Send that isn't settled isn't received
+receipt_from : (o : OpenCall) → is_for_answer o ≡ true → is_settled o ≡ false → is_for_receipt o ≡ true
+receipt_from (Send s) e settled = ap not settled
+receipt_from (Receive r) e settled = absurd (true≢false settled)
 
-settled_read : (w : OpenCall) → is_settled w ≡ true → is_for_receipt w ≡ false
-settled_read (Answer coid message reply_buffer None) e = absurd (true≢false (sym e))
-settled_read (Answer coid message reply_buffer (Some receipt)) e = refl
-settled_read (ForItem chid kind buffer) e = refl
+settled_read : (o : OpenCall) → is_settled o ≡ true → is_for_receipt o ≡ false
+settled_read (Send s) e = ap not e
+settled_read (Receive r) e = refl
 
 -- an open call that isn't one
-not_unread : (connection : ℕ → Option Connection) (h i : ℕ) (o : Option OpenCall) → IsSettled o → is_unread_send h i o ≡ false
-not_unread connection h i None s = refl
-not_unread connection h i (Some w) s =
+not_unread : (h i : ℕ) (o : Option OpenCall) → IsSettled o → is_unread_send h i o ≡ false
+not_unread h i None s = refl
+not_unread h i (Some w) s =
     let read : is_for_receipt w ≡ false = settled_read w (s w refl) in
     elim (eqb (number_of w) i) as (λ b. (b && is_for_receipt w && is_on h w) ≡ false) [ true ↦ rw read refl | false ↦ refl ]
 
@@ -58,9 +64,9 @@ pub record HasNumber (i : ℕ) (o : Option OpenCall) : Type 0 where
   pub is : o ≡ Some waiting
   pub number : (number_of waiting) ≡ i
 
-unread_number : (connection : ℕ → Option Connection) (h i : ℕ) (o : Option OpenCall) → is_unread_send h i o ≡ true → HasNumber i o
-unread_number connection h i None e = absurd (true≢false (sym e))
-unread_number connection h i (Some w) e = record { waiting = w; is = refl; number = eqb-true (number_of w) i (and_parts _ _ (and_parts _ _ e).0).0 }
+unread_number : (h i : ℕ) (o : Option OpenCall) → is_unread_send h i o ≡ true → HasNumber i o
+unread_number h i None e = absurd (true≢false (sym e))
+unread_number h i (Some w) e = record { waiting = w; is = refl; number = eqb-true (number_of w) i (and_parts _ _ (and_parts _ _ e).0).0 }
 
 -- ---- a call that ends no Send which isn't received cancels none
 
@@ -72,7 +78,7 @@ none_is_cancelled : (f : Facts) (t : ℕ) (c : Call) → EndsSettled f t c → (
 none_is_cancelled f t c settled h i = any_never _ (threads_of f.roster) (λ s.
     elim ((row_of f t c).ends s) as (λ y. (row_of f t c).ends s ≡ y → (is_unread_send h i (f.open_call s) && is_some y) ≡ false) [
       | None ↦ λ e. and-false _
-      | Some y ↦ λ e. rw (not_unread f.connection h i (f.open_call s) (settled s y e)) refl
+      | Some y ↦ λ e. rw (not_unread h i (f.open_call s) (settled s y e)) refl
     ] refl)
 
 pub none_cancelled : (f : Facts) (t : ℕ) (c : Call) → EndsSettled f t c → (h : ℕ) (items : List Item) → uncut_items f t c h items ≡ items
@@ -91,30 +97,23 @@ pub record IsSentBy (roster : List Member) (past : Trace) (h i : ℕ) : Type 0 w
   pub unread : is_for_receipt waiting ≡ true
   pub on : is_on h waiting ≡ true
 
--- a wait over a connection is on that connection's channel
-on_over : (connection : ℕ → Option Connection) (h : ℕ) (w : OpenCall) (c : Connection) → is_for_answer w ≡ true → connection (over w) ≡ Some c → c.channel ≡ h → is_on h w ≡ true
-on_over connection h (Answer coid message reply_buffer receipt) c e is at = rw is (eq-eqb c.channel h at)
-on_over connection h (ForItem chid kind buffer) c e is at = absurd (true≢false (sym e))
-
 pub sent_by : (roster : List Member) (past : Trace) (h : ℕ) (item : Item) → IsLawful roster past → IsPending roster past h item → is_pulse item.what ≡ false → IsSentBy roster past h item.number
 sent_by roster past h item l p message =
     let going : is_ended past item.number ≡ false = pending_going roster past h item p message in
     let w = item_waits roster past item.number (record { item = p.first; channel = h }) l p.made (ap is_pulse p.what ∙ message) going in
     let unread : is_received past item.number ≡ false = (or_parts _ _ p.stays).0 in
-    let none : copied_count_of past (number_of w.block) ≡ None = none_of (copied_count_of past (number_of w.block)) (subst (λ i. is_received past i ≡ false) (sym (number_of w)) unread) in
-    let k = block_over roster past w.thread w.block l w.is w.answer in
-    let same = same_Some k.made (record { item = p.first; channel = h }) (sym k.is_made ∙ ap (item_at roster past) (number_of w) ∙ p.made) in
-    let answer : is_for_answer (filled past w.block).wait ≡ true = filled_answer past w.block ∙ w.answer in
+    let none : copied_count_of past (number_of w.block) ≡ None = none_of (copied_count_of past (number_of w.block)) (subst (λ i. is_received past i ≡ false) (sym w.number) unread) in
+    let answer : is_for_answer (filled past w.block) ≡ true = filled_answer past w.block ∙ w.answer in
     let is_open : open_call roster past w.thread ≡ Some (filled past w.block) =
-    open_from roster past w.thread w.block w.is (subst (λ i. is_ended past i ≡ false) (sym (number_of w)) going) ∙ ap (λ r. Some (with_receipt (priority_of_item roster past (number_of w.block)) (is_unblocked roster past (number_of w.block)) r (filled past w.block))) none in
+    open_from roster past w.thread w.block w.is (subst (λ i. is_ended past i ≡ false) (sym w.number) going) ∙ ap (λ r. Some (with_receipt (priority_of_item roster past (number_of w.block)) (is_unblocked roster past (number_of w.block)) r (filled past w.block))) none in
     record {
       sender = w.thread;
       waiting = filled past w.block;
-      sent = subst (λ i. sender_of past i ≡ Some w.thread) (number_of w) (block_sender past w.thread w.block w.is w.answer);
+      sent = subst (λ i. sender_of past i ≡ Some w.thread) w.number (block_sender roster past w.thread w.block w.is w.answer);
       is_open = is_open;
-      number = (number_of w);
-      unread = receipt_from (filled past w.block).wait answer (filled_settled past w.block ∙ block_fresh roster past w.thread w.block w.is ∙ ap not w.answer);
-      on = on_over (λ j. connection_at roster past j) h (filled past w.block).wait k.connection answer (over_attached roster past w.thread (filled past w.block) l is_open answer ∙ ap (λ j. attached_connection roster past j) (buffer_over _ w.block) ∙ k.is_connection) (sym k.channel ∙ ap (λ m. m.channel) same);
+      number = buffer_number _ w.block ∙ w.number;
+      unread = receipt_from (filled past w.block) answer (filled_settled past w.block ∙ block_fresh roster past w.thread w.block w.is ∙ ap not w.answer);
+      on = buffer_on h _ w.block ∙ block_on roster past w.thread w.block (record { item = p.first; channel = h }) w.is w.answer (ap (item_at roster past) w.number ∙ p.made);
     }
 
 -- ---- what an accepted call ends
@@ -123,7 +122,7 @@ sent_by roster past h item l p message =
 pub unread_elsewhere : (roster : List Member) (past : Trace) (h i s : ℕ) (waiting : OpenCall) (v : ℕ) → open_call roster past s ≡ Some waiting → (number_of waiting) ≡ i → eqb v s ≡ false
     → is_unread_send h i (open_call roster past v) ≡ false
 unread_elsewhere roster past h i s waiting v is number differs = false_from_ne_true _ (λ e.
-    let n = unread_number (λ j. connection_at roster past j) h i (open_call roster past v) e in
+    let n = unread_number h i (open_call roster past v) e in
     eqb-false v s differs (open_thread roster past v s n.waiting waiting n.is is (n.number ∙ sym number)))
 
 -- the Send of a pending message exactly where it is cancelled
@@ -145,7 +144,7 @@ ends_sent roster past t c X h item l a p message =
 pub pulse_unread : (roster : List Member) (past : Trace) (h : ℕ) (item : Item) (v : ℕ) → IsPending roster past h item → is_pulse item.what ≡ true
     → is_unread_send h item.number (open_call roster past v) ≡ false
 pulse_unread roster past h item v p pulse = false_from_ne_true _ (λ e.
-    let n = unread_number (λ j. connection_at roster past j) h item.number (open_call roster past v) e in
+    let n = unread_number h item.number (open_call roster past v) e in
     let k = open_parts roster past v n.waiting n.is in
     let made = subst (λ i. item_at roster past i ≡ Some (record { item = p.first; channel = h })) (sym n.number ∙ k.number) p.made in
     true≢false (sym pulse ∙ sym (ap is_pulse p.what) ∙ item_message roster past v (record { item = p.first; channel = h }) k.block made k.is))

@@ -26,17 +26,20 @@ use Rattle.qrules.proofs.Traces.Past.Open.{buffer_answer, held_for_answer}
 use Rattle.qrules.proofs.Traces.Past.OpenCalls.{open_accepted, open_refused}
 use Rattle.qrules.proofs.Traces.Properties.Answers.{over, sends_over}
 use Rattle.qrules.proofs.Traces.Properties.Sends.{buffer_over, held_over}
+use Rattle.qrules.specs.Private.Step.{unblocked_call}
+use Rattle.qrules.specs.Private.Facts.{is_for_answer}
+use Rattle.qrules.specs.Past.{channel_of}
 
 -- ---- by each call's row
 
 -- a call that detaches a connection waits for nothing
-detaches_only : (n : ℕ) (c : Call) (b : OpenCall) (k : ℕ) → names (detaches c) k ≡ true → asks n c ≡ Some b → ⊥
-detaches_only n (ConnectDetach coid) b k d e = none-some b e
-detaches_only n c b k d e = absurd (true≢false (sym d))
+detaches_only : (n t h : ℕ) (c : Call) (b : OpenCall) (k : ℕ) → names (detaches c) k ≡ true → asks n t h c ≡ Some b → ⊥
+detaches_only n t h (ConnectDetach coid) b k d e = none-some b e
+detaches_only n t h c b k d e = absurd (true≢false (sym d))
 
 is_over_it : (k : ℕ) (w : OpenCall) → is_for_answer w ≡ true → eqb (over w) k ≡ true → is_over k w ≡ true
-is_over_it k (Answer coid message reply_buffer receipt) e same = same
-is_over_it k (ForItem chid kind buffer) e same = absurd (true≢false (sym e))
+is_over_it k (Send s) e same = same
+is_over_it k (Receive r) e same = absurd (true≢false (sym e))
 
 -- it ends each Send over that connection
 detaching_ends : (f : Facts) (t : ℕ) (c : Call) (u : ℕ) (o : OpenCall) → f.open_call u ≡ Some o → is_for_answer o ≡ true → names (detaches c) (over o) ≡ true → is_some ((row_of f t c).ends u) ≡ true
@@ -48,17 +51,15 @@ detaching_ends f t c u o is answer d = absurd (true≢false (sym d))
 -- ---- what lasts of a wait
 
 unblocked_over : (w : OpenCall) → over (unblocked_call w) ≡ over w
-unblocked_over (Answer coid message reply_buffer None) = refl
-unblocked_over (Answer coid message reply_buffer (Some receipt)) = refl
-unblocked_over (ForItem chid kind buffer) = refl
+unblocked_over (Send s) = refl
+unblocked_over (Receive r) = refl
 
 lasts_over : Lasts over
 lasts_over = record { held = held_over; buffer = buffer_over; unblocked = unblocked_over }
 
 unblocked_answer : (w : OpenCall) → is_for_answer (unblocked_call w) ≡ is_for_answer w
-unblocked_answer (Answer coid message reply_buffer None) = refl
-unblocked_answer (Answer coid message reply_buffer (Some receipt)) = refl
-unblocked_answer (ForItem chid kind buffer) = refl
+unblocked_answer (Send s) = refl
+unblocked_answer (Receive r) = refl
 
 lasts_answer : Lasts is_for_answer
 lasts_answer = record { held = held_for_answer; buffer = buffer_answer; unblocked = unblocked_answer }
@@ -79,15 +80,15 @@ live_after : (f : Facts) (t : ℕ) (c : Call) → Passes f t c → GoLive f → 
 live_after f t c p live u o is answer =
     let R = row_of f t c in
     let there = λ (k : ℕ) (some : is_some (f.connection k) ≡ true) (never : names (detaches c) k ≡ true → ⊥). stays_open (names (detaches c) k) (attaches (member_at f.roster t) c) f.number f.connection k some never in
-    elim (eqb u t) as (λ b. cond b (unless (is_some R.own) (after_receipt R.receipt u (asks f.number c))) (unless (is_some (R.ends u)) (after_unblock (makes f t c) (unblocks c) u (after_receipt R.receipt u (after_write f (writes c) u (f.open_call u))))) ≡ Some o
+    elim (eqb u t) as (λ b. cond b (unless (is_some R.own) (after_receipt R.receipt u (asks f.number t (channel_of (makes f t c)) c))) (unless (is_some (R.ends u)) (after_unblock (makes f t c) (unblocks c) u (after_receipt R.receipt u (after_write f (writes c) u (f.open_call u))))) ≡ Some o
     → is_some (connection_after f t c (over o)) ≡ true) [
       | true ↦ λ e.
-          let x = unless_is (is_some R.own) (after_receipt R.receipt u (asks f.number c)) o e in
-          let b = before_receipt over held_over R.receipt u (asks f.number c) o x.1 in
-          let a = before_receipt is_for_answer held_for_answer R.receipt u (asks f.number c) o x.1 in
+          let x = unless_is (is_some R.own) (after_receipt R.receipt u (asks f.number t (channel_of (makes f t c)) c)) o e in
+          let b = before_receipt over held_over R.receipt u (asks f.number t (channel_of (makes f t c)) c) o x.1 in
+          let a = before_receipt is_for_answer held_for_answer R.receipt u (asks f.number t (channel_of (makes f t c)) c) o x.1 in
           let began : is_for_answer b.call ≡ true = ap (λ (w : OpenCall). is_for_answer w) (same_Some b.call a.call (sym b.is ∙ a.is)) ∙ a.same ∙ answer in
-          let s = sends_over f t c b.call p b.is began in
-          ap (λ k. is_some (connection_after f t c k)) (sym b.same) ∙ there (over b.call) (ap is_some s.is_connection) (λ d. detaches_only f.number c b.call (over b.call) d b.is)
+          let s = sends_over f t (channel_of (makes f t c)) c b.call p b.is began in
+          ap (λ k. is_some (connection_after f t c k)) (sym b.same) ∙ there (over b.call) (ap is_some s.is_connection) (λ d. detaches_only f.number t (channel_of (makes f t c)) c b.call (over b.call) d b.is)
       | false ↦ λ e.
           let x = unless_is (is_some (R.ends u)) (after_unblock (makes f t c) (unblocks c) u (after_receipt R.receipt u (after_write f (writes c) u (f.open_call u)))) o e in
           let d = before_other over lasts_over f t c u o x.1 in

@@ -24,6 +24,7 @@ use Rattle.qrules.proofs.Traces.Past.Ends.{accepted}
 use Rattle.qrules.proofs.Traces.Past.Items.{Stands, item_below, standing_is}
 use Rattle.qrules.proofs.Traces.Past.CurrentPriority.{now, sets_none, worth_set, worth_stays}
 use Rattle.qrules.specs.Rule.{PriorityChange}
+use Rattle.qrules.specs.Private.Facts.{number_of}
 
 -- ---- items that are changed in their priority alone
 

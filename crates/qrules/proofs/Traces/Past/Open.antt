@@ -5,7 +5,7 @@ use Rattle.std.specs.Option.{option_map}
 use Rattle.std.proofs.lemmas.Bool.{eqb-true, ne_eqb, and_parts}
 use Rattle.std.proofs.lemmas.Option.{same_Some, none-some}
 use Rattle.qtables.specs.declared.member.Member.{Member}
-use Rattle.qrules.specs.Private.Headline.CopiedExactly.{call_at}
+use Rattle.qrules.specs.Trace.{call_at}
 use Rattle.qrules.specs.Private.Past.{items_by_now, call_by_now, is_accepted, is_ended, accepted_at, newest_block, unless_ended, open_call, copied_count_of, priority_of_item, unblocked_among, items}
 use Rattle.qrules.specs.Private.Effects.{asks}
 use Rattle.qmodel.specs.Trace.{Event, Trace}
@@ -34,6 +34,7 @@ use Rattle.qrules.specs.Past.{item_among}
 use Rattle.qbase.proofs.Lists.{none_of}
 use Rattle.qrules.specs.Private.Past.{item_of}
 use Rattle.qrules.proofs.Traces.Past.CurrentPriority.{now}
+use Rattle.qrules.specs.Private.Cancelling.{is_on}
 
 -- ---- open calls
 
@@ -75,6 +76,14 @@ buffer_answer f (Receive r) = refl
 pub buffer_settled : (f : List ℕ → List ℕ) (o : OpenCall) → is_settled (with_buffer f o) ≡ is_settled o
 buffer_settled f (Send s) = refl
 buffer_settled f (Receive r) = refl
+
+pub held_on : (h : ℕ) (receipt : Receipt) (o : OpenCall) → is_on h (held_call receipt o) ≡ is_on h o
+held_on h receipt (Send s) = refl
+held_on h receipt (Receive r) = refl
+
+pub buffer_on : (h : ℕ) (f : List ℕ → List ℕ) (o : OpenCall) → is_on h (with_buffer f o) ≡ is_on h o
+buffer_on h f (Send s) = refl
+buffer_on h f (Receive r) = refl
 
 pub filled_answer : (past : Trace) (b : OpenCall) → is_for_answer (filled past b) ≡ is_for_answer b
 filled_answer past b = buffer_answer _ b

@@ -115,7 +115,7 @@ other_holds roster past t c u b r l other is going k =
                 let made = subst (λ i. item_at roster past i ≡ Some (record { item = place.first; channel = r.channel })) number place.made in
                 let sends = send_from r.item (kept roster past b) (kept_number roster past b ∙ sym (eqb-true _ _ same)) (receipt_for_answer _ _ _ (filled past b) ∙ filled_answer past b ∙ item_answer roster past u _ b made is) in
                 let found : sender f r.item ≡ Some u = sender_found f.open_call r.item (threads_of roster) u (known roster u (block_known roster past u b l is)) (rw waits sends)
-                (λ v e. let w = send_parts r.item (f.open_call v) e in open_thread roster past v u w.waiting _ w.is waits ((number_of w) ∙ eqb-true _ _ same ∙ sym (kept_number roster past b))) in
+                (λ v e. let w = send_parts r.item (f.open_call v) e in open_thread roster past v u w.waiting _ w.is waits (w.number ∙ eqb-true _ _ same ∙ sym (kept_number roster past b))) in
                 let message = sym (ap is_pulse place.what) ∙ item_message roster past u _ b made is in
                 let untaken = none_of (copied_count_of past (number_of b)) (subst (λ i. is_received past i ≡ false) number (or_parts _ _ place.stays).0) in
                 inl (record {
@@ -266,7 +266,7 @@ open_other roster past t c X u l member a other =
     let R = row_of (facts_of roster past) t c in
     let M = makes (facts_of roster past) t c in
     let nothing : unless (is_some (R.ends u)) (other_after (facts_of roster past) t c u None) ≡ None = ap (unless (is_some (R.ends u))) (other_none (facts_of roster past) t c u) ∙ unless_none (is_some (R.ends u)) in
-    elim (block roster past u) as (λ o. block roster past u ≡ o → option_map (kept roster (with_event t c X past)) (unless_ended (with_event t c X past) o)
+    (elim (block roster past u) as (λ o. block roster past u ≡ o → option_map (kept roster (with_event t c X past)) (unless_ended (with_event t c X past) o)
     ≡ unless (is_some (R.ends u)) (other_after (facts_of roster past) t c u (option_map (kept roster past) (unless_ended past o)))) [
       | None ↦ λ e. sym nothing
       | Some b ↦ λ e.
@@ -293,12 +293,12 @@ open_other roster past t c X u l member a other =
                 (λ is. some_later (copied_by R.receipt (number_of b)) (copied_count_of past (number_of b)) (unblocked_now roster past t c (number_of b) is).taken)
                 ∙ ap (after_unblock M (unblocks c) u) (kept_after R.receipt u (number_of b) (priority_of_item roster past (number_of b)) old (copied_count_of past (number_of b)) (changed (buffer_after_write (writes c) (number_of b)) (filled past b))
                 (λ r is. other_holds roster past t c u b r l other e going ((laws_of (facts_of roster past) t c X a).receives r is))
-                ∙ ap (after_receipt R.receipt u) (receipt_written (facts_of roster past) (writes c) u (priority_of_item roster past (number_of b)) old (copied_count_of past (number_of b)) (filled past b) (kept_number roster past b)
+                ∙ ap (after_receipt R.receipt u) (receipt_written (facts_of roster past) (writes c) u (number_of b) (priority_of_item roster past (number_of b)) old (copied_count_of past (number_of b)) (filled past b) (kept_number roster past b)
                 (λ x is. written_sender roster past t c X u (kept roster past b) x a waits is ∙ ap (eqb x.rcvid) (kept_number roster past b)))) in
                 rw (or-false (has_ending_of X (number_of b)), ended) (
                 elim (is_some (R.ends u)) as (λ d. option_map (kept roster (with_event t c X past)) (cond d None (Some b)) ≡ unless d (other_after (facts_of roster past) t c u (Some (kept roster past b)))) [ true ↦ refl | false ↦ now ])
           ] refl
-    ] refl
+    ] refl) ∙ ap (λ o. unless (is_some ((row_of (facts_of roster past) t c).ends u)) (other_after (facts_of roster past) t c u o)) (sym (open_is roster past u))
 
 -- a call that has ended stays ended
 still : (roster : List Member) (e : Event) (past : Trace) (o : Option OpenCall) → option_map (kept roster past) (unless_ended past o) ≡ None → option_map (kept roster (e ∷ past)) (unless_ended (e ∷ past) o) ≡ None

@@ -34,6 +34,7 @@ use Rattle.qrules.proofs.Traces.Past.CurrentPriority.{now, refused_sets_none, wo
 use Rattle.qrules.proofs.Traces.Past.Receipts.{copied_by, accepted_receipts, refused_receipts, best_pending, receipt_beyond}
 use Rattle.qrules.proofs.Traces.Past.Open.{open_below}
 use Rattle.qrules.specs.Private.Facts.{threads_of}
+use Rattle.qrules.specs.Private.Facts.{number_of}
 
 -- ---- the items of a channel
 

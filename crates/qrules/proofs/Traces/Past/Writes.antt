@@ -85,10 +85,10 @@ written_after f (Some x) u o h = rw (h x refl) (elim (eqb x.rcvid (number_of o))
   | false ↦ ap (λ y. Some y) (change_none (λ b. b) o (λ b. refl))
 ])
 
-pub receipt_written : (f : Facts) (w : Option Transfer) (u priority : ℕ) (unblocked : Bool) (r : Option ℕ) (o : OpenCall) → number_of (with_receipt priority unblocked r o) ≡ number_of o → ((x : Transfer) → w ≡ Some x → is_thread (sender f x.rcvid) u ≡ eqb x.rcvid (number_of o))
-    → Some (with_receipt priority unblocked r (changed (buffer_after_write w (number_of o)) o)) ≡ after_write f w u (Some (with_receipt priority unblocked r o))
-receipt_written f w u priority unblocked r o number h =
-    ap (λ x. Some x) (changed_receipt (buffer_after_write w (number_of o)) priority unblocked r o ∙ ap (λ i. changed (buffer_after_write w i) (with_receipt priority unblocked r o)) (sym number))
+pub receipt_written : (f : Facts) (w : Option Transfer) (u i priority : ℕ) (unblocked : Bool) (r : Option ℕ) (o : OpenCall) → number_of (with_receipt priority unblocked r o) ≡ i → ((x : Transfer) → w ≡ Some x → is_thread (sender f x.rcvid) u ≡ eqb x.rcvid i)
+    → Some (with_receipt priority unblocked r (changed (buffer_after_write w i) o)) ≡ after_write f w u (Some (with_receipt priority unblocked r o))
+receipt_written f w u i priority unblocked r o number h =
+    ap (λ x. Some x) (changed_receipt (buffer_after_write w i) priority unblocked r o ∙ ap (λ i. changed (buffer_after_write w i) (with_receipt priority unblocked r o)) (sym number))
     ∙ written_after f w u (with_receipt priority unblocked r o) (λ x is. h x is ∙ ap (eqb x.rcvid) (sym number))
 
 -- ---- whose buffer is written

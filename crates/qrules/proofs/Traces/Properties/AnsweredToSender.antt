@@ -10,7 +10,6 @@ use Rattle.qtables.specs.declared.connection.Connection.{Connection}
 use Rattle.qtables.specs.declared.member.Member.{Member}
 use Rattle.qtables.specs.Members.{IsRoster}
 use Rattle.qrules.specs.Private.Answer.{ending, Outcome, Answers}
-use Rattle.qrules.proofs.Traces.Parts.{owns_end}
 use Rattle.qrules.specs.Private.Facts.{Facts, is_for_answer, owns, threads_of}
 use Rattle.qrules.specs.Properties.{is_answer, items, AnsweredToSender, AnswersIts, AnswersOnce}
 use Rattle.qrules.specs.Past.{item_among}
@@ -22,7 +21,6 @@ use Rattle.qrules.proofs.Traces.Past.Ends.{open_known, passes_of}
 use Rattle.qrules.proofs.Traces.Past.Items.{item_found}
 use Rattle.qrules.proofs.Traces.Past.Laws.{is_settled}
 use Rattle.qbase.proofs.Lists.{all_filter_map, all_more, is_among}
-use Rattle.qrules.proofs.Traces.Past.Numbers.{buffer_answer, held_for_answer, open_parts}
 use Rattle.qrules.proofs.Traces.Properties.Answers.{AnswersHeld, answers_held, answers_one, over}
 use Rattle.qrules.proofs.Traces.Properties.Events.{is_accepted_by, outcome_of}
 use Rattle.qrules.proofs.Traces.Properties.ReceivedOnce.{different_calls}
@@ -30,34 +28,40 @@ use Rattle.qrules.proofs.Traces.Past.Unblocked.{held_is_taken}
 use Rattle.qrules.proofs.Traces.Rosters.{known}
 use Rattle.qrules.proofs.Traces.Properties.Sends.{block_sender, open_keeps, open_over}
 use Rattle.qrules.proofs.Traces.Past.LiveSends.{over_attached}
+use Rattle.qrules.specs.Private.Facts.{number_of}
+use Rattle.qrules.proofs.Traces.Past.Open.{buffer_answer}
+use Rattle.qrules.proofs.Traces.Past.Open.{held_for_answer}
+use Rattle.qrules.proofs.Traces.Past.Open.{open_parts}
+use Rattle.qmodel.specs.declared.open_call.OpenCall.TheVariants.{Send as InSend}
+use Rattle.std.proofs.Common.{is_some}
+use Rattle.qrules.specs.Private.Cancelling.{is_on}
+use Rattle.qrules.proofs.Traces.Past.Open.{held_on}
+use Rattle.qrules.proofs.Traces.Past.Open.{buffer_on}
+use Rattle.qrules.proofs.Traces.Properties.Sends.{block_on}
 
 -- ---- each answer is one to the message that the call names
-
--- a channel of a connection that is the thread's
-owns_through : (f : Facts) (t : ℕ) (o : Option Connection) (c : Connection) → o ≡ Some c → owns_end f t o ≡ true → owns f t c.channel ≡ true
-owns_through f t o c is e = subst (λ x. owns_end f t x ≡ true) is e
 
 answers_its : (roster : List Member) (past : Trace) (e : Event) (u : ℕ) (y : Completion) → IsLawful roster past → Outcome true (facts_of roster past) e.thread e.call e.endings
     → AnswersHeld (facts_of roster past) e.thread e.call u y → AnswersIts roster past e y
 answers_its roster past e u y l a h =
     let f = facts_of roster past in
-    let o = h.held.waiting in
+    let o = InSend h.held.send in
     let k = open_parts roster past u o h.held.is_open in
     let number : (number_of k.block) ≡ y.call = sym k.number ∙ h.number in
-    let answer : is_for_answer o ≡ true = ap is_for_answer h.held.waits in
+    let answer : is_for_answer o ≡ true = refl in
     let began : is_for_answer k.block ≡ true = sym (open_keeps is_for_answer roster past u o k held_for_answer buffer_answer) ∙ answer in
-    let taken : is_received past (number_of k.block) ≡ true = held_is_taken roster past u o k answer (ap is_settled h.held.waits) in
+    let taken : is_received past (number_of k.block) ≡ true = held_is_taken roster past u o k answer (ap is_some h.held.held) in
     let s = open_over roster past u o k l answer in
-    let connection : connection_at roster past h.held.coid ≡ Some s.connection = ap (connection_at roster past) (sym (ap over h.held.waits)) ∙ over_attached roster past u o l h.held.is_open answer ∙ s.is_connection in
+    let on : is_on s.made.channel o ≡ true = open_keeps (is_on s.made.channel) roster past u o k (held_on s.made.channel) (buffer_on s.made.channel) ∙ block_on roster past u k.block s.made k.is began s.is_made in
     record {
       named = h.named;
       accepted = is_accepted_by roster e past a;
       held = subst (λ i. (is_received past i && not (is_ended past i)) ≡ true) number (and_from _ _ taken (ap not k.going));
       owner = subst (λ i. option_map_or (λ m. owns f e.thread m.channel) (item_among (items roster past) i) false ≡ true) number
           (ap (λ o. option_map_or (λ (m : SentItem). owns f e.thread m.channel) o false) (item_found roster past (number_of k.block) s.made s.is_made)
-          ∙ ap (λ c. owns f e.thread c) s.channel
-          ∙ owns_through (facts_of roster past) e.thread (connection_at roster past h.held.coid) s.connection connection h.held.owner);
-      sender = subst (λ i. sender_of past i ≡ Some y.thread) number (block_sender past u k.block k.is began ∙ ap (λ t. Some t) (sym h.thread));
+          ∙ ap (λ c. owns f e.thread c) (sym (eqb-true h.held.send.channel s.made.channel on))
+          ∙ h.held.owner);
+      sender = subst (λ i. sender_of past i ≡ Some y.thread) number (block_sender roster past u k.block k.is began ∙ ap (λ t. Some t) (sym h.thread));
     }
 
 each_answers_its : (roster : List Member) (past : Trace) (e : Event) → IsLawful roster past → Answers (facts_of roster past) e.thread e.call e.endings

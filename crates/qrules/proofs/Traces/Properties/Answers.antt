@@ -46,6 +46,7 @@ use Rattle.qrules.specs.Private.Calls.Unblock as unblock
 use Rattle.qrules.specs.Private.Calls.Pulse as pulse
 use Rattle.qrules.proofs.Traces.Calls.ConnectDetach.{detach_ends}
 use Rattle.qrules.proofs.Traces.Properties.Rows.Telling.{told_meets, unblock_ends}
+use Rattle.qrules.specs.Private.Facts.{number_of}
 
 -- ---- what answers
 
@@ -54,7 +55,7 @@ pub record AnswersHeld (f : Facts) (t : ℕ) (c : Call) (u : ℕ) (y : Completio
   pub named : (effect_of c).answers ≡ Some y.call
   pub is_sender : sender f y.call ≡ Some u
   pub held : IsHeldFor f t (f.open_call u)
-  pub number : (number_of held.waiting) ≡ y.call
+  pub number : held.send.number ≡ y.call
   pub thread : y.thread ≡ u
 
 no_answer : {P : Type 0} (x y : Completion) → x ≡ y → is_answer x.mark ≡ false → is_answer y.mark ≡ true → P
@@ -68,7 +69,7 @@ takes_no_answer : {P : Type 0} (f : Facts) (t chid : ℕ) (kind : Kind) (buffer 
 takes_no_answer f t chid kind buffer y r is = no_answer _ y r.ending (given_no_answer r.item (message f r.item.number) buffer) is
 
 met_no_answer : {P : Type 0} (f : Facts) (o : Option ℕ) (item : Item) (sent : List ℕ) (u : ℕ) (y : Completion) → Delivers f o item sent u y → is_answer y.mark ≡ true → P
-met_no_answer f o item sent u y s is = no_answer _ y s.ending (given_no_answer item sent s.buffer) is
+met_no_answer f o item sent u y s is = no_answer _ y s.ending (given_no_answer item sent s.receive.buffer) is
 
 -- what is told is no answer
 tells_only : (n t : ℕ) (o : Option Told) (y : Completion) → option_map (info_ending n t) o ≡ Some y → is_answer y.mark ≡ false
@@ -137,16 +138,16 @@ ends_one f t c rcvid finish i passed ends marks same =
     let s = has_sender f t rcvid passed in
     let h = held_for f t rcvid s.0 passed s.1 in
     let k = sender_sends f.open_call rcvid (threads_of f.roster) s.0 s.1 in
-    let at : ends_sender f finish (sender f rcvid) s.0 ≡ Some (answering (number_of h.waiting) s.0 finish h.reply_buffer) = rw (s.1, eqb_same s.0) (finished_held f t finish s.0 (f.open_call s.0) h) in
+    let at : ends_sender f finish (sender f rcvid) s.0 ≡ Some (answering h.send.number s.0 finish h.send.reply_buffer) = rw (s.1, eqb_same s.0) (finished_held f t finish s.0 (f.open_call s.0) h) in
     record {
       thread = s.0;
       is_sender = subst (λ j. sender f j ≡ Some s.0) same s.1;
-      waiting = h.waiting;
+      waiting = InSend h.send;
       is_open = h.is_open;
-      given = answering (number_of h.waiting) s.0 finish h.reply_buffer;
+      given = answering h.send.number s.0 finish h.send.reply_buffer;
       is = ends s.0 ∙ at;
-      call = sym (ap (λ o. o.number) (same_Some k.waiting h.waiting (sym k.is ∙ h.is_open))) ∙ k.number ∙ same;
-      answers = marks h.reply_buffer;
+      call = sym (ap number_of (same_Some k.waiting (InSend h.send) (sym k.is ∙ h.is_open))) ∙ k.number ∙ same;
+      answers = marks h.send.reply_buffer;
     }
 
 -- an Error marks an answer
@@ -170,8 +171,8 @@ pub record SendsOver (f : Facts) (t : ℕ) (c : Call) (coid : ℕ) : Type 0 wher
 
 -- the connection of a wait for an answer
 abbrev pub over : OpenCall → ℕ
-over (Answer coid message reply_buffer receipt) = coid
-over (ForItem chid kind buffer) = 0
+over (InSend s) = s.connection
+over (InReceive r) = 0
 
 send_over : (f : Facts) (t coid : ℕ) (message reply_buffer : List ℕ) → Passes f t (Send coid message reply_buffer) → SendsOver f t (Send coid message reply_buffer) coid
 send_over f t coid message reply_buffer p =
@@ -185,16 +186,16 @@ send_over f t coid message reply_buffer p =
       channel = refl;
     }
 
-pub sends_over : (f : Facts) (t : ℕ) (c : Call) (b : OpenCall) → Passes f t c → asks f.number c ≡ Some b → is_for_answer b ≡ true → SendsOver f t c (over b)
-sends_over f t (ReceivePulse chid) b p e w = absurd (true≢false (sym w ∙ ap (λ o. is_for_answer o) (sym (same_Some _ b e))))
-sends_over f t (Receive chid buffer) b p e w = absurd (true≢false (sym w ∙ ap (λ o. is_for_answer o) (sym (same_Some _ b e))))
-sends_over f t (Send coid message reply_buffer) b p e w =
-    subst (SendsOver f t (Send coid message reply_buffer)) (ap (λ o. over o) (same_Some _ b e)) (send_over f t coid message reply_buffer p)
-sends_over f t c b p e w = absurd (none-some b e)
+pub sends_over : (f : Facts) (t h : ℕ) (c : Call) (b : OpenCall) → Passes f t c → asks f.number t h c ≡ Some b → is_for_answer b ≡ true → SendsOver f t c (over b)
+sends_over f t h (ReceivePulse chid) b p e w = absurd (true≢false (sym w ∙ ap is_for_answer (sym (same_Some _ b e))))
+sends_over f t h (Receive chid buffer) b p e w = absurd (true≢false (sym w ∙ ap is_for_answer (sym (same_Some _ b e))))
+sends_over f t h (Send coid message reply_buffer) b p e w =
+    subst (SendsOver f t (Send coid message reply_buffer)) (ap over (same_Some _ b e)) (send_over f t coid message reply_buffer p)
+sends_over f t h c b p e w = absurd (none-some b e)
 
 -- and its thread is the caller
-pub sends_by : (n t : ℕ) (c : Call) (b : OpenCall) → asks n c ≡ Some b → is_for_answer b ≡ true → thread_of_send t c ≡ Some t
-sends_by n t (Send coid message reply_buffer) b e w = refl
-sends_by n t (Receive chid buffer) b e w = absurd (true≢false (sym w ∙ ap (λ o. is_for_answer o) (sym (same_Some _ b e))))
-sends_by n t (ReceivePulse chid) b e w = absurd (true≢false (sym w ∙ ap (λ o. is_for_answer o) (sym (same_Some _ b e))))
-sends_by n t c b e w = absurd (none-some b e)
+pub sends_by : (n t h : ℕ) (c : Call) (b : OpenCall) → asks n t h c ≡ Some b → is_for_answer b ≡ true → thread_of_send t c ≡ Some t
+sends_by n t h (Send coid message reply_buffer) b e w = refl
+sends_by n t h (Receive chid buffer) b e w = absurd (true≢false (sym w ∙ ap is_for_answer (sym (same_Some _ b e))))
+sends_by n t h (ReceivePulse chid) b e w = absurd (true≢false (sym w ∙ ap is_for_answer (sym (same_Some _ b e))))
+sends_by n t h c b e w = absurd (none-some b e)

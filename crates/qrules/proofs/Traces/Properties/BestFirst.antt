@@ -21,11 +21,13 @@ use Rattle.qmodel.specs.Trace.{Event, Trace}
 use Rattle.qmodel.specs.declared.call.Call.{Call}
 use Rattle.qmodel.specs.declared.call.Completion.{Completion}
 use Rattle.qbase.proofs.Lists.{eqb_same}
-use Rattle.qrules.proofs.Traces.Past.Numbers.{block_asked, block_below, call_earlier, call_newest, open_parts}
+use Rattle.qrules.proofs.Traces.Past.Numbers.{block_asked, block_below, call_earlier, call_newest}
 use Rattle.qrules.proofs.Traces.Properties.Events.{each_received, made_now, none_made}
 use Rattle.qrules.proofs.Traces.Properties.Receipts.{TakesMade, TakesPending, waits_for}
 use Rattle.qrules.proofs.Traces.Properties.Sends.{open_keeps}
 use Rattle.qrules.proofs.Traces.Properties.Waiting.{buffer_waits_for, held_waits_for, nothing_for, place_of, waits_for_asked}
+use Rattle.qrules.proofs.Traces.Past.Open.{open_parts}
+use Rattle.qmodel.specs.OpenCalls.{number_of}
 
 -- ---- what a call asks to receive
 
@@ -72,7 +74,7 @@ takes_made roster past e u y i r l a k =
     ∙ rw (eqb_same k.made.channel) refl in
     let best : best_of k.kind (pending_items roster past k.made.channel ++ k.made.item ∷ []) ≡ Some k.made.item =
     best_behind k.kind (pending_items roster past k.made.channel) k.made.item (nothing_for roster past r l u k.waiting k.made.channel k.kind k.is_open k.waits) k.may in
-    let asks = asks_at (effect_of c.call).receives (k.made.channel, k.kind) (waits_for_asked (number_of b.block) c.call b.block c.asks_it ∙ sym (open_keeps waits_for roster past u k.waiting b held_waits_for buffer_waits_for) ∙ k.waits) in
+    let asks = asks_at (effect_of c.call).receives (k.made.channel, k.kind) (waits_for_asked (number_of b.block) u c.channel c.call b.block c.asks_it ∙ sym (open_keeps waits_for roster past u k.waiting b held_waits_for buffer_waits_for) ∙ k.waits) in
     record {
       request = asks.request;
       call = request_from (e ∷ past) y.call c.call asks.request (ap (call_at (e ∷ past)) (k.call ∙ b.number) ∙ call_earlier e past (number_of b.block) (block_below roster past u b.block b.is) ∙ c.is) asks.is;

@@ -65,6 +65,9 @@ use Rattle.qrules.proofs.Traces.Calls.ConnectDetach as detaching
 use Rattle.qrules.proofs.Traces.Calls.ConnectDetach.{detach_ends}
 use Rattle.qrules.proofs.Traces.Calls.Unblock as unblocking
 use Rattle.qrules.proofs.Traces.Calls.Unblock.{is_cancelled}
+use Rattle.qrules.specs.Private.Facts.{number_of}
+use Rattle.qmodel.specs.OpenCalls.{buffer_in}
+use Rattle.qmodel.specs.declared.open_call.OpenCall.TheVariants.{Receive as InReceive, Send as InSend}
 
 abbrev event : ℕ → Call → List Completion → Event
 event t c X = record { thread = t; call = c; endings = X }
@@ -91,19 +94,19 @@ buffer_earlier e past i l none =
     ∙ (elim (call_at past i) as (λ o. option_map_or (buffer_by (e ∷ past) i) o [] ≡ option_map_or (buffer_by past i) o []) [ None ↦ refl | Some c ↦ buffer_stays e past i c none ])
 
 -- the buffer that an open call waits with is its buffer so far
-buffer_open : (roster : List Member) (e : Event) (past : Trace) (u : ℕ) (o : OpenCall) → writes e.call ≡ None → open_call roster past u ≡ Some o → buffer_at (e ∷ past) o.number ≡ buffer_of_wait o
-buffer_open roster e past u o none is = buffer_earlier e past o.number (open_below roster past u o is) none ∙ open_buffer roster past u o is
+buffer_open : (roster : List Member) (e : Event) (past : Trace) (u : ℕ) (o : OpenCall) → writes e.call ≡ None → open_call roster past u ≡ Some o → buffer_at (e ∷ past) (number_of o) ≡ buffer_in o
+buffer_open roster e past u o none is = buffer_earlier e past (number_of o) (open_below roster past u o is) none ∙ open_buffer roster past u o is
 
 -- ---- a message that is held
 
 -- the open call of the thread that holds it
-held_call_is : (f : Facts) (t rcvid : ℕ) (s : ℕ) (is : sender f rcvid ≡ Some s) (h : IsHeldFor f t (f.open_call s)) → option_and_then f.open_call (sender f rcvid) ≡ Some h.waiting
+held_call_is : (f : Facts) (t rcvid : ℕ) (s : ℕ) (is : sender f rcvid ≡ Some s) (h : IsHeldFor f t (f.open_call s)) → option_and_then f.open_call (sender f rcvid) ≡ Some (InSend h.send)
 held_call_is f t rcvid s is h = ap (option_and_then f.open_call) is ∙ h.is_open
 
-held_number : (f : Facts) (t rcvid : ℕ) (s : ℕ) (is : sender f rcvid ≡ Some s) (h : IsHeldFor f t (f.open_call s)) → (number_of h.waiting) ≡ rcvid
+held_number : (f : Facts) (t rcvid : ℕ) (s : ℕ) (is : sender f rcvid ≡ Some s) (h : IsHeldFor f t (f.open_call s)) → h.send.number ≡ rcvid
 held_number f t rcvid s is h =
     let k = sender_sends f.open_call rcvid (threads_of f.roster) s is in
-    sym (ap (λ o. o.number) (same_Some k.waiting h.waiting (sym k.is ∙ h.is_open))) ∙ k.number
+    sym (ap number_of (same_Some k.waiting (InSend h.send) (sym k.is ∙ h.is_open))) ∙ k.number
 
 -- its message is that of the call of its number, and its buffer that call's so far
 held_message : (roster : List Member) (past : Trace) (t rcvid : ℕ) → refusal (facts_of roster past) t rcvid ≡ None → message (facts_of roster past) rcvid ≡ message_at past rcvid
@@ -111,14 +114,14 @@ held_message roster past t rcvid passed =
     let f = facts_of roster past in
     let s = has_sender f t rcvid passed in
     let h = held_for f t rcvid s.0 passed s.1 in
-    ap message_in (held_call_is f t rcvid s.0 s.1 h) ∙ sym (open_message roster past s.0 h.waiting h.is_open) ∙ ap (message_at past) (held_number f t rcvid s.0 s.1 h)
+    ap message_in (held_call_is f t rcvid s.0 s.1 h) ∙ sym (open_message roster past s.0 (InSend h.send) h.is_open) ∙ ap (message_at past) (held_number f t rcvid s.0 s.1 h)
 
 held_buffer : (roster : List Member) (past : Trace) (t rcvid : ℕ) → refusal (facts_of roster past) t rcvid ≡ None → reply_buffer (facts_of roster past) rcvid ≡ buffer_at past rcvid
 held_buffer roster past t rcvid passed =
     let f = facts_of roster past in
     let s = has_sender f t rcvid passed in
     let h = held_for f t rcvid s.0 passed s.1 in
-    ap reply_buffer_in (held_call_is f t rcvid s.0 s.1 h) ∙ ap reply_buffer_of h.waits ∙ sym (ap buffer_of_wait h.waits) ∙ sym (open_buffer roster past s.0 h.waiting h.is_open) ∙ ap (buffer_at past) (held_number f t rcvid s.0 s.1 h)
+    ap reply_buffer_in (held_call_is f t rcvid s.0 s.1 h) ∙ sym (open_buffer roster past s.0 (InSend h.send) h.is_open) ∙ ap (buffer_at past) (held_number f t rcvid s.0 s.1 h)
 
 -- ---- the forms of an ending
 
@@ -184,15 +187,15 @@ own_copied roster past t c X y l p e = plain_copied past (event t c X) y _ (same
 
 -- the buffer of the Send that is answered
 answered_buffer : (roster : List Member) (past : Trace) (v : Event) (t rcvid : ℕ) (finish : Finish) (u : ℕ) (y : Completion) → writes v.call ≡ None → (r : SenderEnds (facts_of roster past) t rcvid finish u y)
-    → buffer_at (v ∷ past) rcvid ≡ r.held.reply_buffer
+    → buffer_at (v ∷ past) rcvid ≡ r.held.send.reply_buffer
 answered_buffer roster past v t rcvid finish u y none r =
-    subst (λ i. buffer_at (v ∷ past) i ≡ r.held.reply_buffer) r.number (buffer_open roster v past u r.held.waiting none r.held.is_open ∙ ap buffer_of_wait r.held.waits)
+    subst (λ i. buffer_at (v ∷ past) i ≡ r.held.send.reply_buffer) r.number (buffer_open roster v past u (InSend r.held.send) none r.held.is_open)
 
 -- what a receiver takes that is met
 met_copied : (roster : List Member) (past : Trace) (t : ℕ) (c : Call) (X : List Completion) (u : ℕ) (y : Completion) (o : Option ℕ) (item : Item) (sent : List ℕ) → writes c ≡ None
     → (is_pulse item.what ≡ false → message_at (event t c X ∷ past) item.number ≡ sent) → Delivers (facts_of roster past) o item sent u y → IsCopied past (event t c X) y y.mark
 met_copied roster past t c X u y o item sent none message s =
-    taking_copied past (event t c X) (number_of s.waiting) u item s.buffer sent y (buffer_open roster (event t c X) past u s.waiting none s.is_open ∙ ap buffer_of_wait s.waits) message s.ending
+    taking_copied past (event t c X) s.receive.number u item s.receive.buffer sent y (buffer_open roster (event t c X) past u (InReceive s.receive) none s.is_open) message s.ending
 
 -- what is cancelled gives its buffer back as it is by now
 cancel_copied : (roster : List Member) (past : Trace) (t : ℕ) (c : Call) (X : List Completion) (u : ℕ) (y : Completion) (is_cancelled : OpenCall → Bool) (errno : Errno) → writes c ≡ None → IsCutCall is_cancelled errno u (open_call roster past u) y
@@ -208,8 +211,8 @@ told_now roster past t c X u y o none pulse k =
 
 ends_copied : (roster : List Member) (past : Trace) (t : ℕ) (c : Call) (X : List Completion) (u : ℕ) (y : Completion) → Passes (facts_of roster past) t c → (row_of (facts_of roster past) t c).ends u ≡ Some y
     → IsCopied past (event t c X) y y.mark
-ends_copied roster past t (ChannelDestroy chid) X u y p e = cancel_copied roster past t (ChannelDestroy chid) X u y (is_on (facts_of roster past).connection chid) Srch refl (cancel_parts (is_on (facts_of roster past).connection chid) Srch u (open_call roster past u) y e)
-ends_copied roster past t Shutdown X u y p e = cancel_copied roster past t Shutdown X u y (λ wait. true) Srch refl (cancel_parts (λ wait. true) Srch u (open_call roster past u) y e)
+ends_copied roster past t (ChannelDestroy chid) X u y p e = cancel_copied roster past t (ChannelDestroy chid) X u y (is_on chid) Srch refl (cancel_parts (is_on chid) Srch u (open_call roster past u) y e)
+ends_copied roster past t Shutdown X u y p e = cancel_copied roster past t Shutdown X u y (λ o. true) Srch refl (cancel_parts (λ o. true) Srch u (open_call roster past u) y e)
 ends_copied roster past t (Unblock thread) X u y p e = elim (unblock_ends (facts_of roster past) thread u y (unblock.due_pulse (facts_of roster past) thread) e) [
   | inl cancel ↦ cancel_copied roster past t (Unblock thread) X u y (is_cancelled (facts_of roster past) thread u) Intr refl cancel
   | inr k ↦ told_now roster past t (Unblock thread) X u y (unblock.due_pulse (facts_of roster past) thread) refl (λ m is. unblocking.due_is_pulse (facts_of roster past) thread m is) k
@@ -228,11 +231,11 @@ ends_copied roster past t (Pulse coid level code value) X u y p e =
 ends_copied roster past t (Reply rcvid status bytes) X u y p e =
     let r = sender_ends (facts_of roster past) t rcvid (reply_finish status bytes) u y p.row e in
     let v = event t (Reply rcvid status bytes) X in
-    replied_copied past v rcvid u status bytes r.held.reply_buffer y refl (answered_buffer roster past v t rcvid (reply_finish status bytes) u y refl r) r.ending
+    replied_copied past v rcvid u status bytes r.held.send.reply_buffer y refl (answered_buffer roster past v t rcvid (reply_finish status bytes) u y refl r) r.ending
 ends_copied roster past t (Error rcvid code) X u y p e =
     let r = sender_ends (facts_of roster past) t rcvid (error_finish code) u y p.row e in
     let v = event t (Error rcvid code) X in
-    errored_copied past v rcvid u code r.held.reply_buffer y refl (answered_buffer roster past v t rcvid (error_finish code) u y refl r) r.ending
+    errored_copied past v rcvid u code r.held.send.reply_buffer y refl (answered_buffer roster past v t rcvid (error_finish code) u y refl r) r.ending
 ends_copied roster past t c X u y p e = absurd (none-some y e)
 
 ending_copied : (roster : List Member) (past : Trace) (t : ℕ) (c : Call) (X : List Completion) (u : ℕ) (y : Completion) → IsLawful roster past → Passes (facts_of roster past) t c

@@ -7,16 +7,15 @@ use Rattle.std.proofs.lemmas.Option.{none-some, same_Some}
 use Rattle.qqueue.specs.Best.{is_pulse}
 use Rattle.qqueue.specs.declared.item.Item.{Item}
 use Rattle.qtables.specs.declared.member.Member.{Member}
-use Rattle.qrules.specs.Private.Cancelling.{buffer_of_wait}
 use Rattle.qrules.specs.Private.Facts.{is_for_answer, message, message_in, message_of, sender, threads_of, is_send}
 use Rattle.qrules.specs.Properties.{buffer_at, message_at}
 use Rattle.qrules.specs.Rule.{buffer_of}
 use Rattle.qrules.specs.Rules.{effect_of}
 use Rattle.qrules.specs.Private.Lawful.{facts_of, IsLawful}
-use Rattle.qrules.specs.Private.Past.{has_ending_of, call_by_now, wait_with_receipt, is_ended, item_of, newest_block, open_call, priority_of_item, copied_count_of, with_receipt, with_writes}
+use Rattle.qrules.specs.Private.Past.{has_ending_of, call_by_now, is_ended, item_of, newest_block, open_call, priority_of_item, copied_count_of, with_receipt, with_writes}
 use Rattle.qrules.specs.Private.Facts.{Facts}
 use Rattle.qrules.specs.Private.Effects.{asks, makes}
-use Rattle.qrules.specs.Private.Rows.{pulse_item, with_buffer}
+use Rattle.qrules.specs.Private.Rows.{pulse_item}
 use Rattle.qmodel.specs.Trace.{SentItem}
 use Rattle.qmodel.specs.Trace.{Event, Trace}
 use Rattle.qmodel.specs.declared.call.Call.{Call}
@@ -28,7 +27,7 @@ use Rattle.qrules.proofs.Traces.Calls.Delivering.{sent_item}
 use Rattle.qrules.proofs.Traces.Past.Ends.{open_known, passes_of}
 use Rattle.qrules.proofs.Traces.Past.Items.{item_accepted, IsPending, item_at}
 use Rattle.qbase.proofs.Lists.{eqb_same}
-use Rattle.qrules.proofs.Traces.Past.Numbers.{blocks, blocks_thread, block_asked, filled_answer, open_from, open_parts, open_thread, receipt_for_answer, receipt_number, is_unblocked}
+use Rattle.qrules.proofs.Traces.Past.Numbers.{blocks, blocks_thread, block_asked}
 use Rattle.qrules.proofs.Traces.Calls.{call_laws}
 use Rattle.qrules.proofs.Traces.Past.Senders.{send_from, send_parts, sender_found}
 use Rattle.qrules.proofs.Traces.Properties.Events.{outcome_of}
@@ -37,6 +36,21 @@ use Rattle.qrules.proofs.Traces.Calls.ConnectDetach as detaching
 use Rattle.qrules.proofs.Traces.Calls.Unblock.{due_is_pulse}
 use Rattle.qrules.proofs.Traces.Rosters.{known}
 use Rattle.qrules.proofs.Traces.Due.{unblock_same}
+use Rattle.qrules.specs.Private.Facts.{number_of}
+use Rattle.qrules.specs.Private.Past.{block}
+use Rattle.qrules.specs.Private.Facts.{held_call}
+use Rattle.qrules.specs.Private.Facts.{with_buffer}
+use Rattle.qrules.specs.Private.Past.{filled}
+use Rattle.qrules.proofs.Traces.Past.Open.{open_from}
+use Rattle.qrules.proofs.Traces.Past.Open.{filled_answer}
+use Rattle.qrules.proofs.Traces.Past.Open.{open_parts}
+use Rattle.qrules.proofs.Traces.Past.Open.{open_thread}
+use Rattle.qrules.proofs.Traces.Past.Open.{receipt_for_answer}
+use Rattle.qrules.specs.Past.{channel_of}
+use Rattle.std.proofs.Common.{Option}
+use Rattle.qmodel.specs.OpenCalls.{buffer_in}
+use Rattle.qrules.proofs.Traces.Past.Open.{kept}
+use Rattle.qrules.proofs.Traces.Past.Open.{kept_number}
 
 -- ---- what a call brings is what it waits with
 
@@ -50,92 +64,95 @@ buffer_by past i c = cond (is_some (effect_of c).sends) (with_writes past i (buf
 
 -- a call that begins to wait keeps its buffer, which is written over, and its message
 pub record Keeps (past : Trace) (n : ℕ) (c : Call) (b : OpenCall) : Type 0 where
-  pub buffer : buffer_by past n c ≡ buffer_of_wait (with_buffer (with_writes past n) b)
+  pub buffer : buffer_by past n c ≡ buffer_in (with_buffer (with_writes past n) b)
   pub sent : message_sent c ≡ message_of b
 
-pub keeps : (past : Trace) (n : ℕ) (c : Call) (b : OpenCall) → asks n c ≡ Some b → Keeps past n c b
-keeps past n (ReceivePulse chid) b e = subst (Keeps past n (ReceivePulse chid)) (same_Some _ b e) (record { buffer = refl; sent = refl })
-keeps past n (Send coid message reply_buffer) b e = subst (Keeps past n (Send coid message reply_buffer)) (same_Some _ b e) (record { buffer = refl; sent = refl })
-keeps past n (Receive chid buffer) b e = subst (Keeps past n (Receive chid buffer)) (same_Some _ b e) (record { buffer = refl; sent = refl })
-keeps past n c b e = absurd (none-some b e)
+pub keeps : (past : Trace) (n t h : ℕ) (c : Call) (b : OpenCall) → asks n t h c ≡ Some b → Keeps past n c b
+keeps past n t h (ReceivePulse chid) b e = subst (Keeps past n (ReceivePulse chid)) (same_Some _ b e) (record { buffer = refl; sent = refl })
+keeps past n t h (Send coid message reply_buffer) b e = subst (Keeps past n (Send coid message reply_buffer)) (same_Some _ b e) (record { buffer = refl; sent = refl })
+keeps past n t h (Receive chid buffer) b e = subst (Keeps past n (Receive chid buffer)) (same_Some _ b e) (record { buffer = refl; sent = refl })
+keeps past n t h c b e = absurd (none-some b e)
 
-held_buffer_of : (receipt : Receipt) (w : OpenCall) → buffer_of_wait (held_call receipt w) ≡ buffer_of_wait w
-held_buffer_of receipt (Answer coid sent reply_buffer before) = refl
-held_buffer_of receipt (ForItem chid kind buffer) = refl
+held_buffer_of : (receipt : Receipt) (w : OpenCall) → buffer_in (held_call receipt w) ≡ buffer_in w
+held_buffer_of receipt (InSend s) = refl
+held_buffer_of receipt (InReceive r) = refl
 
 held_message : (receipt : Receipt) (w : OpenCall) → message_of (held_call receipt w) ≡ message_of w
-held_message receipt (Answer coid sent reply_buffer before) = refl
-held_message receipt (ForItem chid kind buffer) = refl
+held_message receipt (InSend s) = refl
+held_message receipt (InReceive r) = refl
 
 buffer_message : (f : List ℕ → List ℕ) (w : OpenCall) → message_of (with_buffer f w) ≡ message_of w
-buffer_message f (Answer coid sent reply_buffer receipt) = refl
-buffer_message f (ForItem chid kind buffer) = refl
+buffer_message f (InSend s) = refl
+buffer_message f (InReceive r) = refl
 
 -- the buffer of an open call is the one that the call of its number brought, with what was written over it
-pub open_buffer : (roster : List Member) (past : Trace) (u : ℕ) (o : OpenCall) → open_call roster past u ≡ Some o → buffer_at past o.number ≡ buffer_of_wait o
+pub open_buffer : (roster : List Member) (past : Trace) (u : ℕ) (o : OpenCall) → open_call roster past u ≡ Some o → buffer_at past (number_of o) ≡ buffer_in o
 open_buffer roster past u o is =
     let k = open_parts roster past u o is in
     let a = block_asked roster past u k.block k.is in
-    ap (buffer_at past) k.number ∙ ap (λ c. option_map_or (buffer_by past (number_of k.block)) c []) a.is ∙ (keeps past (number_of k.block) a.call k.block a.asks_it).buffer ∙ sym (open_filled buffer_of_wait roster past u o k held_buffer_of)
+    ap (buffer_at past) k.number ∙ ap (λ c. option_map_or (buffer_by past (number_of k.block)) c []) a.is ∙ (keeps past (number_of k.block) u a.channel a.call k.block a.asks_it).buffer ∙ ap (λ n. buffer_in (with_buffer (with_writes past n) k.block)) refl ∙ sym (open_filled buffer_in roster past u o k held_buffer_of)
 
 -- and so is its message
-pub open_message : (roster : List Member) (past : Trace) (u : ℕ) (o : OpenCall) → open_call roster past u ≡ Some o → message_at past o.number ≡ message_of o
+pub open_message : (roster : List Member) (past : Trace) (u : ℕ) (o : OpenCall) → open_call roster past u ≡ Some o → message_at past (number_of o) ≡ message_of o
 open_message roster past u o is =
     let k = open_parts roster past u o is in
     let a = block_asked roster past u k.block k.is in
-    ap (message_at past) k.number ∙ ap (λ c. option_map_or message_sent c []) a.is ∙ (keeps past (number_of k.block) a.call k.block a.asks_it).sent ∙ sym (open_keeps message_of roster past u o k held_message buffer_message)
+    ap (message_at past) k.number ∙ ap (λ c. option_map_or message_sent c []) a.is ∙ (keeps past (number_of k.block) u a.channel a.call k.block a.asks_it).sent ∙ sym (open_keeps message_of roster past u o k held_message buffer_message)
 
 -- ---- a message that is pending has its Send open
 
 -- the call that makes a message waits for the answer
-pub record IsMessage (n : ℕ) (c : Call) (m : SentItem) : Type 0 where
+pub record IsMessage (n t : ℕ) (c : Call) (m : SentItem) : Type 0 where
   pub begins : OpenCall
-  pub asked : asks n c ≡ Some begins
+  pub asked : asks n t m.channel c ≡ Some begins
   pub answer : is_for_answer begins ≡ true
 
-pub makes_message : (f : Facts) (t : ℕ) (c : Call) (m : SentItem) → makes f t c ≡ Some m → is_pulse m.item.what ≡ false → IsMessage f.number c m
+pub makes_message : (f : Facts) (t : ℕ) (c : Call) (m : SentItem) → makes f t c ≡ Some m → is_pulse m.item.what ≡ false → IsMessage f.number t c m
 makes_message f t (Unblock thread) m e message = absurd (true≢false (sym (due_is_pulse f thread m (sym (unblock_same f thread) ∙ e)) ∙ message))
 makes_message f t (ConnectDetach coid) m e message = absurd (true≢false (sym (detaching.due_is_pulse f t coid m e) ∙ message))
 makes_message f t (Pulse coid level code value) m e message =
     absurd (true≢false (ap (λ x. is_pulse x.what) (sym (sent_item (f.connection coid) (pulse_item f.number level code value) m e)) ∙ message))
 makes_message f t (Send coid sent reply_buffer) m e message = record {
-  begins = record { number = f.number; wait = Answer coid sent reply_buffer None };
+  begins = InSend (record { number = f.number; thread = t; connection = coid; channel = m.channel; message = sent; reply_buffer = reply_buffer; receipt = None });
   asked = refl;
   answer = refl;
 }
 makes_message f t c m e message = absurd (none-some m e)
 
+abbrev newest_of : List Member → Trace → ℕ → Option OpenCall
+newest_of roster past u = block roster past u
+
 -- the call of number i is the newest blocking call of a thread, and waits for an answer
-pub record IsWaiting (past : Trace) (i : ℕ) : Type 0 where
+pub record IsWaiting (roster : List Member) (past : Trace) (i : ℕ) : Type 0 where
   pub thread : ℕ
   pub block : OpenCall
-  pub is : block roster past thread ≡ Some block
+  pub is : newest_of roster past thread ≡ Some block
   pub number : (number_of block) ≡ i
   pub answer : is_for_answer block ≡ true
 
 -- a newest block that waits stays the newest, until it is ended
-pub block_stays : (roster : List Member) (e : Event) (past : Trace) (u : ℕ) (b : OpenCall) → IsLawful roster (e ∷ past) → block roster past u ≡ Some b → is_ended past b.number ≡ false → block roster (e ∷ past) u ≡ Some b
+pub block_stays : (roster : List Member) (e : Event) (past : Trace) (u : ℕ) (b : OpenCall) → IsLawful roster (e ∷ past) → block roster past u ≡ Some b → is_ended past (number_of b) ≡ false → block roster (e ∷ past) u ≡ Some b
 block_stays roster e past u b l is going =
-    elim (blocks e past u) as (λ t. blocks e past u ≡ t → cond t (asks (length past + 1) e.call) (block roster past u) ≡ Some b) [
+    elim (blocks roster e past u) as (λ t. blocks roster e past u ≡ t → cond t (asks (length past + 1) u (channel_of (item_of roster e past)) e.call) (block roster past u) ≡ Some b) [
       | true ↦ λ h.
           let a = outcome_of roster e past l.2 (and_parts _ _ (and_parts _ _ h).0).1 in
           let idle : open_call roster past e.thread ≡ None = (passes_of (facts_of roster past) e.thread e.call e.endings a).idle in
-          absurd (none-some _ (sym idle ∙ ap (open_call roster past) (blocks_thread e past u h) ∙ open_from roster past u b is going))
+          absurd (none-some _ (sym idle ∙ ap (open_call roster past) (blocks_thread roster e past u h) ∙ open_from roster past u b is going))
       | false ↦ λ h. is
     ] refl
 
-pub item_waits : (roster : List Member) (past : Trace) (i : ℕ) (m : SentItem) → IsLawful roster past → item_at roster past i ≡ Some m → is_pulse m.item.what ≡ false → is_ended past i ≡ false → IsWaiting past i
+pub item_waits : (roster : List Member) (past : Trace) (i : ℕ) (m : SentItem) → IsLawful roster past → item_at roster past i ≡ Some m → is_pulse m.item.what ≡ false → is_ended past i ≡ false → IsWaiting roster past i
 item_waits roster [] i m l is message going = absurd (none-some m is)
 item_waits roster (e ∷ past) i m l is message going =
-    elim (eqb i (length past + 1)) as (λ b. eqb i (length past + 1) ≡ b → cond b (item_of roster e past) (item_at roster past i) ≡ Some m → IsWaiting (e ∷ past) i) [
+    elim (eqb i (length past + 1)) as (λ b. eqb i (length past + 1) ≡ b → cond b (item_of roster e past) (item_at roster past i) ≡ Some m → IsWaiting roster (e ∷ past) i) [
       | true ↦ λ same at.
           let k = item_accepted roster e past m at in
           let w = makes_message (facts_of roster past) e.thread e.call m k.1 message in
           record {
             thread = e.thread;
             block = w.begins;
-            is = rw (eqb_same e.thread, k.0, w.asked) refl;
-            number = ((call_laws e.call).asks_one (length past + 1) w.begins w.asked).number ∙ sym (eqb-true _ _ same);
+            is = rw (eqb_same e.thread, at, k.0, w.asked) refl;
+            number = ((call_laws e.call).asks_one (length past + 1) e.thread m.channel w.begins w.asked).number ∙ sym (eqb-true _ _ same);
             answer = w.answer;
           }
       | false ↦ λ other at.
@@ -159,10 +176,10 @@ pub pending_message : (roster : List Member) (past : Trace) (h : ℕ) (item : It
 pending_message roster past h item l p sent =
     let going : is_ended past item.number ≡ false = pending_going roster past h item p sent in
     let w = item_waits roster past item.number (record { item = p.first; channel = h }) l p.made (ap is_pulse p.what ∙ sent) going in
-    let o = with_receipt (priority_of_item roster past (number_of w.block)) (is_unblocked roster past (number_of w.block)) (copied_count_of past (number_of w.block)) (filled past w.block) in
+    let o = kept roster past w.block in
     let is : open_call roster past w.thread ≡ Some o = open_from roster past w.thread w.block w.is (subst (λ j. is_ended past j ≡ false) (sym w.number) going) in
-    let number : o.number ≡ item.number = receipt_number (priority_of_item roster past (number_of w.block)) (is_unblocked roster past (number_of w.block)) (copied_count_of past (number_of w.block)) (filled past w.block) ∙ w.number in
-    let answer : is_for_answer o ≡ true = receipt_for_answer (priority_of_item roster past (number_of w.block)) (is_unblocked roster past (number_of w.block)) (copied_count_of past (number_of w.block)) (filled past w.block) ∙ filled_answer past w.block ∙ w.answer in
+    let number : number_of o ≡ item.number = kept_number roster past w.block ∙ w.number in
+    let answer : is_for_answer o ≡ true = receipt_for_answer _ _ _ (filled past w.block) ∙ filled_answer past w.block ∙ w.answer in
     let sends : is_send item.number (open_call roster past w.thread) ≡ true = ap (is_send item.number) is ∙ send_from item.number o number answer in
     let found : sender (facts_of roster past) item.number ≡ Some w.thread =
     sender_found (open_call roster past) item.number (threads_of roster) w.thread (known roster w.thread (open_known roster past w.thread o l is)) sends (λ v e.

@@ -44,6 +44,7 @@ use Rattle.qrules.proofs.Traces.Properties.Rows.Telling.{Tells, told_meets, unbl
 use Rattle.qrules.proofs.Traces.Calls.Delivering.{sent_way}
 use Rattle.qrules.specs.Past.{ReceivedItem}
 use Rattle.qrules.proofs.Traces.Due.{unblock_same}
+use Rattle.qrules.specs.Private.Facts.{number_of}
 
 -- ---- whose ending it is
 
@@ -67,8 +68,8 @@ receives_it x i e =
 
 -- the channel and kind of items that a thread waits for
 abbrev pub waits_for : OpenCall → Option (ℕ × Kind)
-waits_for (Answer coid message reply_buffer receipt) = None
-waits_for (ForItem chid kind buffer) = Some (chid, kind)
+waits_for (InSend s) = None
+waits_for (InReceive r) = Some (r.channel, r.kind)
 
 -- the caller takes the best of what was pending
 pub record TakesPending (f : Facts) (t : ℕ) (c : Call) (u : ℕ) (y : Completion) (i : ℕ) : Type 0 where
@@ -123,12 +124,12 @@ takes_met : (f : Facts) (t : ℕ) (c : Call) (o : Option ℕ) (item : Item) (mes
 takes_met f t c o item message u y p s made m = inr (record {
   made = record { item = item; channel = s.channel };
   is_made = made s.channel s.leads;
-  number = ap (λ q. q.number) (same_Some (record { number = item.number; copied = (given_received item message s.buffer).0 }) p (sym (given_received item message s.buffer).1 ∙ ap (λ x. item_in x.mark) s.ending ∙ m));
-  waiting = s.waiting;
+  number = ap (λ q. q.number) (same_Some (record { number = item.number; copied = (given_received item message s.receive.buffer).0 }) p (sym (given_received item message s.receive.buffer).1 ∙ ap (λ x. item_in x.mark) s.ending ∙ m));
+  waiting = InReceive s.receive;
   is_open = s.is_open;
   call = sym (ap (λ x. x.call) s.ending);
-  kind = s.kind;
-  waits = ap waits_for s.waits;
+  kind = s.receive.kind;
+  waits = ap (λ h. Some (h, s.receive.kind)) s.on;
   may = s.may;
 })
 

@@ -15,28 +15,23 @@ use Rattle.qrules.specs.Private.Facts.{Facts, threads_of, first_where}
 use Rattle.qrules.specs.Private.Receivers.{is_after, is_last_wait, is_newest, newest_receiver, newest_receiver_among, wait_for, wait_on}
 use Rattle.qbase.proofs.Lists.{eqb_same, is_among}
 use Rattle.qrules.specs.Private.Facts.{number_of}
+use Rattle.qmodel.specs.declared.open_call.OpenReceive.{OpenReceive}
 
 -- the open call waits for an item of channel h, and may take this one
 pub record WaitsOn (h : ℕ) (item : Item) (call : Option OpenCall) : Type 0 where
-  pub waiting : OpenCall
-  pub kind : Kind
-  pub buffer : List ℕ
-  pub is_open : call ≡ Some waiting
-  pub waits : waiting ≡ ForItem h kind buffer
-  pub may : may_take kind item ≡ true
-
-wait_for_is : (h : ℕ) (item : Item) (m : ℕ) (w : OpenCall) (k : ℕ) → wait_for h item m w ≡ Some k → (kind : Kind) × (buffer : List ℕ) × (w ≡ ForItem h kind buffer) × (may_take kind item ≡ true)
-wait_for_is h item m (Answer coid message reply_buffer receipt) k e = absurd (none-some k e)
-wait_for_is h item m (ForItem chid kind buffer) k e =
-    elim ((eqb chid h) && may_take kind item) as (λ b. ((eqb chid h) && may_take kind item) ≡ b → cond b (Some m) None ≡ Some k
-    → (taken : Kind) × (kept : List ℕ) × (ForItem chid kind buffer ≡ ForItem h taken kept) × (may_take taken item ≡ true)) [
-      | true ↦ λ both s. let p = and_parts _ _ both in (kind, buffer, ap (λ c. ForItem c kind buffer) (eqb-true chid h p.0), p.1)
-      | false ↦ λ other s. absurd (none-some k s)
-    ] refl e
+  pub receive : OpenReceive
+  pub is_open : call ≡ Some (Receive receive)
+  pub on : receive.channel ≡ h
+  pub may : may_take receive.kind item ≡ true
 
 wait_on_is : (h : ℕ) (item : Item) (call : Option OpenCall) (k : ℕ) → wait_on h item call ≡ Some k → WaitsOn h item call
 wait_on_is h item None k e = absurd (none-some k e)
-wait_on_is h item (Some o) k e = let w = wait_for_is h item o.number o k e in record { waiting = o; kind = w.0; buffer = w.1; is_open = refl; waits = w.2; may = w.3 }
+wait_on_is h item (Some (Send s)) k e = absurd (none-some k e)
+wait_on_is h item (Some (Receive r)) k e =
+    elim ((eqb r.channel h) && may_take r.kind item) as (λ b. ((eqb r.channel h) && may_take r.kind item) ≡ b → cond b (Some r.number) None ≡ Some k → WaitsOn h item (Some (Receive r))) [
+      | true ↦ λ both s. let p = and_parts _ _ both in record { receive = r; is_open = refl; on = eqb-true r.channel h p.0; may = p.1 }
+      | false ↦ λ other s. absurd (none-some k s)
+    ] refl e
 
 -- the first number of which this is so is one of which it is so
 first_is : (p : ℕ → Bool) (ns : List ℕ) (u : ℕ) → first_where p ns ≡ Some u → p u ≡ true
@@ -155,8 +150,8 @@ newest_parts open_call h item ts u e =
 pub newest_waits : (f : Facts) (h : ℕ) (item : Item) (r : ℕ) → newest_receiver f h item ≡ Some r → WaitsOn h item (f.open_call r)
 newest_waits f h item r e = let n = newest_parts f.open_call h item (threads_of f.roster) r e in wait_on_is h item (f.open_call r) n.0 n.1.waits
 
-pub waiting_on : (h : ℕ) (item : Item) (call : Option OpenCall) (w : WaitsOn h item call) → wait_on h item call ≡ Some (number_of w.waiting)
-waiting_on h item call w = rw (w.is_open, w.waits, eqb_same h, w.may) refl
+pub waiting_on : (h : ℕ) (item : Item) (call : Option OpenCall) (w : WaitsOn h item call) → wait_on h item call ≡ Some w.receive.number
+waiting_on h item call w = rw (w.is_open, w.on, eqb_same h, w.may) refl
 
 -- where a thread of the roster waits on the channel, there is a newest
 pub newest_there : (f : Facts) (h : ℕ) (item : Item) (u m : ℕ) → is_among (threads_of f.roster) u ≡ true → wait_on h item (f.open_call u) ≡ Some m → is_some (newest_receiver f h item) ≡ true
@@ -166,4 +161,4 @@ newest_there f h item u m a w =
     first_there (is_newest f.open_call h item ts) ts g.thread g.among (rw (g.waits, g.last) refl)
 
 pub newest_some : (f : Facts) (h : ℕ) (item : Item) (u : ℕ) → is_among (threads_of f.roster) u ≡ true → WaitsOn h item (f.open_call u) → is_some (newest_receiver f h item) ≡ true
-newest_some f h item u a w = newest_there f h item u (number_of w.waiting) a (waiting_on h item (f.open_call u) w)
+newest_some f h item u a w = newest_there f h item u w.receive.number a (waiting_on h item (f.open_call u) w)

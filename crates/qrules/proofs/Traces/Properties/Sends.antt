@@ -8,8 +8,7 @@ use Rattle.qtables.specs.declared.member.Member.{Member}
 use Rattle.qrules.specs.Private.Facts.{is_for_answer}
 use Rattle.qrules.specs.Private.Lawful.{facts_of, IsLawful}
 use Rattle.qrules.specs.Private.Effects.{asks, thread_of_send}
-use Rattle.qrules.specs.Private.Past.{call_by_now, is_accepted, accepted_at, newest_block, priority_of_item, copied_count_of, sender_of, with_receipt, with_writes, wait_with_receipt, attached_connection}
-use Rattle.qrules.specs.Private.Rows.{with_buffer}
+use Rattle.qrules.specs.Private.Past.{call_by_now, is_accepted, accepted_at, newest_block, priority_of_item, copied_count_of, sender_of, with_receipt, with_writes, attached_connection}
 use Rattle.qmodel.specs.Trace.{SentItem}
 use Rattle.qmodel.specs.Trace.{Event, Trace}
 use Rattle.qmodel.specs.declared.open_call.OpenCall.{OpenCall}
@@ -18,11 +17,28 @@ use Rattle.qmodel.specs.declared.open_call.OpenCall.TheVariants.{Receive, Send}
 use Rattle.qrules.proofs.Traces.Past.Ends.{passes_of}
 use Rattle.qrules.proofs.Traces.Past.Items.{item_at, item_below, item_earlier, item_newest}
 use Rattle.qbase.proofs.Lists.{eqb_same}
-use Rattle.qrules.proofs.Traces.Past.Numbers.{IsOpen, blocks, blocks_thread, buffer_answer, held_for_answer, made_below, is_unblocked}
+use Rattle.qrules.proofs.Traces.Past.Numbers.{blocks, blocks_thread, made_below}
 use Rattle.qrules.proofs.Traces.Calls.{call_laws}
 use Rattle.qrules.proofs.Traces.Properties.Answers.{over, sends_by, sends_over}
 use Rattle.qrules.proofs.Traces.Properties.Events.{made_now, outcome_of}
 use Rattle.qrules.proofs.Traces.Past.Connections.{live_attached}
+use Rattle.qrules.specs.Private.Facts.{number_of}
+use Rattle.qrules.specs.Private.Past.{block}
+use Rattle.qrules.specs.Private.Facts.{held_call}
+use Rattle.qrules.specs.Private.Facts.{with_buffer}
+use Rattle.qrules.proofs.Traces.Past.Open.{IsOpen}
+use Rattle.qrules.specs.Private.Past.{filled}
+use Rattle.qrules.proofs.Traces.Past.Open.{buffer_answer}
+use Rattle.qrules.proofs.Traces.Past.Open.{held_for_answer}
+use Rattle.qrules.proofs.Traces.Past.Open.{is_unblocked}
+use Rattle.qrules.specs.Past.{channel_of}
+use Rattle.qrules.specs.Private.Cancelling.{is_on}
+use Rattle.qrules.specs.Private.Past.{item_of}
+use Rattle.qrules.proofs.Traces.Past.Numbers.{block_below}
+use Rattle.qrules.specs.Private.Past.{open_call}
+use Rattle.qrules.proofs.Traces.Past.Open.{open_parts}
+use Rattle.qrules.proofs.Traces.Past.Open.{held_on}
+use Rattle.qrules.proofs.Traces.Past.Open.{buffer_on}
 
 -- ---- what events made
 
@@ -40,32 +56,32 @@ made_stays make e past i x is = made_earlier make e past i (made_below make past
 -- ---- the newest blocking call
 
 -- it is of the newest event, which was accepted, or it is one of the past
-pub record BeginsNow (e : Event) (past : Trace) (u : ℕ) (b : OpenCall) : Type 0 where
+pub record BeginsNow (roster : List Member) (e : Event) (past : Trace) (u : ℕ) (b : OpenCall) : Type 0 where
   pub thread : e.thread ≡ u
   pub accepted : is_accepted e past ≡ true
-  pub asked : asks (length past + 1) e.call ≡ Some b
-  pub number : b.number ≡ length past + 1
+  pub asked : asks (length past + 1) u (channel_of (item_of roster e past)) e.call ≡ Some b
+  pub number : number_of b ≡ length past + 1
 
-pub begins_now : (e : Event) (past : Trace) (u : ℕ) (b : OpenCall) → block roster (e ∷ past) u ≡ Some b → BeginsNow e past u b ⊎ (block roster past u ≡ Some b)
-begins_now e past u b is =
-    elim (blocks e past u) as (λ t. blocks e past u ≡ t → cond t (asks (length past + 1) e.call) (block roster past u) ≡ Some b → BeginsNow e past u b ⊎ (block roster past u ≡ Some b)) [
+pub begins_now : (roster : List Member) (e : Event) (past : Trace) (u : ℕ) (b : OpenCall) → block roster (e ∷ past) u ≡ Some b → BeginsNow roster e past u b ⊎ (block roster past u ≡ Some b)
+begins_now roster e past u b is =
+    elim (blocks roster e past u) as (λ t. blocks roster e past u ≡ t → cond t (asks (length past + 1) u (channel_of (item_of roster e past)) e.call) (block roster past u) ≡ Some b → BeginsNow roster e past u b ⊎ (block roster past u ≡ Some b)) [
       | true ↦ λ h at. inl (record {
-        thread = blocks_thread e past u h;
+        thread = blocks_thread roster e past u h;
         accepted = (and_parts _ _ (and_parts _ _ h).0).1;
         asked = at;
-        number = ((call_laws e.call).asks_one (length past + 1) b at).number;
+        number = ((call_laws e.call).asks_one (length past + 1) u (channel_of (item_of roster e past)) b at).number;
       })
       | false ↦ λ h at. inr at
     ] refl is
 
 -- the thread of a Send that waits is its sender
-pub block_sender : (past : Trace) (u : ℕ) (b : OpenCall) → block roster past u ≡ Some b → is_for_answer b ≡ true → sender_of past b.number ≡ Some u
-block_sender [] u b is w = absurd (none-some b is)
-block_sender (e ∷ past) u b is w = elim (begins_now e past u b is) [
+pub block_sender : (roster : List Member) (past : Trace) (u : ℕ) (b : OpenCall) → block roster past u ≡ Some b → is_for_answer b ≡ true → sender_of past (number_of b) ≡ Some u
+block_sender roster [] u b is w = absurd (none-some b is)
+block_sender roster (e ∷ past) u b is w = elim (begins_now roster e past u b is) [
   | inl h ↦
       subst (λ i. sender_of (e ∷ past) i ≡ Some u) (sym h.number)
-      (made_newest (λ e. thread_of_send e.thread e.call) e past h.accepted ∙ sends_by (length past + 1) e.thread e.call b h.asked w ∙ ap (λ t. Some t) h.thread)
-  | inr h ↦ made_stays (λ e. thread_of_send e.thread e.call) e past b.number u (block_sender past u b h w)
+      (made_newest (λ e. thread_of_send e.thread e.call) e past h.accepted ∙ sends_by (length past + 1) e.thread (channel_of (item_of roster e past)) e.call b (subst (λ v. asks (length past + 1) v (channel_of (item_of roster e past)) e.call ≡ Some b) (sym h.thread) h.asked) w ∙ ap (λ t. Some t) h.thread)
+  | inr h ↦ made_stays (λ e. thread_of_send e.thread e.call) e past (number_of b) u (block_sender roster past u b h w)
 ]
 
 -- the connection over which a Send waits, and the item that it made, on the connection's channel
@@ -77,12 +93,12 @@ pub record IsSentOver (roster : List Member) (past : Trace) (coid i : ℕ) : Typ
   pub channel : made.channel ≡ connection.channel
 
 pub block_over : (roster : List Member) (past : Trace) (u : ℕ) (b : OpenCall) → IsLawful roster past → block roster past u ≡ Some b → is_for_answer b ≡ true
-    → IsSentOver roster past (over b) b.number
+    → IsSentOver roster past (over b) (number_of b)
 block_over roster [] u b l is w = absurd (none-some b is)
-block_over roster (e ∷ past) u b l is w = elim (begins_now e past u b is) [
+block_over roster (e ∷ past) u b l is w = elim (begins_now roster e past u b is) [
   | inl h ↦
       let a = outcome_of roster e past l.2 h.accepted in
-      let s = sends_over (facts_of roster past) e.thread e.call b (passes_of (facts_of roster past) e.thread e.call e.endings a) h.asked w in
+      let s = sends_over (facts_of roster past) e.thread (channel_of (item_of roster e past)) e.call b (passes_of (facts_of roster past) e.thread e.call e.endings a) (subst (λ v. asks (length past + 1) v (channel_of (item_of roster e past)) e.call ≡ Some b) (sym h.thread) h.asked) w in
       record {
         connection = s.connection;
         is_connection = made_stays _ e past (over b) s.connection (sym (live_attached roster past (over b) (ap is_some s.is_connection)) ∙ s.is_connection);
@@ -96,20 +112,30 @@ block_over roster (e ∷ past) u b l is w = elim (begins_now e past u b is) [
         connection = k.connection;
         is_connection = made_stays _ e past (over b) k.connection k.is_connection;
         made = k.made;
-        is_made = item_earlier roster e past b.number (item_below roster past b.number k.made k.is_made) ∙ k.is_made;
+        is_made = item_earlier roster e past (number_of b) (item_below roster past (number_of b) k.made k.is_made) ∙ k.is_made;
         channel = k.channel;
       }
+]
+
+-- a Send waits on the channel of the item that it made
+pub block_on : (roster : List Member) (past : Trace) (u : ℕ) (b : OpenCall) (m : SentItem) → block roster past u ≡ Some b → is_for_answer b ≡ true → item_at roster past (number_of b) ≡ Some m → is_on m.channel b ≡ true
+block_on roster [] u b m is w made = absurd (none-some b is)
+block_on roster (e ∷ past) u b m is w made = elim (begins_now roster e past u b is) [
+  | inl h ↦
+      let at : item_of roster e past ≡ Some m = sym (item_newest roster e past) ∙ ap (item_at roster (e ∷ past)) (sym h.number) ∙ made in
+      subst (λ o. is_on (channel_of o) b ≡ true) at (((call_laws e.call).asks_one (length past + 1) u (channel_of (item_of roster e past)) b h.asked).channel w)
+  | inr h ↦ block_on roster past u b m h w (sym (item_earlier roster e past (number_of b) (block_below roster past u b h)) ∙ made)
 ]
 
 -- ---- what is open
 
 -- what a receipt doesn't change of a wait is that of the call as it is written
 pub open_filled : {A : Type 0} (g : OpenCall → A) (roster : List Member) (past : Trace) (u : ℕ) (o : OpenCall) (k : IsOpen roster past u o) → ((receipt : Receipt) (w : OpenCall) → g (held_call receipt w) ≡ g w)
-    → g o ≡ g (filled past k.block).wait
+    → g o ≡ g (filled past k.block)
 open_filled {A} g roster past u o k h =
-    elim (copied_count_of past (number_of k.block)) as (λ r. o ≡ with_receipt (priority_of_item roster past (number_of k.block)) (is_unblocked roster past (number_of k.block)) r (filled past k.block) → g o ≡ g (filled past k.block).wait) [
+    elim (copied_count_of past (number_of k.block)) as (λ r. o ≡ with_receipt (priority_of_item roster past (number_of k.block)) (is_unblocked roster past (number_of k.block)) r (filled past k.block) → g o ≡ g (filled past k.block)) [
       | None ↦ λ same. ap (λ x. g x) same
-      | Some copied ↦ λ same. ap (λ x. g x) same ∙ h (record { priority = priority_of_item roster past (number_of k.block); copied = copied; unblocked = is_unblocked roster past (number_of k.block) }) (filled past k.block).wait
+      | Some copied ↦ λ same. ap (λ x. g x) same ∙ h (record { priority = priority_of_item roster past (number_of k.block); copied = copied; unblocked = is_unblocked roster past (number_of k.block) }) (filled past k.block)
     ] k.same
 
 -- what neither a receipt nor a write changes is that of the call as it began
@@ -118,12 +144,25 @@ pub open_keeps : {A : Type 0} (g : OpenCall → A) (roster : List Member) (past 
 open_keeps g roster past u o k h wrote = open_filled g roster past u o k h ∙ wrote (with_writes past (number_of k.block)) k.block
 
 pub held_over : (receipt : Receipt) (w : OpenCall) → over (held_call receipt w) ≡ over w
-held_over receipt (Answer coid message reply_buffer before) = refl
-held_over receipt (ForItem chid kind buffer) = refl
+held_over receipt (Send s) = refl
+held_over receipt (Receive r) = refl
 
 pub buffer_over : (f : List ℕ → List ℕ) (w : OpenCall) → over (with_buffer f w) ≡ over w
-buffer_over f (Answer coid message reply_buffer receipt) = refl
-buffer_over f (ForItem chid kind buffer) = refl
+buffer_over f (Send s) = refl
+buffer_over f (Receive r) = refl
+
+-- the connection over which an open Send was sent was attached to the channel on which the Send is open
+pub open_on : (roster : List Member) (past : Trace) (u : ℕ) (o : OpenCall) → IsLawful roster past → open_call roster past u ≡ Some o → is_for_answer o ≡ true → (c : Connection) × (attached_connection roster past (over o) ≡ Some c) × (is_on c.channel o ≡ true)
+open_on roster past u o l is w =
+    let k = open_parts roster past u o is in
+    let began : is_for_answer k.block ≡ true = sym (open_keeps is_for_answer roster past u o k held_for_answer buffer_answer) ∙ w in
+    let s = block_over roster past u k.block l k.is began in
+    (
+      s.connection,
+      ap (attached_connection roster past) (open_keeps over roster past u o k held_over buffer_over) ∙ s.is_connection,
+      open_keeps (is_on s.connection.channel) roster past u o k (held_on s.connection.channel) (buffer_on s.connection.channel)
+      ∙ subst (λ h. is_on h k.block ≡ true) s.channel (block_on roster past u k.block s.made k.is began s.is_made),
+    )
 
 -- the connection of an open Send, and its item
 pub open_over : (roster : List Member) (past : Trace) (u : ℕ) (o : OpenCall) (k : IsOpen roster past u o) → IsLawful roster past → is_for_answer o ≡ true → IsSentOver roster past (over o) (number_of k.block)

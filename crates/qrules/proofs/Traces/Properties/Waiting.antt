@@ -21,11 +21,11 @@ use Rattle.qrules.specs.Private.Effects.{asks, closes, makes, sets, unblocks, wr
 use Rattle.qrules.specs.Private.Lawful.{facts_of, IsLawful}
 use Rattle.qrules.specs.Rule.{ReceiveRequest}
 use Rattle.qrules.specs.Rules.{effect_of}
-use Rattle.qrules.specs.Private.Past.{wait_with_receipt, made_on}
+use Rattle.qrules.specs.Private.Past.{made_on}
 use Rattle.qrules.specs.Private.Receivers.{newest_receiver}
-use Rattle.qrules.specs.Private.Rows.{Received, names, item_sent_over, takes, receipt_ending, with_buffer}
+use Rattle.qrules.specs.Private.Rows.{Received, names, item_sent_over, takes, receipt_ending}
 use Rattle.qmodel.specs.Trace.{SentItem}
-use Rattle.qrules.specs.Private.Step.{after_receipt, after_write, is_cancelled, uncut_items, items_with_priority_set, open_call_after, pending_after, unreceived_items, unless, after_unblock, unblocked_wait}
+use Rattle.qrules.specs.Private.Step.{after_receipt, after_write, is_cancelled, uncut_items, items_with_priority_set, open_call_after, pending_after, unreceived_items, unless, after_unblock}
 use Rattle.qmodel.specs.Trace.{Trace}
 use Rattle.qmodel.specs.declared.call.Call.{Call}
 use Rattle.qmodel.specs.declared.call.Call.TheVariants.{Send, Receive, ReceivePulse, Pulse, Unblock, ConnectDetach}
@@ -46,32 +46,38 @@ use Rattle.qrules.proofs.Traces.Rosters.{known}
 use Rattle.qrules.proofs.Traces.Calls.Delivering.{sent_way}
 use Rattle.qrules.specs.Private.Pulses.{pulse_receipt}
 use Rattle.qrules.proofs.Traces.Due.{unblock_same}
+use Rattle.qrules.specs.Private.Step.{unblocked_call}
+use Rattle.qrules.specs.Past.{channel_of}
+use Rattle.qrules.specs.Private.Facts.{held_call}
+use Rattle.qrules.specs.Private.Facts.{number_of}
+use Rattle.qrules.specs.Private.Facts.{with_buffer}
+use Rattle.qmodel.specs.declared.open_call.OpenReceive.{OpenReceive}
 
 -- ---- what a thread waits for
 
-waits_for_is : (w : OpenCall) (h : ℕ) (kind : Kind) → waits_for w ≡ Some (h, kind) → (buffer : List ℕ) × (w ≡ ForItem h kind buffer)
-waits_for_is (Answer coid message reply_buffer receipt) h kind e = absurd (none-some (h, kind) e)
-waits_for_is (ForItem chid taken buffer) h kind e = let p = some_pair_parts chid h taken kind e in (buffer, ap (λ c. ForItem c taken buffer) p.0 ∙ ap (λ k. ForItem h k buffer) p.1)
+waits_for_is : (o : OpenCall) (h : ℕ) (kind : Kind) → waits_for o ≡ Some (h, kind) → (r : OpenReceive) × (o ≡ InReceive r) × (r.channel ≡ h) × (r.kind ≡ kind)
+waits_for_is (InSend s) h kind e = absurd (none-some (h, kind) e)
+waits_for_is (InReceive r) h kind e = let p = some_pair_parts r.channel h r.kind kind e in (r, refl, p.0, p.1)
 
 -- a receipt changes nothing of it
 pub held_waits_for : (receipt : Receipt) (w : OpenCall) → waits_for (held_call receipt w) ≡ waits_for w
-held_waits_for receipt (Answer coid message reply_buffer before) = refl
-held_waits_for receipt (ForItem chid kind buffer) = refl
+held_waits_for receipt (InSend s) = refl
+held_waits_for receipt (InReceive r) = refl
 
 pub buffer_waits_for : (f : List ℕ → List ℕ) (w : OpenCall) → waits_for (with_buffer f w) ≡ waits_for w
-buffer_waits_for f (Answer coid message reply_buffer receipt) = refl
-buffer_waits_for f (ForItem chid kind buffer) = refl
+buffer_waits_for f (InSend s) = refl
+buffer_waits_for f (InReceive r) = refl
 
 -- where a request receives, and what
 abbrev pub place_of : ReceiveRequest → ℕ × Kind
 place_of r = (r.channel, r.kind)
 
 -- a call waits for what it asks to receive
-pub waits_for_asked : (n : ℕ) (c : Call) (b : OpenCall) → asks n c ≡ Some b → option_map place_of (effect_of c).receives ≡ waits_for b
-waits_for_asked n (Send coid message reply_buffer) b e = ap (λ o. waits_for o) (same_Some _ b e)
-waits_for_asked n (Receive chid buffer) b e = ap (λ o. waits_for o) (same_Some _ b e)
-waits_for_asked n (ReceivePulse chid) b e = ap (λ o. waits_for o) (same_Some _ b e)
-waits_for_asked n c b e = absurd (none-some b e)
+pub waits_for_asked : (n t h : ℕ) (c : Call) (b : OpenCall) → asks n t h c ≡ Some b → option_map place_of (effect_of c).receives ≡ waits_for b
+waits_for_asked n t h (Send coid message reply_buffer) b e = ap waits_for (same_Some _ b e)
+waits_for_asked n t h (Receive chid buffer) b e = ap waits_for (same_Some _ b e)
+waits_for_asked n t h (ReceivePulse chid) b e = ap waits_for (same_Some _ b e)
+waits_for_asked n t h c b e = absurd (none-some b e)
 
 -- ---- by each call's row
 
@@ -83,13 +89,13 @@ none_to_take : (f : Facts) (t : ℕ) (buffer : List ℕ) (o : Option Item) → o
 none_to_take f t buffer None e = refl
 none_to_take f t buffer (Some item) e = absurd (none-some _ (sym e))
 
-begins_with_none : (f : Facts) (t : ℕ) (c : Call) (b : OpenCall) (p : ℕ × Kind) → asks f.number c ≡ Some b → waits_for b ≡ Some p → (row_of f t c).own ≡ None → BeginsWithNone f t c p
-begins_with_none f t (Send coid message reply_buffer) b p e w own = absurd (none-some p (ap (λ o. waits_for o) (same_Some _ b e) ∙ w))
-begins_with_none f t (Receive chid buffer) b p e w own =
-    subst (BeginsWithNone f t (Receive chid buffer)) (same_Some (chid, Any) p (ap (λ o. waits_for o) (same_Some _ b e) ∙ w)) (none_to_take f t buffer (best_of Any (f.pending chid)) own, refl)
-begins_with_none f t (ReceivePulse chid) b p e w own =
-    subst (BeginsWithNone f t (ReceivePulse chid)) (same_Some (chid, PulseOnly) p (ap (λ o. waits_for o) (same_Some _ b e) ∙ w)) (none_to_take f t [] (best_of PulseOnly (f.pending chid)) own, refl)
-begins_with_none f t c b p e w own = absurd (none-some b e)
+begins_with_none : (f : Facts) (t h : ℕ) (c : Call) (b : OpenCall) (p : ℕ × Kind) → asks f.number t h c ≡ Some b → waits_for b ≡ Some p → (row_of f t c).own ≡ None → BeginsWithNone f t c p
+begins_with_none f t h (Send coid message reply_buffer) b p e w own = absurd (none-some p (ap waits_for (same_Some _ b e) ∙ w))
+begins_with_none f t h (Receive chid buffer) b p e w own =
+    subst (BeginsWithNone f t (Receive chid buffer)) (same_Some (chid, Any) p (ap waits_for (same_Some _ b e) ∙ w)) (none_to_take f t buffer (best_of Any (f.pending chid)) own, refl)
+begins_with_none f t h (ReceivePulse chid) b p e w own =
+    subst (BeginsWithNone f t (ReceivePulse chid)) (same_Some (chid, PulseOnly) p (ap waits_for (same_Some _ b e) ∙ w)) (none_to_take f t [] (best_of PulseOnly (f.pending chid)) own, refl)
+begins_with_none f t h c b p e w own = absurd (none-some b e)
 
 -- an item that a thread waits for is received at once
 pub record IsReceivedAtOnce (f : Facts) (t : ℕ) (c : Call) (m : SentItem) : Type 0 where
@@ -100,22 +106,22 @@ pub record IsReceivedAtOnce (f : Facts) (t : ℕ) (c : Call) (m : SentItem) : Ty
 
 -- the receipt of an item by the newest receiver
 delivered_receipt : (f : Facts) (sender : Option ℕ) (item : Item) (message : List ℕ) (w : Option ℕ) (h r : ℕ) (v : WaitsOn h item (f.open_call r)) → w ≡ Some h → newest_receiver f h item ≡ Some r
-    → receipt_when_sent f sender item message w (receiver f item w) ≡ Some (receipt_from h sender item.priority r (record { number = item.number; copied = (given_received item message v.buffer).0 }))
+    → receipt_when_sent f sender item message w (receiver f item w) ≡ Some (receipt_from h sender item.priority r (record { number = item.number; copied = (given_received item message v.receive.buffer).0 }))
 delivered_receipt f sender item message w h r v is_way is_newest =
-    let takes_it : takes item message r (f.open_call r) ≡ Some (receipt_ending item message r (number_of v.waiting) v.buffer) = rw (v.is_open, v.waits) refl in
+    let takes_it : takes item message r (f.open_call r) ≡ Some (receipt_ending item message r v.receive.number v.receive.buffer) = rw v.is_open refl in
     ap (λ o. receipt_when_sent f sender item message o (receiver f item o)) is_way ∙ ap (receipt_when_sent f sender item message (Some h)) is_newest
-    ∙ receipt_in_at h sender item.priority (takes item message r (f.open_call r)) (receipt_ending item message r (number_of v.waiting) v.buffer) (record { number = item.number; copied = (given_received item message v.buffer).0 }) takes_it (given_received item message v.buffer).1
+    ∙ receipt_in_at h sender item.priority (takes item message r (f.open_call r)) (receipt_ending item message r v.receive.number v.receive.buffer) (record { number = item.number; copied = (given_received item message v.receive.buffer).0 }) takes_it (given_received item message v.receive.buffer).1
 
 delivered_at_once : (f : Facts) (t : ℕ) (c : Call) (w : Option ℕ) (item : Item) (message : List ℕ) (sender : Option ℕ) (m : SentItem) (u : ℕ) (o : OpenCall) (kind : Kind) → w ≡ Some m.channel → m.item ≡ item
     → (row_of f t c).receipt ≡ receipt_when_sent f sender item message w (receiver f item w) → is_among (threads_of f.roster) u ≡ true → f.open_call u ≡ Some o
     → waits_for o ≡ Some (m.channel, kind) → may_take kind m.item ≡ true → IsReceivedAtOnce f t c m
 delivered_at_once f t c w item message sender m u o kind is_way it receipt among is waits may =
     let b = waits_for_is o m.channel kind waits in
-    let on : WaitsOn m.channel item (f.open_call u) = record { waiting = o; kind = kind; buffer = b.0; is_open = is; waits = b.1; may = ap (may_take kind) (sym it) ∙ may } in
+    let on : WaitsOn m.channel item (f.open_call u) = record { receive = b.0; is_open = is ∙ ap (λ x. Some x) b.1; on = b.2; may = ap (λ k. may_take k item) b.3 ∙ ap (may_take kind) (sym it) ∙ may } in
     let r = some_of (newest_receiver f m.channel item) (newest_some f m.channel item u among on) in
     let v = newest_waits f m.channel item r.0 r.1 in
     record {
-      receipt = receipt_from m.channel sender item.priority r.0 (record { number = item.number; copied = (given_received item message v.buffer).0 });
+      receipt = receipt_from m.channel sender item.priority r.0 (record { number = item.number; copied = (given_received item message v.receive.buffer).0 });
       is = receipt ∙ delivered_receipt f sender item message w m.channel r.0 v is_way r.1;
       channel = refl;
       item = ap (λ x. x.number) (sym it);
@@ -191,7 +197,7 @@ caller_finds_none : (f : Facts) (t : ℕ) (c : Call) (o : OpenCall) (h : ℕ) (k
 caller_finds_none f t c o h kind is waits =
     let x = unless_is (is_some (row_of f t c).own) (after_receipt (row_of f t c).receipt t (asks f.number t (channel_of (makes f t c)) c)) o is in
     let b = before_receipt waits_for held_waits_for (row_of f t c).receipt t (asks f.number t (channel_of (makes f t c)) c) o x.1 in
-    let k = begins_with_none f t c b.call (h, kind) b.is (b.same ∙ waits) (none_of (row_of f t c).own x.0) in
+    let k = begins_with_none f t (channel_of (makes f t c)) c b.call (h, kind) b.is (b.same ∙ waits) (none_of (row_of f t c).own x.0) in
     let P = λ (w : Item). may_take kind w ≡ false in
     let none : AllByRecursion (λ (w : Item). may_take kind w ≡ false) (f.pending h) = none-may kind (f.pending h) k.0 in
     let Q = λ (w : Item). ((r : Received) → (row_of f t c).receipt ≡ Some r → r.channel ≡ h → eqb w.number r.item ≡ false) → may_take kind w ≡ false in
@@ -229,9 +235,8 @@ other_finds_none f t c u o h kind p nothing among is waits =
     ] refl))))
 
 unblocked_waits_for : (w : OpenCall) → waits_for (unblocked_call w) ≡ waits_for w
-unblocked_waits_for (Answer coid message reply_buffer None) = refl
-unblocked_waits_for (Answer coid message reply_buffer (Some receipt)) = refl
-unblocked_waits_for (ForItem chid kind buffer) = refl
+unblocked_waits_for (InSend s) = refl
+unblocked_waits_for (InReceive r) = refl
 
 -- what a thread waits for to receive lasts
 lasts_waits_for : Lasts waits_for
@@ -241,11 +246,11 @@ nothing_after : (f : Facts) (t : ℕ) (c : Call) → Passes f t c → NothingFor
     → (u : ℕ) (o : OpenCall) (h : ℕ) (kind : Kind) → open_call_after f t c u ≡ Some o → waits_for o ≡ Some (h, kind) → AllByRecursion (λ w. may_take kind w ≡ false) (pending_after f t c h)
 nothing_after f t c p nothing among u o h kind is waits =
     elim (eqb u t) as (λ b. eqb u t ≡ b
-    → cond b (unless (is_some (row_of f t c).own) (after_receipt (row_of f t c).receipt u (asks f.number u (channel_of (makes f u c)) c))) (unless (is_some ((row_of f t c).ends u)) (after_unblock (makes f t c) (unblocks c) u (after_receipt (row_of f t c).receipt u (after_write f (writes c) u (f.open_call u))))) ≡ Some o
+    → cond b (unless (is_some (row_of f t c).own) (after_receipt (row_of f t c).receipt u (asks f.number t (channel_of (makes f t c)) c))) (unless (is_some ((row_of f t c).ends u)) (after_unblock (makes f t c) (unblocks c) u (after_receipt (row_of f t c).receipt u (after_write f (writes c) u (f.open_call u))))) ≡ Some o
     → AllByRecursion (λ w. may_take kind w ≡ false) (pending_after f t c h)) [
       | true ↦ λ same e.
           caller_finds_none f t c o h kind
-          (subst (λ v. unless (is_some (row_of f t c).own) (after_receipt (row_of f t c).receipt v (asks f.number c)) ≡ Some o) (eqb-true u t same) e) waits
+          (subst (λ v. unless (is_some (row_of f t c).own) (after_receipt (row_of f t c).receipt v (asks f.number t (channel_of (makes f t c)) c)) ≡ Some o) (eqb-true u t same) e) waits
       | false ↦ λ other e.
           let x = unless_is (is_some ((row_of f t c).ends u)) (after_unblock (makes f t c) (unblocks c) u (after_receipt (row_of f t c).receipt u (after_write f (writes c) u (f.open_call u)))) o e in
           let d = before_other waits_for lasts_waits_for f t c u o x.1 in

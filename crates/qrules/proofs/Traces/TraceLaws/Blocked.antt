@@ -33,6 +33,7 @@ use Rattle.qrules.proofs.Traces.Rosters.{Rises, rises, not_among, known}
 use Rattle.qrules.proofs.Traces.TraceLaws.Ending.{ending_thread}
 use Rattle.qrules.proofs.Traces.TraceLaws.Unended.{asks_any, open_is_unended}
 use Rattle.qrules.specs.Rule.{Transfer}
+use Rattle.qrules.specs.Past.{channel_of}
 
 -- ---- endings by thread
 
@@ -112,7 +113,7 @@ some_unless false o = refl
 own_blocked : (f : Facts) (t : ℕ) (c : Call) → Passes f t c → is_some (unless (is_some (row_of f t c).own) (after_receipt (row_of f t c).receipt t (asks f.number t (channel_of (makes f t c)) c))) ≡ cond (is_some (row_of f t c).own) false true
 own_blocked f t c p =
     elim (row_of f t c).own as (λ o. (row_of f t c).own ≡ o → is_some (unless (is_some o) (after_receipt (row_of f t c).receipt t (asks f.number t (channel_of (makes f t c)) c))) ≡ cond (is_some o) false true) [
-      | None ↦ λ e. some_receipt (row_of f t c).receipt t (asks f.number t (channel_of (makes f t c)) c) ∙ waits_or_ends f t c p e
+      | None ↦ λ e. some_receipt (row_of f t c).receipt t (asks f.number t (channel_of (makes f t c)) c) ∙ asks_any f.number t (channel_of (makes f t c)) c ∙ waits_or_ends f t c p e
       | Some y ↦ λ e. refl
     ] refl
 
@@ -186,7 +187,7 @@ waits roster past e l none =
     elim (l.2) [
       | inl a ↦
           let own = none_of (row_of f e.thread e.call).own (sym (ends_own roster past e.thread e.call e.endings l.1 a) ∙ none) in
-          let may : is_some (asks 0 0 0 e.call) ≡ true = sym (asks_any (length past + 1) e.call) ∙ waits_or_ends f e.thread e.call (passes_of f e.thread e.call e.endings a) own in
+          let may : is_some (asks 0 0 0 e.call) ≡ true = waits_or_ends f e.thread e.call (passes_of f e.thread e.call e.endings a) own in
           record { accepted = rw (accepted roster past e.thread e.call e.endings a) refl; blocks = rw may refl }
       | inr a ↦
           let own : has_ending_of e.endings (length past + 1) ≡ true = rw (a.2, eqb_same (length past + 1)) refl in

@@ -33,6 +33,7 @@ use Rattle.qrules.proofs.Traces.Past.Priorities.{priority_accepted, priority_ref
 use Rattle.qrules.proofs.Traces.Past.CurrentPriority.{refused_sets_none, worth_newest, worth_set, worth_stays}
 use Rattle.qrules.proofs.Traces.Properties.Events.{is_accepted_by, is_refused_by, outcome_of}
 use Rattle.qrules.proofs.Traces.Properties.Receipts.{TakesOne, takes_one, waits_for}
+use Rattle.qrules.specs.Private.Facts.{is_for_receipt}
 
 -- a thread that takes nothing takes no priority
 none_taken : (f : Facts) (t : ℕ) (c : Call) (X : List Completion) (u : ℕ) → Outcome true f t c X → ((y : Completion) (i : ℕ) → TakesOne f t c u y i → ⊥) → priority_taken f (row_of f t c).receipt u ≡ None
@@ -47,8 +48,8 @@ none_taken f t c X u a never = by (row_of f t c).receipt refl where
       ] refl
 
 waits_for_none : (w : OpenCall) → is_for_receipt w ≡ true → waits_for w ≡ None
-waits_for_none (Answer coid message reply_buffer receipt) e = refl
-waits_for_none (ForItem chid kind buffer) e = absurd (true≢false (sym e))
+waits_for_none (InSend s) e = refl
+waits_for_none (InReceive r) e = absurd (true≢false (sym e))
 
 -- a thread that waits for the receipt of its message takes nothing
 sender_takes_none : (f : Facts) (t : ℕ) (c : Call) (u : ℕ) (o : OpenCall) → f.open_call t ≡ None → f.open_call u ≡ Some o → is_for_receipt o ≡ true → (y : Completion) (i : ℕ) → TakesOne f t c u y i → ⊥

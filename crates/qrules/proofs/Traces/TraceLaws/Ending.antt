@@ -21,6 +21,9 @@ use Rattle.qrules.proofs.Traces.Past.Numbers.{block_below}
 use Rattle.qrules.proofs.Traces.Past.Open.{open_parts}
 use Rattle.qrules.proofs.Traces.Properties.Sends.{begins_now}
 use Rattle.qrules.proofs.Traces.Properties.ShutForGood.{shut_for_good}
+use Rattle.qrules.specs.Private.Facts.{number_of}
+use Rattle.qrules.specs.Private.Past.{block}
+use Rattle.qtables.specs.declared.member.Member.{Member}
 
 pub nothing_from_destroyed : NothingFromDestroyed
 nothing_from_destroyed roster past e r l h closed = ((shut_for_good roster (e ∷ past) r l).1 h closed).none_received
@@ -68,11 +71,11 @@ thread_earlier : (e : Event) (past : Trace) (i : ℕ) → i ≤ length past → 
 thread_earlier e past i l = let other : eqb i (length past + 1) ≡ false = ne_eqb _ _ (λ same. omega arith) in rw other refl
 
 -- a call that waits is one of its thread
-block_of_thread : (past : Trace) (u : ℕ) (b : OpenCall) → block roster past u ≡ Some b → thread_at past b.number ≡ Some u
-block_of_thread [] u b is = absurd (none-some b is)
-block_of_thread (e ∷ past) u b is = elim (begins_now e past u b is) [
+block_of_thread : (roster : List Member) (past : Trace) (u : ℕ) (b : OpenCall) → block roster past u ≡ Some b → thread_at past (number_of b) ≡ Some u
+block_of_thread roster [] u b is = absurd (none-some b is)
+block_of_thread roster (e ∷ past) u b is = elim (begins_now roster e past u b is) [
   | inl h ↦ subst (λ i. thread_at (e ∷ past) i ≡ Some u) (sym h.number) (thread_newest e past ∙ ap Some h.thread)
-  | inr h ↦ thread_earlier e past b.number (block_below roster past u b h) ∙ block_of_thread past u b h
+  | inr h ↦ thread_earlier e past (number_of b) (block_below roster past u b h) ∙ block_of_thread roster past u b h
 ]
 
 pub endings_name_own_calls : EndingsNameOwnCalls
@@ -86,7 +89,7 @@ endings_name_own_calls roster past e r l =
             | inr other ↦
                 let k = open_parts roster past v other.names.waiting other.names.is in
                 let number : y.call ≡ (number_of k.block) = other.names.call ∙ k.number in
-                ap (thread_at (e ∷ past)) number ∙ thread_earlier e past (number_of k.block) (block_below roster past v k.block k.is) ∙ block_of_thread past v k.block k.is ∙ ap Some (sym other.names.thread)
+                ap (thread_at (e ∷ past)) number ∙ thread_earlier e past (number_of k.block) (block_below roster past v k.block k.is) ∙ block_of_thread roster past v k.block k.is ∙ ap Some (sym other.names.thread)
           ]))
       | inr a ↦ subst (AllByRecursion P) (sym a.2) (thread_newest e past, tt)
     ]

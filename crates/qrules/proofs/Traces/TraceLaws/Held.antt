@@ -12,7 +12,7 @@ use Rattle.qrules.specs.Private.Facts.{is_for_answer, is_send, sender, threads_o
 use Rattle.qrules.specs.Properties.{number_received, TakesBest}
 use Rattle.qrules.specs.Private.Laws.{HeldIsHeldSend, IsHeldSend, blocker, is_for_reply}
 use Rattle.qrules.specs.Private.Lawful.{IsLawful, facts_of}
-use Rattle.qrules.specs.Private.Past.{copied_count_in, has_ending_of, call_by_now, wait_with_receipt, is_ended, is_received, item_of, accepted_at, open_call, priority_of_item, copied_count_among, copied_count_of, with_receipt}
+use Rattle.qrules.specs.Private.Past.{copied_count_in, has_ending_of, call_by_now, is_ended, is_received, item_of, accepted_at, open_call, priority_of_item, copied_count_among, copied_count_of, with_receipt}
 use Rattle.qrules.specs.Private.Effects.{asks}
 use Rattle.qrules.specs.Private.Rows.{item_in}
 use Rattle.qmodel.specs.Trace.{SentItem}
@@ -23,7 +23,6 @@ use Rattle.qmodel.specs.declared.open_call.Receipt.{Receipt}
 use Rattle.qmodel.specs.declared.open_call.OpenCall.TheVariants.{Receive, Send}
 use Rattle.qrules.proofs.Traces.Past.Ends.{ends_own, open_known, passes_of}
 use Rattle.qrules.proofs.Traces.Past.Items.{item_accepted, item_answer, item_at, item_below, item_earlier}
-use Rattle.qrules.proofs.Traces.Past.Numbers.{filled_answer, open_from, open_parts, is_unblocked, open_thread, receipt_number}
 use Rattle.qrules.proofs.Traces.Past.Senders.{send_from, send_parts, sender_found, sender_sends}
 use Rattle.qrules.proofs.Traces.Past.Unblocked.{held_is_taken}
 use Rattle.qrules.proofs.Traces.Past.Waits.{waits_or_ends}
@@ -35,6 +34,17 @@ use Rattle.qrules.proofs.Traces.TraceLaws.Pending.{reply_parts}
 use Rattle.qrules.proofs.Traces.TraceLaws.Sent.{taken_stands}
 use Rattle.qrules.proofs.Traces.TraceLaws.Unended.{asks_any, unended_newest}
 use Rattle.qrules.specs.Past.{ReceivedItem}
+use Rattle.qrules.specs.Private.Facts.{number_of}
+use Rattle.qrules.specs.Private.Facts.{held_call}
+use Rattle.qrules.specs.Private.Past.{filled}
+use Rattle.qrules.proofs.Traces.Past.Open.{open_from}
+use Rattle.qrules.proofs.Traces.Past.Open.{filled_answer}
+use Rattle.qrules.proofs.Traces.Past.Open.{open_parts}
+use Rattle.qrules.proofs.Traces.Past.Open.{is_unblocked}
+use Rattle.qrules.proofs.Traces.Past.Open.{open_thread}
+use Rattle.qrules.proofs.Traces.Past.Open.{receipt_number}
+use Rattle.qrules.proofs.Traces.Past.Open.{kept}
+use Rattle.qrules.proofs.Traces.Past.Open.{kept_number}
 
 -- ---- what is taken was made
 
@@ -87,23 +97,23 @@ made_waits roster (e ∷ past) i m l is going =
         let a = item_accepted roster e past m at in
         let o = outcome_of roster e past l.2 a.0 in
         let none : (row_of f e.thread e.call).own ≡ None = no_own ((row_of f e.thread e.call).own) (sym (ends_own roster past e.thread e.call e.endings l.1 o) ∙ unended) in
-        let waits : is_some (asks 0 0 0 e.call) ≡ true = sym (asks_any (length past + 1) e.call) ∙ waits_or_ends f e.thread e.call (passes_of f e.thread e.call e.endings o) none in
+        let waits : is_some (asks 0 0 0 e.call) ≡ true = waits_or_ends f e.thread e.call (passes_of f e.thread e.call e.endings o) none in
         (e.thread, subst (λ j. accepted_at blocker (e ∷ past) j ≡ Some e.thread) (sym number) (made_newest blocker e past a.0 ∙ rw waits refl))
 
 -- ---- a receipt
 
 held_for_reply : (receipt : Receipt) (w : OpenCall) → is_for_answer w ≡ true → is_for_reply (held_call receipt w) ≡ true
-held_for_reply receipt (Answer coid message reply_buffer before) answer = refl
-held_for_reply receipt (ForItem chid kind buffer) answer = absurd (true≢false (sym answer))
+held_for_reply receipt (Send s) answer = refl
+held_for_reply receipt (Receive r) answer = absurd (true≢false (sym answer))
 
-received_for_reply : (priority : ℕ) (unblocked : Bool) (r : Option ℕ) (b : OpenCall) → is_some r ≡ true → is_for_answer b ≡ true → is_for_reply (with_receipt priority unblocked r b).wait ≡ true
+received_for_reply : (priority : ℕ) (unblocked : Bool) (r : Option ℕ) (b : OpenCall) → is_some r ≡ true → is_for_answer b ≡ true → is_for_reply (with_receipt priority unblocked r b) ≡ true
 received_for_reply priority unblocked None b there answer = absurd (true≢false (sym there))
 received_for_reply priority unblocked (Some copied) b there answer = held_for_reply (record { priority = priority; copied = copied; unblocked = unblocked }) b answer
 
 -- ---- the law
 
 -- an open call of a number that waits for an answer is found as the Send of that number
-found_sender : (roster : List Member) (past : Trace) (i u : ℕ) (o : OpenCall) → IsLawful roster past → open_call roster past u ≡ Some o → o.number ≡ i → is_for_answer o ≡ true → sender (facts_of roster past) i ≡ Some u
+found_sender : (roster : List Member) (past : Trace) (i u : ℕ) (o : OpenCall) → IsLawful roster past → open_call roster past u ≡ Some o → number_of o ≡ i → is_for_answer o ≡ true → sender (facts_of roster past) i ≡ Some u
 found_sender roster past i u o l is number answer =
     sender_found (λ t. open_call roster past t) i (threads_of roster) u (known roster u (open_known roster past u o l is)) (ap (is_send i) is ∙ send_from i o number answer)
     (λ v sends.
@@ -119,12 +129,10 @@ held_to_send roster past i r l held =
     let k = unended_newest roster past t.0 i l t.1 going in
     let made : item_at roster past (number_of k.block) ≡ Some m.0 = ap (item_at roster past) k.number ∙ m.1 in
     let answer = item_answer roster past t.0 m.0 k.block made k.is in
-    let n = (number_of k.block) in
-    let waiting = with_receipt (priority_of_item roster past n) (is_unblocked roster past n) (copied_count_of past n) (filled past k.block) in
+    let waiting = kept roster past k.block in
     let is_open : open_call roster past t.0 ≡ Some waiting = open_from roster past t.0 k.block k.is (subst (λ j. is_ended past j ≡ false) (sym k.number) going) in
-    let number : (number_of waiting) ≡ i = receipt_number (priority_of_item roster past n) (is_unblocked roster past n) (copied_count_of past n) (filled past k.block) ∙ k.number in
-    let reply : is_for_reply waiting ≡ true = received_for_reply (priority_of_item roster past n) (is_unblocked roster past n) (copied_count_of past n) (filled past k.block)
-    (subst (λ j. is_received past j ≡ true) (sym k.number) p.0) (filled_answer past k.block ∙ answer) in
+    let number : (number_of waiting) ≡ i = kept_number roster past k.block ∙ k.number in
+    let reply : is_for_reply waiting ≡ true = received_for_reply _ _ (copied_count_of past (number_of k.block)) (filled past k.block) (subst (λ j. is_received past j ≡ true) (sym k.number) p.0) (filled_answer past k.block ∙ answer) in
     record {
       thread = t.0;
       waiting = waiting;
@@ -137,7 +145,7 @@ send_to_held : (roster : List Member) (past : Trace) (i : ℕ) → IsHeldSend ro
 send_to_held roster past i h =
     let s = sender_sends (λ t. open_call roster past t) i (threads_of roster) h.thread h.is_sender in
     let same : s.waiting ≡ h.waiting = same_Some s.waiting h.waiting (sym s.is ∙ h.is_open) in
-    let number : (number_of h.waiting) ≡ i = ap (λ (o : OpenCall). o.number) (sym same) ∙ s.number in
+    let number : (number_of h.waiting) ≡ i = ap number_of (sym same) ∙ s.number in
     let k = open_parts roster past h.thread h.waiting h.is_open in
     let w = reply_parts h.waiting h.received in
     let at : (number_of k.block) ≡ i = sym k.number ∙ number in

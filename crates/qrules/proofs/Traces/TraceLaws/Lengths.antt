@@ -60,6 +60,12 @@ use Rattle.qrules.proofs.Traces.Past.Ends.{ending_names, laws_of, passes_of}
 use Rattle.qrules.proofs.Traces.TraceLaws.Blocked.{some_receipt}
 use Rattle.qrules.proofs.Traces.Past.OpenCalls.{open_accepted, open_refused}
 use Rattle.qrules.specs.Rule.{Transfer}
+use Rattle.qrules.specs.Private.Facts.{number_of}
+use Rattle.qmodel.specs.OpenCalls.{buffer_in}
+use Rattle.qrules.specs.Private.Past.{filled}
+use Rattle.qrules.specs.Past.{channel_of}
+use Rattle.qrules.specs.Private.Facts.{with_buffer}
+use Rattle.qrules.specs.Private.Past.{with_receipt}
 
 taking_length : (item : Item) (message : List ℕ) (u m : ℕ) (buffer : List ℕ) → length (receipt_ending item message u m buffer).buffer ≡ length buffer
 taking_length item message u m buffer =
@@ -85,7 +91,7 @@ own_length f t c y e = ap (λ x. length x.buffer) (sym (same_Some _ y e))
 -- ---- another thread's ending
 
 met_length : (f : Facts) (o : Option ℕ) (item : Item) (message : List ℕ) (u : ℕ) (y : Completion) → Delivers f o item message u y → length y.buffer ≡ length (buffer_of_open (f.open_call u))
-met_length f o item message u y k = ap (λ x. length x.buffer) (sym k.ending) ∙ taking_length item message u (number_of k.waiting) k.buffer ∙ ap (λ w. length (buffer_of_wait w)) (sym k.waits) ∙ ap (λ x. length (buffer_of_open x)) (sym k.is_open)
+met_length f o item message u y k = ap (λ x. length x.buffer) (sym k.ending) ∙ taking_length item message u k.receive.number k.receive.buffer ∙ ap (λ x. length (buffer_of_open x)) (sym k.is_open)
 
 cancel_length : (is_cancelled : OpenCall → Bool) (e : Errno) (u : ℕ) (o : Option OpenCall) (y : Completion) → IsCutCall is_cancelled e u o y → length y.buffer ≡ length (buffer_of_open o)
 cancel_length is_cancelled e u o y k = ap (λ x. length x.buffer) (sym k.ending) ∙ ap (λ x. length (buffer_of_open x)) (sym k.is)
@@ -93,7 +99,7 @@ cancel_length is_cancelled e u o y k = ap (λ x. length x.buffer) (sym k.ending)
 answered_length : (f : Facts) (t rcvid : ℕ) (finish : Finish) (u : ℕ) (y : Completion) → ((b : List ℕ) → length (finish b).1 ≡ length b) → refusal f t rcvid ≡ None → ends_sender f finish (sender f rcvid) u ≡ Some y → length y.buffer ≡ length (buffer_of_open (f.open_call u))
 answered_length f t rcvid finish u y keeps r e =
     let k = sender_ends f t rcvid finish u y r e in
-    ap (λ x. length x.buffer) (sym k.ending) ∙ keeps k.held.reply_buffer ∙ ap (λ w. length (buffer_of_wait w)) (sym k.held.waits) ∙ ap (λ x. length (buffer_of_open x)) (sym k.held.is_open)
+    ap (λ x. length x.buffer) (sym k.ending) ∙ keeps k.held.send.reply_buffer ∙ ap (λ x. length (buffer_of_open x)) (sym k.held.is_open)
 
 ends_length : (f : Facts) (t : ℕ) (c : Call) (u : ℕ) (y : Completion) → Passes f t c → (row_of f t c).ends u ≡ Some y → length y.buffer ≡ length (buffer_of_open (f.open_call u))
 ends_length f t (Send coid message reply_buffer) u y p e = met_length f (route f t coid) (item f t) message u y (delivery_meets f (route f t coid) (item f t) message u y e)
@@ -102,7 +108,7 @@ ends_length f t (Error rcvid code) u y p e = answered_length f t rcvid (error_fi
 ends_length f t (Pulse coid priority code value) u y p e =
     let k = told_meets f (pulse.sent_pulse f coid priority code value) u y e in met_length f (Some k.made.channel) k.made.item [] u y k.delivers
 ends_length f t (ChannelDestroy chid) u y p e = cancel_length (is_on chid) Srch u (f.open_call u) y (cancel_parts (is_on chid) Srch u (f.open_call u) y e)
-ends_length f t Shutdown u y p e = cancel_length (λ wait. true) Srch u (f.open_call u) y (cancel_parts (λ wait. true) Srch u (f.open_call u) y e)
+ends_length f t Shutdown u y p e = cancel_length (λ o. true) Srch u (f.open_call u) y (cancel_parts (λ o. true) Srch u (f.open_call u) y e)
 ends_length f t (Unblock thread) u y p e = elim (unblock_ends f thread u y (unblock.due_pulse f thread) e) [
   | inl cancel ↦ cancel_length _ _ u (f.open_call u) y cancel
   | inr k ↦ met_length f (Some k.made.channel) k.made.item [] u y k.delivers
@@ -130,28 +136,27 @@ endings_keep_length roster past e r l =
 
 -- ---- what a thread waits with afterwards
 
-asked_length : (n : ℕ) (c : Call) → is_some (asks n c) ≡ true → length (buffer_of_open (asks n c)) ≡ length (buffer_of c)
-asked_length n (Send coid message reply_buffer) e = refl
-asked_length n (Receive chid buffer) e = refl
-asked_length n (ReceivePulse chid) e = refl
-asked_length n c e = absurd (true≢false (sym e))
+asked_length : (n t h : ℕ) (c : Call) → is_some (asks n t h c) ≡ true → length (buffer_of_open (asks n t h c)) ≡ length (buffer_of c)
+asked_length n t h (Send coid message reply_buffer) e = refl
+asked_length n t h (Receive chid buffer) e = refl
+asked_length n t h (ReceivePulse chid) e = refl
+asked_length n t h c e = absurd (true≢false (sym e))
 
-map_length : (k : OpenCall → OpenCall) → ((o : OpenCall) → length (buffer_of_wait (k o).wait) ≡ length (buffer_of_wait o)) → (o : Option OpenCall) → length (buffer_of_open (option_map k o)) ≡ length (buffer_of_open o)
+map_length : (k : OpenCall → OpenCall) → ((o : OpenCall) → length (buffer_in (k o)) ≡ length (buffer_in o)) → (o : Option OpenCall) → length (buffer_of_open (option_map k o)) ≡ length (buffer_of_open o)
 map_length k h None = refl
 map_length k h (Some o) = h o
 
-held_length : (receipt : Receipt) (w : OpenCall) → length (buffer_of_wait (held_call receipt w)) ≡ length (buffer_of_wait w)
-held_length receipt (Answer coid message reply_buffer before) = refl
-held_length receipt (ForItem chid kind buffer) = refl
+held_length : (receipt : Receipt) (w : OpenCall) → length (buffer_in (held_call receipt w)) ≡ length (buffer_in w)
+held_length receipt (InSend s) = refl
+held_length receipt (InReceive r) = refl
 
-written_length : (at : ℕ) (bytes : List ℕ) (w : OpenCall) → length (buffer_of_wait (with_buffer (λ b. lay_over b at bytes) w)) ≡ length (buffer_of_wait w)
-written_length at bytes (Answer coid message reply_buffer before) = lay_length reply_buffer at bytes
-written_length at bytes (ForItem chid kind buffer) = refl
+written_length : (at : ℕ) (bytes : List ℕ) (w : OpenCall) → length (buffer_in (with_buffer (λ b. lay_over b at bytes) w)) ≡ length (buffer_in w)
+written_length at bytes (InSend s) = lay_length s.reply_buffer at bytes
+written_length at bytes (InReceive r) = refl
 
-unblocked_length : (w : OpenCall) → length (buffer_of_wait (unblocked_call w)) ≡ length (buffer_of_wait w)
-unblocked_length (Answer coid message reply_buffer None) = refl
-unblocked_length (Answer coid message reply_buffer (Some receipt)) = refl
-unblocked_length (ForItem chid kind buffer) = refl
+unblocked_length : (w : OpenCall) → length (buffer_in (unblocked_call w)) ≡ length (buffer_in w)
+unblocked_length (InSend s) = refl
+unblocked_length (InReceive r) = refl
 
 receipt_length : (r : Option Received) (u : ℕ) (o : Option OpenCall) → length (buffer_of_open (after_receipt r u o)) ≡ length (buffer_of_open o)
 receipt_length None u o = refl
@@ -170,25 +175,25 @@ left_open true o x e = absurd (none-some x e)
 left_open false o x e = e
 
 -- the buffer of what a thread waits for after an accepted call
-after_length : (f : Facts) (t : ℕ) (c : Call) (u : ℕ) (x : OpenCall) → open_call_after f t c u ≡ Some x → length (buffer_of_wait x) ≡ length (cond (eqb u t) (buffer_of c) (buffer_of_open (f.open_call u)))
+after_length : (f : Facts) (t : ℕ) (c : Call) (u : ℕ) (x : OpenCall) → open_call_after f t c u ≡ Some x → length (buffer_in x) ≡ length (cond (eqb u t) (buffer_of c) (buffer_of_open (f.open_call u)))
 after_length f t c u x e =
     let R = row_of f t c in
-    let mine = after_receipt R.receipt u (asks f.number u (channel_of (makes f u c)) c) in
+    let mine = after_receipt R.receipt u (asks f.number t (channel_of (makes f t c)) c) in
     let written = after_write f (writes c) u (f.open_call u) in
     let received = after_receipt R.receipt u written in
     let others = after_unblock (makes f t c) (unblocks c) u received in
-    elim (eqb u t) as (λ b. cond b (unless (is_some R.own) mine) (unless (is_some (R.ends u)) others) ≡ Some x → length (buffer_of_wait x) ≡ length (cond b (buffer_of c) (buffer_of_open (f.open_call u)))) [
+    elim (eqb u t) as (λ b. cond b (unless (is_some R.own) mine) (unless (is_some (R.ends u)) others) ≡ Some x → length (buffer_in x) ≡ length (cond b (buffer_of c) (buffer_of_open (f.open_call u)))) [
       | true ↦ λ is.
           let left = left_open (is_some R.own) mine x is in
-          let asked : is_some (asks f.number c) ≡ true = sym (some_receipt R.receipt u (asks f.number u (channel_of (makes f u c)) c)) ∙ ap is_some left in
-          ap (λ o. length (buffer_of_open o)) (sym left) ∙ receipt_length R.receipt u (asks f.number u (channel_of (makes f u c)) c) ∙ asked_length f.number c asked
+          let asked : is_some (asks f.number t (channel_of (makes f t c)) c) ≡ true = sym (some_receipt R.receipt u (asks f.number t (channel_of (makes f t c)) c)) ∙ ap is_some left in
+          ap (λ o. length (buffer_of_open o)) (sym left) ∙ receipt_length R.receipt u (asks f.number t (channel_of (makes f t c)) c) ∙ asked_length f.number t (channel_of (makes f t c)) c asked
       | false ↦ λ is.
           let left = left_open (is_some (R.ends u)) others x is in
           ap (λ o. length (buffer_of_open o)) (sym left) ∙ unblock_length (makes f t c) (unblocks c) u received ∙ receipt_length R.receipt u written ∙ write_length f (writes c) u (f.open_call u)
     ] e
 
 open_keeps_length : (roster : List Member) (past : Trace) (e : Event) → IsLawful roster (e ∷ past) → is_some (open_call roster past e.thread) ≡ false
-    → (u : ℕ) (x : OpenCall) → open_call roster (e ∷ past) u ≡ Some x → length (buffer_of_wait x) ≡ length (buffer_brought roster past e.thread e.call u)
+    → (u : ℕ) (x : OpenCall) → open_call roster (e ∷ past) u ≡ Some x → length (buffer_in x) ≡ length (buffer_brought roster past e.thread e.call u)
 open_keeps_length roster past e l idle u x is = elim (l.2) [
   | inl a ↦ after_length (facts_of roster past) e.thread e.call u x (sym (open_accepted roster past e.thread e.call e.endings u l.0 l.1 a) ∙ is)
   | inr a ↦
@@ -210,11 +215,11 @@ writes_length (e ∷ past) i b = elim (is_accepted e past) as (λ a. length (con
   | false ↦ writes_length past i b
 ]
 
-filled_length : (past : Trace) (i : ℕ) (w : OpenCall) → length (buffer_of_wait (with_buffer (with_writes past i) w)) ≡ length (buffer_of_wait w)
-filled_length past i (Answer coid message reply_buffer receipt) = writes_length past i reply_buffer
-filled_length past i (ForItem chid kind buffer) = refl
+filled_length : (past : Trace) (i : ℕ) (w : OpenCall) → length (buffer_in (with_buffer (with_writes past i) w)) ≡ length (buffer_in w)
+filled_length past i (InSend s) = writes_length past i s.reply_buffer
+filled_length past i (InReceive r) = refl
 
-kept_length : (priority : ℕ) (unblocked : Bool) (r : Option ℕ) (o : OpenCall) → length (buffer_of_wait (with_receipt priority unblocked r o).wait) ≡ length (buffer_of_wait o)
+kept_length : (priority : ℕ) (unblocked : Bool) (r : Option ℕ) (o : OpenCall) → length (buffer_in (with_receipt priority unblocked r o)) ≡ length (buffer_in o)
 kept_length priority unblocked None o = refl
 kept_length priority unblocked (Some copied) o = held_length _ o
 
@@ -222,11 +227,11 @@ pub open_calls_keep_length : OpenCallsKeepLength
 open_calls_keep_length roster past r l u o is =
     let k = open_parts roster past u o is in
     let a = block_asked roster past u k.block k.is in
-    let asked : length (buffer_of_wait k.block) ≡ length (buffer_of a.call) = ap (λ x. length (buffer_of_open x)) (sym a.asks_it) ∙ asked_length (number_of k.block) a.call (ap is_some a.asks_it) in
+    let asked : length (buffer_in k.block) ≡ length (buffer_of a.call) = ap (λ x. length (buffer_of_open x)) (sym a.asks_it) ∙ asked_length (number_of k.block) u a.channel a.call (ap is_some a.asks_it) in
     record {
       call = a.call;
       is = ap (call_at past) k.number ∙ a.is;
-      same = ap (λ x. length (buffer_of_wait x)) k.same ∙ kept_length _ _ _ (filled past k.block) ∙ filled_length past (number_of k.block) k.block ∙ asked;
+      same = ap (λ x. length (buffer_in x)) k.same ∙ kept_length _ _ _ (filled past k.block) ∙ filled_length past (number_of k.block) k.block ∙ asked;
     }
 
 -- ---- what is at most so long

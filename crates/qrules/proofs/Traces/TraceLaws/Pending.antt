@@ -18,14 +18,18 @@ use Rattle.qbase.proofs.Lists.{all_more, none_of}
 use Rattle.qrules.proofs.Traces.Past.Numbers.{block_fresh}
 use Rattle.qrules.proofs.Traces.Past.Open.{IsOpen, filled_answer, filled_settled, open_parts, is_unblocked}
 use Rattle.qrules.proofs.Traces.Past.Rising.{pending_rises}
+use Rattle.qmodel.specs.OpenCalls.{number_of}
+use Rattle.qrules.specs.Private.Laws.{is_for_reply}
+use Rattle.qrules.specs.Private.Past.{filled}
+use Rattle.qrules.specs.Private.Past.{with_receipt}
+use Rattle.qrules.specs.Private.Facts.{is_for_answer}
 
 -- ---- waits
 
 -- a wait for a reply is for an answer, and settled
 pub reply_parts : (w : OpenCall) → is_for_reply w ≡ true → (is_for_answer w ≡ true) × (is_settled w ≡ true)
-reply_parts (Answer coid message reply_buffer None) e = absurd (true≢false (sym e))
-reply_parts (Answer coid message reply_buffer (Some receipt)) e = (refl, refl)
-reply_parts (ForItem chid kind buffer) e = absurd (true≢false (sym e))
+reply_parts (Send s) e = (refl, e)
+reply_parts (Receive r) e = absurd (true≢false (sym e))
 
 -- ---- a pending item
 
@@ -40,10 +44,10 @@ as_begun roster past u o k e = k.same ∙ ap (λ r. with_receipt (priority_of_it
 not_held : (roster : List Member) (past : Trace) (h : ℕ) (item : Item) → IsPending roster past h item → IsNotHeld roster past item.number
 not_held roster past h item p = record {
   unread = ap (λ b. b && not (is_ended past item.number)) (unread roster past h item p);
-  unkept = λ u o is held. ne_eqb o.number item.number (λ same.
+  unkept = λ u o is held. ne_eqb (number_of o) item.number (λ same.
       let k = open_parts roster past u o is in
       let begun : o ≡ filled past k.block = as_begun roster past u o k (subst (λ i. is_received past i ≡ false) (sym same ∙ k.number) (unread roster past h item p)) in
-      let w = reply_parts (filled past k.block).wait (subst (λ (x : OpenCall). is_for_reply x ≡ true) begun held) in
+      let w = reply_parts (filled past k.block) (subst (λ x. is_for_reply x ≡ true) begun held) in
       true≢false (sym w.1 ∙ filled_settled past k.block ∙ block_fresh roster past u k.block k.is ∙ ap not (sym (filled_answer past k.block) ∙ w.0)));
 }
 
