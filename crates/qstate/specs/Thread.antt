@@ -72,17 +72,6 @@ pub record ChangesOpen (u : ℕ) (change : OpenCall → OpenCall) (old new : Lis
       ≡ (if v == u then option_map change (open_in old v) else open_in old v)
   pub priority : (v : ℕ) → thread_priority new v ≡ thread_priority old v
 
--- the connection over which a Send's message was sent, if the message is held
-abbrev pub held_over_by : Wait → Option ℕ
-held_over_by (Answer coid message reply_buffer (Some receipt)) = Some coid
-held_over_by (Answer coid message reply_buffer None) = None
-held_over_by (ForItem chid kind buffer) = None
-
--- the connection over which the message of an open call was sent, if the message is held
-abbrev pub held_over_in : Option OpenCall → Option ℕ
-held_over_in None = None
-held_over_in (Some o) = held_over_by o.wait
-
 -- the thread whose open call is the Send of number i
 abbrev pub sender_in : List Thread → ℕ → Option ℕ
 sender_in threads i = sender_among (open_in threads) i (threads_of (members_of threads))
