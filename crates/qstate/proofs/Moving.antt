@@ -6,8 +6,6 @@ use Rattle.std.proofs.lemmas.Bool.{eqb-true}
 use Rattle.std.proofs.lemmas.Option.{none-some, same_Some}
 use Rattle.qqueue.specs.Best.{with_item_priority, with_priority}
 use Rattle.qqueue.specs.declared.item.Item.{Item}
-use Rattle.qtables.specs.Entries.{entry_at}
-use Rattle.qtables.specs.declared.connection.Connection.{Connection}
 use Rattle.qrules.specs.Private.Step.{is_unread_send}
 use Rattle.qmodel.specs.declared.open_call.OpenCall.{OpenCall}
 use Rattle.qmodel.specs.declared.open_call.OpenCall.TheVariants.{Receive, Send}
@@ -16,7 +14,7 @@ use Rattle.qstate.specs.declared.channel.Channel.{Channel}
 use Rattle.qstate.specs.declared.unread.Unread.{Unread}
 use Rattle.qstate.specs.Channel.{SetsItems}
 use Rattle.qstate.specs.Kept.{pending_in}
-use Rattle.qstate.specs.Unread.{MovesUnread, unread_in, unread_of}
+use Rattle.qstate.specs.Unread.{MovesUnread, unread_in}
 use Rattle.std.proofs.Common.{is_some}
 use Rattle.std.proofs.Common.{not}
 use Rattle.qmodel.specs.declared.open_call.OpenSend.{OpenSend}

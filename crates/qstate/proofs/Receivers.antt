@@ -13,7 +13,7 @@ use Rattle.qmodel.specs.declared.open_call.OpenCall.TheVariants.{Receive, Send}
 use Rattle.qstate.specs.declared.thread.Thread.{Thread}
 use Rattle.qrules.specs.Private.Facts.{threads_of, first_where}
 use Rattle.qrules.specs.Private.Receivers.{is_after, wait_on}
-use Rattle.qrules.specs.Private.Rows.{receipt_ending, takes, takes_into}
+use Rattle.qrules.specs.Private.Rows.{receipt_ending, takes}
 use Rattle.qmodel.specs.declared.open_call.OpenReceive.{OpenReceive}
 use Rattle.qmodel.specs.OpenCalls.{receive_in}
 use Rattle.qrules.proofs.Traces.Properties.Receivers.{after_less, any_after, newest_parts}

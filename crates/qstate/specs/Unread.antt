@@ -1,8 +1,6 @@
 -- The messages that are not received, by the kernel's content.
 use Rattle.std.specs.Prelude.{◌≡◌, ℕ, List, map, Option, None, Some, if◌then◌else◌}
 use Rattle.qqueue.specs.Best.{with_priority}
-use Rattle.qtables.specs.Entries.{entry_at}
-use Rattle.qtables.specs.declared.connection.Connection.{Connection}
 use Rattle.qrules.specs.Private.Step.{is_unread_send}
 use Rattle.qmodel.specs.declared.open_call.OpenCall.{OpenCall}
 use Rattle.qmodel.specs.declared.open_call.OpenCall.TheVariants.{Receive, Send}

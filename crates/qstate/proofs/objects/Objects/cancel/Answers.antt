@@ -1,5 +1,4 @@
 use Rattle.std.proofs.Common.{refl}
-use Rattle.qtables.specs.Entries.{entry_at}
 use Rattle.qstate.proofs.Cancels.Threads.{are_cancelled}
 use Rattle.qstate.proofs.Indexing.{indexed_cancelled}
 use Rattle.qstate.proofs.objects.Objects.cancel.Goals as goal

@@ -1,2 +1,0 @@
-use Rattle.std.proofs.Common.{ap, refl, sym, ◌∙◌}
-use Rattle.qstate.proofs.objects.Objects.guarded_message.Goals as goal

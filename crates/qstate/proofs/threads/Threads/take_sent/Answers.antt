@@ -1,1 +1,0 @@
-use Rattle.qstate.proofs.threads.Threads.take_sent.Goals as goal

@@ -1,7 +1,5 @@
-use Rattle.std.proofs.Common.{ap, ◌∙◌, sym, refl}
-use Rattle.std.specs.Prelude.{option_and_then}
-use Rattle.qmodel.specs.OpenCalls.{receive_in}
-use Rattle.qstate.proofs.Seats.{seat_kept, wakes}
+use Rattle.std.proofs.Common.{◌∙◌}
+use Rattle.qstate.proofs.Seats.{seat_kept}
 use Rattle.qstate.proofs.threads.Threads.wake.Goals as goal
 
 pub take_open-requires : goal.take_open-requires
