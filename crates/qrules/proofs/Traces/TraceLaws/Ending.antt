@@ -8,7 +8,6 @@ use Rattle.qrules.specs.Private.Answer.{ending}
 use Rattle.qrules.specs.Private.Facts.{Facts, threads_of}
 use Rattle.qrules.specs.Private.Laws.{EndingsNameOwnCalls, EndingsRiseByThread, NothingFromDestroyed, RiseByThread, thread_at}
 use Rattle.qrules.specs.Private.Lawful.{facts_of}
-use Rattle.qrules.specs.Private.Past.{newest_block}
 use Rattle.qmodel.specs.Trace.{Event, Trace}
 use Rattle.qmodel.specs.declared.call.Call.{Call}
 use Rattle.qmodel.specs.declared.call.Completion.{Completion}

@@ -12,7 +12,7 @@ use Rattle.qrules.specs.Private.Facts.{is_for_answer, is_send, sender, threads_o
 use Rattle.qrules.specs.Properties.{number_received, TakesBest}
 use Rattle.qrules.specs.Private.Laws.{HeldIsHeldSend, IsHeldSend, blocker, is_for_reply}
 use Rattle.qrules.specs.Private.Lawful.{IsLawful, facts_of}
-use Rattle.qrules.specs.Private.Past.{copied_count_in, has_ending_of, call_by_now, is_ended, is_received, item_of, accepted_at, open_call, priority_of_item, copied_count_among, copied_count_of, with_receipt}
+use Rattle.qrules.specs.Private.Past.{copied_count_in, has_ending_of, is_ended, is_received, item_of, accepted_at, open_call, copied_count_among, copied_count_of, with_receipt}
 use Rattle.qrules.specs.Private.Effects.{asks}
 use Rattle.qrules.specs.Private.Rows.{item_in}
 use Rattle.qmodel.specs.Trace.{SentItem}
@@ -32,7 +32,7 @@ use Rattle.qrules.proofs.Traces.Properties.Sends.{made_newest, made_stays}
 use Rattle.qrules.proofs.Traces.Rosters.{known}
 use Rattle.qrules.proofs.Traces.TraceLaws.Pending.{reply_parts}
 use Rattle.qrules.proofs.Traces.TraceLaws.Sent.{taken_stands}
-use Rattle.qrules.proofs.Traces.TraceLaws.Unended.{asks_any, unended_newest}
+use Rattle.qrules.proofs.Traces.TraceLaws.Unended.{unended_newest}
 use Rattle.qrules.specs.Past.{ReceivedItem}
 use Rattle.qrules.specs.Private.Facts.{number_of}
 use Rattle.qrules.specs.Private.Facts.{held_call}
@@ -40,9 +40,7 @@ use Rattle.qrules.specs.Private.Past.{filled}
 use Rattle.qrules.proofs.Traces.Past.Open.{open_from}
 use Rattle.qrules.proofs.Traces.Past.Open.{filled_answer}
 use Rattle.qrules.proofs.Traces.Past.Open.{open_parts}
-use Rattle.qrules.proofs.Traces.Past.Open.{is_unblocked}
 use Rattle.qrules.proofs.Traces.Past.Open.{open_thread}
-use Rattle.qrules.proofs.Traces.Past.Open.{receipt_number}
 use Rattle.qrules.proofs.Traces.Past.Open.{kept}
 use Rattle.qrules.proofs.Traces.Past.Open.{kept_number}
 

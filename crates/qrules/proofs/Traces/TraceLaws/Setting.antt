@@ -10,7 +10,7 @@ use Rattle.qtables.specs.declared.member.Member.{Member}
 use Rattle.qrules.specs.Private.Answer.{Outcome}
 use Rattle.qrules.specs.Private.Lawful.{IsLawful, facts_of}
 use Rattle.qrules.specs.Private.Laws.{OthersKeepTheirOrder, SettingMovesItsOwn, is_message_of, others_than, with_messages_at}
-use Rattle.qrules.specs.Private.Past.{connection_at, open_call, pending_items, sender_of}
+use Rattle.qrules.specs.Private.Past.{open_call, pending_items, sender_of}
 use Rattle.qrules.specs.Private.Rows.{names}
 use Rattle.qrules.specs.Private.Step.{items_with_priority_set, pending_after, is_unread_send}
 use Rattle.qmodel.specs.Trace.{Trace}

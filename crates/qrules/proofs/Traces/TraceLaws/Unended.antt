@@ -7,21 +7,19 @@ use Rattle.std.proofs.lemmas.Option.{none-some, same_Some}
 use Rattle.qtables.specs.declared.member.Member.{Member}
 use Rattle.qrules.specs.Private.Laws.{blocker, IsUnended, AtMostOneOpen, OpenIsUnended}
 use Rattle.qrules.specs.Private.Lawful.{IsLawful}
-use Rattle.qrules.specs.Private.Past.{call_by_now, has_ending_of, is_accepted, is_ended, accepted_at, newest_block, open_call, priority_of_item, copied_count_of}
+use Rattle.qrules.specs.Private.Past.{has_ending_of, is_accepted, is_ended, accepted_at, open_call}
 use Rattle.qrules.specs.Private.Effects.{asks}
 use Rattle.qmodel.specs.Trace.{Event, Trace}
 use Rattle.qmodel.specs.declared.call.Call.{Call}
 use Rattle.qmodel.specs.declared.call.Call.TheVariants.{Receive, ReceivePulse, Send}
 use Rattle.qmodel.specs.declared.open_call.OpenCall.{OpenCall}
-use Rattle.qbase.proofs.Lists.{eqb_same}
 use Rattle.qrules.proofs.Traces.Past.Numbers.{blocks}
-use Rattle.qrules.proofs.Traces.Past.Open.{open_from, open_parts, receipt_number, is_unblocked}
+use Rattle.qrules.proofs.Traces.Past.Open.{open_from, open_parts}
 use Rattle.qrules.proofs.Traces.Calls.{call_laws}
 use Rattle.qrules.proofs.Traces.Properties.Messages.{block_stays}
 use Rattle.qrules.proofs.Traces.Properties.Sends.{begins_now, made_newest, made_stays}
 use Rattle.qmodel.specs.OpenCalls.{number_of}
 use Rattle.qrules.specs.Private.Past.{block}
-use Rattle.qrules.specs.Private.Past.{filled}
 use Rattle.qrules.specs.Past.{channel_of}
 use Rattle.qrules.proofs.Traces.Past.Open.{kept_number}
 use Rattle.std.proofs.Common.{eq-eqb}

@@ -1,5 +1,5 @@
 -- Who waits: over a live connection, and beside nothing that it may take.
-use Rattle.std.proofs.Common.{◌∙◌, refl, ap, eqb}
+use Rattle.std.proofs.Common.{◌∙◌, refl}
 use Rattle.std.proofs.lemmas.Bool.{eqb-true}
 use Rattle.qmodel.specs.declared.open_call.OpenCall.TheVariants.{Send}
 use Rattle.qrules.specs.Private.Laws.{NothingPendingForWaiting, OpenSendsAreLive}
