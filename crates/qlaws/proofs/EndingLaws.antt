@@ -1,7 +1,7 @@
 -- The laws of the endings of one event.
 use mathlib.Core.Path.{fun_ext}
 use Rattle.std.proofs.Common.{◌≡◌, ◌∙◌, ℕ, ◌+◌, List, [], ◌∷◌, length, refl, ap, sym, cond, eqb}
-use Rattle.std.specs.Prelude.{Some, option_map}
+use Rattle.std.specs.Prelude.{None, Some, option_map}
 use Rattle.std.specs.List.{AllByRecursion}
 use Rattle.qbase.proofs.Lists.{all_more}
 use Rattle.qtables.specs.declared.member.Member.{Member}
@@ -21,7 +21,11 @@ use Rattle.qrules.specs.Rule.{buffer_of}
 use Rattle.qrules.specs.Rules.{effect_of}
 use Rattle.qrules.proofs.Outcomes.{same_buffer}
 use Rattle.qlaws.specs.Endings
-use Rattle.qlaws.proofs.Waits.{before, buffer_at}
+use Rattle.qlaws.proofs.Waits.{before}
+use Rattle.std.proofs.Common.{Option}
+use Rattle.qmodel.specs.declared.open_call.OpenCall.{OpenCall}
+use Rattle.std.specs.Option.{option_map_or}
+use Rattle.qmodel.specs.OpenCalls.{buffer_in}
 
 -- ---- whose they are
 
@@ -61,12 +65,16 @@ caller_gets_its_own roster past e r l = blocked.caller_gets_its_own roster past 
 
 -- ---- their buffers
 
+open_buffer : (o : Option OpenCall) → old_endings.buffer_of_open o ≡ option_map_or buffer_in o []
+open_buffer None = refl
+open_buffer (Some o) = refl
+
 pub endings_keep_length : Endings.EndingsKeepLength
 endings_keep_length roster past e r l =
     all_more _ _ e.endings (lengths.endings_keep_length roster past e r (before roster (e ∷ past) l)) (λ x same.
     same ∙ ap length (
     ap (λ b. cond (eqb x.thread e.thread) b (old_endings.buffer_of_open (open_call roster past x.thread))) (sym (same_buffer e.call))
-    ∙ ap (λ b. cond (eqb x.thread e.thread) (buffer_of (effect_of e.call)) b) (sym (buffer_at roster past l.0 x.thread))))
+    ∙ ap (λ b. cond (eqb x.thread e.thread) (buffer_of (effect_of e.call)) b) (open_buffer (open_call roster past x.thread))))
 
 -- ---- what they receive
 

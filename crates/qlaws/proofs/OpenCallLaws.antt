@@ -20,9 +20,7 @@ use Rattle.qrules.specs.Private.Step.{open_call_after, unless}
 use Rattle.qmodel.specs.Trace.{Event, Trace}
 use Rattle.qmodel.specs.declared.call.Call.{Call}
 use Rattle.qmodel.specs.declared.call.Call.TheVariants as calls
-use Rattle.qmodel.specs.declared.open_call.OpenCall.{OpenCall}
 use Rattle.qmodel.specs.declared.open_call.OpenCall.TheVariants.{Receive, Send}
-use Rattle.qmodel.specs.declared.open_call.Receipt.{Receipt as OldReceipt}
 use Rattle.qrules.proofs.Traces.Past.Ends.{passes_of}
 use Rattle.qrules.proofs.Traces.Past.Follows.{past_follows}
 use Rattle.qrules.proofs.Traces.TraceLaws.Held as held
@@ -36,12 +34,15 @@ use Rattle.qrules.specs.Rules.{effect_of}
 use Rattle.qrules.proofs.Messages.{send_cases, NoSend, OneSend}
 use Rattle.qrules.proofs.Outcomes.{same_buffer}
 use Rattle.qlaws.specs.OpenCalls as laws
-use Rattle.qlaws.proofs.Waits.{all_receives, all_sends, before, receive_parts, send_parts}
+use Rattle.qlaws.proofs.Waits.{all_receives, all_sends, before}
 use Rattle.qrules.specs.Facts.{open_receives}
+use Rattle.qrules.proofs.Traces.Past.Open.{open_own}
+use Rattle.std.proofs.Common.{option_and_then}
+use Rattle.qrules.specs.Facts.{receive_in}
 
 -- ---- at most one for each thread
 
-waits_same : (c : Call) → (is_some (effect_of c).sends || is_some (effect_of c).receives) ≡ is_some (asks 0 c)
+waits_same : (c : Call) → (is_some (effect_of c).sends || is_some (effect_of c).receives) ≡ is_some (asks 0 0 0 c)
 waits_same calls.Shutdown = refl
 waits_same _ = refl
 
@@ -66,14 +67,9 @@ open_is_unended roster past r l t i =
 -- ---- Sends
 
 pub open_sends_are_routed : laws.OpenSendsAreRouted
-open_sends_are_routed roster past r l = all_sends roster past l (laws.IsRouted (facts_of roster past)) (λ u s e.
-    let k = send_parts roster past l u s e in
-    let w = waiting.open_sends_are_live roster past r (before roster past l) u s.number s.connection s.message s.reply_buffer k.receipt k.is in
-    record {
-      connection = w.connection;
-      is_live = w.is_live;
-      is_open = w.is_open;
-    })
+open_sends_are_routed roster past r l = all_sends (facts_of roster past) _ (λ u s is.
+    let w = waiting.open_sends_are_live roster past r (before roster past l) u s is in
+    record { connection = w.connection; is_live = w.is_live; leads = w.channel; is_open = w.is_open })
 
 -- whether the Send of a held message has a receipt
 abbrev has_receipt : Facts → ℕ → Bool
@@ -86,20 +82,16 @@ module _ (roster : List Member) (past : Trace) (i : ℕ) (law : (laws.is_held pa
   no_send : NoSend facts i → laws.is_held past i ≡ false
   no_send k = false_from_ne_true _ (λ held. none-some _ (sym k.none ∙ (law.0 held).is_sender))
 
-  one_send : (receipt : Option OldReceipt) (k : OneSend facts i) → k.receipt ≡ receipt → laws.is_held past i ≡ is_some receipt
-  one_send None k e = false_from_ne_true _ (λ held.
-      let h = law.0 held in
-      let thread : k.thread ≡ h.thread = same_Some _ _ (sym k.sent ∙ h.is_sender) in
-      let waiting : record { number = k.number; wait = Answer k.connection k.message k.reply_buffer None } ≡ h.waiting =
-      same_Some _ _ (ap (λ r. Some (record { number = k.number; wait = Answer k.connection k.message k.reply_buffer r })) (sym e) ∙ sym k.is ∙ ap (open_call roster past) thread ∙ h.is_open) in
-      true≢false (sym h.received ∙ ap (λ (o : OpenCall). old_laws.is_for_reply o.wait) (sym waiting)))
-  one_send (Some receipt) k e = law.1 (record {
-    thread = k.thread;
-    waiting = record { number = k.number; wait = Answer k.connection k.message k.reply_buffer (Some receipt) };
-    is_sender = k.sent;
-    is_open = k.is ∙ ap (λ r. Some (record { number = k.number; wait = Answer k.connection k.message k.reply_buffer r })) e;
-    received = refl;
-  })
+  one_send : (k : OneSend facts i) → laws.is_held past i ≡ is_some k.send.receipt
+  one_send k =
+      elim (is_some k.send.receipt) as (λ b. is_some k.send.receipt ≡ b → laws.is_held past i ≡ b) [
+        | true ↦ λ received. law.1 (record { thread = k.thread; waiting = Send k.send; is_sender = k.sent; is_open = k.is; received = received })
+        | false ↦ λ unread. false_from_ne_true _ (λ held.
+            let h = law.0 held in
+            let thread : k.thread ≡ h.thread = same_Some _ _ (sym k.sent ∙ h.is_sender) in
+            let waiting : Send k.send ≡ h.waiting = same_Some _ _ (sym k.is ∙ ap (open_call roster past) thread ∙ h.is_open) in
+            true≢false (sym h.received ∙ ap old_laws.is_for_reply (sym waiting) ∙ unread))
+      ] refl
 
 pub held_is_open_send : laws.HeldIsOpenSend
 held_is_open_send roster past r l i =
@@ -107,7 +99,7 @@ held_is_open_send roster past r l i =
     let f : OldFacts = old.facts_of roster past in
     elim (send_cases f i) as (λ k. laws.is_held past i ≡ has_receipt f i) [
       | inl k ↦ no_send roster past i law k ∙ ap (λ o. option_map_or (λ (s : OpenSend). is_some s.receipt) o false) (sym k.new)
-      | inr k ↦ one_send roster past i law k.receipt k refl ∙ ap (λ o. option_map_or (λ (s : OpenSend). is_some s.receipt) o false) (sym k.new)
+      | inr k ↦ one_send roster past i law k ∙ ap (λ o. option_map_or (λ (s : OpenSend). is_some s.receipt) o false) (sym k.new)
     ]
 
 -- ---- receives
@@ -164,8 +156,8 @@ pub newest_is_last : laws.NewestIsLast
 newest_is_last roster past r l m x e =
     let f : Facts = facts_of roster past in
     let may : OpenReceive → Bool = laws.may_receive m in
-    let each : AllByRecursion (λ s. receive_of f s.thread ≡ Some s) (open_receives f) = all_receives roster past l (λ s. receive_of f s.thread ≡ Some s) (λ u s is.
-    ap (receive_of f) (receive_parts roster past l u s is).thread ∙ is) in
+    let each : AllByRecursion (λ s. receive_of f s.thread ≡ Some s) (open_receives f) = all_receives f (λ s. receive_of f s.thread ≡ Some s) (λ u s is.
+    ap (receive_of f) (open_own roster past u (Receive s) is) ∙ ap (option_and_then receive_in) is) in
     let k = newest_of (λ s. (receive_of f s.thread ≡ Some s) × (may s ≡ true)) (filter may (open_receives f)) x (all_pass (λ s. receive_of f s.thread ≡ Some s) may (open_receives f) each) e in
     record { is_open = k.0.0; may = k.0.1; last = of_passing (λ s. s.number ≤ x.number) may (open_receives f) k.1 }
 
@@ -187,19 +179,19 @@ none_is_newest roster past r l m =
     (nobody (laws.may_receive m) rs, none_passes (laws.may_receive m) rs)
 
 pub nothing_pending_for_waiting : laws.NothingPendingForWaiting
-nothing_pending_for_waiting roster past r l = all_receives roster past l _ (λ u s e.
-    (waiting.nothing_pending_for_waiting roster past r (before roster past l) u s.number s.channel s.kind s.buffer (receive_parts roster past l u s e).is))
+nothing_pending_for_waiting roster past r l =
+    all_receives (facts_of roster past) _ (waiting.nothing_pending_for_waiting roster past r (before roster past l))
 
 -- ---- buffers
 
 pub reply_buffers_keep_length : laws.ReplyBuffersKeepLength
-reply_buffers_keep_length roster past r l = all_sends roster past l (λ s. laws.IsAsLong past s.number s.reply_buffer) (λ u s e.
-    let k = lengths.open_calls_keep_length roster past r (before roster past l) u _ (send_parts roster past l u s e).is in
+reply_buffers_keep_length roster past r l = all_sends (facts_of roster past) (λ s. laws.IsAsLong past s.number s.reply_buffer) (λ u s is.
+    let k = lengths.open_calls_keep_length roster past r (before roster past l) u (Send s) is in
     record { call = k.call; is = k.is; same = k.same ∙ ap length (sym (same_buffer k.call)) })
 
 pub receive_buffers_keep_length : laws.ReceiveBuffersKeepLength
-receive_buffers_keep_length roster past r l = all_receives roster past l (λ s. laws.IsAsLong past s.number s.buffer) (λ u s e.
-    let k = lengths.open_calls_keep_length roster past r (before roster past l) u _ (receive_parts roster past l u s e).is in
+receive_buffers_keep_length roster past r l = all_receives (facts_of roster past) (λ s. laws.IsAsLong past s.number s.buffer) (λ u s is.
+    let k = lengths.open_calls_keep_length roster past r (before roster past l) u (Receive s) is in
     record { call = k.call; is = k.is; same = k.same ∙ ap length (sym (same_buffer k.call)) })
 
 -- ---- after a shutdown

@@ -1,9 +1,9 @@
 -- The laws of the items that wait to be received.
-use Rattle.std.proofs.Common.{◌≡◌, ◌∙◌, ℕ, List, ◌∷◌, ◌++◌, refl, ap, sym, subst, true}
-use Rattle.std.specs.Prelude.{None, Some}
+use Rattle.std.proofs.Common.{◌≡◌, ◌∙◌, ℕ, List, ◌∷◌, ◌++◌, ap, sym, subst, true}
+use Rattle.std.specs.Prelude.{Some}
 use Rattle.std.specs.List.{AllByRecursion}
 use Rattle.std.proofs.lemmas.Bool.{true≢false}
-use Rattle.qbase.proofs.Lists.{all_more}
+use Rattle.qbase.proofs.Lists.{all_more, none_of}
 use Rattle.qqueue.specs.Order.{comes_before}
 use Rattle.qqueue.specs.declared.item.Item.{Item}
 use Rattle.qtables.specs.Members.{IsRoster}
@@ -22,9 +22,15 @@ use Rattle.qrules.proofs.Traces.TraceLaws.Setting as setting
 use Rattle.qrules.proofs.Traces.TraceLaws.CurrentPriority as current_priority
 use Rattle.qrules.specs.Lawful.{facts_of, IsLawful}
 use Rattle.qrules.specs.Past.{is_gone, sender_of}
-use Rattle.qrules.specs.Private.Facts.{send_view}
 use Rattle.qlaws.specs.Pending as laws
 use Rattle.qlaws.proofs.Waits.{before}
+use Rattle.qrules.specs.Private.Facts.{number_of}
+use Rattle.qrules.proofs.Traces.Past.Open.{open_own}
+use Rattle.qrules.specs.Facts.{send_of}
+use Rattle.std.proofs.Common.{option_and_then}
+use Rattle.qrules.specs.Facts.{send_in}
+use Rattle.qbase.proofs.Lists.{none_of}
+use Rattle.std.proofs.lemmas.Bool.{not-true}
 
 -- ---- what is pending
 
@@ -39,23 +45,23 @@ pub none_pending_is_held : laws.NonePendingIsHeld
 none_pending_is_held roster past r l h =
     all_more _ _ (old.pending_items roster past h) (pending.none_pending_is_held roster past r (before roster past l) h) (λ item k. k.unread)
 
-module _ (roster : List Member) (past : Trace) (l : IsLawful roster past) (i : ℕ) where
-  unreceived : (t : ℕ) (o : OpenCall) (w : Wait) → old.sender_of past i ≡ Some t → old.open_call roster past t ≡ Some o → o.number ≡ i → o.wait ≡ w → is_for_receipt w ≡ true → laws.IsUnreceived roster past i
-  unreceived t o (Answer coid message reply_buffer None) sent is number waits unread = record {
-    send = record { number = o.number; thread = t; connection = coid; message = message; reply_buffer = reply_buffer; receipt = None };
-    number = number;
-    sent = sent;
-    is_open = ap (send_view t) (is ∙ ap (λ w. Some (record { number = o.number; wait = w })) waits);
-    unread = refl;
-  }
-  unreceived t o (Answer coid message reply_buffer (Some receipt)) sent is number waits unread = absurd (true≢false (sym unread))
-  unreceived t o (ForItem chid kind buffer) sent is number waits unread = absurd (true≢false (sym unread))
+unreceived : (roster : List Member) (past : Trace) (i t : ℕ) (o : OpenCall) → old.sender_of past i ≡ Some t → old.open_call roster past t ≡ Some o → number_of o ≡ i → is_for_receipt o ≡ true → laws.IsUnreceived roster past i
+unreceived roster past i t (Send s) sent is number unread =
+    let own : s.thread ≡ t = open_own roster past t (Send s) is in
+    record {
+      send = s;
+      number = number;
+      sent = sent ∙ ap Some (sym own);
+      is_open = ap (send_of (facts_of roster past)) own ∙ ap (option_and_then send_in) is;
+      unread = none_of s.receipt (not-true _ unread);
+    }
+unreceived roster past i t (Receive r) sent is number unread = absurd (true≢false (sym unread))
 
 pub pending_is_open : laws.PendingIsOpen
 pending_is_open roster past r l h =
     all_more _ _ (old.pending_items roster past h) (pending.pending_is_open roster past r (before roster past l) h) (λ item k message.
     let s = k message in
-    unreceived roster past l item.number s.sender s.waiting s.waiting.wait s.sent s.is_open s.number refl s.unread)
+    unreceived roster past item.number s.sender s.waiting s.sent s.is_open s.number s.unread)
 
 pub pending_follows_its_sender : laws.PendingFollowsItsSender
 pending_follows_its_sender roster past r l h =

@@ -12,7 +12,7 @@ use Rattle.qtables.specs.declared.member.Member.{Member}
 use Rattle.qrules.specs.Private.Effects.{makes, unblocks}
 use Rattle.qrules.specs.Private.Facts.{Facts as OldFacts}
 use Rattle.qrules.specs.Private.Lawful as old
-use Rattle.qrules.specs.Private.Past.{call_by_now, copied_count_of, is_unblock_for, item_of, items as old_items, priority_of_item, unblocked_among, wait_with_receipt, with_receipt}
+use Rattle.qrules.specs.Private.Past.{copied_count_of, is_unblock_for, item_of, items as old_items, priority_of_item, unblocked_among, with_receipt}
 use Rattle.qmodel.specs.Trace.{SentItem, Trace}
 use Rattle.qmodel.specs.declared.call.Call.{Call}
 use Rattle.qmodel.specs.declared.call.Call.TheVariants as calls
@@ -29,15 +29,19 @@ use Rattle.qrules.specs.Past as new
 use Rattle.qrules.specs.Properties.{items}
 use Rattle.qlaws.specs.Pending as laws
 use Rattle.qrules.proofs.Traces.Due.{unblock_same}
+use Rattle.std.specs.Option.{option_map_or}
+use Rattle.qrules.specs.Private.Facts.{held_call}
+use Rattle.qrules.specs.Private.Facts.{number_of}
+use Rattle.qrules.specs.Private.Past.{filled}
 
 -- the receipt doesn't tell that no unblock pulse was made
-abbrev told : Wait → Bool
-told (Answer coid message reply_buffer (Some receipt)) = receipt.unblocked
-told wait = true
+abbrev told : OpenCall → Bool
+told (Send s) = option_map_or (λ (r : OldReceipt). r.unblocked) s.receipt true
+told (Receive r) = true
 
-untold : (receipt : OldReceipt) (w : Wait) → told (wait_with_receipt receipt w) ≡ false → receipt.unblocked ≡ false
-untold receipt (Answer coid message reply_buffer before) e = e
-untold receipt (ForItem chid kind buffer) e = absurd (true≢false e)
+untold : (receipt : OldReceipt) (o : OpenCall) → told (held_call receipt o) ≡ false → receipt.unblocked ≡ false
+untold receipt (Send s) e = e
+untold receipt (Receive r) e = absurd (true≢false e)
 
 unblock_is : (c : Call) (v : ℕ) → unblocks c ≡ Some v → c ≡ calls.Unblock v
 unblock_is (calls.Unblock thread) v e = ap calls.Unblock (same_Some thread v e)
@@ -51,14 +55,14 @@ first_for roster past t c i m made is =
       | None ↦ λ none. absurd (true≢false (sym is ∙ (call_laws c).unblocks_none none f t m made i))
       | Some v ↦ λ some.
           let d = due_parts f (f.open_call v) m (sym (unblock_same f v) ∙ subst (λ c. makes f t c ≡ Some m) (unblock_is c v some) made) in
-          let p = open_parts roster past v d.waiting d.is in
-          let number : p.block.number ≡ i = sym p.number ∙ eqb-true _ _ (ap (λ (m : SentItem). is_unblock_for i m.item.what) d.made ∙ is) in
-          let first : told d.waiting.wait ≡ false = ap told d.waits ∙ d.first in
+          let p = open_parts roster past v (Send d.send) d.is in
+          let n : ℕ = number_of p.block in
+          let number : n ≡ i = sym p.number ∙ eqb-true _ _ (ap (λ (m : SentItem). is_unblock_for i m.item.what) d.made ∙ is) in
+          let first : told (Send d.send) ≡ false = ap (λ o. option_map_or (λ (r : OldReceipt). r.unblocked) o true) d.held ∙ d.first in
           subst (λ i. is_unblocked roster past i ≡ false) number (
-          elim (copied_count_of past p.block.number) as (λ r. copied_count_of past p.block.number ≡ r → d.waiting ≡ with_receipt (priority_of_item roster past p.block.number) (is_unblocked roster past p.block.number) r (call_by_now past p.block)
-          → is_unblocked roster past p.block.number ≡ false) [
-            | None ↦ λ none same. none_unblocked roster past p.block.number none
-            | Some copied ↦ λ taken same. untold _ (call_by_now past p.block).wait (ap (λ (o : OpenCall). told o.wait) (sym same) ∙ first)
+          elim (copied_count_of past n) as (λ r. copied_count_of past n ≡ r → Send d.send ≡ with_receipt (priority_of_item roster past n) (is_unblocked roster past n) r (filled past p.block) → is_unblocked roster past n ≡ false) [
+            | None ↦ λ none same. none_unblocked roster past n none
+            | Some copied ↦ λ taken same. untold _ (filled past p.block) (ap told (sym same) ∙ first)
           ] refl p.same)
     ] refl
 

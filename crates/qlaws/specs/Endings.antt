@@ -2,11 +2,11 @@
 -- wait afterwards.
 use Rattle.std.specs.Prelude.{◌&&◌, ◌+◌, ◌==◌, ◌||◌, ◌∷◌, ◌≡◌, ◌↔◌, if◌then◌else◌}
 use Rattle.qrules.specs.Words.{[], false, is_some, length, list_any, member_at, option_map}
-use Rattle.qrules.specs.Words.{option_or, true, unwrap_or, AllByRecursion, Bool, Completion, Down, List}
+use Rattle.qrules.specs.Words.{option_map_or, true, AllByRecursion, Bool, Completion, Down, List}
 use Rattle.qrules.specs.Words.{Member, None, Option, Some}
 use Rattle.qrules.specs.Words.mark
 use Rattle.qrules.specs.Trace.{Bytes, CallNo, ChannelId, ConnectionId, Event, ThreadNo, Trace}
-use Rattle.qrules.specs.Facts.{is_blocked, receive_of, send_of, Facts}
+use Rattle.qrules.specs.Facts.{buffer_in, is_blocked, Facts}
 use Rattle.qrules.specs.Rule.{buffer_of, own_ending, ReceiveRequest}
 use Rattle.qrules.specs.Rules.{effect_of}
 use Rattle.qrules.specs.Past.{attached_connection, is_accepted, is_destroyed, item_among, was_done}
@@ -74,9 +74,7 @@ CallerGetsItsOwn = InEachNewest (λ roster past e. gets e.endings e.thread ≡ e
 
 -- the buffer of the call that thread u waits in
 abbrev pub waiting_buffer : Facts → ThreadNo → Bytes
-waiting_buffer f u = unwrap_or
-    (option_or (option_map (λ s. s.reply_buffer) (send_of f u)) (option_map (λ r. r.buffer) (receive_of f u)))
-    []
+waiting_buffer f u = option_map_or buffer_in (f.open_call u) []
 
 -- each ending's buffer is as long as the one that its thread passed in, with this call or with the one that
 -- it waits in

@@ -38,11 +38,12 @@ OpenIsUnended = AfterEach (λ roster past. (t : ThreadNo) (i : CallNo)
 
 -- ---- Sends
 
--- the connection of the Send is live, and its channel open
+-- the connection of the Send is live and leads to the Send's channel, which is open
 pub record IsRouted (f : Facts) (s : OpenSend) : Type 0 where
   pub connection : Connection
   pub is_live : f.connection s.connection ≡ Some connection
-  pub is_open : is_some (f.channel connection.channel) ≡ true
+  pub leads : connection.channel ≡ s.channel
+  pub is_open : is_some (f.channel s.channel) ≡ true
 
 -- each open Send is routed
 abbrev pub OpenSendsAreRouted : Type 0
