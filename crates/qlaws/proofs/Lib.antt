@@ -5,3 +5,7 @@ pub mod PendingLaws
 pub mod UnblockLaws
 pub mod PlaceLaws
 pub mod IdLaws
+pub mod LimitLaws
+pub mod OrderLaws
+pub mod PriorityLaws
+pub mod SettingLaws

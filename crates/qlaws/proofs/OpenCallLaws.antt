@@ -26,7 +26,12 @@ use Rattle.qrules.proofs.Traces.Past.Follows.{past_follows}
 use Rattle.qrules.proofs.Traces.TraceLaws.Held as held
 use Rattle.qrules.proofs.Traces.TraceLaws.Lengths as lengths
 use Rattle.qrules.proofs.Traces.TraceLaws.Unended as unended
-use Rattle.qrules.proofs.Traces.TraceLaws.Waiting as waiting
+use Rattle.qbase.proofs.Lists.{eqb_same}
+use Rattle.std.proofs.lemmas.Bool.{eqb-true}
+use Rattle.qrules.proofs.Traces.Past.LiveSends.{over_attached}
+use Rattle.qrules.proofs.Traces.Properties.Sends.{open_on}
+use Rattle.qrules.proofs.Traces.Properties.ShutForGood.{waits_on_open}
+use Rattle.qrules.proofs.Traces.Properties.Waiting.{nothing_for}
 use Rattle.qrules.specs.Delivery.{newer}
 use Rattle.qrules.specs.Facts.{open_send, receive_of, Facts, OpenReceive, OpenSend}
 use Rattle.qrules.specs.Lawful.{facts_of}
@@ -67,9 +72,16 @@ open_is_unended roster past r l t i =
 -- ---- Sends
 
 pub open_sends_are_routed : laws.OpenSendsAreRouted
-open_sends_are_routed roster past r l = all_sends (facts_of roster past) _ (λ u s is.
-    let w = waiting.open_sends_are_live roster past r (before roster past l) u s is in
-    record { connection = w.connection; is_live = w.is_live; leads = w.channel; is_open = w.is_open })
+open_sends_are_routed roster past r lawful =
+    let l = before roster past lawful in
+    all_sends (facts_of roster past) _ (λ u s is.
+    let c = open_on roster past u (Send s) l is refl in
+    record {
+      connection = c.0;
+      is_live = over_attached roster past u (Send s) l is refl ∙ c.1;
+      leads = sym (eqb-true s.channel c.0.channel c.2);
+      is_open = waits_on_open roster past r l u (Send s) s.channel is (eqb_same s.channel);
+    })
 
 -- whether the Send of a held message has a receipt
 abbrev has_receipt : Facts → ℕ → Bool
@@ -180,7 +192,7 @@ none_is_newest roster past r l m =
 
 pub nothing_pending_for_waiting : laws.NothingPendingForWaiting
 nothing_pending_for_waiting roster past r l =
-    all_receives (facts_of roster past) _ (waiting.nothing_pending_for_waiting roster past r (before roster past l))
+    all_receives (facts_of roster past) _ (λ u w is. nothing_for roster past r (before roster past l) u _ w.channel w.kind is refl)
 
 -- ---- buffers
 

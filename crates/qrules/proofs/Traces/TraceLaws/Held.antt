@@ -30,10 +30,10 @@ use Rattle.qrules.proofs.Traces.Properties.BestFirst.{best_first}
 use Rattle.qrules.proofs.Traces.Properties.Events.{outcome_of}
 use Rattle.qrules.proofs.Traces.Properties.Sends.{made_newest, made_stays}
 use Rattle.qrules.proofs.Traces.Rosters.{known}
-use Rattle.qrules.proofs.Traces.TraceLaws.Pending.{reply_parts}
 use Rattle.qrules.proofs.Traces.TraceLaws.Sent.{taken_stands}
 use Rattle.qrules.proofs.Traces.TraceLaws.Unended.{asks_any, unended_newest}
 use Rattle.qrules.specs.Past.{ReceivedItem}
+use Rattle.qrules.proofs.Traces.Past.Laws.{is_settled}
 use Rattle.qrules.specs.Private.Facts.{number_of}
 use Rattle.qrules.specs.Private.Facts.{held_call}
 use Rattle.qrules.specs.Private.Past.{filled}
@@ -45,6 +45,11 @@ use Rattle.qrules.proofs.Traces.Past.Open.{open_thread}
 use Rattle.qrules.proofs.Traces.Past.Open.{receipt_number}
 use Rattle.qrules.proofs.Traces.Past.Open.{kept}
 use Rattle.qrules.proofs.Traces.Past.Open.{kept_number}
+
+-- an open call whose message is received is for an answer, and settled
+reply_parts : (w : OpenCall) → is_for_reply w ≡ true → (is_for_answer w ≡ true) × (is_settled w ≡ true)
+reply_parts (Send s) e = (refl, e)
+reply_parts (Receive r) e = absurd (true≢false (sym e))
 
 -- ---- what is taken was made
 

@@ -16,7 +16,11 @@ use Rattle.qqueue.proofs.OrderLaws.{best-at, best_is_first}
 use Rattle.qtables.specs.declared.member.Member.{Member}
 use Rattle.qrules.specs.Properties.{number_received, takeable, TakesBest}
 use Rattle.qrules.specs.Rule.{ReceiveRequest}
-use Rattle.qrules.specs.Private.Laws.{FirstGoesFirst, HasPriority, TakesBeside}
+use Rattle.qlaws.specs.Pending.{FirstGoesFirst, HasPriority, TakesBeside}
+use Rattle.qrules.specs.Lawful.{IsLawful}
+use Rattle.qrules.specs.Private.Lawful as old
+use Rattle.qtables.specs.Members.{IsRoster}
+use Rattle.qlaws.proofs.Waits.{before}
 use Rattle.qrules.specs.Private.Past.{is_destroyed, is_gone, item_of, made_on, pending_items, priority_before}
 use Rattle.qmodel.specs.Trace.{SentItem}
 use Rattle.qmodel.specs.Trace.{Event, Trace}
@@ -149,12 +153,20 @@ gone_first roster past later e h x y z px py before has_x has_y b t =
     gone_of past a c number what =
         ap (λ n. is_gone past (record { number = n; priority = a.priority; what = a.what })) number ∙ ap (λ w. is_gone past (record { number = c.number; priority = a.priority; what = w })) what
 
-pub first_goes_first : FirstGoesFirst
-first_goes_first roster past later e r l h =
+-- what the law says of one trace and channel
+abbrev GoesFirst : List Member → Trace → Trace → Event → ℕ → Type 0
+GoesFirst roster past after e h = AllByRecursion (λ x. AllByRecursion (λ y. comes_before x y ≡ true → HasPriority roster after x → HasPriority roster after y
+    → AllByRecursion (λ z. TakesBeside (e ∷ after) z y.number h x → is_gone after x ≡ true) e.endings) (pending_items roster past h)) (pending_items roster past h)
+
+goes_first : (roster : List Member) (past later : Trace) (e : Event) → IsRoster roster → old.IsLawful roster (e ∷ later ++ past) → (h : ℕ) → GoesFirst roster past (later ++ past) e h
+goes_first roster past later e r l h =
     let L = later ++ past in
-    all_more (IsPending roster past h) (λ x. AllByRecursion (λ y. comes_before x y ≡ true → HasPriority roster L x → HasPriority roster L y
-    → AllByRecursion (λ z. TakesBeside (e ∷ L) z y.number h x → is_gone L x ≡ true) e.endings) (pending_items roster past h)) (pending_items roster past h) (pending_all roster past h) (λ x px.
-    all_more (IsPending roster past h) (λ y. comes_before x y ≡ true → HasPriority roster L x → HasPriority roster L y
-    → AllByRecursion (λ z. TakesBeside (e ∷ L) z y.number h x → is_gone L x ≡ true) e.endings) (pending_items roster past h) (pending_all roster past h) (λ y py before has_x has_y.
-    all_more (λ z. (i : ℕ) → number_received z ≡ Some i → TakesBest roster L e z i) (λ z. TakesBeside (e ∷ L) z y.number h x → is_gone L x ≡ true) e.endings (best_first roster (e ∷ L) r l).1 (λ z best t.
-    gone_first roster past later e h x y z px py before has_x has_y (best y.number t.item) t)))
+    all_more _ _ (pending_items roster past h) (pending_all roster past h) (λ x px.
+    all_more _ _ (pending_items roster past h) (pending_all roster past h) (λ y py first has_x has_y.
+    all_more (λ z. (i : ℕ) → number_received z ≡ Some i → TakesBest roster L e z i) _ e.endings (best_first roster (e ∷ L) r l).1 (λ z best t.
+    gone_first roster past later e h x y z px py first has_x has_y (best y.number t.item) t)))
+
+pub first_goes_first : FirstGoesFirst
+first_goes_first past roster after e r l later is h =
+    subst (λ t. GoesFirst roster past t e h) (sym is)
+    (goes_first roster past later e r (before roster (e ∷ later ++ past) (subst (λ t. IsLawful roster (e ∷ t)) is l)) h)
