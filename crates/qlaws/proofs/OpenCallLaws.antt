@@ -1,7 +1,6 @@
 -- The laws of the calls that threads wait in.
-use mathlib.Core.Path.{fun_ext}
-use Rattle.std.proofs.Common.{◌≡◌, ◌∙◌, ◌↔◌, ◌<◌, ◌≤◌, ℕ, List, [], ◌∷◌, length, refl, ap, sym, subst, cond, arith, Bool, true, false, inl, inr, eqb}
-use Rattle.std.specs.Prelude.{Option, None, Some, is_some, nat_lt, ◌||◌, filter, fold}
+use Rattle.std.proofs.Common.{◌+◌, ◌≡◌, ◌∙◌, ◌↔◌, ◌<◌, ◌≤◌, ℕ, List, [], ◌∷◌, length, refl, ap, sym, subst, cond, arith, Bool, true, false, inl, inr, eqb}
+use Rattle.std.specs.Prelude.{None, Some, is_some, nat_lt, ◌||◌, filter, fold}
 use Rattle.std.specs.List.{AllByRecursion, reduce}
 use Rattle.std.specs.Option.{option_map_or}
 use Rattle.std.proofs.lemmas.Bool.{false_from_ne_true, ltb-true, ltb-false, true≢false}
@@ -11,21 +10,26 @@ use Rattle.qbase.specs.declared.errno.Errno.TheVariants.{Srch}
 use Rattle.qtables.specs.Members.{IsRoster}
 use Rattle.qtables.specs.declared.member.Member.{Member}
 use Rattle.qrules.specs.Private.Cancelling.{cancel_where, cancels}
-use Rattle.qrules.specs.Private.Effects.{asks, shuts_down}
+use Rattle.qrules.specs.Private.Effects.{shuts_down}
 use Rattle.qrules.specs.Private.Facts.{Facts as OldFacts}
-use Rattle.qrules.specs.Private.Laws as old_laws
+use Rattle.qrules.specs.Private.Facts.{is_for_reply}
+use Rattle.qrules.proofs.Traces.TraceLaws.Held.{IsHeldSend}
 use Rattle.qrules.specs.Private.Lawful as old
 use Rattle.qrules.specs.Private.Past.{is_down, accepted_at, open_call}
 use Rattle.qrules.specs.Private.Step.{open_call_after, unless}
-use Rattle.qmodel.specs.Trace.{Event, Trace}
+use Rattle.qmodel.specs.Trace.{Trace}
 use Rattle.qmodel.specs.declared.call.Call.{Call}
 use Rattle.qmodel.specs.declared.call.Call.TheVariants as calls
 use Rattle.qmodel.specs.declared.open_call.OpenCall.TheVariants.{Receive, Send}
 use Rattle.qrules.proofs.Traces.Past.Ends.{passes_of}
 use Rattle.qrules.proofs.Traces.Past.Follows.{past_follows}
 use Rattle.qrules.proofs.Traces.TraceLaws.Held as held
-use Rattle.qrules.proofs.Traces.TraceLaws.Lengths as lengths
-use Rattle.qrules.proofs.Traces.TraceLaws.Unended as unended
+use Rattle.qrules.proofs.Traces.TraceLaws.Lengths.{open_calls_keep_length}
+use Rattle.qmodel.specs.Buffers.{buffer_of}
+use Rattle.qrules.specs.Trace.{call_at}
+use Rattle.qrules.proofs.Traces.TraceLaws.Unended.{asks_any, unended_newest}
+use Rattle.qrules.proofs.Traces.Past.Waits.{may_wait}
+use Rattle.qrules.specs.Past.{waiter}
 use Rattle.qbase.proofs.Lists.{eqb_same}
 use Rattle.std.proofs.lemmas.Bool.{eqb-true}
 use Rattle.qrules.proofs.Traces.Past.LiveSends.{over_attached}
@@ -35,7 +39,6 @@ use Rattle.qrules.proofs.Traces.Properties.Waiting.{nothing_for}
 use Rattle.qrules.specs.Delivery.{newer}
 use Rattle.qrules.specs.Facts.{open_send, receive_of, Facts, OpenReceive, OpenSend}
 use Rattle.qrules.specs.Lawful.{facts_of}
-use Rattle.qrules.specs.Rules.{effect_of}
 use Rattle.qrules.proofs.Messages.{send_cases, NoSend, OneSend}
 use Rattle.qrules.proofs.Outcomes.{same_buffer}
 use Rattle.qlaws.specs.OpenCalls as laws
@@ -44,30 +47,58 @@ use Rattle.qrules.specs.Facts.{open_receives}
 use Rattle.qrules.proofs.Traces.Past.Open.{open_own}
 use Rattle.std.proofs.Common.{option_and_then}
 use Rattle.qrules.specs.Facts.{receive_in}
+use Rattle.qrules.specs.Facts.{OpenCall}
+use Rattle.std.proofs.Common.{option_map}
+use Rattle.qrules.specs.Facts.{number_of}
+use Rattle.qrules.specs.Private.Past.{block}
+use Rattle.qrules.proofs.Traces.Past.Open.{open_parts}
+use Rattle.qrules.proofs.Traces.Past.Open.{open_from}
+use Rattle.qrules.proofs.Traces.Properties.Sends.{begins_now}
+use Rattle.qrules.specs.Past.{is_ended}
+use Rattle.qrules.proofs.Traces.Past.Open.{kept_number}
+use Rattle.qrules.specs.Past.{channel_of}
+use Rattle.qrules.specs.Private.Past.{item_of}
+use Rattle.qrules.proofs.Traces.Properties.Sends.{made_newest}
+use Rattle.qrules.proofs.Traces.Properties.Sends.{made_stays}
 
 -- ---- at most one for each thread
 
-waits_same : (c : Call) → (is_some (effect_of c).sends || is_some (effect_of c).receives) ≡ is_some (asks 0 0 0 c)
-waits_same calls.Shutdown = refl
-waits_same _ = refl
-
-waiter_at : (past : Trace) (i : ℕ) → accepted_at laws.waiter past i ≡ accepted_at old_laws.blocker past i
-waiter_at past i = ap (λ (say : Event → Option ℕ). accepted_at say past i) (fun_ext (λ e. ap (λ b. cond b (Some e.thread) None) (waits_same e.call)))
-
-unended_before : (past : Trace) (t i : ℕ) → laws.IsUnended past t i → old_laws.IsUnended past t i
-unended_before past t i h = record { blocks = sym (waiter_at past i) ∙ h.waits; going = h.going }
-
-unended_by_rules : (past : Trace) (t i : ℕ) → old_laws.IsUnended past t i → laws.IsUnended past t i
-unended_by_rules past t i h = record { waits = waiter_at past i ∙ h.blocks; going = h.going }
+-- it is an accepted call of its thread that may wait
+block_began : (roster : List Member) (past : Trace) (u : ℕ) (b : OpenCall) → block roster past u ≡ Some b → accepted_at waiter past (number_of b) ≡ Some u
+block_began roster [] u b is = absurd (none-some b is)
+block_began roster (e ∷ past) u b is = elim (begins_now roster e past u b is) [
+  | inl h ↦
+      let waits : may_wait e.call ≡ true = sym (asks_any (length past + 1) u (channel_of (item_of roster e past)) e.call) ∙ ap is_some h.asked in
+      let blocks : waiter e ≡ Some u = rw (waits, h.thread) refl in
+      subst (λ i. accepted_at waiter (e ∷ past) i ≡ Some u) (sym h.number) (made_newest waiter e past h.accepted ∙ blocks)
+  | inr h ↦ made_stays waiter e past (number_of b) u (block_began roster past u b h)
+]
 
 pub at_most_one_open : laws.AtMostOneOpen
-at_most_one_open roster past r l t i j first second =
-    unended.at_most_one_open roster past r (before roster past l) t i j (unended_before past t i first) (unended_before past t j second)
+at_most_one_open roster past r lawful t i j first second =
+    let l = before roster past lawful in
+    let k = unended_newest roster past t i l first.waits first.going in
+    let m = unended_newest roster past t j l second.waits second.going in
+    sym k.number ∙ ap number_of (same_Some k.block m.block (sym k.is ∙ m.is)) ∙ m.number
+
+unended_open : (roster : List Member) (past : Trace) (t i : ℕ) → option_map number_of (open_call roster past t) ≡ Some i → laws.IsUnended past t i
+unended_open roster past t i is =
+    elim (open_call roster past t) as (λ o. open_call roster past t ≡ o → option_map number_of o ≡ Some i → laws.IsUnended past t i) [
+      | None ↦ λ e at. absurd (none-some i at)
+      | Some o ↦ λ e at.
+          let k = open_parts roster past t o e in
+          let number : (number_of k.block) ≡ i = sym k.number ∙ same_Some (number_of o) i at in
+          record { waits = subst (λ j. accepted_at waiter past j ≡ Some t) number (block_began roster past t k.block k.is); going = subst (λ j. is_ended past j ≡ false) number k.going }
+    ] refl is
+
+open_unended : (roster : List Member) (past : Trace) (t i : ℕ) → old.IsLawful roster past → laws.IsUnended past t i → option_map number_of (open_call roster past t) ≡ Some i
+open_unended roster past t i l u =
+    let k = unended_newest roster past t i l u.waits u.going in
+    ap (option_map number_of) (open_from roster past t k.block k.is (subst (λ j. is_ended past j ≡ false) (sym k.number) u.going))
+    ∙ ap (λ n. Some n) (kept_number roster past k.block ∙ k.number)
 
 pub open_is_unended : laws.OpenIsUnended
-open_is_unended roster past r l t i =
-    let both = unended.open_is_unended roster past r (before roster past l) t i in
-    (λ is. unended_by_rules past t i (both.0 is), λ going. both.1 (unended_before past t i going))
+open_is_unended roster past r l t i = (unended_open roster past t i, open_unended roster past t i (before roster past l))
 
 -- ---- Sends
 
@@ -87,7 +118,7 @@ open_sends_are_routed roster past r lawful =
 abbrev has_receipt : Facts → ℕ → Bool
 has_receipt f i = option_map_or (λ s. is_some s.receipt) (open_send f i) false
 
-module _ (roster : List Member) (past : Trace) (i : ℕ) (law : (laws.is_held past i ≡ true) ↔ old_laws.IsHeldSend roster past i) where
+module _ (roster : List Member) (past : Trace) (i : ℕ) (law : (laws.is_held past i ≡ true) ↔ IsHeldSend roster past i) where
   abbrev facts : OldFacts
   facts = old.facts_of roster past
 
@@ -102,7 +133,7 @@ module _ (roster : List Member) (past : Trace) (i : ℕ) (law : (laws.is_held pa
             let h = law.0 held in
             let thread : k.thread ≡ h.thread = same_Some _ _ (sym k.sent ∙ h.is_sender) in
             let waiting : Send k.send ≡ h.waiting = same_Some _ _ (sym k.is ∙ ap (open_call roster past) thread ∙ h.is_open) in
-            true≢false (sym h.received ∙ ap old_laws.is_for_reply (sym waiting) ∙ unread))
+            true≢false (sym h.received ∙ ap is_for_reply (sym waiting) ∙ unread))
       ] refl
 
 pub held_is_open_send : laws.HeldIsOpenSend
@@ -196,15 +227,16 @@ nothing_pending_for_waiting roster past r l =
 
 -- ---- buffers
 
+as_long : (past : Trace) (i : ℕ) (buffer : List ℕ) → (c : Call) × (call_at past i ≡ Some c) × (length buffer ≡ length (buffer_of c)) → laws.IsAsLong past i buffer
+as_long past i buffer k = record { call = k.0; is = k.1; same = k.2 ∙ ap length (sym (same_buffer k.0)) }
+
 pub reply_buffers_keep_length : laws.ReplyBuffersKeepLength
 reply_buffers_keep_length roster past r l = all_sends (facts_of roster past) (λ s. laws.IsAsLong past s.number s.reply_buffer) (λ u s is.
-    let k = lengths.open_calls_keep_length roster past r (before roster past l) u (Send s) is in
-    record { call = k.call; is = k.is; same = k.same ∙ ap length (sym (same_buffer k.call)) })
+    as_long past s.number s.reply_buffer (open_calls_keep_length roster past u (Send s) is))
 
 pub receive_buffers_keep_length : laws.ReceiveBuffersKeepLength
 receive_buffers_keep_length roster past r l = all_receives (facts_of roster past) (λ s. laws.IsAsLong past s.number s.buffer) (λ u s is.
-    let k = lengths.open_calls_keep_length roster past r (before roster past l) u (Receive s) is in
-    record { call = k.call; is = k.is; same = k.same ∙ ap length (sym (same_buffer k.call)) })
+    as_long past s.number s.buffer (open_calls_keep_length roster past u (Receive s) is))
 
 -- ---- after a shutdown
 

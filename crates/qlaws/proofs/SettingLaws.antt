@@ -12,7 +12,7 @@ use Rattle.qrules.specs.Private.Lawful.{IsLawful, facts_of}
 use Rattle.qlaws.specs.Pending as laws
 use Rattle.qlaws.specs.Pending.{is_message_of}
 use Rattle.qlaws.proofs.Waits.{before}
-use Rattle.qrules.specs.Private.Past.{connection_at, open_call, pending_items, sender_of}
+use Rattle.qrules.specs.Private.Past.{open_call, pending_items, sender_of}
 use Rattle.qrules.specs.Private.Rows.{names}
 use Rattle.qrules.specs.Private.Step.{items_with_priority_set, pending_after, is_unread_send}
 use Rattle.qmodel.specs.Trace.{Trace}

@@ -17,5 +17,3 @@ pub mod Lawful
 pub mod Step
 pub mod OnlyRun
 pub mod Blocked
-pub mod Laws
-pub mod Endings

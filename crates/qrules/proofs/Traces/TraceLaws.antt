@@ -1,5 +1,4 @@
 -- What the definitions of the past mean.
-pub mod Sent
 pub mod Unended
 pub mod Ending
 pub mod Refused

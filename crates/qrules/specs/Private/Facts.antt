@@ -10,7 +10,7 @@ use Rattle.qmodel.specs.Trace.{OpenChannel}
 use Rattle.qmodel.specs.Trace.{ProcessNo, ReceiveId, ThreadNo}
 pub use Rattle.qrules.specs.Facts.{count_to, has_flag, is_of_process, is_of_same_process, owns, route}
 pub use Rattle.qrules.specs.Facts.{threads_of, Facts}
-pub use Rattle.qmodel.specs.OpenCalls.{number_of, receive_in, send_in}
+pub use Rattle.qmodel.specs.OpenCalls.{buffer_in, number_of, receive_in, send_in}
 use Rattle.std.specs.Prelude.{true}
 use Rattle.std.specs.Prelude.{◌&&◌}
 
@@ -45,6 +45,11 @@ is_for_answer (Receive r) = false
 abbrev pub is_for_receipt : OpenCall → Bool
 is_for_receipt (Send s) = not (is_some s.receipt)
 is_for_receipt (Receive r) = false
+
+-- the open call is a Send whose message is received
+abbrev pub is_for_reply : OpenCall → Bool
+is_for_reply (Send s) = is_some s.receipt
+is_for_reply (Receive r) = false
 
 -- there is an open call, and it is the Send of number i
 abbrev pub is_send : ReceiveId → Option OpenCall → Bool
@@ -81,6 +86,10 @@ abbrev pub message : Facts → ReceiveId → List ℕ
 message f i = message_in (open_send f i)
 
 -- ---- open calls
+
+-- the buffer that an open call gets back; empty if there is none
+abbrev pub buffer_of_open : Option OpenCall → List ℕ
+buffer_of_open call = option_map_or buffer_in call []
 
 -- an open call whose message is received
 abbrev pub held_call : Receipt → OpenCall → OpenCall

@@ -23,7 +23,7 @@ use Rattle.qrules.specs.Past.{ReceivedItem}
 use Rattle.qrules.specs.Private.Facts.{number_of}
 use Rattle.qrules.specs.Private.Facts.{is_for_answer}
 use Rattle.qmodel.specs.OpenCalls.{thread_of}
-use Rattle.qrules.specs.Private.Laws.{is_for_reply}
+use Rattle.qrules.specs.Private.Facts.{is_for_reply}
 use Rattle.qrules.specs.Private.Cancelling.{is_on}
 
 -- ---- a call by itself

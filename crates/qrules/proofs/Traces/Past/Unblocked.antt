@@ -9,7 +9,7 @@ use Rattle.std.proofs.Math.Bool.{and-false, or-true, or-false}
 use Rattle.qtables.specs.declared.member.Member.{Member}
 use Rattle.qrules.specs.Private.Effects.{makes, unblocks}
 use Rattle.qrules.specs.Private.Lawful.{facts_of}
-use Rattle.qrules.specs.Private.Past.{call_by_now, is_received, is_unblock_for, item_of, items, open_call, priority_of_item, copied_count_among, copied_count_of, unblocked_among}
+use Rattle.qrules.specs.Private.Past.{is_received, is_unblock_for, item_of, items, open_call, priority_of_item, copied_count_among, copied_count_of, unblocked_among}
 use Rattle.qmodel.specs.Trace.{SentItem}
 use Rattle.qrules.specs.Private.Step.{after_unblock, unblocked_call}
 use Rattle.qmodel.specs.Trace.{Event, Trace}
@@ -26,7 +26,7 @@ use Rattle.qrules.proofs.Traces.Past.CurrentPriority.{unblocked_among_now}
 use Rattle.qrules.specs.Private.Past.{with_receipt}
 use Rattle.qrules.specs.Private.Step.{held_call}
 use Rattle.qmodel.specs.OpenCalls.{number_of}
-use Rattle.qrules.specs.Private.Laws.{is_for_reply}
+use Rattle.qrules.specs.Private.Facts.{is_for_reply}
 use Rattle.qrules.specs.Private.Facts.{is_for_answer}
 use Rattle.qrules.specs.Private.Past.{filled}
 

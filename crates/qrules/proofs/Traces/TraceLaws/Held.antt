@@ -1,5 +1,5 @@
 -- A message is held by what the past says exactly where it is by what its sender waits for.
-use Rattle.std.proofs.Common.{◌≡◌, ◌∙◌, ◌+◌, ℕ, List, [], ◌∷◌, length, refl, ap, sym, subst, cond, eqb, true, false}
+use Rattle.std.proofs.Common.{◌≡◌, ◌↔◌, ◌∙◌, ◌+◌, ℕ, List, [], ◌∷◌, length, refl, ap, sym, subst, cond, eqb, true, false}
 use Rattle.std.specs.Prelude.{Option, None, Some, is_some, not, ◌&&◌, Bool}
 use Rattle.std.specs.List.{AllByRecursion}
 use Rattle.std.specs.Option.{option_map, option_or}
@@ -10,10 +10,11 @@ use Rattle.qtables.specs.declared.member.Member.{Member}
 use Rattle.qrules.specs.Private.Calls.{row_of}
 use Rattle.qrules.specs.Private.Facts.{is_for_answer, is_send, sender, threads_of}
 use Rattle.qrules.specs.Properties.{number_received, TakesBest}
-use Rattle.qrules.specs.Private.Laws.{HeldIsHeldSend, IsHeldSend, blocker, is_for_reply}
+use Rattle.qrules.specs.Private.Facts.{is_for_reply}
+use Rattle.qrules.specs.Past.{waiter}
+use Rattle.qrules.proofs.Traces.Past.Waits.{may_wait}
 use Rattle.qrules.specs.Private.Lawful.{IsLawful, facts_of}
-use Rattle.qrules.specs.Private.Past.{copied_count_in, has_ending_of, call_by_now, is_ended, is_received, item_of, accepted_at, open_call, priority_of_item, copied_count_among, copied_count_of, with_receipt}
-use Rattle.qrules.specs.Private.Effects.{asks}
+use Rattle.qrules.specs.Private.Past.{copied_count_in, has_ending_of, is_ended, is_received, item_of, accepted_at, open_call, copied_count_among, copied_count_of, with_receipt}
 use Rattle.qrules.specs.Private.Rows.{item_in}
 use Rattle.qmodel.specs.Trace.{SentItem}
 use Rattle.qmodel.specs.Trace.{Trace}
@@ -30,8 +31,7 @@ use Rattle.qrules.proofs.Traces.Properties.BestFirst.{best_first}
 use Rattle.qrules.proofs.Traces.Properties.Events.{outcome_of}
 use Rattle.qrules.proofs.Traces.Properties.Sends.{made_newest, made_stays}
 use Rattle.qrules.proofs.Traces.Rosters.{known}
-use Rattle.qrules.proofs.Traces.TraceLaws.Sent.{taken_stands}
-use Rattle.qrules.proofs.Traces.TraceLaws.Unended.{asks_any, unended_newest}
+use Rattle.qrules.proofs.Traces.TraceLaws.Unended.{unended_newest}
 use Rattle.qrules.specs.Past.{ReceivedItem}
 use Rattle.qrules.proofs.Traces.Past.Laws.{is_settled}
 use Rattle.qrules.specs.Private.Facts.{number_of}
@@ -40,11 +40,16 @@ use Rattle.qrules.specs.Private.Past.{filled}
 use Rattle.qrules.proofs.Traces.Past.Open.{open_from}
 use Rattle.qrules.proofs.Traces.Past.Open.{filled_answer}
 use Rattle.qrules.proofs.Traces.Past.Open.{open_parts}
-use Rattle.qrules.proofs.Traces.Past.Open.{is_unblocked}
 use Rattle.qrules.proofs.Traces.Past.Open.{open_thread}
-use Rattle.qrules.proofs.Traces.Past.Open.{receipt_number}
 use Rattle.qrules.proofs.Traces.Past.Open.{kept}
 use Rattle.qrules.proofs.Traces.Past.Open.{kept_number}
+use Rattle.qmodel.specs.Trace.{Event}
+use Rattle.qqueue.specs.Best.{best_of}
+use Rattle.qrules.specs.Properties.{takeable}
+use Rattle.qqueue.proofs.OrderLaws.{best-at}
+use Rattle.qrules.proofs.Traces.Properties.Connections.{IsMadeFor, takeable_made}
+use Rattle.qrules.proofs.Traces.Properties.Connections.{takeable_made}
+use Rattle.qrules.proofs.Traces.Past.Items.{item_made}
 
 -- an open call whose message is received is for an answer, and settled
 reply_parts : (w : OpenCall) → is_for_reply w ≡ true → (is_for_answer w ≡ true) × (is_settled w ≡ true)
@@ -52,6 +57,19 @@ reply_parts (Send s) e = (refl, e)
 reply_parts (Receive r) e = absurd (true≢false (sym e))
 
 -- ---- what is taken was made
+
+-- it stood on its channel
+pub taken_stands : (roster : List Member) (past : Trace) (e : Event) (x : Completion) (i : ℕ) (k : TakesBest roster past e x i) → (m : SentItem) × (item_at roster (e ∷ past) i ≡ Some m) × (m.item.number ≡ i) × (m.channel ≡ k.request.channel)
+taken_stands roster past e x i k =
+    elim (best_of k.request.kind (takeable roster past e k.request.channel)) as (λ o. best_of k.request.kind (takeable roster past e k.request.channel) ≡ o → option_map (λ item. item.number) o ≡ Some i
+    → (m : SentItem) × (item_at roster (e ∷ past) i ≡ Some m) × (m.item.number ≡ i) × (m.channel ≡ k.request.channel)) [
+      | None ↦ λ is at. absurd (none-some i at)
+      | Some item ↦ λ is at.
+          let made = best-at (IsMadeFor roster (e ∷ past) k.request.channel) k.request.kind (takeable roster past e k.request.channel) item (takeable_made roster past e k.request.channel) is in
+          let number : item.number ≡ i = same_Some item.number i at in
+          let stands = subst (λ j. item_at roster (e ∷ past) j ≡ Some (record { item = made.0; channel = k.request.channel })) number made.1 in
+          (record { item = made.0; channel = k.request.channel }, stands, (item_made roster (e ∷ past) i _ stands).makes_it.number, refl)
+    ] refl k.best
 
 -- what is so of each item that these endings receive is so of this one
 of_received : (P : ℕ → Type 0) (X : List Completion) (i copied : ℕ) → AllByRecursion (λ x. (j : ℕ) → number_received x ≡ Some j → P j) X → copied_count_among X i ≡ Some copied → P i
@@ -87,23 +105,23 @@ no_own : (o : Option Completion) → is_some o ≡ false → o ≡ None
 no_own None h = refl
 no_own (Some y) h = absurd (true≢false h)
 
-made_waits : (roster : List Member) (past : Trace) (i : ℕ) (m : SentItem) → IsLawful roster past → item_at roster past i ≡ Some m → is_ended past i ≡ false → (t : ℕ) × (accepted_at blocker past i ≡ Some t)
+made_waits : (roster : List Member) (past : Trace) (i : ℕ) (m : SentItem) → IsLawful roster past → item_at roster past i ≡ Some m → is_ended past i ≡ false → (t : ℕ) × (accepted_at waiter past i ≡ Some t)
 made_waits roster [] i m l is going = absurd (none-some m is)
 made_waits roster (e ∷ past) i m l is going =
     let p = or_parts (has_ending_of e.endings i) (is_ended past i) going in
-    elim (eqb i (length past + 1)) as (λ b. eqb i (length past + 1) ≡ b → cond b (item_of roster e past) (item_at roster past i) ≡ Some m → (t : ℕ) × (accepted_at blocker (e ∷ past) i ≡ Some t)) [
+    elim (eqb i (length past + 1)) as (λ b. eqb i (length past + 1) ≡ b → cond b (item_of roster e past) (item_at roster past i) ≡ Some m → (t : ℕ) × (accepted_at waiter (e ∷ past) i ≡ Some t)) [
       | true ↦ λ same at. let number : i ≡ length past + 1 = eqb-true _ _ same in now number at (subst (λ j. has_ending_of e.endings j ≡ false) number p.0)
-      | false ↦ λ other at. let k = made_waits roster past i m l.0 at p.1 in (k.0, made_stays blocker e past i k.0 k.1)
+      | false ↦ λ other at. let k = made_waits roster past i m l.0 at p.1 in (k.0, made_stays waiter e past i k.0 k.1)
     ] refl is
   where
-    now : i ≡ length past + 1 → item_of roster e past ≡ Some m → has_ending_of e.endings (length past + 1) ≡ false → (t : ℕ) × (accepted_at blocker (e ∷ past) i ≡ Some t)
+    now : i ≡ length past + 1 → item_of roster e past ≡ Some m → has_ending_of e.endings (length past + 1) ≡ false → (t : ℕ) × (accepted_at waiter (e ∷ past) i ≡ Some t)
     now number at unended =
         let f = facts_of roster past in
         let a = item_accepted roster e past m at in
         let o = outcome_of roster e past l.2 a.0 in
         let none : (row_of f e.thread e.call).own ≡ None = no_own ((row_of f e.thread e.call).own) (sym (ends_own roster past e.thread e.call e.endings l.1 o) ∙ unended) in
-        let waits : is_some (asks 0 0 0 e.call) ≡ true = waits_or_ends f e.thread e.call (passes_of f e.thread e.call e.endings o) none in
-        (e.thread, subst (λ j. accepted_at blocker (e ∷ past) j ≡ Some e.thread) (sym number) (made_newest blocker e past a.0 ∙ rw waits refl))
+        let waits : may_wait e.call ≡ true = waits_or_ends f e.thread e.call (passes_of f e.thread e.call e.endings o) none in
+        (e.thread, subst (λ j. accepted_at waiter (e ∷ past) j ≡ Some e.thread) (sym number) (made_newest waiter e past a.0 ∙ rw waits refl))
 
 -- ---- a receipt
 
@@ -124,6 +142,14 @@ found_sender roster past i u o l is number answer =
     (λ v sends.
     let s = send_parts i (open_call roster past v) sends in
     open_thread roster past v u s.waiting o s.is is (s.number ∙ sym number))
+
+-- a thread is blocked in the Send of number i, and its message is received
+pub record IsHeldSend (roster : List Member) (past : Trace) (i : ℕ) : Type 0 where
+  pub thread : ℕ
+  pub waiting : OpenCall
+  pub is_sender : sender (facts_of roster past) i ≡ Some thread
+  pub is_open : open_call roster past thread ≡ Some waiting
+  pub received : is_for_reply waiting ≡ true
 
 held_to_send : (roster : List Member) (past : Trace) (i : ℕ) → IsRoster roster → IsLawful roster past → (is_received past i && not (is_ended past i)) ≡ true → IsHeldSend roster past i
 held_to_send roster past i r l held =
@@ -157,5 +183,5 @@ send_to_held roster past i h =
     and_from (is_received past i) (not (is_ended past i)) (subst (λ j. is_received past j ≡ true) at (held_is_taken roster past h.thread h.waiting k w.0 w.1))
     (not_from_false (is_ended past i) (subst (λ j. is_ended past j ≡ false) at k.going))
 
-pub held_is_held_send : HeldIsHeldSend
+pub held_is_held_send : (roster : List Member) (past : Trace) → IsRoster roster → IsLawful roster past → (i : ℕ) → ((is_received past i && not (is_ended past i)) ≡ true) ↔ IsHeldSend roster past i
 held_is_held_send roster past r l i = (held_to_send roster past i r l, send_to_held roster past i)
