@@ -9,9 +9,7 @@ use Rattle.qbase.specs.declared.errno.Errno.{Errno}
 use Rattle.qrules.specs.Private.Cancelling.{cancel_where, cancels}
 use Rattle.qrules.specs.Private.Facts.{threads_of, Facts as OldFacts}
 use Rattle.qmodel.specs.declared.call.Completion.{Completion}
-use Rattle.qmodel.specs.declared.open_call.Receipt.{Receipt as OldReceipt}
 use Rattle.qmodel.specs.declared.open_call.OpenCall.TheVariants.{Receive, Send}
-use Rattle.qqueue.specs.declared.item.Kind.{Kind}
 use Rattle.qrules.specs.Facts.{OpenReceive, OpenSend}
 use Rattle.qrules.specs.Delivery.{cancel, cancel_receive, cancel_send}
 use Rattle.qrules.proofs.Lists.{filter-filter_map, found, map-filter_map}

@@ -10,7 +10,6 @@ use Rattle.qmodel.specs.declared.call.Mark.{Mark}
 use Rattle.qmodel.specs.declared.call.Mark.TheVariants as mark
 use Rattle.qqueue.specs.Best.{is_pulse, may_take}
 use Rattle.qqueue.specs.declared.item.Item.{Item}
-use Rattle.qqueue.specs.declared.item.Kind.{Kind}
 use Rattle.qrules.specs.Private.Delivering.{delivers, receipt_by, receiver, wants_room}
 use Rattle.qrules.specs.Private.Facts.{first_where, threads_of, Facts as OldFacts}
 use Rattle.qrules.specs.Private.Receivers.{is_newest, wait_on, newest_receiver as old_newest}

@@ -1,7 +1,7 @@
 -- The facts of the past that a rule may read.
 use Rattle.std.specs.Prelude.{◌&&◌, ◌+◌, ◌==◌, if◌then◌else◌}
 use Rattle.qrules.specs.Words.{[], bit_and, false, filter_map, find, is_some, map, member_at, option_and_then}
-use Rattle.qrules.specs.Words.{option_map, option_map_or, Bool, Connection, Item, Kind, List}
+use Rattle.qrules.specs.Words.{option_map, option_map_or, Bool, Connection, Item, List}
 use Rattle.qrules.specs.Words.{Member, None, Option, Some, ℕ}
 use Rattle.qrules.specs.Trace.{Bytes, CallNo, ChannelId, ConnectionId, Priority, ProcessNo, ReceiveId}
 use Rattle.qrules.specs.Trace.{ThreadNo}

@@ -15,11 +15,7 @@ use Rattle.qrules.proofs.Traces.Rosters.{known}
 use Rattle.qrules.specs.Lawful.{facts_of}
 use Rattle.qrules.proofs.Same.{AreOfRoster}
 use Rattle.qrules.proofs.View.{IsKnown}
-use Rattle.qmodel.specs.Trace.{SentItem}
-use Rattle.std.proofs.Common.{ap}
 use Rattle.qrules.specs.Private.Past.{newest_block}
-use Rattle.qmodel.specs.OpenCalls.{thread_of}
-use Rattle.std.proofs.Common.{◌∙◌}
 use Rattle.qrules.proofs.Traces.Past.Open.{open_own}
 
 block_member : (roster : List Member) (past : Trace) (u : ℕ) (b : OpenCall) → AreOfRoster roster past → old.block roster past u ≡ Some b → is_some (member_at roster u) ≡ true

@@ -1,6 +1,6 @@
 -- The calls on a held message.
 use Rattle.std.proofs.Common.{◌≡◌, ◌∙◌, ℕ, ℤ, List, [], ◌∷◌, refl, ap, sym, subst, cond, true, false, eqb, drop, inl, inr}
-use Rattle.std.specs.Prelude.{None, Some, Option, is_some, ◌&&◌, option_map, option_and_then, option_to_list}
+use Rattle.std.specs.Prelude.{None, Some, Option, is_some, option_map, option_and_then, option_to_list}
 use Rattle.std.specs.Option.{option_map_or}
 use Rattle.std.proofs.lemmas.Bool.{eqb-true}
 use Rattle.std.proofs.lemmas.Option.{none-some, same_Some}
@@ -12,16 +12,16 @@ use Rattle.qtables.specs.declared.member.Member.{Member}
 use Rattle.qrules.specs.Private.Calls.Info.{info_of as old_info_of}
 use Rattle.qrules.specs.Private.Calls.Error.{error_finish}
 use Rattle.qrules.specs.Private.Calls.Reply.{reply_finish}
-use Rattle.qrules.specs.Private.Facts.{sender, owns as old_owns, Facts as OldFacts}
+use Rattle.qrules.specs.Private.Facts.{sender, Facts as OldFacts}
 use Rattle.qrules.specs.Private.Held.{answer_ending, ends_sender, is_held_by, refusal, Finish}
 use Rattle.qrules.specs.Private.Rows.{ends_with}
 use Rattle.qmodel.specs.declared.call.Call.TheVariants as calls
 use Rattle.qmodel.specs.declared.call.Completion.{Completion}
 use Rattle.qmodel.specs.declared.call.Info.{Info}
 use Rattle.qmodel.specs.declared.call.Mark.TheVariants as mark
-use Rattle.qmodel.specs.declared.open_call.OpenCall.TheVariants.{Receive, Send}
+use Rattle.qmodel.specs.declared.open_call.OpenCall.TheVariants.{Send}
 use Rattle.qrules.proofs.Traces.Rosters.{among_member}
-use Rattle.qrules.specs.Facts.{open_send, owns, OpenSend}
+use Rattle.qrules.specs.Facts.{open_send, OpenSend}
 use Rattle.qrules.specs.Rules.Held.{info_of, refusal_unless_held}
 use Rattle.qrules.proofs.Messages.{send_cases, NoSend}
 use Rattle.qrules.proofs.Rows.Same.{after_own, alone, ending_of, own_alone, SameRow}

@@ -1,22 +1,17 @@
 -- The calls that end by themselves, and those that cancel others.
-use Rattle.std.proofs.Common.{◌≡◌, ◌∙◌, ℕ, refl, ap, cond, true, eqb}
-use Rattle.std.specs.Prelude.{None, Some, ◌==◌, option_map, unwrap_or}
-use Rattle.std.specs.Option.{option_or}
+use Rattle.std.proofs.Common.{ℕ, refl, true}
+use Rattle.std.specs.Prelude.{◌==◌}
 use Rattle.qbase.specs.declared.errno.Errno.TheVariants.{Srch}
 use Rattle.qbase.specs.declared.flags.ChannelFlags.{ChannelFlags}
-use Rattle.qbase.specs.declared.state.ThreadState.TheVariants.{Ready, ReceiveBlocked}
 use Rattle.qrules.specs.Private.Cancelling.{is_on}
 use Rattle.qrules.specs.Private.Facts.{Facts as OldFacts}
 use Rattle.qrules.specs.Private.Rows.{ends_with}
 use Rattle.qmodel.specs.declared.call.Call.TheVariants as calls
 use Rattle.qmodel.specs.declared.call.Mark.TheVariants as mark
-use Rattle.qmodel.specs.declared.open_call.OpenCall.TheVariants.{Receive, Send}
 use Rattle.qrules.specs.Rules.Threads.{state_of}
 use Rattle.qrules.proofs.Cancels.{cancel_same}
 use Rattle.qrules.proofs.Rows.Same.{after_own, alone, SameRow}
-use Rattle.qrules.specs.Facts.{receive_in, send_in}
 use Rattle.qrules.proofs.View.{IsKnown}
-use Rattle.qrules.proofs.Traces.Parts.{leads_to}
 
 pub channel_create : (f : OldFacts) (t : ℕ) (flags : ChannelFlags) → SameRow f t (calls.ChannelCreate flags)
 channel_create f t flags = record { refusal = refl; memory = λ p. refl; endings = λ p idle u. alone (ends_with f.number t (mark.Channel f.number)) t u refl }

@@ -1,5 +1,5 @@
 -- The calls that may make a pulse.
-use Rattle.std.proofs.Common.{◌≡◌, ◌∙◌, ℕ, ℤ, pos, negsuc, List, [], ◌++◌, refl, ap, sym, cond, arith, Bool, true, false, eqb}
+use Rattle.std.proofs.Common.{◌≡◌, ◌∙◌, ℕ, ℤ, pos, negsuc, [], ◌++◌, refl, ap, sym, cond, arith, Bool, true, false, eqb}
 use Rattle.std.specs.Prelude.{Option, None, Some, is_some, not, int_lt, nat_lt, ◌&&◌, ◌==◌, option_and_then}
 use Rattle.std.specs.Option.{option_map_or, option_or}
 use Rattle.std.proofs.lemmas.Bool.{eqb-true, le-ltb}
@@ -18,7 +18,6 @@ use Rattle.qrules.specs.Private.Pulses.{ends_receiver, refusal_if_full, refusal_
 use Rattle.qrules.specs.Private.Rows.{ends_with}
 use Rattle.qmodel.specs.declared.call.Call.TheVariants as calls
 use Rattle.qmodel.specs.declared.call.Mark.TheVariants as mark
-use Rattle.qmodel.specs.declared.open_call.Receipt.{Receipt as OldReceipt}
 use Rattle.qmodel.specs.declared.open_call.OpenCall.TheVariants.{Receive, Send}
 use Rattle.qrules.specs.Delivery.{cancel, deliver, has_to_wait}
 use Rattle.qrules.specs.Facts.{is_of_process as is_of_process_by, is_of_same_process}

@@ -1,11 +1,9 @@
 -- The pulse that is due for a thread that is unblocked, by its open call.
-use Rattle.std.proofs.Common.{◌≡◌, ℕ, refl, cond}
-use Rattle.std.specs.Prelude.{Option, None, Some}
+use Rattle.std.proofs.Common.{◌≡◌, ℕ, refl}
+use Rattle.std.specs.Prelude.{None, Some}
 use Rattle.std.specs.Option.{option_and_then}
-use Rattle.qqueue.specs.declared.item.What.TheVariants as what
-use Rattle.qmodel.specs.Trace.{SentItem}
 use Rattle.qmodel.specs.declared.open_call.OpenCall.TheVariants.{Receive, Send}
-use Rattle.qrules.specs.Facts.{send_in, Facts, OpenSend}
+use Rattle.qrules.specs.Facts.{send_in, Facts}
 use Rattle.qrules.specs.Private.Calls.Unblock.{due_pulse}
 use Rattle.qrules.specs.Rules.Unblock.{unblock_pulse}
 use Rattle.qrules.specs.Facts.{OpenCall}

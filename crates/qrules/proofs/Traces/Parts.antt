@@ -5,17 +5,14 @@ use Rattle.qbase.specs.declared.errno.Errno.{Errno}
 use Rattle.qbase.specs.declared.errno.Errno.TheVariants.{Badf, Inval}
 use Rattle.qtables.specs.declared.connection.Connection.{Connection}
 use Rattle.qmodel.specs.declared.open_call.OpenCall.{OpenCall}
-use Rattle.qmodel.specs.declared.open_call.Receipt.{Receipt}
 use Rattle.qrules.specs.Private.Calls.ConnectDetach.{detach_pulse, is_last_connection}
 use Rattle.qrules.specs.Private.Calls.Pulse.{is_negative}
-use Rattle.qrules.specs.Private.Facts.{Facts, is_of_process, owns}
+use Rattle.qrules.specs.Private.Facts.{Facts, is_of_process}
 use Rattle.qmodel.specs.Trace.{OpenChannel}
 use Rattle.qrules.specs.Private.Held.{is_held_by}
-use Rattle.qmodel.specs.Trace.{CallNo, ChannelId, ReceiveId, ThreadNo}
+use Rattle.qmodel.specs.Trace.{ChannelId, ThreadNo}
 use Rattle.qrules.specs.Private.Pulses.{refusal_if_full}
-use Rattle.qrules.specs.Private.Rows.{unblock_item}
 use Rattle.qmodel.specs.Trace.{SentItem}
-use Rattle.qmodel.specs.Trace.{Trace}
 use Rattle.qrules.specs.Private.Calls.Unblock.{due_pulse_of}
 
 -- this channel is of the thread's process

@@ -1,6 +1,6 @@
 -- What each call does, by its rule; and the items that it makes.
 use Rattle.std.specs.Prelude.{Bool, Option, None, Some}
-use Rattle.std.specs.Option.{option_and_then, option_map, option_or}
+use Rattle.std.specs.Option.{option_and_then, option_map}
 use Rattle.qtables.specs.declared.connection.Connection.{Connection}
 use Rattle.qtables.specs.declared.member.Member.{Member}
 use Rattle.qmodel.specs.declared.call.Call.{Call}

@@ -7,7 +7,7 @@ use Rattle.qmodel.specs.declared.call.Completion.{Completion}
 use Rattle.qmodel.specs.declared.call.Mark.{Mark}
 use Rattle.qmodel.specs.declared.open_call.OpenCall.{OpenCall}
 use Rattle.qmodel.specs.declared.open_call.OpenCall.TheVariants.{Send, Receive}
-use Rattle.qmodel.specs.Trace.{CallNo, ReceiveId, ThreadNo}
+use Rattle.qmodel.specs.Trace.{ReceiveId, ThreadNo}
 use Rattle.qrules.specs.Facts.{is_held_for}
 use Rattle.qrules.specs.Private.Facts.{Facts, sender, open_send}
 

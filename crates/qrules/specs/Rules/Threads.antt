@@ -1,6 +1,6 @@
 -- PrioritySet and State.
 use Rattle.std.specs.Prelude.{if◌then◌else◌}
-use Rattle.qrules.specs.Words.{is_some, member_at, option_map, option_map_or, option_or, unwrap_or, None}
+use Rattle.qrules.specs.Words.{is_some, member_at, option_map_or, None}
 use Rattle.qrules.specs.Words.{Ready, ReceiveBlocked, ReplyBlocked, SendBlocked, Some, Srch, ThreadState}
 use Rattle.qrules.specs.Trace.{ThreadNo}
 use Rattle.qrules.specs.Facts.{is_of_same_process, Facts, OpenCall}

@@ -1,7 +1,7 @@
 -- Unblock: stands for a signal or a timeout.
 use Rattle.std.specs.Prelude.{◌&&◌, ◌==◌, if◌then◌else◌}
 use Rattle.qrules.specs.Words.{is_some, not, option_and_then, Intr, None, Option, Some, Srch}
-use Rattle.qrules.specs.Trace.{ChannelId, ThreadNo}
+use Rattle.qrules.specs.Trace.{ThreadNo}
 use Rattle.qrules.specs.Facts.{has_flag, is_of_same_process, send_of, Facts, OpenSend}
 use Rattle.qrules.specs.Rule.{new_item, no_effect, Rule, SentItem}
 use Rattle.qrules.specs.Delivery.{cancel, pulse_row, refusal_if_full}

@@ -5,7 +5,6 @@ use Rattle.std.specs.Option.{option_map}
 use Rattle.std.proofs.lemmas.Bool.{eqb-true, ne_eqb}
 use Rattle.std.proofs.lemmas.Option.{none-some, same_Some}
 use Rattle.qqueue.specs.declared.item.Item.{Item}
-use Rattle.qqueue.specs.declared.item.Kind.{Kind}
 use Rattle.qtables.specs.declared.connection.Connection.{Connection}
 use Rattle.qrules.specs.Private.Answer.{ending}
 use Rattle.qrules.specs.Private.Calls.{row_of}
@@ -14,7 +13,7 @@ use Rattle.qrules.specs.Private.Facts.{Facts, route}
 use Rattle.qrules.proofs.Traces.Parts.{leads_to}
 use Rattle.qrules.specs.Private.Receivers.{newest_receiver}
 use Rattle.qrules.specs.Private.Effects.{asks, makes}
-use Rattle.qrules.specs.Private.Rows.{Received, item_in, receipt_in, item_sent_over, takes, takes_into, receipt_ending}
+use Rattle.qrules.specs.Private.Rows.{Received, item_in, receipt_in, item_sent_over, takes, receipt_ending}
 use Rattle.qmodel.specs.Trace.{SentItem}
 use Rattle.qmodel.specs.declared.call.Call.{Call}
 use Rattle.qmodel.specs.declared.call.Completion.{Completion}
@@ -25,7 +24,6 @@ use Rattle.qrules.proofs.Traces.Past.Laws.{IsOfOpen, IsSettled, IsReceipt, IsRec
 use Rattle.qrules.proofs.Traces.Calls.Taking.{Taken, taken_by, receipt_from, receipt_in_at}
 use Rattle.qrules.proofs.Traces.Routes.{leads_over}
 use Rattle.qrules.specs.Past.{ReceivedItem}
-use Rattle.qrules.specs.Private.Facts.{number_of}
 use Rattle.qmodel.specs.declared.open_call.OpenReceive.{OpenReceive}
 
 -- what goes over a connection is the item

@@ -6,7 +6,7 @@ use Rattle.std.proofs.lemmas.Bool.{eqb-true, true≢false}
 use Rattle.std.proofs.lemmas.Option.{none-some, same_Some}
 use Rattle.qbase.specs.declared.errno.Errno.{Errno}
 use Rattle.qrules.specs.Private.Facts.{Facts, sender, threads_of}
-use Rattle.qrules.specs.Private.Held.{Finish, ends_sender, answer_ending, is_held_by, refusal}
+use Rattle.qrules.specs.Private.Held.{Finish, ends_sender, answer_ending, refusal}
 use Rattle.qrules.proofs.Traces.Parts.{is_held_for}
 use Rattle.qmodel.specs.declared.call.Completion.{Completion}
 use Rattle.qmodel.specs.declared.open_call.OpenCall.{OpenCall}

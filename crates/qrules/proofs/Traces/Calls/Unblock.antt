@@ -1,11 +1,10 @@
 -- The laws of Unblock.
-use Rattle.std.proofs.Common.{◌≡◌, ◌∙◌, ℕ, List, [], ap, refl, sym, subst, cond, eqb, Bool, true, false}
+use Rattle.std.proofs.Common.{◌≡◌, ◌∙◌, ℕ, [], ap, refl, sym, subst, cond, eqb, Bool, true, false}
 use Rattle.std.specs.Prelude.{Option, None, Some, is_some, not, ◌&&◌}
 use Rattle.std.proofs.lemmas.Bool.{true≢false}
 use Rattle.std.proofs.lemmas.Option.{none-some, same_Some}
 use Rattle.qbase.specs.declared.errno.Errno.TheVariants.{Intr, Srch}
 use Rattle.qqueue.specs.Best.{is_pulse}
-use Rattle.qtables.specs.declared.connection.Connection.{Connection}
 use Rattle.qrules.specs.Private.Calls.{row_of}
 use Rattle.qrules.specs.Private.Calls.Unblock.{due_pulse, other_ending, refusal}
 use Rattle.qrules.proofs.Traces.Parts.{due_pulse_of_open}

@@ -2,18 +2,17 @@
 use Rattle.std.proofs.Common.{◌≡◌, ℕ, List, refl, ap, sym, subst, ◌∙◌, true, false, eqb}
 use Rattle.std.specs.Prelude.{Option, None, Some, is_some, not, ◌&&◌, ◌||◌}
 use Rattle.std.proofs.lemmas.Bool.{eqb-true, eqb-false, eq-eqb, ne_eqb, true≢false, and_parts, or_parts, false_from_ne_true}
-use Rattle.std.proofs.lemmas.Option.{same_Some, none-some}
+use Rattle.std.proofs.lemmas.Option.{none-some}
 use Rattle.std.proofs.Math.Bool.{and-false}
 use Rattle.qqueue.specs.Best.{is_pulse}
 use Rattle.qqueue.specs.declared.item.Item.{Item}
-use Rattle.qtables.specs.declared.connection.Connection.{Connection}
 use Rattle.qtables.specs.declared.member.Member.{Member}
 use Rattle.qrules.specs.Private.Answer.{Outcome}
 use Rattle.qrules.specs.Private.Calls.{row_of}
 use Rattle.qrules.specs.Private.Cancelling.{is_on}
 use Rattle.qrules.specs.Private.Facts.{Facts, threads_of}
 use Rattle.qrules.specs.Private.Lawful.{facts_of, IsLawful, with_event}
-use Rattle.qrules.specs.Private.Past.{connection_at, has_ending_of, call_by_now, is_ended, is_received, open_call, priority_of_item, copied_count_of, sender_of, attached_connection}
+use Rattle.qrules.specs.Private.Past.{has_ending_of, is_ended, is_received, open_call, priority_of_item, copied_count_of, sender_of}
 use Rattle.qrules.specs.Private.Step.{is_cancelled, uncut_items, is_unread_send}
 use Rattle.qmodel.specs.Trace.{Trace}
 use Rattle.qmodel.specs.declared.call.Call.{Call}
@@ -26,11 +25,9 @@ use Rattle.qrules.proofs.Traces.Past.Laws.{IsSettled, is_settled}
 use Rattle.qbase.proofs.Lists.{any_never, any_only, filter_whole, none_of}
 use Rattle.qrules.proofs.Traces.Past.Numbers.{block_fresh}
 use Rattle.qrules.proofs.Traces.Past.Open.{filled_answer, filled_settled, open_from, open_parts, open_thread, is_unblocked}
-use Rattle.qrules.proofs.Traces.Properties.Answers.{over}
 use Rattle.qrules.proofs.Traces.Properties.Messages.{item_waits, pending_going}
-use Rattle.qrules.proofs.Traces.Properties.Sends.{block_over, block_sender, buffer_over}
+use Rattle.qrules.proofs.Traces.Properties.Sends.{block_sender}
 use Rattle.qrules.proofs.Traces.Rosters.{known}
-use Rattle.qrules.proofs.Traces.Past.LiveSends.{over_attached}
 use Rattle.qrules.specs.Private.Facts.{number_of}
 use Rattle.qrules.specs.Private.Facts.{is_for_receipt}
 use Rattle.qrules.specs.Private.Facts.{is_for_answer}

@@ -12,7 +12,7 @@ use Rattle.qrules.specs.Private.Answer.{refusal, ending, Outcome, Answers}
 use Rattle.qrules.specs.Private.Calls.{row_of}
 use Rattle.qrules.specs.Private.Facts.{Facts, threads_of}
 use Rattle.qrules.specs.Private.Lawful.{facts_of, IsLawful}
-use Rattle.qrules.specs.Private.Past.{has_ending_of, refuses, is_ended, newest_block, open_call}
+use Rattle.qrules.specs.Private.Past.{has_ending_of, refuses, is_ended, open_call}
 use Rattle.qmodel.specs.Trace.{Trace}
 use Rattle.qmodel.specs.declared.call.Call.{Call}
 use Rattle.qmodel.specs.declared.call.Completion.{Completion}

@@ -1,19 +1,14 @@
 -- The open call of a thread: its newest blocking call, unless that is ended.
-use Rattle.std.proofs.Common.{◌≡◌, ℕ, ◌+◌, ◌<◌, ◌≤◌, List, [], ◌∷◌, length, refl, ap, sym, subst, ◌∙◌, cond, arith, Bool, true, false, eqb, ◌⊎◌, inl, inr}
-use Rattle.std.specs.Prelude.{Option, None, Some, is_some, not, ◌&&◌}
+use Rattle.std.proofs.Common.{◌≡◌, ℕ, ◌+◌, ◌≤◌, List, [], ◌∷◌, length, refl, ap, sym, ◌∙◌, cond, arith, Bool, true, false}
+use Rattle.std.specs.Prelude.{Option, None, Some, not}
 use Rattle.std.specs.Option.{option_map}
-use Rattle.std.proofs.lemmas.Bool.{eqb-true, ne_eqb, and_parts}
 use Rattle.std.proofs.lemmas.Option.{same_Some, none-some}
 use Rattle.qtables.specs.declared.member.Member.{Member}
-use Rattle.qrules.specs.Trace.{call_at}
-use Rattle.qrules.specs.Private.Past.{items_by_now, call_by_now, is_accepted, is_ended, accepted_at, newest_block, unless_ended, open_call, copied_count_of, priority_of_item, unblocked_among, items}
-use Rattle.qrules.specs.Private.Effects.{asks}
-use Rattle.qmodel.specs.Trace.{Event, Trace}
-use Rattle.qmodel.specs.declared.call.Call.{Call}
+use Rattle.qrules.specs.Private.Past.{items_by_now, call_by_now, is_ended, newest_block, unless_ended, open_call, copied_count_of, priority_of_item, unblocked_among, items}
+use Rattle.qmodel.specs.Trace.{Trace}
 use Rattle.qmodel.specs.declared.open_call.OpenCall.{OpenCall}
 use Rattle.qmodel.specs.declared.open_call.Receipt.{Receipt}
 use Rattle.qmodel.specs.declared.open_call.OpenCall.TheVariants.{Receive, Send}
-use Rattle.qbase.proofs.Lists.{eqb_same}
 use Rattle.qrules.proofs.Traces.Past.Laws.{is_settled}
 use Rattle.qrules.proofs.Traces.Calls.{call_laws}
 use Rattle.qrules.specs.Private.Past.{block}

@@ -13,7 +13,7 @@ use Rattle.qrules.specs.Private.Answer.{Outcome}
 use Rattle.qrules.specs.Private.Calls.{row_of}
 use Rattle.qrules.specs.Private.Facts.{Facts, sender, threads_of}
 use Rattle.qrules.specs.Private.Lawful.{facts_of, IsLawful, with_event}
-use Rattle.qrules.specs.Private.Past.{call_by_now, refuses, has_ending_of, is_ended, is_received, item_of, copied_count_of, priority_of_item, newest_block, unless_ended, open_call, unblocked_among}
+use Rattle.qrules.specs.Private.Past.{refuses, has_ending_of, is_ended, is_received, item_of, copied_count_of, priority_of_item, unless_ended, open_call, unblocked_among}
 use Rattle.qrules.specs.Private.Receiving.{sender_for}
 use Rattle.qrules.specs.Private.Effects.{asks, makes, unblocks, writes}
 use Rattle.qrules.specs.Private.Rows.{Received, buffer_after_write}
@@ -28,7 +28,7 @@ use Rattle.qrules.proofs.Traces.Calls.PrioritySet.{sets_alone}
 use Rattle.qrules.proofs.Traces.Past.Laws.{IsReceived}
 use Rattle.qrules.proofs.Traces.Calls.{call_laws}
 use Rattle.qrules.proofs.Traces.Past.Numbers.{block_below}
-use Rattle.qrules.proofs.Traces.Past.Open.{filled_answer, open_from, open_thread, receipt_number, receipt_for_answer, is_unblocked}
+use Rattle.qrules.proofs.Traces.Past.Open.{filled_answer, open_from, open_thread, receipt_for_answer, is_unblocked}
 use Rattle.qrules.proofs.Traces.Past.Ends.{laws_of, passes_of, accepted, refused, refused_ends, ended_below, ends_other, ends_own, block_known}
 use Rattle.qrules.proofs.Traces.Past.Items.{item_at, item_answer, item_message, item_below, priority_earlier, priority_newest}
 use Rattle.qrules.proofs.Traces.Past.Receipts.{copied_by, accepted_receipts, refused_receipts, best_pending, best_priority, receipt_beyond}

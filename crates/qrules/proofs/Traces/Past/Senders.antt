@@ -6,8 +6,6 @@ use Rattle.std.proofs.lemmas.Option.{none-some, same_Some}
 use Rattle.qrules.specs.Private.Facts.{is_send, sender_among}
 use Rattle.qmodel.specs.declared.open_call.OpenCall.{OpenCall}
 use Rattle.qbase.proofs.Lists.{is_among}
-use Rattle.qmodel.specs.declared.open_call.OpenSend.{OpenSend}
-use Rattle.qmodel.specs.declared.open_call.OpenCall.TheVariants.{Receive, Send}
 use Rattle.qrules.specs.Private.Facts.{number_of}
 use Rattle.qrules.specs.Private.Facts.{is_for_answer}
 

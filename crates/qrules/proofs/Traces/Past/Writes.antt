@@ -8,7 +8,7 @@ use Rattle.qtables.specs.declared.member.Member.{Member}
 use Rattle.qrules.specs.Private.Answer.{Outcome}
 use Rattle.qrules.specs.Private.Facts.{Facts, sender, threads_of}
 use Rattle.qrules.specs.Private.Lawful.{facts_of, IsLawful, with_event}
-use Rattle.qrules.specs.Private.Past.{call_by_now, is_accepted, open_call, refuses, with_writes}
+use Rattle.qrules.specs.Private.Past.{is_accepted, open_call, refuses, with_writes}
 use Rattle.qrules.specs.Private.Effects.{asks, writes}
 use Rattle.qrules.specs.Private.Rows.{buffer_after_write}
 use Rattle.qrules.specs.Private.Step.{after_write, is_thread, written_call}

@@ -6,28 +6,25 @@ use Rattle.std.specs.Option.{option_map_or}
 use Rattle.std.proofs.lemmas.Bool.{and_from, cases_Bool, ne_eqb, eq-eqb, eqb-true, eqb-false, true≢false}
 use Rattle.std.proofs.lemmas.List.Sums.{sum_by-cons}
 use Rattle.std.proofs.lemmas.Option.{none-some}
-use Rattle.qtables.specs.declared.connection.Connection.{Connection}
 use Rattle.qtables.specs.declared.member.Member.{Member}
 use Rattle.qtables.specs.Members.{IsRoster}
 use Rattle.qrules.specs.Private.Answer.{ending, Outcome, Answers}
-use Rattle.qrules.specs.Private.Facts.{Facts, is_for_answer, owns, threads_of}
+use Rattle.qrules.specs.Private.Facts.{is_for_answer, owns, threads_of}
 use Rattle.qrules.specs.Properties.{is_answer, items, AnsweredToSender, AnswersIts, AnswersOnce}
 use Rattle.qrules.specs.Past.{item_among}
 use Rattle.qrules.specs.Private.Lawful.{facts_of, IsLawful}
-use Rattle.qrules.specs.Private.Past.{connection_at, is_ended, is_received, sender_of}
+use Rattle.qrules.specs.Private.Past.{is_ended, is_received, sender_of}
 use Rattle.qmodel.specs.Trace.{Event, SentItem, Trace}
 use Rattle.qmodel.specs.declared.call.Completion.{Completion}
 use Rattle.qrules.proofs.Traces.Past.Ends.{open_known, passes_of}
 use Rattle.qrules.proofs.Traces.Past.Items.{item_found}
-use Rattle.qrules.proofs.Traces.Past.Laws.{is_settled}
 use Rattle.qbase.proofs.Lists.{all_filter_map, all_more, is_among}
-use Rattle.qrules.proofs.Traces.Properties.Answers.{AnswersHeld, answers_held, answers_one, over}
+use Rattle.qrules.proofs.Traces.Properties.Answers.{AnswersHeld, answers_held, answers_one}
 use Rattle.qrules.proofs.Traces.Properties.Events.{is_accepted_by, outcome_of}
 use Rattle.qrules.proofs.Traces.Properties.ReceivedOnce.{different_calls}
 use Rattle.qrules.proofs.Traces.Past.Unblocked.{held_is_taken}
 use Rattle.qrules.proofs.Traces.Rosters.{known}
 use Rattle.qrules.proofs.Traces.Properties.Sends.{block_sender, open_keeps, open_over}
-use Rattle.qrules.proofs.Traces.Past.LiveSends.{over_attached}
 use Rattle.qrules.specs.Private.Facts.{number_of}
 use Rattle.qrules.proofs.Traces.Past.Open.{buffer_answer}
 use Rattle.qrules.proofs.Traces.Past.Open.{held_for_answer}

@@ -24,7 +24,7 @@ use Rattle.qrules.specs.Private.Calls.Reply.{reply_finish}
 use Rattle.qrules.specs.Private.Calls.Send as send
 use Rattle.qrules.specs.Private.Cancelling.{cancel_call, is_on, is_over}
 use Rattle.qrules.specs.Private.Facts.{Facts, message, message_in, sender, threads_of, route}
-use Rattle.qrules.specs.Private.Held.{Finish, refusal, reply_buffer, reply_buffer_in, reply_buffer_of}
+use Rattle.qrules.specs.Private.Held.{Finish, refusal, reply_buffer, reply_buffer_in}
 use Rattle.qrules.specs.Properties.{buffer_at, message_at, CopiedExactly, IsCopied}
 use Rattle.qrules.specs.Rules.{effect_of}
 use Rattle.qrules.specs.Trace.{call_at}

@@ -12,7 +12,7 @@ use Rattle.qrules.specs.Properties.{buffer_at, message_at}
 use Rattle.qrules.specs.Rule.{buffer_of}
 use Rattle.qrules.specs.Rules.{effect_of}
 use Rattle.qrules.specs.Private.Lawful.{facts_of, IsLawful}
-use Rattle.qrules.specs.Private.Past.{has_ending_of, call_by_now, is_ended, item_of, newest_block, open_call, priority_of_item, copied_count_of, with_receipt, with_writes}
+use Rattle.qrules.specs.Private.Past.{has_ending_of, is_ended, item_of, open_call, with_writes}
 use Rattle.qrules.specs.Private.Facts.{Facts}
 use Rattle.qrules.specs.Private.Effects.{asks, makes}
 use Rattle.qrules.specs.Private.Rows.{pulse_item}

@@ -8,13 +8,11 @@ use Rattle.std.proofs.lemmas.Option.{none-some, same_Some}
 use Rattle.std.proofs.Math.Bool.{or-true}
 use Rattle.qqueue.specs.Best.{may_take}
 use Rattle.qqueue.specs.declared.item.Item.{Item}
-use Rattle.qqueue.specs.declared.item.Kind.{Kind}
 use Rattle.qmodel.specs.declared.open_call.OpenCall.{OpenCall}
 use Rattle.qmodel.specs.declared.open_call.OpenCall.TheVariants.{Receive, Send}
 use Rattle.qrules.specs.Private.Facts.{Facts, threads_of, first_where}
-use Rattle.qrules.specs.Private.Receivers.{is_after, is_last_wait, is_newest, newest_receiver, newest_receiver_among, wait_for, wait_on}
+use Rattle.qrules.specs.Private.Receivers.{is_after, is_last_wait, is_newest, newest_receiver, newest_receiver_among, wait_on}
 use Rattle.qbase.proofs.Lists.{eqb_same, is_among}
-use Rattle.qrules.specs.Private.Facts.{number_of}
 use Rattle.qmodel.specs.declared.open_call.OpenReceive.{OpenReceive}
 
 -- the open call waits for an item of channel h, and may take this one

@@ -8,7 +8,7 @@ use Rattle.qtables.specs.declared.member.Member.{Member}
 use Rattle.qrules.specs.Private.Facts.{is_for_answer}
 use Rattle.qrules.specs.Private.Lawful.{facts_of, IsLawful}
 use Rattle.qrules.specs.Private.Effects.{asks, thread_of_send}
-use Rattle.qrules.specs.Private.Past.{call_by_now, is_accepted, accepted_at, newest_block, priority_of_item, copied_count_of, sender_of, with_receipt, with_writes, attached_connection}
+use Rattle.qrules.specs.Private.Past.{is_accepted, accepted_at, priority_of_item, copied_count_of, sender_of, with_receipt, with_writes, attached_connection}
 use Rattle.qmodel.specs.Trace.{SentItem}
 use Rattle.qmodel.specs.Trace.{Event, Trace}
 use Rattle.qmodel.specs.declared.open_call.OpenCall.{OpenCall}

@@ -1,55 +1,46 @@
 -- Nothing is received from a channel that is destroyed, and no thread is blocked on it.
-use Rattle.std.proofs.Common.{◌≡◌, ◌∙◌, ℕ, ◌+◌, ◌≤◌, List, [], ◌∷◌, length, refl, ap, sym, subst, cond, arith, eqb, true, false, inl, inr}
+use Rattle.std.proofs.Common.{◌≡◌, ◌∙◌, ℕ, ◌+◌, List, [], ◌∷◌, length, refl, ap, sym, subst, cond, eqb, true, false, inl, inr}
 use Rattle.std.specs.Prelude.{Option, None, Some, is_some, ◌||◌}
 use Rattle.std.specs.List.{AllByRecursion}
 use Rattle.std.specs.Option.{option_and_then, option_map}
-use Rattle.std.proofs.lemmas.Bool.{eq-eqb, eqb-true, ne_eqb, or_cases, true≢false}
+use Rattle.std.proofs.lemmas.Bool.{eq-eqb, eqb-true, or_cases, true≢false}
 use Rattle.std.proofs.lemmas.Option.{none-some, same_Some}
 use Rattle.qbase.specs.declared.errno.Errno.TheVariants.{Srch}
 use Rattle.qbase.proofs.Lists.{all_filter_map}
 use Rattle.qqueue.specs.Best.{best_of}
-use Rattle.qtables.specs.Members.{IsRoster, member_at}
-use Rattle.qtables.specs.declared.connection.Connection.{Connection}
+use Rattle.qtables.specs.Members.{IsRoster}
 use Rattle.qtables.specs.declared.member.Member.{Member}
 use Rattle.qrules.specs.Private.Answer.{Outcome}
 use Rattle.qrules.specs.Private.Calls.{row_of}
 use Rattle.qrules.specs.Private.Cancelling.{is_on}
-use Rattle.qrules.specs.Private.Facts.{Facts, is_for_answer, owns}
-use Rattle.qrules.proofs.Traces.Parts.{leads_to}
+use Rattle.qrules.specs.Private.Facts.{Facts, owns}
 use Rattle.qrules.specs.Past.{item_among}
-use Rattle.qrules.specs.Private.Effects.{asks, attaches, closes, detaches, makes, unblocks, writes}
+use Rattle.qrules.specs.Private.Effects.{asks, closes, makes, unblocks, writes}
 use Rattle.qrules.specs.Facts.{receive_in, receive_of, send_in, send_of, threads_of, OpenReceive, OpenSend}
 use Rattle.qrules.specs.Properties.{number_received, IsShut, ShutForGood}
 use Rattle.qrules.specs.Private.Lawful.{facts_of, IsLawful}
 use Rattle.qrules.specs.Rules.{effect_of}
-use Rattle.qrules.specs.Private.Past.{attached_connection, connection_at, is_destroyed, items, open_call}
+use Rattle.qrules.specs.Private.Past.{attached_connection, is_destroyed, items, open_call}
 use Rattle.qrules.specs.Private.Rows.{names}
-use Rattle.qrules.specs.Private.Step.{after_receipt, after_write, channel_after, connection_after, open_call_after, put_at, unless, after_unblock}
+use Rattle.qrules.specs.Private.Step.{after_receipt, after_write, channel_after, open_call_after, unless, after_unblock}
 use Rattle.qmodel.specs.Trace.{Event, Trace}
 use Rattle.qmodel.specs.declared.call.Call.{Call}
 use Rattle.qmodel.specs.declared.call.Call.TheVariants.{Send, Receive, ReceivePulse, ChannelDestroy}
 use Rattle.qmodel.specs.declared.call.Completion.{Completion}
 use Rattle.qmodel.specs.declared.open_call.OpenCall.{OpenCall}
-use Rattle.qmodel.specs.declared.open_call.Receipt.{Receipt}
 use Rattle.qrules.proofs.Traces.Past.Channels.{closed_accepted, open_at, owned_open}
 use Rattle.qrules.proofs.Traces.Past.Ends.{accepted, laws_of, passes_of}
 use Rattle.qrules.proofs.Traces.Past.Follows.{past_follows}
 use Rattle.qrules.proofs.Traces.Past.Items.{item_at, item_below, item_earlier, item_found, item_newest, made_by}
 use Rattle.qrules.proofs.Traces.Past.Laws.{Passes}
-use Rattle.qrules.proofs.Traces.Past.Numbers.{made_below}
 use Rattle.qrules.proofs.Traces.Past.Receipts.{best_pending}
-use Rattle.qrules.proofs.Traces.Properties.Answers.{over}
 use Rattle.qrules.proofs.Traces.Properties.Events.{each_received, made_now}
 use Rattle.qrules.proofs.Traces.Properties.Receipts.{TakesOne}
-use Rattle.qrules.proofs.Traces.Properties.Sends.{open_over}
 use Rattle.qrules.proofs.Traces.Past.Before.{Lasts, before_other, before_receipt, unless_is}
-use Rattle.qrules.proofs.Traces.Routes.{has_way, leads_over}
-use Rattle.qrules.proofs.Traces.Past.LiveSends.{over_attached, stays_open}
+use Rattle.qrules.proofs.Traces.Routes.{has_way}
+use Rattle.qrules.proofs.Traces.Past.LiveSends.{stays_open}
 use Rattle.qrules.specs.Private.Step.{unblocked_call}
 use Rattle.qrules.specs.Past.{channel_of}
-use Rattle.qrules.specs.Private.Facts.{held_call}
-use Rattle.qrules.specs.Private.Facts.{with_buffer}
-use Rattle.qrules.proofs.Traces.Past.Open.{open_parts}
 use Rattle.qmodel.specs.declared.open_call.OpenCall.TheVariants.{Receive as InReceive, Send as InSend}
 use Rattle.qrules.proofs.Traces.Calls.Delivering.{sent_way}
 use Rattle.qrules.proofs.Traces.Past.Open.{held_on}

@@ -49,7 +49,6 @@ use Rattle.qrules.proofs.Traces.Due.{unblock_same}
 use Rattle.qrules.specs.Private.Step.{unblocked_call}
 use Rattle.qrules.specs.Past.{channel_of}
 use Rattle.qrules.specs.Private.Facts.{held_call}
-use Rattle.qrules.specs.Private.Facts.{number_of}
 use Rattle.qrules.specs.Private.Facts.{with_buffer}
 use Rattle.qmodel.specs.declared.open_call.OpenReceive.{OpenReceive}
 

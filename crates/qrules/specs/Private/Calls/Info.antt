@@ -1,5 +1,5 @@
 -- Info: the data of a held message.
-use Rattle.std.specs.Prelude.{length, Option, None, Some}
+use Rattle.std.specs.Prelude.{length, Option, None}
 use Rattle.std.specs.Option.{option_map, option_and_then}
 use Rattle.qtables.specs.Members.{member_at}
 use Rattle.qtables.specs.declared.member.Member.{Member}

@@ -1,16 +1,15 @@
 -- A call that delivers an item meets a thread that waits on its channel, if it ends another's.
-use Rattle.std.proofs.Common.{◌≡◌, ◌∙◌, ℕ, List, ap, refl, sym, subst, true}
+use Rattle.std.proofs.Common.{◌≡◌, ◌∙◌, ℕ, List, refl, sym, subst, true}
 use Rattle.std.specs.Prelude.{Option, None, Some}
 use Rattle.std.proofs.lemmas.Option.{none-some, same_Some}
 use Rattle.qqueue.specs.Best.{may_take}
 use Rattle.qqueue.specs.declared.item.Item.{Item}
-use Rattle.qqueue.specs.declared.item.Kind.{Kind}
 use Rattle.qrules.specs.Private.Delivering.{delivers, receiver}
 use Rattle.qrules.specs.Private.Facts.{Facts}
 use Rattle.qrules.specs.Private.Rows.{receipt_ending}
 use Rattle.qmodel.specs.declared.call.Completion.{Completion}
 use Rattle.qmodel.specs.declared.open_call.OpenCall.{OpenCall}
-use Rattle.qmodel.specs.declared.open_call.OpenCall.TheVariants.{Receive, Send}
+use Rattle.qmodel.specs.declared.open_call.OpenCall.TheVariants.{Receive}
 use Rattle.qrules.proofs.Traces.Properties.Receivers.{WaitsOn, newest_waits}
 use Rattle.qrules.proofs.Traces.Calls.Delivering.{met_by, takes_item}
 use Rattle.qrules.specs.Private.Facts.{number_of}
