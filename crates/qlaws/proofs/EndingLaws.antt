@@ -1,12 +1,12 @@
 -- The laws of the endings of one event.
-use Rattle.std.proofs.Common.{◌<◌, inl, inr, ◌≡◌, ◌∙◌, ℕ, ◌+◌, List, [], ◌∷◌, length, refl, ap, sym, cond, eqb}
-use Rattle.std.specs.Prelude.{None, Some, option_map}
-use Rattle.std.specs.List.{AllByRecursion}
-use Rattle.qbase.proofs.Lists.{all_more}
+use Rattle.std.proofs.Common.{◌<◌, inl, inr, ◌≡◌, ◌∙◌, ℕ, ◌+◌, List, [], ◌∷◌, length, refl, ap, sym, cond, eqb, ◌++◌, subst, Bool, true, false, Option, arith, not}
+use Rattle.std.specs.Prelude.{None, Some, option_map, ◌&&◌, ◌||◌}
+use Rattle.std.specs.List.{AllByRecursion, cons_option, filter_map, list_any}
+use Rattle.qbase.proofs.Lists.{all_more, none_of, eqb_same}
 use Rattle.qtables.specs.declared.member.Member.{Member}
 use Rattle.qrules.specs.Private.Lawful as old
-use Rattle.qrules.specs.Private.Past.{open_call}
-use Rattle.qmodel.specs.Trace.{Trace}
+use Rattle.qrules.specs.Private.Past.{open_call, has_ending_of, is_accepted, is_ended, item_of, items}
+use Rattle.qmodel.specs.Trace.{Trace, SentItem, Event}
 use Rattle.qmodel.specs.declared.call.Completion.{Completion}
 use Rattle.qrules.proofs.Traces.TraceLaws.Blocked as blocked
 use Rattle.qrules.proofs.Outcomes.{same_buffer}
@@ -15,7 +15,7 @@ use Rattle.qrules.proofs.Traces.TraceLaws.Lengths.{endings_keep_length as keep_l
 use Rattle.qrules.proofs.Traces.TraceLaws.Refused.{only_counted}
 use Rattle.qrules.proofs.Traces.TraceLaws.Held.{taken_stands}
 use Rattle.qlaws.proofs.OpenCallLaws.{open_is_unended}
-use Rattle.qrules.specs.Private.Facts.{buffer_of_open}
+use Rattle.qrules.specs.Private.Facts.{buffer_of_open, threads_of}
 use Rattle.qrules.specs.Past.{waiter}
 use Rattle.qrules.proofs.Traces.Past.Waits.{may_wait, waits_or_ends}
 use Rattle.qrules.proofs.Traces.Past.Follows.{past_follows}
@@ -24,36 +24,18 @@ use Rattle.qrules.proofs.Traces.Properties.ShutForGood.{shut_for_good}
 use Rattle.qrules.proofs.Traces.Properties.Sends.{made_newest}
 use Rattle.qrules.proofs.Traces.Rosters.{Rises, rises}
 use Rattle.qrules.specs.Private.Answer.{ending}
-use Rattle.qrules.specs.Private.Facts.{threads_of}
 use Rattle.qrules.specs.Private.Calls.{row_of}
-use Rattle.qrules.specs.Private.Past.{has_ending_of, is_accepted, is_ended}
 use Rattle.qrules.specs.Trace.{RiseByThread}
-use Rattle.std.specs.List.{cons_option, filter_map}
-use Rattle.std.proofs.Common.{◌≡◌, ℕ, ◌+◌, List, [], ◌∷◌, ◌++◌, length, refl, sym, subst, cond, Bool, true, false, eqb}
-use Rattle.std.specs.Prelude.{None, Some, ◌&&◌, ◌||◌}
-use Rattle.std.specs.List.{list_any}
 use Rattle.std.specs.Option.{option_map, option_to_list}
-use Rattle.std.proofs.lemmas.Bool.{eq-eqb, and_from, true≢false}
+use Rattle.std.proofs.lemmas.Bool.{eq-eqb, and_from, true≢false, or_parts}
 use Rattle.std.proofs.lemmas.Option.{none-some}
 use Rattle.std.proofs.Math.Bool.{or-true}
-use Rattle.qtables.specs.declared.member.Member.{Member}
 use Rattle.qrules.specs.Properties.{connection_of, number_received, TakesBest}
-use Rattle.qrules.specs.Private.Past.{item_of, items}
-use Rattle.qmodel.specs.Trace.{SentItem}
-use Rattle.qmodel.specs.Trace.{Event, Trace}
-use Rattle.qmodel.specs.declared.call.Completion.{Completion}
 use Rattle.qrules.proofs.Traces.Past.Items.{item_at}
-use Rattle.qbase.proofs.Lists.{all_more}
 use Rattle.qrules.proofs.Traces.Properties.BestFirst.{best_first}
 use Rattle.qrules.proofs.Traces.Properties.Connections.{item_over}
 use Rattle.qlaws.specs.Endings
 use Rattle.qlaws.proofs.Waits.{before}
-use Rattle.std.proofs.Common.{Option}
-use Rattle.std.proofs.Common.{arith}
-use Rattle.std.proofs.lemmas.Bool.{or_parts}
-use Rattle.qbase.proofs.Lists.{none_of}
-use Rattle.std.proofs.Common.{not}
-use Rattle.qbase.proofs.Lists.{eqb_same}
 
 -- ---- whose they are
 

@@ -17,14 +17,13 @@ use Rattle.qrules.specs.Private.Pulses.{refusal_if_full, refusal_if_full_for, pu
 use Rattle.qrules.specs.Private.Facts.{Facts, route}
 use Rattle.qtables.specs.Members.{IsRoster}
 use Rattle.qtables.specs.declared.member.Member.{Member}
-use Rattle.qmodel.specs.Trace.{Trace}
+use Rattle.qmodel.specs.Trace.{Trace, SentItem}
 use Rattle.qlaws.specs.Pending as laws
 use Rattle.qlaws.proofs.Waits.{before}
 use Rattle.qrules.specs.Private.Lawful.{facts_of, IsLawful}
 use Rattle.qrules.specs.Private.Past.{pending_items, made_on}
 use Rattle.qrules.specs.Private.Effects.{closes, makes, sets}
 use Rattle.qrules.specs.Private.Rows.{Received, message_item, names, pulse_item, item_sent_over}
-use Rattle.qmodel.specs.Trace.{SentItem}
 use Rattle.qrules.specs.Private.Step.{is_cancelled, uncut_items, items_with_priority_set, pending_after, unreceived_items}
 use Rattle.qrules.specs.Private.Calls.{row_of}
 use Rattle.qmodel.specs.declared.call.Call.{Call}

@@ -1,9 +1,9 @@
 -- The laws of the calls that threads wait in.
-use Rattle.std.proofs.Common.{◌+◌, ◌≡◌, ◌∙◌, ◌↔◌, ◌<◌, ◌≤◌, ℕ, List, [], ◌∷◌, length, refl, ap, sym, subst, cond, arith, Bool, true, false, inl, inr, eqb}
+use Rattle.std.proofs.Common.{◌+◌, ◌≡◌, ◌∙◌, ◌↔◌, ◌<◌, ◌≤◌, ℕ, List, [], ◌∷◌, length, refl, ap, sym, subst, cond, arith, Bool, true, false, inl, inr, eqb, option_and_then, option_map}
 use Rattle.std.specs.Prelude.{None, Some, is_some, nat_lt, ◌||◌, filter, fold}
 use Rattle.std.specs.List.{AllByRecursion, reduce}
 use Rattle.std.specs.Option.{option_map_or}
-use Rattle.std.proofs.lemmas.Bool.{false_from_ne_true, ltb-true, ltb-false, true≢false}
+use Rattle.std.proofs.lemmas.Bool.{false_from_ne_true, ltb-true, ltb-false, true≢false, eqb-true}
 use Rattle.std.proofs.lemmas.Option.{none-some, same_Some}
 use Rattle.std.proofs.Math.Bool.{or-false}
 use Rattle.qbase.specs.declared.errno.Errno.TheVariants.{Srch}
@@ -11,11 +11,10 @@ use Rattle.qtables.specs.Members.{IsRoster}
 use Rattle.qtables.specs.declared.member.Member.{Member}
 use Rattle.qrules.specs.Private.Cancelling.{cancel_where, cancels}
 use Rattle.qrules.specs.Private.Effects.{shuts_down}
-use Rattle.qrules.specs.Private.Facts.{Facts as OldFacts}
-use Rattle.qrules.specs.Private.Facts.{is_for_reply}
+use Rattle.qrules.specs.Private.Facts.{Facts as OldFacts, is_for_reply}
 use Rattle.qrules.proofs.Traces.TraceLaws.Held.{IsHeldSend}
 use Rattle.qrules.specs.Private.Lawful as old
-use Rattle.qrules.specs.Private.Past.{is_down, accepted_at, open_call}
+use Rattle.qrules.specs.Private.Past.{is_down, accepted_at, open_call, block, item_of}
 use Rattle.qrules.specs.Private.Step.{open_call_after, unless}
 use Rattle.qmodel.specs.Trace.{Trace}
 use Rattle.qmodel.specs.declared.call.Call.{Call}
@@ -29,37 +28,20 @@ use Rattle.qmodel.specs.Buffers.{buffer_of}
 use Rattle.qrules.specs.Trace.{call_at}
 use Rattle.qrules.proofs.Traces.TraceLaws.Unended.{asks_any, unended_newest}
 use Rattle.qrules.proofs.Traces.Past.Waits.{may_wait}
-use Rattle.qrules.specs.Past.{waiter}
+use Rattle.qrules.specs.Past.{waiter, is_ended, channel_of}
 use Rattle.qbase.proofs.Lists.{eqb_same}
-use Rattle.std.proofs.lemmas.Bool.{eqb-true}
 use Rattle.qrules.proofs.Traces.Past.LiveSends.{over_attached}
-use Rattle.qrules.proofs.Traces.Properties.Sends.{open_on}
+use Rattle.qrules.proofs.Traces.Properties.Sends.{open_on, begins_now, made_newest, made_stays}
 use Rattle.qrules.proofs.Traces.Properties.ShutForGood.{waits_on_open}
 use Rattle.qrules.proofs.Traces.Properties.Waiting.{nothing_for}
 use Rattle.qrules.specs.Delivery.{newer}
-use Rattle.qrules.specs.Facts.{open_send, receive_of, Facts, OpenReceive, OpenSend}
+use Rattle.qrules.specs.Facts.{open_send, receive_of, Facts, OpenReceive, OpenSend, open_receives, receive_in, OpenCall, number_of}
 use Rattle.qrules.specs.Lawful.{facts_of}
 use Rattle.qrules.proofs.Messages.{send_cases, NoSend, OneSend}
 use Rattle.qrules.proofs.Outcomes.{same_buffer}
 use Rattle.qlaws.specs.OpenCalls as laws
 use Rattle.qlaws.proofs.Waits.{all_receives, all_sends, before}
-use Rattle.qrules.specs.Facts.{open_receives}
-use Rattle.qrules.proofs.Traces.Past.Open.{open_own}
-use Rattle.std.proofs.Common.{option_and_then}
-use Rattle.qrules.specs.Facts.{receive_in}
-use Rattle.qrules.specs.Facts.{OpenCall}
-use Rattle.std.proofs.Common.{option_map}
-use Rattle.qrules.specs.Facts.{number_of}
-use Rattle.qrules.specs.Private.Past.{block}
-use Rattle.qrules.proofs.Traces.Past.Open.{open_parts}
-use Rattle.qrules.proofs.Traces.Past.Open.{open_from}
-use Rattle.qrules.proofs.Traces.Properties.Sends.{begins_now}
-use Rattle.qrules.specs.Past.{is_ended}
-use Rattle.qrules.proofs.Traces.Past.Open.{kept_number}
-use Rattle.qrules.specs.Past.{channel_of}
-use Rattle.qrules.specs.Private.Past.{item_of}
-use Rattle.qrules.proofs.Traces.Properties.Sends.{made_newest}
-use Rattle.qrules.proofs.Traces.Properties.Sends.{made_stays}
+use Rattle.qrules.proofs.Traces.Past.Open.{open_own, open_parts, open_from, kept_number}
 
 -- ---- at most one for each thread
 

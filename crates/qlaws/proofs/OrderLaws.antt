@@ -22,8 +22,7 @@ use Rattle.qrules.specs.Private.Lawful as old
 use Rattle.qtables.specs.Members.{IsRoster}
 use Rattle.qlaws.proofs.Waits.{before}
 use Rattle.qrules.specs.Private.Past.{is_destroyed, is_gone, item_of, made_on, pending_items, priority_before}
-use Rattle.qmodel.specs.Trace.{SentItem}
-use Rattle.qmodel.specs.Trace.{Event, Trace}
+use Rattle.qmodel.specs.Trace.{SentItem, Event, Trace}
 use Rattle.qmodel.specs.declared.call.Completion.{Completion}
 use Rattle.qbase.proofs.Lists.{all_more, eqb_same}
 use Rattle.qrules.proofs.Traces.Past.Best.{some_number}

@@ -12,15 +12,14 @@ use Rattle.qrules.specs.Private.Answer.{Outcome}
 use Rattle.qrules.specs.Private.Calls.{row_of}
 use Rattle.qrules.specs.Private.Calls.Send.{item as message_of}
 use Rattle.qrules.specs.Private.Effects.{makes, sets, thread_of_send}
-use Rattle.qrules.specs.Private.Facts.{Facts, is_fixed}
+use Rattle.qrules.specs.Private.Facts.{Facts, is_fixed, is_for_receipt}
 use Rattle.qlaws.specs.Pending as laws
 use Rattle.qlaws.proofs.Waits.{before}
 use Rattle.qrules.specs.Private.Lawful.{IsLawful, facts_of}
 use Rattle.qrules.specs.Private.Past.{is_accepted, is_gone, is_received, item_of, priority_of_thread, sender_of, current_priority}
 use Rattle.qrules.specs.Private.Rows.{Received, item_sent_over, priority_set_for}
-use Rattle.qmodel.specs.Trace.{SentItem}
+use Rattle.qmodel.specs.Trace.{SentItem, Trace}
 use Rattle.qrules.specs.Private.Step.{priority_taken}
-use Rattle.qmodel.specs.Trace.{Trace}
 use Rattle.qmodel.specs.declared.call.Call.{Call}
 use Rattle.qmodel.specs.declared.call.Call.TheVariants.{Send}
 use Rattle.qmodel.specs.declared.call.Completion.{Completion}
@@ -34,7 +33,6 @@ use Rattle.qrules.proofs.Traces.Past.Priorities.{priority_accepted, priority_ref
 use Rattle.qrules.proofs.Traces.Past.CurrentPriority.{refused_sets_none, worth_newest, worth_set, worth_stays}
 use Rattle.qrules.proofs.Traces.Properties.Events.{is_accepted_by, is_refused_by, outcome_of}
 use Rattle.qrules.proofs.Traces.Properties.Receipts.{TakesOne, takes_one, waits_for}
-use Rattle.qrules.specs.Private.Facts.{is_for_receipt}
 
 -- a thread that takes nothing takes no priority
 none_taken : (f : Facts) (t : ℕ) (c : Call) (X : List Completion) (u : ℕ) → Outcome true f t c X → ((y : Completion) (i : ℕ) → TakesOne f t c u y i → ⊥) → priority_taken f (row_of f t c).receipt u ≡ None

@@ -1,5 +1,5 @@
 -- What an accepted PrioritySet changes of what is pending.
-use Rattle.std.proofs.Common.{◌≡◌, ℕ, List, [], ◌∷◌, ◌++◌, refl, ap, sym, ◌∙◌, cond, true, false, eqb}
+use Rattle.std.proofs.Common.{◌≡◌, ℕ, List, [], ◌∷◌, ◌++◌, refl, ap, sym, ◌∙◌, cond, true, false, eqb, map}
 use Rattle.std.specs.Prelude.{Some, filter, not, ◌&&◌}
 use Rattle.std.proofs.lemmas.Bool.{eqb-true, eq-eqb}
 use Rattle.std.proofs.lemmas.List.{append-nil}
@@ -24,7 +24,6 @@ use Rattle.qrules.proofs.Traces.Past.Items.{IsPending, pending_all}
 use Rattle.qrules.proofs.Traces.Past.Moves.{mover, map_same}
 use Rattle.qrules.proofs.Traces.Properties.Events.{outcome_of}
 use Rattle.qrules.specs.Rule.{PriorityChange}
-use Rattle.std.proofs.Common.{map}
 
 -- the items, where each message of thread t has this priority
 abbrev with_messages_at : Trace → ℕ → ℕ → List Item → List Item

@@ -2,7 +2,7 @@
 use mathlib.Core.Path.{fun_ext}
 use Rattle.std.proofs.Common.{◌≡◌, ◌∙◌, ◌≤◌, ◌+◌, ℕ, List, [], ◌∷◌, refl, ap, sym, subst, cond, arith, Bool, true, false}
 use Rattle.std.specs.Prelude.{None, Some, count_by}
-use Rattle.std.specs.Option.{option_to_list}
+use Rattle.std.specs.Option.{option_to_list, option_map_or}
 use Rattle.std.proofs.lemmas.Bool.{eqb-true, or_parts, true≢false}
 use Rattle.std.proofs.lemmas.List.Sums.{sum_by-append, sum_by-cons}
 use Rattle.std.proofs.lemmas.Option.{none-some, same_Some}
@@ -10,9 +10,9 @@ use Rattle.qqueue.specs.declared.item.What.{What}
 use Rattle.qqueue.specs.declared.item.What.TheVariants as what
 use Rattle.qtables.specs.declared.member.Member.{Member}
 use Rattle.qrules.specs.Private.Effects.{makes, unblocks}
-use Rattle.qrules.specs.Private.Facts.{Facts as OldFacts}
+use Rattle.qrules.specs.Private.Facts.{Facts as OldFacts, held_call, number_of}
 use Rattle.qrules.specs.Private.Lawful as old
-use Rattle.qrules.specs.Private.Past.{copied_count_of, is_unblock_for, item_of, items as old_items, priority_of_item, unblocked_among, with_receipt}
+use Rattle.qrules.specs.Private.Past.{copied_count_of, is_unblock_for, item_of, items as old_items, priority_of_item, unblocked_among, with_receipt, filled}
 use Rattle.qmodel.specs.Trace.{SentItem, Trace}
 use Rattle.qmodel.specs.declared.call.Call.{Call}
 use Rattle.qmodel.specs.declared.call.Call.TheVariants as calls
@@ -29,10 +29,6 @@ use Rattle.qrules.specs.Past as new
 use Rattle.qrules.specs.Properties.{items}
 use Rattle.qlaws.specs.Pending as laws
 use Rattle.qrules.proofs.Traces.Due.{unblock_same}
-use Rattle.std.specs.Option.{option_map_or}
-use Rattle.qrules.specs.Private.Facts.{held_call}
-use Rattle.qrules.specs.Private.Facts.{number_of}
-use Rattle.qrules.specs.Private.Past.{filled}
 
 -- the receipt doesn't tell that no unblock pulse was made
 abbrev told : OpenCall → Bool

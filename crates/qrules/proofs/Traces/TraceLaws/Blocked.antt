@@ -6,20 +6,18 @@ use Rattle.std.specs.Option.{option_map}
 use Rattle.std.proofs.lemmas.Bool.{cases_Bool, eqb-true, eqb-false, ne_eqb, or_parts, true≢false}
 use Rattle.std.proofs.lemmas.Option.{none-some}
 use Rattle.std.proofs.Math.Bool.{or-true}
-use Rattle.qtables.specs.Members.{member_at}
+use Rattle.qtables.specs.Members.{member_at, IsRoster}
 use Rattle.qtables.specs.declared.member.Member.{Member}
 use Rattle.qrules.specs.Private.Answer.{ending}
 use Rattle.qrules.specs.Private.Calls.{row_of}
 use Rattle.qrules.specs.Trace.{gets, AreApart}
-use Rattle.qtables.specs.Members.{IsRoster}
 use Rattle.qrules.specs.Private.Facts.{Facts, sender, threads_of}
 use Rattle.qrules.specs.Private.Effects.{asks, makes, unblocks, writes}
 use Rattle.qrules.specs.Private.Lawful.{facts_of, IsLawful}
 use Rattle.qrules.specs.Private.Past.{has_ending_of, open_call}
 use Rattle.qrules.specs.Private.Rows.{Received}
-use Rattle.qmodel.specs.Trace.{SentItem}
+use Rattle.qmodel.specs.Trace.{SentItem, Event, Trace}
 use Rattle.qrules.specs.Private.Step.{after_receipt, after_unblock, after_write, held_call, is_thread, open_call_after, unblocked_call, unless, written_call}
-use Rattle.qmodel.specs.Trace.{Event, Trace}
 use Rattle.qmodel.specs.declared.call.Call.{Call}
 use Rattle.qmodel.specs.declared.call.Completion.{Completion}
 use Rattle.qmodel.specs.declared.open_call.OpenCall.{OpenCall}

@@ -5,11 +5,10 @@ use Rattle.std.specs.List.{AllByRecursion}
 use Rattle.std.proofs.lemmas.Bool.{ne_eqb}
 use Rattle.std.proofs.lemmas.Option.{none-some}
 use Rattle.qrules.specs.Private.Answer.{ending}
-use Rattle.qrules.specs.Private.Facts.{Facts, threads_of}
+use Rattle.qrules.specs.Private.Facts.{Facts, threads_of, number_of}
 use Rattle.qrules.specs.Trace.{thread_at}
 use Rattle.qtables.specs.Members.{IsRoster}
-use Rattle.qrules.specs.Private.Lawful.{IsLawful}
-use Rattle.qrules.specs.Private.Lawful.{facts_of}
+use Rattle.qrules.specs.Private.Lawful.{IsLawful, facts_of}
 use Rattle.qmodel.specs.Trace.{Event, Trace}
 use Rattle.qmodel.specs.declared.call.Call.{Call}
 use Rattle.qmodel.specs.declared.call.Completion.{Completion}
@@ -20,7 +19,6 @@ use Rattle.qbase.proofs.Lists.{all_filter_map, eqb_same}
 use Rattle.qrules.proofs.Traces.Past.Numbers.{block_below}
 use Rattle.qrules.proofs.Traces.Past.Open.{open_parts}
 use Rattle.qrules.proofs.Traces.Properties.Sends.{begins_now}
-use Rattle.qrules.specs.Private.Facts.{number_of}
 use Rattle.qrules.specs.Private.Past.{block}
 use Rattle.qtables.specs.declared.member.Member.{Member}
 

@@ -8,48 +8,32 @@ use Rattle.std.proofs.lemmas.Option.{none-some, same_Some}
 use Rattle.qtables.specs.Members.{IsRoster}
 use Rattle.qtables.specs.declared.member.Member.{Member}
 use Rattle.qrules.specs.Private.Calls.{row_of}
-use Rattle.qrules.specs.Private.Facts.{is_for_answer, is_send, sender, threads_of}
-use Rattle.qrules.specs.Properties.{number_received, TakesBest}
-use Rattle.qrules.specs.Private.Facts.{is_for_reply}
-use Rattle.qrules.specs.Past.{waiter}
-use Rattle.qrules.proofs.Traces.Past.Waits.{may_wait}
+use Rattle.qrules.specs.Private.Facts.{is_for_answer, is_send, sender, threads_of, is_for_reply, number_of, held_call}
+use Rattle.qrules.specs.Properties.{number_received, TakesBest, takeable}
+use Rattle.qrules.specs.Past.{waiter, ReceivedItem}
+use Rattle.qrules.proofs.Traces.Past.Waits.{may_wait, waits_or_ends}
 use Rattle.qrules.specs.Private.Lawful.{IsLawful, facts_of}
-use Rattle.qrules.specs.Private.Past.{copied_count_in, has_ending_of, is_ended, is_received, item_of, accepted_at, open_call, copied_count_among, copied_count_of, with_receipt}
+use Rattle.qrules.specs.Private.Past.{copied_count_in, has_ending_of, is_ended, is_received, item_of, accepted_at, open_call, copied_count_among, copied_count_of, with_receipt, filled}
 use Rattle.qrules.specs.Private.Rows.{item_in}
-use Rattle.qmodel.specs.Trace.{SentItem}
-use Rattle.qmodel.specs.Trace.{Trace}
+use Rattle.qmodel.specs.Trace.{SentItem, Trace, Event}
 use Rattle.qmodel.specs.declared.call.Completion.{Completion}
 use Rattle.qmodel.specs.declared.open_call.OpenCall.{OpenCall}
 use Rattle.qmodel.specs.declared.open_call.Receipt.{Receipt}
 use Rattle.qmodel.specs.declared.open_call.OpenCall.TheVariants.{Receive, Send}
 use Rattle.qrules.proofs.Traces.Past.Ends.{ends_own, open_known, passes_of}
-use Rattle.qrules.proofs.Traces.Past.Items.{item_accepted, item_answer, item_at, item_below, item_earlier}
+use Rattle.qrules.proofs.Traces.Past.Items.{item_accepted, item_answer, item_at, item_below, item_earlier, item_made}
 use Rattle.qrules.proofs.Traces.Past.Senders.{send_from, send_parts, sender_found, sender_sends}
 use Rattle.qrules.proofs.Traces.Past.Unblocked.{held_is_taken}
-use Rattle.qrules.proofs.Traces.Past.Waits.{waits_or_ends}
 use Rattle.qrules.proofs.Traces.Properties.BestFirst.{best_first}
 use Rattle.qrules.proofs.Traces.Properties.Events.{outcome_of}
 use Rattle.qrules.proofs.Traces.Properties.Sends.{made_newest, made_stays}
 use Rattle.qrules.proofs.Traces.Rosters.{known}
 use Rattle.qrules.proofs.Traces.TraceLaws.Unended.{unended_newest}
-use Rattle.qrules.specs.Past.{ReceivedItem}
 use Rattle.qrules.proofs.Traces.Past.Laws.{is_settled}
-use Rattle.qrules.specs.Private.Facts.{number_of}
-use Rattle.qrules.specs.Private.Facts.{held_call}
-use Rattle.qrules.specs.Private.Past.{filled}
-use Rattle.qrules.proofs.Traces.Past.Open.{open_from}
-use Rattle.qrules.proofs.Traces.Past.Open.{filled_answer}
-use Rattle.qrules.proofs.Traces.Past.Open.{open_parts}
-use Rattle.qrules.proofs.Traces.Past.Open.{open_thread}
-use Rattle.qrules.proofs.Traces.Past.Open.{kept}
-use Rattle.qrules.proofs.Traces.Past.Open.{kept_number}
-use Rattle.qmodel.specs.Trace.{Event}
+use Rattle.qrules.proofs.Traces.Past.Open.{open_from, filled_answer, open_parts, open_thread, kept, kept_number}
 use Rattle.qqueue.specs.Best.{best_of}
-use Rattle.qrules.specs.Properties.{takeable}
 use Rattle.qqueue.proofs.OrderLaws.{best-at}
 use Rattle.qrules.proofs.Traces.Properties.Connections.{IsMadeFor, takeable_made}
-use Rattle.qrules.proofs.Traces.Properties.Connections.{takeable_made}
-use Rattle.qrules.proofs.Traces.Past.Items.{item_made}
 
 -- an open call whose message is received is for an answer, and settled
 reply_parts : (w : OpenCall) → is_for_reply w ≡ true → (is_for_answer w ≡ true) × (is_settled w ≡ true)

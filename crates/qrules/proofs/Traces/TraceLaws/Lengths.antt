@@ -23,13 +23,12 @@ use Rattle.qrules.specs.Private.Calls.Unblock as unblock
 use Rattle.qrules.specs.Private.Calls.Info.{info_of, info_ending}
 use Rattle.qrules.specs.Private.Calls.Pulse as pulse
 use Rattle.qrules.specs.Private.Cancelling.{is_on}
-use Rattle.qrules.specs.Private.Facts.{buffer_of_open}
-use Rattle.qrules.specs.Private.Facts.{Facts, message, sender, threads_of, route}
+use Rattle.qrules.specs.Private.Facts.{buffer_of_open, Facts, message, sender, threads_of, route, number_of, with_buffer}
 use Rattle.qrules.specs.Private.Held.{Finish, ends_sender, refusal}
 use Rattle.qrules.specs.Private.Rows.{Received, receipt_ending, buffer_after_write}
-use Rattle.qmodel.specs.Trace.{SentItem}
+use Rattle.qmodel.specs.Trace.{SentItem, Event, Trace}
 use Rattle.qrules.specs.Private.Step.{after_receipt, after_unblock, after_write, held_call, is_thread, open_call_after, unblocked_call, unless, written_call}
-use Rattle.qrules.specs.Private.Past.{is_accepted, with_writes}
+use Rattle.qrules.specs.Private.Past.{is_accepted, with_writes, open_call, filled, with_receipt}
 use Rattle.qmodel.specs.declared.call.Call.{Call}
 use Rattle.qmodel.specs.declared.call.Call.TheVariants.{Send, Receive, Reply, Error, Read, Info, ReceivePulse, Pulse, ChannelDestroy, Shutdown, Unblock, ConnectDetach}
 use Rattle.qmodel.specs.declared.call.Completion.{Completion}
@@ -52,20 +51,14 @@ use Rattle.qtables.specs.Members.{IsRoster}
 use Rattle.qtables.specs.declared.member.Member.{Member}
 use Rattle.qrules.specs.Trace.{call_at}
 use Rattle.qrules.specs.Private.Lawful.{facts_of, IsLawful}
-use Rattle.qrules.specs.Private.Past.{open_call}
-use Rattle.qmodel.specs.Trace.{Event, Trace}
 use Rattle.qbase.proofs.Lengths.{lay_length}
 use Rattle.qbase.proofs.Lists.{all_filter_map, all_more, eqb_same}
 use Rattle.qrules.proofs.Traces.Past.Ends.{ending_names, laws_of, passes_of}
 use Rattle.qrules.proofs.Traces.TraceLaws.Blocked.{some_receipt}
 use Rattle.qrules.proofs.Traces.Past.OpenCalls.{open_accepted, open_refused}
 use Rattle.qrules.specs.Rule.{Transfer}
-use Rattle.qrules.specs.Private.Facts.{number_of}
 use Rattle.qmodel.specs.OpenCalls.{buffer_in}
-use Rattle.qrules.specs.Private.Past.{filled}
 use Rattle.qrules.specs.Past.{channel_of}
-use Rattle.qrules.specs.Private.Facts.{with_buffer}
-use Rattle.qrules.specs.Private.Past.{with_receipt}
 
 taking_length : (item : Item) (message : List ℕ) (u m : ℕ) (buffer : List ℕ) → length (receipt_ending item message u m buffer).buffer ≡ length buffer
 taking_length item message u m buffer =

@@ -1,13 +1,13 @@
 -- A call that may wait and isn't ended is the newest blocking call of its thread.
-use Rattle.std.proofs.Common.{◌≡◌, ℕ, ◌+◌, List, [], ◌∷◌, length, refl, ap, sym, subst, ◌∙◌, cond, true, false, eqb}
+use Rattle.std.proofs.Common.{◌≡◌, ℕ, ◌+◌, List, [], ◌∷◌, length, refl, ap, sym, subst, ◌∙◌, cond, true, false, eqb, eq-eqb}
 use Rattle.std.specs.Prelude.{Option, None, Some, is_some}
-use Rattle.std.proofs.lemmas.Bool.{eqb-true, or_parts, true≢false}
+use Rattle.std.proofs.lemmas.Bool.{eqb-true, or_parts, true≢false, and_from}
 use Rattle.std.proofs.lemmas.Option.{none-some, same_Some}
 use Rattle.qtables.specs.declared.member.Member.{Member}
-use Rattle.qrules.specs.Past.{waiter}
+use Rattle.qrules.specs.Past.{waiter, channel_of}
 use Rattle.qrules.proofs.Traces.Past.Waits.{may_wait}
 use Rattle.qrules.specs.Private.Lawful.{IsLawful}
-use Rattle.qrules.specs.Private.Past.{has_ending_of, is_accepted, is_ended, accepted_at}
+use Rattle.qrules.specs.Private.Past.{has_ending_of, is_accepted, is_ended, accepted_at, block, item_of}
 use Rattle.qrules.specs.Private.Effects.{asks}
 use Rattle.qmodel.specs.Trace.{Event, Trace}
 use Rattle.qmodel.specs.declared.call.Call.{Call}
@@ -17,11 +17,6 @@ use Rattle.qrules.proofs.Traces.Past.Numbers.{blocks}
 use Rattle.qrules.proofs.Traces.Calls.{call_laws}
 use Rattle.qrules.proofs.Traces.Properties.Messages.{block_stays}
 use Rattle.qmodel.specs.OpenCalls.{number_of}
-use Rattle.qrules.specs.Private.Past.{block}
-use Rattle.qrules.specs.Past.{channel_of}
-use Rattle.std.proofs.Common.{eq-eqb}
-use Rattle.qrules.specs.Private.Past.{item_of}
-use Rattle.std.proofs.lemmas.Bool.{and_from}
 
 pub asks_any : (n t h : ℕ) (c : Call) → is_some (asks n t h c) ≡ may_wait c
 asks_any n t h Shutdown = refl
