@@ -73,10 +73,7 @@ endings_are_apart roster past e r l = blocked.endings_are_apart roster past e r 
 
 pub endings_go_to_blocked : Endings.EndingsGoToBlocked
 endings_go_to_blocked roster past e r l =
-    all_more _ _ e.endings (blocked.endings_go_to_blocked roster past e r (before roster (e ∷ past) l)) (λ x to. (
-      to.known,
-      to.may,
-    ))
+    all_more _ _ e.endings (blocked.endings_go_to_blocked roster past e r (before roster (e ∷ past) l)) (λ x to. (to.known, to.may))
 
 -- ---- who waits afterwards
 
@@ -128,8 +125,7 @@ endings_keep_length roster past e r l =
 sent_to : (roster : List Member) (past : Trace) (i : ℕ) (m : SentItem) → item_at roster past i ≡ Some m → (k : ℕ) → connection_of past i ≡ Some k → Endings.LeadsTo roster past k m.channel
 sent_to roster past i m is k over = let w = item_over roster past i k m is over in ap (option_map (λ c. c.channel)) w.is ∙ ap Some (sym w.channel)
 
--- ---- it is among the items
-
+-- it is among the items
 any_first : (p : SentItem → Bool) (xs ys : List SentItem) → list_any p xs ≡ true → list_any p (xs ++ ys) ≡ true
 any_first p [] ys e = absurd (true≢false (sym e))
 any_first p (x ∷ xs) ys e =
@@ -162,13 +158,12 @@ received_was_sent roster past e r l =
     all_more (λ x. (i : ℕ) → number_received x ≡ Some i → TakesBest roster past e x i) (λ x. (i : ℕ) → number_received x ≡ Some i → Endings.WasSent roster (e ∷ past) x i) e.endings (best_first roster (e ∷ past) r (before roster (e ∷ past) l)).1
     (λ x h i is. was_sent roster past e x i (h i is))
 
-all_for : {X : Type 0} (Q : ℕ → Type 0) (P : ℕ → X → Type 0) (xs : List X) → ((h : ℕ) → Q h → AllByRecursion (P h) xs) → AllByRecursion (λ x. (h : ℕ) → Q h → P h x) xs
+all_for : {X : Type 0} (Q : ℕ → Type 0) (P : ℕ → X → ℕ → Type 0) (xs : List X) → ((h : ℕ) → Q h → AllByRecursion (λ x. (i : ℕ) → P h x i) xs) → AllByRecursion (λ x. (h i : ℕ) → Q h → P h x i) xs
 all_for Q P [] f = tt
-all_for Q P (x ∷ xs) f = (λ h q. (f h q).0, all_for Q P xs (λ h q. (f h q).1))
+all_for Q P (x ∷ xs) f = (λ h i q. (f h q).0 i, all_for Q P xs (λ h q. (f h q).1))
 
 pub nothing_from_destroyed : Endings.NothingFromDestroyed
-nothing_from_destroyed roster past e r l =
-    all_more _ _ e.endings (all_for _ _ e.endings (λ h closed. ((shut_for_good roster (e ∷ past) r (before roster (e ∷ past) l)).1 h closed).none_received)) (λ x none h i destroyed is on. none h destroyed i is on)
+nothing_from_destroyed roster past e r l = all_for _ _ e.endings (λ h closed. ((shut_for_good roster (e ∷ past) r (before roster (e ∷ past) l)).1 h closed).none_received)
 
 -- ---- refusals
 

@@ -1,3 +1,4 @@
+pub mod Lists
 pub mod Waits
 pub mod OpenCallLaws
 pub mod EndingLaws

@@ -29,7 +29,7 @@ use Rattle.qrules.specs.Trace.{call_at}
 use Rattle.qrules.proofs.Traces.TraceLaws.Unended.{asks_any, unended_newest}
 use Rattle.qrules.proofs.Traces.Past.Waits.{may_wait}
 use Rattle.qrules.specs.Past.{waiter, is_ended, channel_of}
-use Rattle.qbase.proofs.Lists.{eqb_same}
+use Rattle.qbase.proofs.Lists.{all_passing, eqb_same}
 use Rattle.qrules.proofs.Traces.Past.LiveSends.{over_attached}
 use Rattle.qrules.proofs.Traces.Properties.Sends.{open_on, begins_now, made_newest, made_stays}
 use Rattle.qrules.proofs.Traces.Properties.ShutForGood.{waits_on_open}
@@ -40,6 +40,7 @@ use Rattle.qrules.specs.Lawful.{facts_of}
 use Rattle.qrules.proofs.Messages.{send_cases, NoSend, OneSend}
 use Rattle.qrules.proofs.Outcomes.{same_buffer}
 use Rattle.qlaws.specs.OpenCalls as laws
+use Rattle.qlaws.proofs.Lists.{all_unfilter}
 use Rattle.qlaws.proofs.Waits.{all_receives, all_sends, before}
 use Rattle.qrules.proofs.Traces.Past.Open.{open_own, open_parts, open_from, kept_number}
 
@@ -153,24 +154,6 @@ newest_last a (x ∷ rs) =
           (most, (omega arith, k.1))
     ] refl
 
--- what is so of the items that pass
-of_passing : {X : Type 0} (P : X → Type 0) (p : X → Bool) (xs : List X) → AllByRecursion P (filter p xs) → AllByRecursion (λ x. p x ≡ true → P x) xs
-of_passing P p [] h = tt
-of_passing P p (x ∷ xs) h =
-    elim (p x) as (λ b. p x ≡ b → AllByRecursion P (cond b (x ∷ filter p xs) (filter p xs)) → AllByRecursion (λ x. p x ≡ true → P x) (x ∷ xs)) [
-      | true ↦ λ e h. (λ passes. h.0, of_passing P p xs h.1)
-      | false ↦ λ e h. (λ passes. absurd (true≢false (sym passes ∙ e)), of_passing P p xs h)
-    ] refl h
-
--- each item that passes does so
-all_pass : {X : Type 0} (P : X → Type 0) (p : X → Bool) (xs : List X) → AllByRecursion P xs → AllByRecursion (λ x. P x × (p x ≡ true)) (filter p xs)
-all_pass P p [] h = tt
-all_pass P p (x ∷ xs) h =
-    elim (p x) as (λ b. p x ≡ b → AllByRecursion (λ x. P x × (p x ≡ true)) (cond b (x ∷ filter p xs) (filter p xs))) [
-      | true ↦ λ e. ((h.0, e), all_pass P p xs h.1)
-      | false ↦ λ e. all_pass P p xs h.1
-    ] refl
-
 newest_of : (P : OpenReceive → Type 0) (rs : List OpenReceive) (r : OpenReceive) → AllByRecursion P rs → reduce newer rs ≡ Some r → P r × AllByRecursion (λ s. s.number ≤ r.number) rs
 newest_of P [] r all e = absurd (none-some r e)
 newest_of P (a ∷ rs) r all e =
@@ -183,8 +166,8 @@ newest_is_last roster past r l m x e =
     let may : OpenReceive → Bool = laws.may_receive m in
     let each : AllByRecursion (λ s. receive_of f s.thread ≡ Some s) (open_receives f) = all_receives f (λ s. receive_of f s.thread ≡ Some s) (λ u s is.
     ap (receive_of f) (open_own roster past u (Receive s) is) ∙ ap (option_and_then receive_in) is) in
-    let k = newest_of (λ s. (receive_of f s.thread ≡ Some s) × (may s ≡ true)) (filter may (open_receives f)) x (all_pass (λ s. receive_of f s.thread ≡ Some s) may (open_receives f) each) e in
-    record { is_open = k.0.0; may = k.0.1; last = of_passing (λ s. s.number ≤ x.number) may (open_receives f) k.1 }
+    let k = newest_of (λ s. (receive_of f s.thread ≡ Some s) × (may s ≡ true)) (filter may (open_receives f)) x (all_passing (λ s. receive_of f s.thread ≡ Some s) may (open_receives f) each) e in
+    record { is_open = k.0.0; may = k.0.1; last = all_unfilter (λ s. s.number ≤ x.number) may (open_receives f) k.1 }
 
 nobody : (p : OpenReceive → Bool) (rs : List OpenReceive) → reduce newer (filter p rs) ≡ None → AllByRecursion (λ r. p r ≡ false) rs
 nobody p [] e = tt

@@ -1,9 +1,8 @@
 -- What comes before another is received first.
-use Rattle.std.proofs.Common.{◌≡◌, ◌≢◌, ◌∙◌, ℕ, ◌+◌, ◌≤◌, List, [], ◌∷◌, ◌++◌, map, length, refl, ap, sym, subst, cond, arith, Bool, true, false, eqb}
-use Rattle.std.specs.Prelude.{Some, filter, not}
+use Rattle.std.proofs.Common.{◌≡◌, ◌≢◌, ◌∙◌, ℕ, ◌+◌, ◌≤◌, List, [], ◌∷◌, ◌++◌, map, length, refl, ap, sym, subst, cond, arith, true, false, eqb}
+use Rattle.std.specs.Prelude.{Some, not}
 use Rattle.std.specs.List.{AllByRecursion}
 use Rattle.std.specs.Option.{option_map}
-use Rattle.std.proofs.lemmas.Bool.{true≢false}
 use Rattle.std.proofs.lemmas.Bool.Decides.{nat_tests}
 use Rattle.std.proofs.lemmas.List.Elements.{recursion_from_All}
 use Rattle.std.proofs.lemmas.Option.{none-some, same_Some}
@@ -20,6 +19,7 @@ use Rattle.qlaws.specs.Pending.{FirstGoesFirst, HasPriority, TakesBeside}
 use Rattle.qrules.specs.Lawful.{IsLawful}
 use Rattle.qrules.specs.Private.Lawful as old
 use Rattle.qtables.specs.Members.{IsRoster}
+use Rattle.qlaws.proofs.Lists.{all_unfilter, all_unmap}
 use Rattle.qlaws.proofs.Waits.{before}
 use Rattle.qrules.specs.Private.Past.{is_destroyed, is_gone, item_of, made_on, pending_items, priority_before}
 use Rattle.qmodel.specs.Trace.{SentItem, Event, Trace}
@@ -38,18 +38,6 @@ use Rattle.qrules.proofs.Traces.Properties.Connections.{takeable_priorities}
 all_parts : (P : Item → Type 0) (xs ys : List Item) → AllByRecursion P (xs ++ ys) → AllByRecursion P xs × AllByRecursion P ys
 all_parts P [] ys all = (tt, all)
 all_parts P (x ∷ xs) ys all = let rest = all_parts P xs ys all.1 in ((all.0, rest.0), rest.1)
-
-all_unmap : (P : Item → Type 0) (g : Item → Item) (xs : List Item) → AllByRecursion P (map g xs) → AllByRecursion (λ x. P (g x)) xs
-all_unmap P g [] all = tt
-all_unmap P g (x ∷ xs) all = (all.0, all_unmap P g xs all.1)
-
-all_unfilter : (P : Item → Type 0) (p : Item → Bool) (xs : List Item) → AllByRecursion P (filter p xs) → AllByRecursion (λ x. p x ≡ true → P x) xs
-all_unfilter P p [] all = tt
-all_unfilter P p (x ∷ xs) all =
-    elim (p x) as (λ b. p x ≡ b → AllByRecursion P (cond b (x ∷ filter p xs) (filter p xs)) → AllByRecursion (λ x. p x ≡ true → P x) (x ∷ xs)) [
-      | true ↦ λ passes all. (λ _. all.0, all_unfilter P p xs all.1)
-      | false ↦ λ fails all. (λ passes. absurd (true≢false (sym passes ∙ fails)), all_unfilter P p xs all)
-    ] refl all
 
 -- ---- what was made for a channel is among its items
 

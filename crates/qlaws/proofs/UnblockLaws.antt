@@ -1,18 +1,15 @@
 -- At most one unblock pulse is made for a message.
-use mathlib.Core.Path.{fun_ext}
 use Rattle.std.proofs.Common.{◌≡◌, ◌∙◌, ◌≤◌, ◌+◌, ℕ, List, [], ◌∷◌, refl, ap, sym, subst, cond, arith, Bool, true, false}
 use Rattle.std.specs.Prelude.{None, Some, count_by}
 use Rattle.std.specs.Option.{option_to_list, option_map_or}
 use Rattle.std.proofs.lemmas.Bool.{eqb-true, or_parts, true≢false}
 use Rattle.std.proofs.lemmas.List.Sums.{sum_by-append, sum_by-cons}
 use Rattle.std.proofs.lemmas.Option.{none-some, same_Some}
-use Rattle.qqueue.specs.declared.item.What.{What}
-use Rattle.qqueue.specs.declared.item.What.TheVariants as what
 use Rattle.qtables.specs.declared.member.Member.{Member}
 use Rattle.qrules.specs.Private.Effects.{makes, unblocks}
 use Rattle.qrules.specs.Private.Facts.{Facts as OldFacts, held_call, number_of}
 use Rattle.qrules.specs.Private.Lawful as old
-use Rattle.qrules.specs.Private.Past.{copied_count_of, is_unblock_for, item_of, items as old_items, priority_of_item, unblocked_among, with_receipt, filled}
+use Rattle.qrules.specs.Private.Past.{copied_count_of, is_unblock_for, item_of, items, priority_of_item, unblocked_among, with_receipt, filled}
 use Rattle.qmodel.specs.Trace.{SentItem, Trace}
 use Rattle.qmodel.specs.declared.call.Call.{Call}
 use Rattle.qmodel.specs.declared.call.Call.TheVariants as calls
@@ -25,7 +22,6 @@ use Rattle.qrules.proofs.Traces.Past.CurrentPriority.{unblocked_among_now}
 use Rattle.qrules.proofs.Traces.Past.Items.{item_accepted}
 use Rattle.qrules.proofs.Traces.Past.Open.{is_unblocked, open_parts}
 use Rattle.qrules.proofs.Traces.Past.Unblocked.{none_unblocked}
-use Rattle.qrules.specs.Past as new
 use Rattle.qrules.specs.Properties.{items}
 use Rattle.qlaws.specs.Pending as laws
 use Rattle.qrules.proofs.Traces.Due.{unblock_same}
@@ -73,28 +69,23 @@ none_counted i (m ∷ items) e =
     let rest : pulses_for i items ≡ 0 = none_counted i items p.1 in
     sum_by-cons (λ m. cond (is_unblock_for i m.item.what) 1 0) m items ∙ ap (λ b. cond b 1 0 + pulses_for i items) p.0 ∙ omega arith
 
-at_most_one : (roster : List Member) (past : Trace) (i : ℕ) → pulses_for i (old_items roster past) ≤ 1
+at_most_one : (roster : List Member) (past : Trace) (i : ℕ) → pulses_for i (items roster past) ≤ 1
 at_most_one roster [] i = omega arith
 at_most_one roster (e ∷ past) i =
-    let before : ℕ = pulses_for i (old_items roster past) in
+    let before : ℕ = pulses_for i (items roster past) in
     let most : before ≤ 1 = at_most_one roster past i in
-    subst (λ n. n ≤ 1) (sym (sum_by-append (λ m. cond (is_unblock_for i m.item.what) 1 0) (old_items roster past) (option_to_list (item_of roster e past)))) (
+    subst (λ n. n ≤ 1) (sym (sum_by-append (λ m. cond (is_unblock_for i m.item.what) 1 0) (items roster past) (option_to_list (item_of roster e past)))) (
     elim (item_of roster e past) as (λ o. item_of roster e past ≡ o → before + pulses_for i (option_to_list o) ≤ 1) [
       | None ↦ λ is. omega arith
       | Some m ↦ λ is.
           elim (is_unblock_for i m.item.what) as (λ b. is_unblock_for i m.item.what ≡ b → before + (0 + cond b 1 0) ≤ 1) [
             | true ↦ λ pulse.
                 let first = first_for roster past e.thread e.call i m (item_accepted roster e past m is).1 pulse in
-                let none : before ≡ 0 = none_counted i (old_items roster past) (sym (unblocked_among_now past (old_items roster past) i) ∙ first) in
+                let none : before ≡ 0 = none_counted i (items roster past) (sym (unblocked_among_now past (items roster past) i) ∙ first) in
                 omega arith
             | false ↦ λ other. omega arith
           ] refl
     ] refl)
 
-same_unblock : (i : ℕ) (w : What) → new.is_unblock_for i w ≡ is_unblock_for i w
-same_unblock i (what.Unblock rcvid) = refl
-same_unblock i _ = refl
-
 pub one_unblock_pulse : laws.OneUnblockPulse
-one_unblock_pulse roster past r l i =
-    subst (λ n. n ≤ 1) (sym (ap (λ (is : What → Bool). count_by (λ m. is m.item.what) (old_items roster past)) (fun_ext (same_unblock i)))) (at_most_one roster past i)
+one_unblock_pulse roster past r l i = at_most_one roster past i

@@ -23,22 +23,16 @@ use Rattle.qmodel.specs.declared.open_call.OpenCall.TheVariants.{Receive, Send}
 use Rattle.qrules.proofs.Traces.Past.Ends.{ends_own, open_known, passes_of}
 use Rattle.qrules.proofs.Traces.Past.Items.{item_accepted, item_answer, item_at, item_below, item_earlier, item_made}
 use Rattle.qrules.proofs.Traces.Past.Senders.{send_from, send_parts, sender_found, sender_sends}
-use Rattle.qrules.proofs.Traces.Past.Unblocked.{held_is_taken}
+use Rattle.qrules.proofs.Traces.Past.Unblocked.{held_is_taken, reply_answer, reply_settled}
 use Rattle.qrules.proofs.Traces.Properties.BestFirst.{best_first}
 use Rattle.qrules.proofs.Traces.Properties.Events.{outcome_of}
 use Rattle.qrules.proofs.Traces.Properties.Sends.{made_newest, made_stays}
 use Rattle.qrules.proofs.Traces.Rosters.{known}
 use Rattle.qrules.proofs.Traces.TraceLaws.Unended.{unended_newest}
-use Rattle.qrules.proofs.Traces.Past.Laws.{is_settled}
 use Rattle.qrules.proofs.Traces.Past.Open.{open_from, filled_answer, open_parts, open_thread, kept, kept_number}
 use Rattle.qqueue.specs.Best.{best_of}
 use Rattle.qqueue.proofs.OrderLaws.{best-at}
 use Rattle.qrules.proofs.Traces.Properties.Connections.{IsMadeFor, takeable_made}
-
--- an open call whose message is received is for an answer, and settled
-reply_parts : (w : OpenCall) → is_for_reply w ≡ true → (is_for_answer w ≡ true) × (is_settled w ≡ true)
-reply_parts (Send s) e = (refl, e)
-reply_parts (Receive r) e = absurd (true≢false (sym e))
 
 -- ---- what is taken was made
 
@@ -151,7 +145,7 @@ held_to_send roster past i r l held =
     record {
       thread = t.0;
       waiting = waiting;
-      is_sender = found_sender roster past i t.0 waiting l is_open number (reply_parts waiting reply).0;
+      is_sender = found_sender roster past i t.0 waiting l is_open number (reply_answer waiting reply);
       is_open = is_open;
       received = reply;
     }
@@ -162,9 +156,8 @@ send_to_held roster past i h =
     let same : s.waiting ≡ h.waiting = same_Some s.waiting h.waiting (sym s.is ∙ h.is_open) in
     let number : (number_of h.waiting) ≡ i = ap number_of (sym same) ∙ s.number in
     let k = open_parts roster past h.thread h.waiting h.is_open in
-    let w = reply_parts h.waiting h.received in
     let at : (number_of k.block) ≡ i = sym k.number ∙ number in
-    and_from (is_received past i) (not (is_ended past i)) (subst (λ j. is_received past j ≡ true) at (held_is_taken roster past h.thread h.waiting k w.0 w.1))
+    and_from (is_received past i) (not (is_ended past i)) (subst (λ j. is_received past j ≡ true) at (held_is_taken roster past h.thread h.waiting k (reply_answer h.waiting h.received) (reply_settled h.waiting h.received)))
     (not_from_false (is_ended past i) (subst (λ j. is_ended past j ≡ false) at k.going))
 
 pub held_is_held_send : (roster : List Member) (past : Trace) → IsRoster roster → IsLawful roster past → (i : ℕ) → ((is_received past i && not (is_ended past i)) ≡ true) ↔ IsHeldSend roster past i
