@@ -4,14 +4,11 @@ use Rattle.std.specs.Prelude.{Option, None, Some, ◌&&◌, find, filter_map, op
 use Rattle.std.specs.List.{cons_option}
 use Rattle.std.proofs.lemmas.Bool.{true≢false}
 use Rattle.std.proofs.Math.Bool.{and-false}
-use Rattle.qrules.specs.Private.Facts.{is_send, sender, sender_among, threads_of, Facts as OldFacts}
+use Rattle.qrules.specs.Private.Facts.{is_send, sender, sender_among, threads_of, Facts as OldFacts, is_for_answer}
 use Rattle.qmodel.specs.declared.open_call.OpenCall.{OpenCall}
 use Rattle.qmodel.specs.declared.open_call.OpenCall.TheVariants.{Receive, Send}
 use Rattle.qrules.proofs.Traces.Past.Senders.{sender_sends}
-use Rattle.qrules.specs.Facts.{OpenSend, open_send}
-use Rattle.qrules.specs.Facts.{send_in}
-use Rattle.qrules.specs.Facts.{number_of}
-use Rattle.qrules.specs.Private.Facts.{is_for_answer}
+use Rattle.qrules.specs.Facts.{OpenSend, open_send, send_in, number_of}
 
 module _ (open_call : ℕ → Option OpenCall) (i : ℕ) where
   open_among : (ts : List ℕ) → find (λ s. eqb s.number i) (filter_map (λ u. option_and_then send_in (open_call u)) ts) ≡ option_and_then (λ u. option_and_then send_in (open_call u)) (sender_among open_call i ts)

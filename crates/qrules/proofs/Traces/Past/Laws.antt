@@ -7,7 +7,7 @@ use Rattle.qqueue.specs.declared.item.Kind.{Kind}
 use Rattle.qqueue.specs.declared.item.What.TheVariants as what
 use Rattle.qrules.specs.Private.Answer.{ending}
 use Rattle.qrules.specs.Private.Calls.{row_of}
-use Rattle.qrules.specs.Private.Facts.{Facts, sender}
+use Rattle.qrules.specs.Private.Facts.{Facts, sender, number_of, is_for_answer, is_for_reply}
 use Rattle.qrules.specs.Private.Past.{is_failure, is_unblock_for}
 use Rattle.qrules.specs.Private.Receiving.{sender_for}
 use Rattle.qrules.specs.Private.Effects.{asks, makes, unblocks, writes}
@@ -20,10 +20,7 @@ use Rattle.qmodel.specs.declared.open_call.OpenCall.{OpenCall}
 use Rattle.qmodel.specs.declared.open_call.OpenCall.TheVariants.{Receive, Send}
 use Rattle.qrules.specs.Rule.{Transfer}
 use Rattle.qrules.specs.Past.{ReceivedItem}
-use Rattle.qrules.specs.Private.Facts.{number_of}
-use Rattle.qrules.specs.Private.Facts.{is_for_answer}
 use Rattle.qmodel.specs.OpenCalls.{thread_of}
-use Rattle.qrules.specs.Private.Facts.{is_for_reply}
 use Rattle.qrules.specs.Private.Cancelling.{is_on}
 
 -- ---- a call by itself

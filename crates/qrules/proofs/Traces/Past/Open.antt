@@ -4,31 +4,20 @@ use Rattle.std.specs.Prelude.{Option, None, Some, not}
 use Rattle.std.specs.Option.{option_map}
 use Rattle.std.proofs.lemmas.Option.{same_Some, none-some}
 use Rattle.qtables.specs.declared.member.Member.{Member}
-use Rattle.qrules.specs.Private.Past.{items_by_now, call_by_now, is_ended, newest_block, unless_ended, open_call, copied_count_of, priority_of_item, unblocked_among, items}
-use Rattle.qmodel.specs.Trace.{Trace}
+use Rattle.qrules.specs.Private.Past.{items_by_now, call_by_now, is_ended, newest_block, unless_ended, open_call, copied_count_of, priority_of_item, unblocked_among, items, block, with_receipt, filled, with_writes, item_of}
+use Rattle.qmodel.specs.Trace.{Trace, SentItem}
 use Rattle.qmodel.specs.declared.open_call.OpenCall.{OpenCall}
 use Rattle.qmodel.specs.declared.open_call.Receipt.{Receipt}
 use Rattle.qmodel.specs.declared.open_call.OpenCall.TheVariants.{Receive, Send}
 use Rattle.qrules.proofs.Traces.Past.Laws.{is_settled}
 use Rattle.qrules.proofs.Traces.Calls.{call_laws}
-use Rattle.qrules.specs.Private.Past.{block}
-use Rattle.qrules.specs.Private.Past.{with_receipt}
-use Rattle.qrules.specs.Private.Past.{filled}
 use Rattle.qrules.proofs.Traces.Past.Numbers.{block_asked, block_below, block_fresh, block_thread}
-use Rattle.qrules.proofs.Traces.Past.CurrentPriority.{among_now}
+use Rattle.qrules.proofs.Traces.Past.CurrentPriority.{among_now, now}
 use Rattle.qrules.proofs.Traces.Past.Items.{found_earlier, found_there}
-use Rattle.qmodel.specs.OpenCalls.{thread_of}
-use Rattle.qrules.specs.Private.Facts.{is_for_answer}
-use Rattle.qmodel.specs.OpenCalls.{number_of}
-use Rattle.qmodel.specs.Trace.{SentItem}
-use Rattle.qrules.specs.Private.Facts.{with_buffer}
-use Rattle.qrules.specs.Private.Past.{with_writes}
-use Rattle.qrules.specs.Past.{channel_of}
-use Rattle.qrules.specs.Private.Facts.{held_call}
-use Rattle.qrules.specs.Past.{item_among}
+use Rattle.qmodel.specs.OpenCalls.{thread_of, number_of}
+use Rattle.qrules.specs.Private.Facts.{is_for_answer, with_buffer, held_call}
+use Rattle.qrules.specs.Past.{channel_of, item_among}
 use Rattle.qbase.proofs.Lists.{none_of}
-use Rattle.qrules.specs.Private.Past.{item_of}
-use Rattle.qrules.proofs.Traces.Past.CurrentPriority.{now}
 use Rattle.qrules.specs.Private.Cancelling.{is_on}
 
 -- ---- open calls

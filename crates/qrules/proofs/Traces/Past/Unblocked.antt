@@ -9,10 +9,9 @@ use Rattle.std.proofs.Math.Bool.{and-false, or-true, or-false}
 use Rattle.qtables.specs.declared.member.Member.{Member}
 use Rattle.qrules.specs.Private.Effects.{makes, unblocks}
 use Rattle.qrules.specs.Private.Lawful.{facts_of}
-use Rattle.qrules.specs.Private.Past.{is_received, is_unblock_for, item_of, items, open_call, priority_of_item, copied_count_among, copied_count_of, unblocked_among}
-use Rattle.qmodel.specs.Trace.{SentItem}
-use Rattle.qrules.specs.Private.Step.{after_unblock, unblocked_call}
-use Rattle.qmodel.specs.Trace.{Event, Trace}
+use Rattle.qrules.specs.Private.Past.{is_received, is_unblock_for, item_of, items, open_call, priority_of_item, copied_count_among, copied_count_of, unblocked_among, with_receipt, filled}
+use Rattle.qmodel.specs.Trace.{SentItem, Event, Trace}
+use Rattle.qrules.specs.Private.Step.{after_unblock, unblocked_call, held_call}
 use Rattle.qmodel.specs.declared.call.Call.{Call}
 use Rattle.qmodel.specs.declared.open_call.OpenCall.{OpenCall}
 use Rattle.qmodel.specs.declared.open_call.OpenCall.TheVariants.{Receive, Send}
@@ -23,12 +22,8 @@ use Rattle.qrules.proofs.Traces.Past.Numbers.{block_fresh}
 use Rattle.qrules.proofs.Traces.Past.Open.{IsOpen, filled_answer, filled_settled, open_below, open_parts, open_thread, is_unblocked}
 use Rattle.qrules.proofs.Traces.Past.Items.{item_accepted}
 use Rattle.qrules.proofs.Traces.Past.CurrentPriority.{unblocked_among_now}
-use Rattle.qrules.specs.Private.Past.{with_receipt}
-use Rattle.qrules.specs.Private.Step.{held_call}
 use Rattle.qmodel.specs.OpenCalls.{number_of}
-use Rattle.qrules.specs.Private.Facts.{is_for_reply}
-use Rattle.qrules.specs.Private.Facts.{is_for_answer}
-use Rattle.qrules.specs.Private.Past.{filled}
+use Rattle.qrules.specs.Private.Facts.{is_for_reply, is_for_answer}
 
 -- ---- what is held is taken
 

@@ -1,5 +1,5 @@
 -- A call that is accepted ends in its own event, or its thread waits.
-use Rattle.std.proofs.Common.{◌≡◌, ◌∙◌, ℕ, List, [], ◌∷◌, refl, ap, sym, cond, eqb, true, false}
+use Rattle.std.proofs.Common.{◌≡◌, ◌∙◌, ℕ, List, [], ◌∷◌, refl, ap, sym, cond, eqb, true, false, Bool}
 use Rattle.std.specs.Prelude.{Option, None, Some, is_some, ◌||◌}
 use Rattle.std.specs.Option.{option_map}
 use Rattle.std.proofs.lemmas.Bool.{true≢false}
@@ -17,7 +17,6 @@ use Rattle.qbase.proofs.Lists.{eqb_same, is_among, some_of}
 use Rattle.qrules.proofs.Traces.Calls.Held.{has_sender, held_for}
 use Rattle.qrules.proofs.Traces.Past.Laws.{Passes}
 use Rattle.qrules.proofs.Traces.Rosters.{among_member}
-use Rattle.std.proofs.Common.{Bool}
 
 -- ---- what is told of a held message
 
