@@ -1,33 +1,32 @@
 -- The laws of the calls that threads wait in.
-use Rattle.std.proofs.Common.{◌+◌, ◌≡◌, ◌∙◌, ◌↔◌, ◌<◌, ◌≤◌, ℕ, List, [], ◌∷◌, length, refl, ap, sym, subst, cond, arith, Bool, true, false, inl, inr, eqb, option_and_then, option_map}
-use Rattle.std.specs.Prelude.{None, Some, is_some, nat_lt, ◌||◌, filter, fold}
+use Rattle.std.proofs.Common.{◌+◌, ◌≡◌, ◌∙◌, ◌<◌, ◌≤◌, ℕ, List, [], ◌∷◌, length, refl, ap, sym, subst, cond, arith, Bool, true, false, inl, inr, eqb, option_and_then, option_map}
+use Rattle.std.specs.Prelude.{None, Some, is_some, nat_lt, ◌||◌, filter, fold, Option, not, ◌&&◌}
 use Rattle.std.specs.List.{AllByRecursion, reduce}
 use Rattle.std.specs.Option.{option_map_or}
 use Rattle.std.proofs.lemmas.Bool.{false_from_ne_true, ltb-true, ltb-false, true≢false, eqb-true}
 use Rattle.std.proofs.lemmas.Option.{none-some, same_Some}
-use Rattle.std.proofs.Math.Bool.{or-false}
+use Rattle.std.proofs.Math.Bool.{or-false, and-true}
 use Rattle.qbase.specs.declared.errno.Errno.TheVariants.{Srch}
 use Rattle.qtables.specs.Members.{IsRoster}
 use Rattle.qtables.specs.declared.member.Member.{Member}
 use Rattle.qrules.specs.Private.Cancelling.{cancel_where, cancels}
 use Rattle.qrules.specs.Private.Effects.{shuts_down}
-use Rattle.qrules.specs.Private.Facts.{Facts as OldFacts, is_for_reply}
-use Rattle.qrules.proofs.Traces.TraceLaws.Held.{IsHeldSend}
+use Rattle.qrules.specs.Private.Facts.{Facts as OldFacts}
 use Rattle.qrules.specs.Private.Lawful as old
-use Rattle.qrules.specs.Private.Past.{is_down, accepted_at, open_call, block, item_of}
+use Rattle.qrules.specs.Private.Past.{is_down, accepted_at, open_call, block, item_of, call_by_now, copied_count_of, is_received}
 use Rattle.qrules.specs.Private.Step.{open_call_after, unless}
-use Rattle.qmodel.specs.Trace.{Trace}
+use Rattle.qmodel.specs.Trace.{Trace, SentItem}
 use Rattle.qmodel.specs.declared.call.Call.{Call}
 use Rattle.qmodel.specs.declared.call.Call.TheVariants as calls
 use Rattle.qmodel.specs.declared.open_call.OpenCall.TheVariants.{Receive, Send}
 use Rattle.qrules.proofs.Traces.Past.Ends.{passes_of}
 use Rattle.qrules.proofs.Traces.Past.Follows.{past_follows}
-use Rattle.qrules.proofs.Traces.TraceLaws.Held as held
+use Rattle.qrules.proofs.Traces.TraceLaws.Held.{held_sender}
+use Rattle.qrules.proofs.Traces.Past.Waits.{some_map, may_wait}
 use Rattle.qrules.proofs.Traces.TraceLaws.Lengths.{open_calls_keep_length}
 use Rattle.qmodel.specs.Buffers.{buffer_of}
 use Rattle.qrules.specs.Trace.{call_at}
 use Rattle.qrules.proofs.Traces.TraceLaws.Unended.{asks_any, unended_newest}
-use Rattle.qrules.proofs.Traces.Past.Waits.{may_wait}
 use Rattle.qrules.specs.Past.{waiter, is_ended, channel_of}
 use Rattle.qbase.proofs.Lists.{all_passing, eqb_same}
 use Rattle.qrules.proofs.Traces.Past.LiveSends.{over_attached}
@@ -37,7 +36,7 @@ use Rattle.qrules.proofs.Traces.Properties.Waiting.{nothing_for}
 use Rattle.qrules.specs.Delivery.{newer}
 use Rattle.qrules.specs.Facts.{open_send, receive_of, Facts, OpenReceive, OpenSend, open_receives, receive_in, OpenCall, number_of}
 use Rattle.qrules.specs.Lawful.{facts_of}
-use Rattle.qrules.proofs.Messages.{send_cases, NoSend, OneSend}
+use Rattle.qrules.proofs.Messages.{send_cases}
 use Rattle.qrules.proofs.Outcomes.{same_buffer}
 use Rattle.qlaws.specs.OpenCalls as laws
 use Rattle.qlaws.proofs.Lists.{all_unfilter}
@@ -97,35 +96,29 @@ open_sends_are_routed roster past r lawful =
       is_open = waits_on_open roster past r l u (Send s) s.channel is (eqb_same s.channel);
     })
 
--- whether the Send of a held message has a receipt
-abbrev has_receipt : Facts → ℕ → Bool
-has_receipt f i = option_map_or (λ s. is_some s.receipt) (open_send f i) false
+-- a Send has a receipt exactly if its message is received
+abbrev TellsReceipt : Trace → OpenCall → Type 0
+TellsReceipt past (Send s) = is_received past s.number ≡ is_some s.receipt
+TellsReceipt past (Receive r) = Unit {0}
 
-module _ (roster : List Member) (past : Trace) (i : ℕ) (law : (laws.is_held past i ≡ true) ↔ IsHeldSend roster past i) where
-  abbrev facts : OldFacts
-  facts = old.facts_of roster past
+by_now : (past : Trace) (made : List SentItem) (o : Option OpenCall) (x : OpenCall) → option_map (call_by_now past made) o ≡ Some x → TellsReceipt past x
+by_now past made None x e = absurd (none-some x e)
+by_now past made (Some (Send s)) x e = subst (TellsReceipt past) (same_Some _ x e) (sym (some_map _ (copied_count_of past s.number)))
+by_now past made (Some (Receive r)) x e = subst (TellsReceipt past) (same_Some _ x e) tt
 
-  no_send : NoSend facts i → laws.is_held past i ≡ false
-  no_send k = false_from_ne_true _ (λ held. none-some _ (sym k.none ∙ (law.0 held).is_sender))
-
-  one_send : (k : OneSend facts i) → laws.is_held past i ≡ is_some k.send.receipt
-  one_send k =
-      elim (is_some k.send.receipt) as (λ b. is_some k.send.receipt ≡ b → laws.is_held past i ≡ b) [
-        | true ↦ λ received. law.1 (record { thread = k.thread; waiting = Send k.send; is_sender = k.sent; is_open = k.is; received = received })
-        | false ↦ λ unread. false_from_ne_true _ (λ held.
-            let h = law.0 held in
-            let thread : k.thread ≡ h.thread = same_Some _ _ (sym k.sent ∙ h.is_sender) in
-            let waiting : Send k.send ≡ h.waiting = same_Some _ _ (sym k.is ∙ ap (open_call roster past) thread ∙ h.is_open) in
-            true≢false (sym h.received ∙ ap is_for_reply (sym waiting) ∙ unread))
-      ] refl
+held_so : (roster : List Member) (past : Trace) (u : ℕ) (s : OpenSend) → open_call roster past u ≡ Some (Send s) → laws.is_held past s.number ≡ is_some s.receipt
+held_so roster past u s is =
+    let k = open_parts roster past u (Send s) is in
+    let going : is_ended past s.number ≡ false = subst (λ i. is_ended past i ≡ false) (sym k.number) k.going in
+    ap (λ b. is_received past s.number && not b) going ∙ and-true (is_received past s.number) ∙ by_now past _ _ (Send s) is
 
 pub held_is_open_send : laws.HeldIsOpenSend
 held_is_open_send roster past r l i =
-    let law = held.held_is_held_send roster past r (before roster past l) i in
-    let f : OldFacts = old.facts_of roster past in
-    elim (send_cases f i) as (λ k. laws.is_held past i ≡ has_receipt f i) [
-      | inl k ↦ no_send roster past i law k ∙ ap (λ o. option_map_or (λ (s : OpenSend). is_some s.receipt) o false) (sym k.new)
-      | inr k ↦ one_send roster past i law k ∙ ap (λ o. option_map_or (λ (s : OpenSend). is_some s.receipt) o false) (sym k.new)
+    let f = facts_of roster past in
+    let tells = λ (o : Option OpenSend). option_map_or (λ s. is_some s.receipt) o false in
+    elim (send_cases f i) as (λ k. laws.is_held past i ≡ tells (open_send f i)) [
+      | inl k ↦ false_from_ne_true _ (λ held. none-some _ (sym k.none ∙ (held_sender roster past r (before roster past l) i held).is_sender)) ∙ ap tells (sym k.new)
+      | inr k ↦ ap (laws.is_held past) (sym k.number) ∙ held_so roster past k.thread k.send k.is ∙ ap tells (sym k.new)
     ]
 
 -- ---- receives

@@ -36,11 +36,11 @@ held_is_taken roster past u o k w s =
       | Some copied ↦ λ same. refl
     ] k.same
 
-pub reply_answer : (o : OpenCall) → is_for_reply o ≡ true → is_for_answer o ≡ true
+reply_answer : (o : OpenCall) → is_for_reply o ≡ true → is_for_answer o ≡ true
 reply_answer (Send s) e = refl
 reply_answer (Receive r) e = absurd (true≢false (sym e))
 
-pub reply_settled : (o : OpenCall) → is_for_reply o ≡ true → is_settled o ≡ true
+reply_settled : (o : OpenCall) → is_for_reply o ≡ true → is_settled o ≡ true
 reply_settled (Send s) e = e
 reply_settled (Receive r) e = refl
 
