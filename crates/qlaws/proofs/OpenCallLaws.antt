@@ -13,16 +13,16 @@ use Rattle.qrules.specs.Private.Cancelling.{cancel_where, cancels}
 use Rattle.qrules.specs.Private.Effects.{shuts_down}
 use Rattle.qrules.specs.Private.Facts.{Facts as OldFacts}
 use Rattle.qrules.specs.Private.Lawful as old
-use Rattle.qrules.specs.Private.Past.{is_down, accepted_at, open_call, block, item_of, call_by_now, copied_count_of, is_received}
+use Rattle.qrules.specs.Private.Past.{is_down, accepted_at, open_call, block, item_of, is_received}
 use Rattle.qrules.specs.Private.Step.{open_call_after, unless}
-use Rattle.qmodel.specs.Trace.{Trace, SentItem}
+use Rattle.qmodel.specs.Trace.{Trace}
 use Rattle.qmodel.specs.declared.call.Call.{Call}
 use Rattle.qmodel.specs.declared.call.Call.TheVariants as calls
 use Rattle.qmodel.specs.declared.open_call.OpenCall.TheVariants.{Receive, Send}
 use Rattle.qrules.proofs.Traces.Past.Ends.{passes_of}
 use Rattle.qrules.proofs.Traces.Past.Follows.{past_follows}
 use Rattle.qrules.proofs.Traces.TraceLaws.Held.{held_sender}
-use Rattle.qrules.proofs.Traces.Past.Waits.{some_map, may_wait}
+use Rattle.qrules.proofs.Traces.Past.Waits.{may_wait}
 use Rattle.qrules.proofs.Traces.TraceLaws.Lengths.{open_calls_keep_length}
 use Rattle.qmodel.specs.Buffers.{buffer_of}
 use Rattle.qrules.specs.Trace.{call_at}
@@ -41,7 +41,7 @@ use Rattle.qrules.proofs.Outcomes.{same_buffer}
 use Rattle.qlaws.specs.OpenCalls as laws
 use Rattle.qlaws.proofs.Lists.{all_unfilter}
 use Rattle.qlaws.proofs.Waits.{all_receives, all_sends, before}
-use Rattle.qrules.proofs.Traces.Past.Open.{open_own, open_parts, open_from, kept_number}
+use Rattle.qrules.proofs.Traces.Past.Open.{open_receipt, open_own, open_parts, open_from, kept_number}
 
 -- ---- at most one for each thread
 
@@ -96,21 +96,11 @@ open_sends_are_routed roster past r lawful =
       is_open = waits_on_open roster past r l u (Send s) s.channel is (eqb_same s.channel);
     })
 
--- a Send has a receipt exactly if its message is received
-abbrev TellsReceipt : Trace → OpenCall → Type 0
-TellsReceipt past (Send s) = is_received past s.number ≡ is_some s.receipt
-TellsReceipt past (Receive r) = Unit {0}
-
-by_now : (past : Trace) (made : List SentItem) (o : Option OpenCall) (x : OpenCall) → option_map (call_by_now past made) o ≡ Some x → TellsReceipt past x
-by_now past made None x e = absurd (none-some x e)
-by_now past made (Some (Send s)) x e = subst (TellsReceipt past) (same_Some _ x e) (sym (some_map _ (copied_count_of past s.number)))
-by_now past made (Some (Receive r)) x e = subst (TellsReceipt past) (same_Some _ x e) tt
-
 held_so : (roster : List Member) (past : Trace) (u : ℕ) (s : OpenSend) → open_call roster past u ≡ Some (Send s) → laws.is_held past s.number ≡ is_some s.receipt
 held_so roster past u s is =
     let k = open_parts roster past u (Send s) is in
     let going : is_ended past s.number ≡ false = subst (λ i. is_ended past i ≡ false) (sym k.number) k.going in
-    ap (λ b. is_received past s.number && not b) going ∙ and-true (is_received past s.number) ∙ by_now past _ _ (Send s) is
+    ap (λ b. is_received past s.number && not b) going ∙ and-true (is_received past s.number) ∙ open_receipt roster past u s is
 
 pub held_is_open_send : laws.HeldIsOpenSend
 held_is_open_send roster past r l i =

@@ -43,11 +43,6 @@ abbrev pub is_for_receipt : OpenCall → Bool
 is_for_receipt (Send s) = not (is_some s.receipt)
 is_for_receipt (Receive r) = false
 
--- the open call is a Send whose message is received
-abbrev pub is_for_reply : OpenCall → Bool
-is_for_reply (Send s) = is_some s.receipt
-is_for_reply (Receive r) = false
-
 -- there is an open call, and it is the Send of number i
 abbrev pub is_send : ReceiveId → Option OpenCall → Bool
 is_send i call = option_map_or (λ o. (number_of o == i) && is_for_answer o) call false

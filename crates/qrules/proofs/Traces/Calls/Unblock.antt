@@ -84,7 +84,7 @@ call_laws thread = record {
   unblocks_one = λ v is f t m e.
       let k = due_parts f (f.open_call thread) m (sym (unblock_same f thread) ∙ e) in
       record {
-        waiting = Send k.send;
+        send = k.send;
         is = ap f.open_call (sym (same_Some thread v is)) ∙ k.is;
         held = ap is_some k.held;
         what = ap (λ x. x.item.what) (sym k.made);
