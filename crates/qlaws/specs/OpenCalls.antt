@@ -9,10 +9,11 @@ use Rattle.qrules.specs.Facts.{OpenReceive, OpenSend}
 use Rattle.qrules.specs.Rule.{buffer_of, SentItem}
 use Rattle.qrules.specs.Rules.{effect_of}
 use Rattle.qrules.specs.Delivery.{newest_receiver}
-use Rattle.qrules.specs.Past.{accepted_at, is_ended, is_received, waiter, was_done}
+use Rattle.qrules.specs.Past.{accepted_at, is_ended, is_received, was_done}
 use Rattle.qrules.specs.Lawful.{facts_of}
 use Rattle.qlaws.specs.Lawful.{AfterEach}
 pub use Rattle.qrules.specs.Facts.{waiting_number}
+pub use Rattle.qrules.specs.Past.{waiter}
 
 -- ---- at most one for each thread
 

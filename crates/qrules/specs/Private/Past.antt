@@ -68,7 +68,8 @@ filled past o = with_buffer (with_writes past (number_of o)) o
 -- an open call with the record of its message's receipt, if there was one
 abbrev pub with_receipt : Priority → Bool → Option ℕ → OpenCall → OpenCall
 with_receipt priority unblocked copied o =
-    option_map_or (λ n. held_call (record { priority = priority; copied = n; unblocked = unblocked }) o) copied o
+    option_map_or (λ n. held_call (record { priority = priority; copied = n; unblocked = unblocked }) o)
+    copied o
 
 -- one of these items is an unblock pulse for message i
 abbrev pub unblocked_among : List SentItem → ReceiveId → Bool

@@ -79,8 +79,8 @@ after_unblock m (Some thread) u o = if (u == thread) && is_some m then option_ma
 abbrev pub unless : Bool → Option OpenCall → Option OpenCall
 unless b o = if b then None else o
 
--- what the caller t, which is thread u, waits for after its call with this row: its request, with the receipt if the message is
--- received at once; nothing if the call has ended
+-- what the caller t, which is thread u, waits for after its call with this row: its request, with the receipt
+-- if the message is received at once; nothing if the call has ended
 abbrev pub own_call_after : Facts → ThreadNo → Call → Row → ThreadNo → Option OpenCall
 own_call_after f t c row u =
     unless (is_some row.own) (after_receipt row.receipt u (asks f.number t (channel_of (makes f t c)) c))
