@@ -10,6 +10,7 @@ use Rattle.qbase.specs.declared.errno.Errno.TheVariants.{NoMemory, Srch}
 use Rattle.qbase.proofs.Lists.{all_filter_map, all_more}
 use Rattle.qqueue.specs.Best.{is_pulse, may_take}
 use Rattle.qqueue.specs.declared.item.Item.{Item}
+use Rattle.qqueue.specs.declared.item.Kind.{Kind}
 use Rattle.qqueue.specs.declared.item.Kind.TheVariants.{Any, PulseOnly}
 use Rattle.qqueue.proofs.OrderLaws.{best-may}
 use Rattle.qrules.specs.Private.Answer.{ending, refusal_ending}
@@ -23,11 +24,11 @@ use Rattle.qrules.specs.Private.Calls.Send.{item}
 use Rattle.qrules.specs.Private.Calls.Unblock as unblock
 use Rattle.qrules.specs.Private.Cancelling.{is_on}
 use Rattle.qrules.specs.Private.Effects.{asks}
-use Rattle.qrules.specs.Private.Facts.{Facts, message, route, sender, threads_of}
+use Rattle.qrules.specs.Private.Facts.{number_of, with_buffer, Facts, message, route, sender, threads_of}
 use Rattle.qrules.specs.Private.Held.{Finish}
 use Rattle.qrules.specs.Private.Lawful.{facts_of}
-use Rattle.qrules.specs.Private.Past.{call_by_now, wait_with_receipt, with_receipt}
-use Rattle.qrules.specs.Private.Rows.{delivery_of, with_buffer}
+use Rattle.qrules.specs.Private.Past.{filled, with_receipt}
+use Rattle.qrules.specs.Private.Rows.{delivery_of}
 use Rattle.qmodel.specs.Trace.{Trace}
 use Rattle.qmodel.specs.declared.call.Call.{Call}
 use Rattle.qmodel.specs.declared.call.Call.TheVariants.{Send, Receive, Reply, Error, Info, ReceivePulse, Pulse, ChannelDestroy, Shutdown, Unblock, ConnectDetach}
@@ -55,23 +56,26 @@ use Rattle.qcalls.specs.declared.error.CallError.TheVariants.{Unexpected}
 use Rattle.balsaeuchre.specs.Fitting.{fits, reading_of, EndingsFit, FittingIsExpected, NeverUnexpected}
 
 -- the call that waits in this way
-abbrev call_in : Wait → Call
-call_in (Answer coid message reply_buffer receipt) = Send coid message reply_buffer
-call_in (ForItem chid Any buffer) = Receive chid buffer
-call_in (ForItem chid PulseOnly buffer) = ReceivePulse chid
+abbrev receive_call : Kind → ℕ → List ℕ → Call
+receive_call Any chid buffer = Receive chid buffer
+receive_call PulseOnly chid buffer = ReceivePulse chid
+
+abbrev call_in : OpenCall → Call
+call_in (InSend s) = Send s.connection s.message s.reply_buffer
+call_in (InReceive r) = receive_call r.kind r.channel r.buffer
 
 -- ---- the call's own ending
 
-taking_fits : (taken : Item) (bytes buffer : List ℕ) (w : Wait) → (chid : ℕ) (kind : _) (b : List ℕ) → w ≡ ForItem chid kind b → may_take kind taken ≡ true → fits (call_in w) (delivery_of taken bytes buffer).0 ≡ true
-taking_fits taken bytes buffer w chid Any b is may = rw is (elim (is_pulse taken.what) as (λ p. fits (Receive chid b) (cond {A = Mark × List ℕ} p (mark.Pulse taken.number taken.priority taken.what, buffer) (mark.Message taken.number (laid_count buffer 0 bytes), lay_over buffer 0 bytes)).0 ≡ true) [ true ↦ refl | false ↦ refl ])
-taking_fits taken bytes buffer w chid PulseOnly b is may = rw (is, may) refl
+taking_fits : (taken : Item) (bytes buffer : List ℕ) (kind : Kind) (chid : ℕ) (b : List ℕ) → may_take kind taken ≡ true → fits (receive_call kind chid b) (delivery_of taken bytes buffer).0 ≡ true
+taking_fits taken bytes buffer Any chid b may = elim (is_pulse taken.what) as (λ p. fits (Receive chid b) (cond {A = Mark × List ℕ} p (mark.Pulse taken.number taken.priority taken.what, buffer) (mark.Message taken.number (laid_count buffer 0 bytes), lay_over buffer 0 bytes)).0 ≡ true) [ true ↦ refl | false ↦ refl ]
+taking_fits taken bytes buffer PulseOnly chid b may = rw may refl
 
 own_fits : (f : Facts) (t : ℕ) (c : Call) (y : Completion) → (row_of f t c).own ≡ Some y → fits c y.mark ≡ true
 own_fits f t (Send coid message reply_buffer) y e = absurd (none-some y e)
 own_fits f t (Receive chid buffer) y e = let k = receive_takes f t chid Any buffer y e in
-    ap (λ x. fits (Receive chid buffer) x.mark) (sym k.ending) ∙ taking_fits k.item _ buffer (ForItem chid Any buffer) chid Any buffer refl refl
+    ap (λ x. fits (Receive chid buffer) x.mark) (sym k.ending) ∙ taking_fits k.item _ buffer Any chid buffer refl
 own_fits f t (ReceivePulse chid) y e = let k = receive_takes f t chid PulseOnly [] y e in
-    ap (λ x. fits (ReceivePulse chid) x.mark) (sym k.ending) ∙ taking_fits k.item _ [] (ForItem chid PulseOnly []) chid PulseOnly [] refl (best-may PulseOnly (f.pending chid) k.item k.best)
+    ap (λ x. fits (ReceivePulse chid) x.mark) (sym k.ending) ∙ taking_fits k.item _ [] PulseOnly chid [] (best-may PulseOnly (f.pending chid) k.item k.best)
 own_fits f t (Info rcvid) y e = told (info_of f (sender f rcvid)) e where
   told : (o : Option Told) → option_map (info_ending f.number t) o ≡ Some y → fits (Info rcvid) y.mark ≡ true
   told None e = absurd (none-some y e)
@@ -82,21 +86,22 @@ own_fits f t c y e = ap (λ x. fits c x.mark) (sym (same_Some _ y e))
 
 -- the ending fits what thread u waits for
 abbrev FitsOpen : Facts → ℕ → Completion → Type 0
-FitsOpen f u y = (o : OpenCall) → f.open_call u ≡ Some o → fits (call_in o.wait) y.mark ≡ true
+FitsOpen f u y = (o : OpenCall) → f.open_call u ≡ Some o → fits (call_in o) y.mark ≡ true
 
 met_fits : (f : Facts) (o : Option ℕ) (taken : Item) (bytes : List ℕ) (u : ℕ) (y : Completion) → Delivers f o taken bytes u y → FitsOpen f u y
 met_fits f o taken bytes u y k w is =
-    ap (λ x. fits (call_in w.wait) x.mark) (sym k.ending)
-    ∙ taking_fits taken bytes k.buffer w.wait k.channel k.kind k.buffer (ap (λ v. v.wait) (same_Some _ _ (sym is ∙ k.is_open)) ∙ k.waits) k.may
+    ap (λ x. fits (call_in w) x.mark) (sym k.ending)
+    ∙ ap (λ v. fits (call_in v) (delivery_of taken bytes k.receive.buffer).0) (same_Some _ _ (sym is ∙ k.is_open))
+    ∙ taking_fits taken bytes k.receive.buffer k.receive.kind k.receive.channel k.receive.buffer k.may
 
-failed_fits : (w : Wait) (m : Mark) (errno : _) → mark.Failed errno ≡ m → fits (call_in w) m ≡ true
+failed_fits : (w : OpenCall) (m : Mark) (errno : _) → mark.Failed errno ≡ m → fits (call_in w) m ≡ true
 failed_fits w m errno e = ap (fits (call_in w)) (sym e)
 
 answered_fits : (f : Facts) (t rcvid : ℕ) (finish : Finish) (u : ℕ) (y : Completion) → ((coid : ℕ) (m b : List ℕ) → fits (Send coid m b) (finish b).0 ≡ true) → SenderEnds f t rcvid finish u y → FitsOpen f u y
 answered_fits f t rcvid finish u y any k w is =
-    ap (λ x. fits (call_in w.wait) x.mark) (sym k.ending)
-    ∙ ap (λ v. fits (call_in v) (finish k.held.reply_buffer).0) (ap (λ v. v.wait) (same_Some _ _ (sym is ∙ k.held.is_open)) ∙ k.held.waits)
-    ∙ any k.held.coid k.held.message k.held.reply_buffer
+    ap (λ x. fits (call_in w) x.mark) (sym k.ending)
+    ∙ ap (λ v. fits (call_in v) (finish k.held.send.reply_buffer).0) (same_Some _ _ (sym is ∙ k.held.is_open))
+    ∙ any k.held.send.connection k.held.send.message k.held.send.reply_buffer
 
 error_fits : (code : ℤ) (coid : ℕ) (m b : List ℕ) → fits (Send coid m b) (mark_of code) ≡ true
 error_fits code coid m b = elim (int_eq code (pos 0)) as (λ z. fits (Send coid m b) (cond z (mark.Replied (pos 0) 0) (mark.Errored code)) ≡ true) [ true ↦ refl | false ↦ refl ]
@@ -107,36 +112,34 @@ ends_fits f t (Reply rcvid status bytes) u y p e = answered_fits f t rcvid (repl
 ends_fits f t (Error rcvid code) u y p e = answered_fits f t rcvid (error_finish code) u y (error_fits code) (sender_ends f t rcvid (error_finish code) u y p.row e)
 ends_fits f t (Pulse coid priority code value) u y p e =
     let k = told_meets f (pulse.sent_pulse f coid priority code value) u y e in met_fits f (Some k.made.channel) k.made.item [] u y k.delivers
-ends_fits f t (ChannelDestroy chid) u y p e = λ w is. failed_fits w.wait y.mark _ (ap (λ x. x.mark) (cancel_parts (is_on f.connection chid) Srch u (f.open_call u) y e).ending)
-ends_fits f t Shutdown u y p e = λ w is. failed_fits w.wait y.mark _ (ap (λ x. x.mark) (cancel_parts (λ wait. true) Srch u (f.open_call u) y e).ending)
+ends_fits f t (ChannelDestroy chid) u y p e = λ w is. failed_fits w y.mark _ (ap (λ x. x.mark) (cancel_parts (is_on chid) Srch u (f.open_call u) y e).ending)
+ends_fits f t Shutdown u y p e = λ w is. failed_fits w y.mark _ (ap (λ x. x.mark) (cancel_parts (λ wait. true) Srch u (f.open_call u) y e).ending)
 ends_fits f t (Unblock thread) u y p e = elim (unblock_ends f thread u y (unblock.due_pulse f thread) e) [
-  | inl cut ↦ λ w is. failed_fits w.wait y.mark _ (ap (λ x. x.mark) cut.ending)
+  | inl cut ↦ λ w is. failed_fits w y.mark _ (ap (λ x. x.mark) cut.ending)
   | inr k ↦ met_fits f (Some k.made.channel) k.made.item [] u y k.delivers
 ]
 ends_fits f t (ConnectDetach coid) u y p e = elim (detach_ends f coid (connect_detach.due_pulse f t coid) u y e) [
-  | inl cut ↦ λ w is. failed_fits w.wait y.mark _ (ap (λ x. x.mark) cut.ending)
+  | inl cut ↦ λ w is. failed_fits w y.mark _ (ap (λ x. x.mark) cut.ending)
   | inr s ↦ let k = told_meets f (connect_detach.due_pulse f t coid) u y s in met_fits f (Some k.made.channel) k.made.item [] u y k.delivers
 ]
 ends_fits f t c u y p e = absurd (none-some y e)
 
 -- ---- the call that is open
 
-asked_fits : (n : ℕ) (c : Call) (b : OpenCall) (m : Mark) → asks n c ≡ Some b → fits c m ≡ fits (call_in b.wait) m
-asked_fits n (Send coid message reply_buffer) b m e = ap (λ o. fits (call_in o.wait) m) (same_Some _ b e)
-asked_fits n (Receive chid buffer) b m e = ap (λ o. fits (call_in o.wait) m) (same_Some _ b e)
-asked_fits n (ReceivePulse chid) b m e = ap (λ o. fits (call_in o.wait) m) (same_Some _ b e)
-asked_fits n c b m e = absurd (none-some b e)
+asked_fits : (n t h : ℕ) (c : Call) (b : OpenCall) (m : Mark) → asks n t h c ≡ Some b → fits c m ≡ fits (call_in b) m
+asked_fits n t h (Send coid message reply_buffer) b m e = ap (λ o. fits (call_in o) m) (same_Some _ b e)
+asked_fits n t h (Receive chid buffer) b m e = ap (λ o. fits (call_in o) m) (same_Some _ b e)
+asked_fits n t h (ReceivePulse chid) b m e = ap (λ o. fits (call_in o) m) (same_Some _ b e)
+asked_fits n t h c b m e = absurd (none-some b e)
 
-filled_fits : (change : List ℕ → List ℕ) (w : Wait) (m : Mark) → fits (call_in w) m ≡ fits (call_in (with_buffer change w)) m
-filled_fits change (Answer coid message reply_buffer receipt) m = refl
-filled_fits change (ForItem chid kind buffer) m = refl
+filled_fits : (change : List ℕ → List ℕ) (o : OpenCall) (m : Mark) → fits (call_in o) m ≡ fits (call_in (with_buffer change o)) m
+filled_fits change (InSend s) m = refl
+filled_fits change (InReceive r) m = refl
 
-received_fits : (priority : ℕ) (unblocked : Bool) (copied : Option ℕ) (o : OpenCall) (m : Mark) → fits (call_in o.wait) m ≡ fits (call_in (with_receipt priority unblocked copied o).wait) m
+received_fits : (priority : ℕ) (unblocked : Bool) (copied : Option ℕ) (o : OpenCall) (m : Mark) → fits (call_in o) m ≡ fits (call_in (with_receipt priority unblocked copied o)) m
 received_fits priority unblocked None o m = refl
-received_fits priority unblocked (Some copied) o m = elim (o.wait) as (λ w. fits (call_in w) m ≡ fits (call_in (wait_with_receipt (record { priority = priority; copied = copied; unblocked = unblocked }) w)) m) [
-  | Answer coid message reply_buffer receipt ↦ refl
-  | ForItem chid kind buffer ↦ refl
-]
+received_fits priority unblocked (Some copied) (InSend s) m = refl
+received_fits priority unblocked (Some copied) (InReceive r) m = refl
 
 -- what is known of the ending of call i
 of_call : (past : Trace) (x : Completion) (i : ℕ) (c : Call) → x.call ≡ i → call_at past i ≡ Some c → fits c x.mark ≡ true → option_map (λ c. fits c x.mark) (call_at past x.call) ≡ Some true
@@ -152,10 +155,10 @@ endings_fit roster past e r l =
             | inl own ↦ of_call (e ∷ past) y (length past + 1) e.call own.names.call (call_newest e past) (own_fits f e.thread e.call y own.is)
             | inr other ↦
                 let k = open_parts roster past v other.names.waiting other.names.is in
-                let asked = block_asked past v k.block k.is in
-                of_call (e ∷ past) y k.block.number asked.call (other.names.call ∙ k.number) (call_earlier e past k.block.number (block_below past v k.block k.is) ∙ asked.is)
-                (asked_fits k.block.number asked.call k.block y.mark asked.asks_it
-                ∙ filled_fits _ k.block.wait y.mark ∙ received_fits _ _ _ (call_by_now past k.block) y.mark ∙ ap (λ o. fits (call_in o.wait) y.mark) (sym k.same)
+                let asked = block_asked roster past v k.block k.is in
+                of_call (e ∷ past) y (number_of k.block) asked.call (other.names.call ∙ k.number) (call_earlier e past (number_of k.block) (block_below roster past v k.block k.is) ∙ asked.is)
+                (asked_fits (number_of k.block) v asked.channel asked.call k.block y.mark asked.asks_it
+                ∙ filled_fits _ k.block y.mark ∙ received_fits _ _ _ (filled past k.block) y.mark ∙ ap (λ o. fits (call_in o) y.mark) (sym k.same)
                 ∙ ends_fits f e.thread e.call v y (passes_of f e.thread e.call e.endings a) other.is other.names.waiting other.names.is)
           ]))
       | inr a ↦ subst (AllByRecursion P) (sym a.2) (of_call (e ∷ past) (refusal_ending f e.thread e.call a.0) (length past + 1) e.call refl (call_newest e past) refl, tt)

@@ -57,7 +57,7 @@ use Rattle.qrules.proofs.Traces.Properties.Receipts.{ending_of}
 use Rattle.qrules.proofs.Traces.Properties.Rows.Delivering.{Delivers, delivery_meets}
 use Rattle.qrules.proofs.Traces.Properties.Rows.Receiving.{receive_takes}
 use Rattle.qrules.proofs.Traces.Properties.Rows.Telling.{Tells, told_meets, unblock_ends}
-use Rattle.qrules.proofs.Traces.TraceLaws.Held.{held_is_held_send}
+use Rattle.qrules.proofs.Traces.TraceLaws.Held.{held_sender}
 use Rattle.qrules.specs.Past.{ReceivedItem}
 use Rattle.qrules.proofs.Traces.Due.{unblock_same}
 
@@ -201,7 +201,7 @@ held_told : (roster : List Member) (past : Trace) (i copied : ℕ) → IsRoster 
 held_told roster past i copied rises l going count =
     let f = facts_of roster past in
     let taken : is_some (copied_count_of past i) ≡ true = rw count refl in
-    let h = (held_is_held_send roster past rises l i).0 (and_from (is_some (copied_count_of past i)) (not (is_ended past i)) taken (not_from_false (is_ended past i) going)) in
+    let h = held_sender roster past rises l i (and_from (is_some (copied_count_of past i)) (not (is_ended past i)) taken (not_from_false (is_ended past i) going)) in
     let s = sender_sends (λ u. open_call roster past u) i (threads_of roster) h.thread h.is_sender in
     let k = open_parts roster past h.thread s.waiting s.is in
     let number : number_of k.block ≡ i = sym k.number ∙ s.number in

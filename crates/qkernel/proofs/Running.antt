@@ -8,7 +8,6 @@ use Rattle.qmodel.specs.declared.call.Completion.{Completion}
 use Rattle.qstate.specs.declared.thread.Thread.{Thread}
 use Rattle.qkernel.specs.EventLog.{Logged, with_next}
 use Rattle.qkernel.specs.Run.{RunsAtTraces, AllKnown, Headline}
-use Rattle.qrules.specs.Private.Lawful as old_lawful
 use Rattle.qrules.specs.Lawful.{event_call}
 use Rattle.qrules.specs.Trace.{followed_by}
 use Rattle.qkernel.specs.Stands.{AnswersAtTraces}
@@ -17,8 +16,7 @@ use Rattle.qstate.specs.Thread.{blocked_count}
 use Rattle.qstate.specs.Kept.{members_of}
 use Rattle.qmodel.specs.Trace.{Event, Trace}
 use Rattle.qrules.proofs.Traces.OnlyRun.{only_run}
-use Rattle.qkernel.proofs.Traces.{before, followed_push, properties_of, stands_roster}
-use Rattle.qrules.proofs.Lawful.{same_followed, same_only_run}
+use Rattle.qkernel.proofs.Traces.{followed_push, properties_of, stands_roster}
 
 -- ---- events one after another
 
@@ -110,13 +108,12 @@ headline_of old new first events rises is run = λ roster past l st.
     let now = run roster past l st in
     let rising : IsRoster roster = subst IsRoster (stands_roster roster old past st) rises in
     let trace : Trace = followed_by past events in
-    let lawful : old_lawful.IsLawful roster trace = before roster trace now.0 in
     record {
       rising = rising;
       first = is ∙ ap (λ f. f.number) st;
       lawful = now.0;
       properties = properties_of roster trace now.0 rising;
-      only = (same_only_run roster past events).1 (only_run roster past events (subst (old_lawful.IsLawful roster) (same_followed past events) lawful));
+      only = only_run roster past events now.0;
       stands = now.1;
     }
 

@@ -13,7 +13,6 @@ use Rattle.qmodel.specs.declared.call.Mark.TheVariants as mark
 use Rattle.qrules.specs.Private.Answer.{Outcome, ending, refusal_ending}
 use Rattle.qrules.specs.Private.Answer as old_answer
 use Rattle.qrules.specs.Private.Facts.{Facts, threads_of}
-use Rattle.qrules.specs.Private.Laws.{IsOnlyCounted}
 use Rattle.qrules.specs.Private.Lawful.{facts_of, with_event}
 use Rattle.qrules.proofs.Same.{AreOfRoster}
 use Rattle.qrules.proofs.Lawful.{of_roster, same_lawful}
@@ -68,24 +67,21 @@ passed_unfailed f t c X a e is = (subst (AllByRecursion (IsNoFailureOf t)) (sym 
         | inr other ↦ λ at _. eqb-false v t other.thread (sym other.names.thread ∙ at)
       ])
 
--- what is refused leaves all but the count
-refused_counts : (old : State) (t : ℕ) (c : Call) (X : List Completion) (new : State) → Steps old t c X new → (e : Errno) → X ≡ refusal_ending (facts_in old) t c e ∷ [] → IsOnlyCounted (facts_in old) (facts_in new)
-refused_counts old t c X new step e is = by_case step.0 step.1 where
-  by_case : (accepted : Bool) → Step old t c accepted X new → IsOnlyCounted (facts_in old) (facts_in new)
-  by_case true k = absurd (passed_unfailed (facts_in old) t c X k.answer e is)
-  by_case false k = only_counted (facts_in old) (facts_in new) t c k.follows
-
 -- the facts, where one more call was made
 abbrev counted : Facts → Facts
 counted f = record f { number = f.number + 1 }
 
-counted_by : (f g : Facts) → IsOnlyCounted f g → g ≡ counted f
-counted_by f g h = one_facts g (counted f) h.roster h.number h.down h.channel h.open_channels h.connection h.live_connections h.open_call h.pending h.priority
+-- what is refused leaves all but the count
+refused_counts : (old : State) (t : ℕ) (c : Call) (X : List Completion) (new : State) → Steps old t c X new → (e : Errno) → X ≡ refusal_ending (facts_in old) t c e ∷ [] → facts_in new ≡ counted (facts_in old)
+refused_counts old t c X new step e is = by_case step.0 step.1 where
+  by_case : (accepted : Bool) → Step old t c accepted X new → facts_in new ≡ counted (facts_in old)
+  by_case true k = absurd (passed_unfailed (facts_in old) t c X k.answer e is)
+  by_case false k = only_counted (facts_in old) (facts_in new) t c k.follows
 
 pub refused_leaves : (old : State) (t : ℕ) (c : Call) (X : List Completion) (new : State) → IsRoster (members_of old.threads) → Steps old t c X new → LeavesIfRefused old t c X new
 refused_leaves old t c X new rises step e is =
     let ends : X ≡ refusal_ending (facts_in old) t c e ∷ [] = is ∙ ap (λ buffer. record { call = old.made + 1; thread = t; mark = mark.Failed e; buffer = buffer } ∷ []) (same_buffer c) in
-    counted_by (facts_in old) (facts_in new) (refused_counts old t c X new step e ends)
+    refused_counts old t c X new step e ends
 
 -- one more call was made
 pub steps_made : (old : State) (t : ℕ) (c : Call) (X : List Completion) (new : State) → Steps old t c X new → new.made ≡ old.made + 1

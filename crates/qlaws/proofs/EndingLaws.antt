@@ -1,50 +1,79 @@
 -- The laws of the endings of one event.
-use mathlib.Core.Path.{fun_ext}
-use Rattle.std.proofs.Common.{◌≡◌, ◌∙◌, ℕ, ◌+◌, List, [], ◌∷◌, length, refl, ap, sym, cond, eqb}
-use Rattle.std.specs.Prelude.{Some, option_map}
-use Rattle.std.specs.List.{AllByRecursion}
-use Rattle.qbase.proofs.Lists.{all_more}
+use Rattle.std.proofs.Common.{◌<◌, inl, inr, ◌≡◌, ◌∙◌, ℕ, ◌+◌, List, [], ◌∷◌, length, refl, ap, sym, cond, eqb, ◌++◌, subst, Bool, true, false, Option, arith, not}
+use Rattle.std.specs.Prelude.{None, Some, option_map, ◌&&◌, ◌||◌}
+use Rattle.std.specs.List.{AllByRecursion, cons_option, filter_map, list_any}
+use Rattle.qbase.proofs.Lists.{all_more, none_of, eqb_same}
 use Rattle.qtables.specs.declared.member.Member.{Member}
-use Rattle.qrules.specs.Private.Endings as old_endings
-use Rattle.qrules.specs.Private.Facts.{Facts as OldFacts}
-use Rattle.qrules.specs.Private.Laws as old_laws
 use Rattle.qrules.specs.Private.Lawful as old
-use Rattle.qrules.specs.Private.Past.{open_call}
-use Rattle.qmodel.specs.Trace.{Trace}
+use Rattle.qrules.specs.Private.Past.{open_call, has_ending_of, is_accepted, is_ended, item_of, items}
+use Rattle.qmodel.specs.Trace.{Trace, SentItem, Event}
 use Rattle.qmodel.specs.declared.call.Completion.{Completion}
 use Rattle.qrules.proofs.Traces.TraceLaws.Blocked as blocked
-use Rattle.qrules.proofs.Traces.TraceLaws.Ending as ending
-use Rattle.qrules.proofs.Traces.TraceLaws.Lengths as lengths
-use Rattle.qrules.proofs.Traces.TraceLaws.Refused as refused
-use Rattle.qrules.proofs.Traces.TraceLaws.Sent as sent
-use Rattle.qrules.specs.Rule.{buffer_of}
-use Rattle.qrules.specs.Rules.{effect_of}
 use Rattle.qrules.proofs.Outcomes.{same_buffer}
+use Rattle.qrules.proofs.Traces.TraceLaws.Ending.{ending_thread, endings_name_own_calls as names}
+use Rattle.qrules.proofs.Traces.TraceLaws.Lengths.{endings_keep_length as keep_length}
+use Rattle.qrules.proofs.Traces.TraceLaws.Refused.{only_counted}
+use Rattle.qrules.proofs.Traces.TraceLaws.Held.{taken_stands}
+use Rattle.qlaws.proofs.OpenCallLaws.{open_is_unended}
+use Rattle.qrules.specs.Private.Facts.{buffer_of_open, threads_of}
+use Rattle.qrules.specs.Past.{waiter}
+use Rattle.qrules.proofs.Traces.Past.Waits.{may_wait, waits_or_ends}
+use Rattle.qrules.proofs.Traces.Past.Follows.{past_follows}
+use Rattle.qrules.proofs.Traces.Past.Ends.{accepted, ended_below, ends_own, laws_of, passes_of}
+use Rattle.qrules.proofs.Traces.Properties.ShutForGood.{shut_for_good}
+use Rattle.qrules.proofs.Traces.Properties.Sends.{made_newest}
+use Rattle.qrules.proofs.Traces.Rosters.{Rises, rises}
+use Rattle.qrules.specs.Private.Answer.{ending}
+use Rattle.qrules.specs.Private.Calls.{row_of}
+use Rattle.qrules.specs.Trace.{RiseByThread}
+use Rattle.std.specs.Option.{option_map, option_to_list}
+use Rattle.std.proofs.lemmas.Bool.{eq-eqb, and_from, true≢false, or_parts}
+use Rattle.std.proofs.lemmas.Option.{none-some}
+use Rattle.std.proofs.Math.Bool.{or-true}
+use Rattle.qrules.specs.Properties.{connection_of, number_received, TakesBest}
+use Rattle.qrules.proofs.Traces.Past.Items.{item_at}
+use Rattle.qrules.proofs.Traces.Properties.BestFirst.{best_first}
+use Rattle.qrules.proofs.Traces.Properties.Connections.{item_over}
 use Rattle.qlaws.specs.Endings
-use Rattle.qlaws.proofs.Waits.{before, buffer_at}
+use Rattle.qlaws.proofs.Waits.{before}
 
 -- ---- whose they are
 
-same_thread_at : (past : Trace) (i : ℕ) → Endings.thread_at past i ≡ old_laws.thread_at past i
-same_thread_at [] i = refl
-same_thread_at (e ∷ past) i = ap (λ o. cond (eqb i (length past + 1)) (Some e.thread) o) (same_thread_at past i)
-
 pub endings_name_own_calls : Endings.EndingsNameOwnCalls
-endings_name_own_calls roster past e r l =
-    all_more _ _ e.endings (ending.endings_name_own_calls roster past e r (before roster (e ∷ past) l)) (λ x is. same_thread_at (e ∷ past) x.call ∙ is)
+endings_name_own_calls roster past e r l = names roster past e r (before roster (e ∷ past) l)
+
+-- what is given to threads above n is of threads above n
+given_above : (g : ℕ → Option Completion) (n : ℕ) (ts : List ℕ) → ((u : ℕ) (y : Completion) → g u ≡ Some y → y.thread ≡ u) → AllByRecursion (λ u. n < u) ts → AllByRecursion (λ y. n < y.thread) (filter_map g ts)
+given_above g n [] names above = tt
+given_above g n (u ∷ ts) names above =
+    elim (g u) as (λ o. g u ≡ o → AllByRecursion (λ y. n < y.thread) (cons_option o (filter_map g ts))) [
+      | None ↦ λ is. given_above g n ts names above.1
+      | Some y ↦ λ is. (subst (λ k. n < k) (sym (names u y is)) above.0, given_above g n ts names above.1)
+    ] refl
+
+given_rise : (g : ℕ → Option Completion) (ts : List ℕ) → ((u : ℕ) (y : Completion) → g u ≡ Some y → y.thread ≡ u) → Rises ts → RiseByThread (filter_map g ts)
+given_rise g [] names r = tt
+given_rise g (u ∷ ts) names r =
+    elim (g u) as (λ o. g u ≡ o → RiseByThread (cons_option o (filter_map g ts))) [
+      | None ↦ λ is. given_rise g ts names r.1
+      | Some y ↦ λ is. (subst (λ k. AllByRecursion (λ (z : Completion). k < z.thread) (filter_map g ts)) (sym (names u y is)) (given_above g u ts names r.0), given_rise g ts names r.1)
+    ] refl
 
 pub endings_rise_by_thread : Endings.EndingsRiseByThread
-endings_rise_by_thread roster past e r l = ending.endings_rise_by_thread roster past e r (before roster (e ∷ past) l)
+endings_rise_by_thread roster past e r lawful =
+    let l = before roster (e ∷ past) lawful in
+    let f = old.facts_of roster past in
+    elim (l.2) [
+      | inl a ↦ subst RiseByThread (sym a.1) (given_rise (ending f e.thread e.call) (threads_of roster) (ending_thread f e.thread e.call (laws_of f e.thread e.call e.endings a)) (rises roster r))
+      | inr a ↦ subst RiseByThread (sym a.2) (tt, tt)
+    ]
 
 pub endings_are_apart : Endings.EndingsAreApart
 endings_are_apart roster past e r l = blocked.endings_are_apart roster past e r (before roster (e ∷ past) l)
 
 pub endings_go_to_blocked : Endings.EndingsGoToBlocked
 endings_go_to_blocked roster past e r l =
-    all_more _ _ e.endings (blocked.endings_go_to_blocked roster past e r (before roster (e ∷ past) l)) (λ x to. (
-      to.known,
-      to.may,
-    ))
+    all_more _ _ e.endings (blocked.endings_go_to_blocked roster past e r (before roster (e ∷ past) l)) (λ x to. (to.known, to.may))
 
 -- ---- who waits afterwards
 
@@ -52,9 +81,34 @@ pub blocked_unless_ended : Endings.BlockedUnlessEnded
 blocked_unless_ended roster past e r l idle u =
     blocked.blocked_unless_ended roster past e r (before roster (e ∷ past) l) idle u
 
+-- a call that doesn't end in its own event is accepted, and may wait
+record Waits (e : Event) (past : Trace) : Type 0 where
+  pub accepted : is_accepted e past ≡ true
+  pub waits : waiter e ≡ Some e.thread
+
+waits : (roster : List Member) (past : Trace) (e : Event) → old.IsLawful roster (e ∷ past) → has_ending_of e.endings (length past + 1) ≡ false → Waits e past
+waits roster past e l none =
+    let f = old.facts_of roster past in
+    elim (l.2) [
+      | inl a ↦
+          let own = none_of (row_of f e.thread e.call).own (sym (ends_own roster past e.thread e.call e.endings l.1 a) ∙ none) in
+          let may : may_wait e.call ≡ true = waits_or_ends f e.thread e.call (passes_of f e.thread e.call e.endings a) own in
+          record { accepted = rw (accepted roster past e.thread e.call e.endings a) refl; waits = rw may refl }
+      | inr a ↦
+          let own : has_ending_of e.endings (length past + 1) ≡ true = rw (a.2, eqb_same (length past + 1)) refl in
+          absurd (true≢false (sym own ∙ none))
+    ]
+
 pub ends_or_waits : Endings.EndsOrWaits
-ends_or_waits roster past e r l =
-    blocked.ends_or_waits roster past e r (before roster (e ∷ past) l)
+ends_or_waits roster past e r lawful = let l = before roster (e ∷ past) lawful in (
+  λ none.
+      let w = waits roster past e l none in
+      let going : is_ended (e ∷ past) (length past + 1) ≡ false = rw (none, ended_below roster past (length past + 1) l.0 (omega arith)) refl in
+      (open_is_unended roster (e ∷ past) r lawful e.thread (length past + 1)).1 (record { waits = made_newest waiter e past w.accepted ∙ w.waits; going = going }),
+  λ is.
+      let u = (open_is_unended roster (e ∷ past) r lawful e.thread (length past + 1)).0 is in
+      (or_parts (has_ending_of e.endings (length past + 1)) (is_ended past (length past + 1)) u.going).0,
+)
 
 pub caller_gets_its_own : Endings.CallerGetsItsOwn
 caller_gets_its_own roster past e r l = blocked.caller_gets_its_own roster past e r (before roster (e ∷ past) l)
@@ -63,53 +117,60 @@ caller_gets_its_own roster past e r l = blocked.caller_gets_its_own roster past 
 
 pub endings_keep_length : Endings.EndingsKeepLength
 endings_keep_length roster past e r l =
-    all_more _ _ e.endings (lengths.endings_keep_length roster past e r (before roster (e ∷ past) l)) (λ x same.
-    same ∙ ap length (
-    ap (λ b. cond (eqb x.thread e.thread) b (old_endings.buffer_of_open (open_call roster past x.thread))) (sym (same_buffer e.call))
-    ∙ ap (λ b. cond (eqb x.thread e.thread) (buffer_of (effect_of e.call)) b) (sym (buffer_at roster past l.0 x.thread))))
+    all_more _ _ e.endings (keep_length roster past e r (before roster (e ∷ past) l)) (λ x same.
+    same ∙ ap (λ b. length (cond (eqb x.thread e.thread) b (buffer_of_open (open_call roster past x.thread)))) (sym (same_buffer e.call)))
 
 -- ---- what they receive
 
-module _ (roster : List Member) (past : Trace) where
-  leads : (k h : ℕ) → old_laws.LeadsTo roster past k h → Endings.LeadsTo roster past k h
-  leads k h to = ap (option_map (λ c. c.channel)) to.is ∙ ap Some to.channel
+sent_to : (roster : List Member) (past : Trace) (i : ℕ) (m : SentItem) → item_at roster past i ≡ Some m → (k : ℕ) → connection_of past i ≡ Some k → Endings.LeadsTo roster past k m.channel
+sent_to roster past i m is k over = let w = item_over roster past i k m is over in ap (option_map (λ c. c.channel)) w.is ∙ ap Some (sym w.channel)
 
-  was_sent : (x : Completion) (i : ℕ) → old_laws.WasSent roster past x i → Endings.WasSent roster past x i
-  was_sent x i w = record {
-    request = w.request;
-    call = w.call;
-    made = w.made;
-    sent = λ k sent. leads k w.request.channel (w.sent k sent);
-  }
+-- it is among the items
+any_first : (p : SentItem → Bool) (xs ys : List SentItem) → list_any p xs ≡ true → list_any p (xs ++ ys) ≡ true
+any_first p [] ys e = absurd (true≢false (sym e))
+any_first p (x ∷ xs) ys e =
+    elim (p x) as (λ b. (b || list_any p xs) ≡ true → (b || list_any p (xs ++ ys)) ≡ true) [ true ↦ λ h. refl | false ↦ λ h. any_first p xs ys h ] e
+
+any_last : (p : SentItem → Bool) (xs : List SentItem) (y : SentItem) → p y ≡ true → list_any p (xs ++ y ∷ []) ≡ true
+any_last p [] y e = rw e refl
+any_last p (x ∷ xs) y e = rw (any_last p xs y e) (or-true (p x))
+
+among_items : (p : SentItem → Bool) (roster : List Member) (past : Trace) (i : ℕ) (m : SentItem) → item_at roster past i ≡ Some m → p m ≡ true → list_any p (items roster past) ≡ true
+among_items p roster [] i m is passes = absurd (none-some m is)
+among_items p roster (e ∷ past) i m is passes =
+    elim (eqb i (length past + 1)) as (λ b. cond b (item_of roster e past) (item_at roster past i) ≡ Some m → list_any p (items roster (e ∷ past)) ≡ true) [
+      | true ↦ λ at. rw at (any_last p (items roster past) m passes)
+      | false ↦ λ at. any_first p (items roster past) (option_to_list (item_of roster e past)) (among_items p roster past i m at passes)
+    ] is
+
+was_sent : (roster : List Member) (past : Trace) (e : Event) (x : Completion) (i : ℕ) → TakesBest roster past e x i → Endings.WasSent roster (e ∷ past) x i
+was_sent roster past e x i k =
+    let s = taken_stands roster past e x i k in
+    record {
+      request = k.request;
+      call = k.call;
+      made = among_items (λ m. (eqb m.item.number i) && (eqb m.channel k.request.channel)) roster (e ∷ past) i s.0 s.1 (and_from _ _ (eq-eqb s.0.item.number i s.2) (eq-eqb s.0.channel k.request.channel s.3));
+      sent = λ k over. subst (Endings.LeadsTo roster (e ∷ past) k) s.3 (sent_to roster (e ∷ past) i s.0 s.1 k over);
+    }
 
 pub received_was_sent : Endings.ReceivedWasSent
 received_was_sent roster past e r l =
-    all_more _ _ e.endings (sent.received_was_sent roster past e r (before roster (e ∷ past) l)) (λ x was i is. was_sent roster (e ∷ past) x i (was i is))
+    all_more (λ x. (i : ℕ) → number_received x ≡ Some i → TakesBest roster past e x i) (λ x. (i : ℕ) → number_received x ≡ Some i → Endings.WasSent roster (e ∷ past) x i) e.endings (best_first roster (e ∷ past) r (before roster (e ∷ past) l)).1
+    (λ x h i is. was_sent roster past e x i (h i is))
 
-all_for : {X : Type 0} (Q : ℕ → Type 0) (P : ℕ → X → Type 0) (xs : List X) → ((h : ℕ) → Q h → AllByRecursion (P h) xs) → AllByRecursion (λ x. (h : ℕ) → Q h → P h x) xs
+all_for : {X : Type 0} (Q : ℕ → Type 0) (P : ℕ → X → ℕ → Type 0) (xs : List X) → ((h : ℕ) → Q h → AllByRecursion (λ x. (i : ℕ) → P h x i) xs) → AllByRecursion (λ x. (h i : ℕ) → Q h → P h x i) xs
 all_for Q P [] f = tt
-all_for Q P (x ∷ xs) f = (λ h q. (f h q).0, all_for Q P xs (λ h q. (f h q).1))
+all_for Q P (x ∷ xs) f = (λ h i q. (f h q).0 i, all_for Q P xs (λ h q. (f h q).1))
 
 pub nothing_from_destroyed : Endings.NothingFromDestroyed
-nothing_from_destroyed roster past e r l =
-    all_more _ _ e.endings (all_for _ _ e.endings (ending.nothing_from_destroyed roster past e r (before roster (e ∷ past) l))) (λ x none h i destroyed is on. none h destroyed i is on)
+nothing_from_destroyed roster past e r l = all_for _ _ e.endings (λ h closed. ((shut_for_good roster (e ∷ past) r (before roster (e ∷ past) l)).1 h closed).none_received)
 
 -- ---- refusals
 
-same_but_counted : (f g : OldFacts) → old_laws.IsOnlyCounted f g → g ≡ record f { number = f.number + 1 }
-same_but_counted f g k = λ i. record {
-  roster = k.roster i;
-  number = k.number i;
-  down = k.down i;
-  channel = fun_ext k.channel i;
-  open_channels = k.open_channels i;
-  connection = fun_ext k.connection i;
-  live_connections = k.live_connections i;
-  open_call = fun_ext k.open_call i;
-  pending = fun_ext k.pending i;
-  priority = fun_ext k.priority i;
-}
-
 pub refused_changes_nothing : Endings.RefusedChangesNothing
-refused_changes_nothing roster past e r l is =
-    same_but_counted (old.facts_of roster past) (old.facts_of roster (e ∷ past)) (refused.refused_changes_nothing roster past e r (before roster (e ∷ past) l) is)
+refused_changes_nothing roster past e r lawful is =
+    let l = before roster (e ∷ past) lawful in
+    elim (l.2) [
+      | inl a ↦ absurd (true≢false (sym (ap not (accepted roster past e.thread e.call e.endings a)) ∙ is))
+      | inr a ↦ only_counted _ _ e.thread e.call (past_follows false roster past e.thread e.call e.endings r l.0 l.1 a)
+    ]

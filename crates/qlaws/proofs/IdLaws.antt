@@ -152,7 +152,7 @@ module _ (i : ℕ) {P : Type 0} where
   takes_no_id f t chid kind buffer y r = no_id _ y r.ending (given_is id_in None (λ i n. refl) r.item (message f r.item.number) buffer refl)
 
   met_no_id : (f : Facts) (o : Option ℕ) (item : Item) (sent : List ℕ) (u : ℕ) (y : Completion) → Delivers f o item sent u y → id_in y.mark ≡ Some i → P
-  met_no_id f o item sent u y s = no_id _ y s.ending (given_is id_in None (λ i n. refl) item sent s.buffer refl)
+  met_no_id f o item sent u y s = no_id _ y s.ending (given_is id_in None (λ i n. refl) item sent s.receive.buffer refl)
 
   told_no_id : (n t : ℕ) (o : Option Told) (y : Completion) → option_map (info_ending n t) o ≡ Some y → id_in y.mark ≡ Some i → P
   told_no_id n t None y e is = absurd (none-some y e)
@@ -164,7 +164,7 @@ module _ (i : ℕ) {P : Type 0} where
   ends_no_id f t (calls.Reply rcvid status bytes) u y p e is = no_id _ y (sender_ends f t rcvid (reply_finish status bytes) u y p.row e).ending refl is
   ends_no_id f t (calls.Error rcvid code) u y p e is =
       no_id _ y (sender_ends f t rcvid (error_finish code) u y p.row e).ending (elim (int_eq code (pos 0)) as (λ b. id_in (cond b (mark.Replied (pos 0) 0) (mark.Errored code)) ≡ None) [ true ↦ refl | false ↦ refl ]) is
-  ends_no_id f t (calls.ChannelDestroy chid) u y p e is = no_id _ y (cancel_parts (is_on f.connection chid) Srch u (f.open_call u) y e).ending refl is
+  ends_no_id f t (calls.ChannelDestroy chid) u y p e is = no_id _ y (cancel_parts (is_on chid) Srch u (f.open_call u) y e).ending refl is
   ends_no_id f t calls.Shutdown u y p e is = no_id _ y (cancel_parts (λ wait. true) Srch u (f.open_call u) y e).ending refl is
   ends_no_id f t (calls.Unblock thread) u y p e is = elim (unblock_ends f thread u y (unblock.due_pulse f thread) e) [
     | inl cancel ↦ no_id _ y cancel.ending refl is

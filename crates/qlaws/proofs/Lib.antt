@@ -1,3 +1,4 @@
+pub mod Lists
 pub mod Waits
 pub mod OpenCallLaws
 pub mod EndingLaws
@@ -5,3 +6,7 @@ pub mod PendingLaws
 pub mod UnblockLaws
 pub mod PlaceLaws
 pub mod IdLaws
+pub mod LimitLaws
+pub mod OrderLaws
+pub mod PriorityLaws
+pub mod SettingLaws

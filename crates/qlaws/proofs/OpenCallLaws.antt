@@ -1,113 +1,114 @@
 -- The laws of the calls that threads wait in.
-use mathlib.Core.Path.{fun_ext}
-use Rattle.std.proofs.Common.{◌≡◌, ◌∙◌, ◌↔◌, ◌<◌, ◌≤◌, ℕ, List, [], ◌∷◌, length, refl, ap, sym, subst, cond, arith, Bool, true, false, inl, inr, eqb}
-use Rattle.std.specs.Prelude.{Option, None, Some, is_some, nat_lt, ◌||◌, filter, fold}
+use Rattle.std.proofs.Common.{◌+◌, ◌≡◌, ◌∙◌, ◌<◌, ◌≤◌, ℕ, List, [], ◌∷◌, length, refl, ap, sym, subst, cond, arith, Bool, true, false, inl, inr, eqb, option_and_then, option_map}
+use Rattle.std.specs.Prelude.{None, Some, is_some, nat_lt, ◌||◌, filter, fold, Option, not, ◌&&◌}
 use Rattle.std.specs.List.{AllByRecursion, reduce}
 use Rattle.std.specs.Option.{option_map_or}
-use Rattle.std.proofs.lemmas.Bool.{false_from_ne_true, ltb-true, ltb-false, true≢false}
+use Rattle.std.proofs.lemmas.Bool.{false_from_ne_true, ltb-true, ltb-false, true≢false, eqb-true}
 use Rattle.std.proofs.lemmas.Option.{none-some, same_Some}
-use Rattle.std.proofs.Math.Bool.{or-false}
+use Rattle.std.proofs.Math.Bool.{or-false, and-true}
 use Rattle.qbase.specs.declared.errno.Errno.TheVariants.{Srch}
 use Rattle.qtables.specs.Members.{IsRoster}
 use Rattle.qtables.specs.declared.member.Member.{Member}
 use Rattle.qrules.specs.Private.Cancelling.{cancel_where, cancels}
-use Rattle.qrules.specs.Private.Effects.{asks, shuts_down}
+use Rattle.qrules.specs.Private.Effects.{shuts_down}
 use Rattle.qrules.specs.Private.Facts.{Facts as OldFacts}
-use Rattle.qrules.specs.Private.Laws as old_laws
 use Rattle.qrules.specs.Private.Lawful as old
-use Rattle.qrules.specs.Private.Past.{is_down, accepted_at, open_call}
+use Rattle.qrules.specs.Private.Past.{is_down, accepted_at, open_call, block, item_of, is_received}
 use Rattle.qrules.specs.Private.Step.{open_call_after, unless}
-use Rattle.qmodel.specs.Trace.{Event, Trace}
+use Rattle.qmodel.specs.Trace.{Trace}
 use Rattle.qmodel.specs.declared.call.Call.{Call}
 use Rattle.qmodel.specs.declared.call.Call.TheVariants as calls
-use Rattle.qmodel.specs.declared.open_call.OpenCall.{OpenCall}
 use Rattle.qmodel.specs.declared.open_call.OpenCall.TheVariants.{Receive, Send}
-use Rattle.qmodel.specs.declared.open_call.Receipt.{Receipt as OldReceipt}
 use Rattle.qrules.proofs.Traces.Past.Ends.{passes_of}
 use Rattle.qrules.proofs.Traces.Past.Follows.{past_follows}
-use Rattle.qrules.proofs.Traces.TraceLaws.Held as held
-use Rattle.qrules.proofs.Traces.TraceLaws.Lengths as lengths
-use Rattle.qrules.proofs.Traces.TraceLaws.Unended as unended
-use Rattle.qrules.proofs.Traces.TraceLaws.Waiting as waiting
+use Rattle.qrules.proofs.Traces.TraceLaws.Held.{held_sender}
+use Rattle.qrules.proofs.Traces.Past.Waits.{may_wait}
+use Rattle.qrules.proofs.Traces.TraceLaws.Lengths.{open_calls_keep_length}
+use Rattle.qmodel.specs.Buffers.{buffer_of}
+use Rattle.qrules.specs.Trace.{call_at}
+use Rattle.qrules.proofs.Traces.TraceLaws.Unended.{asks_any, unended_newest}
+use Rattle.qrules.specs.Past.{waiter, is_ended, channel_of}
+use Rattle.qbase.proofs.Lists.{all_passing, eqb_same}
+use Rattle.qrules.proofs.Traces.Past.LiveSends.{over_attached}
+use Rattle.qrules.proofs.Traces.Properties.Sends.{open_on, begins_now, made_newest, made_stays}
+use Rattle.qrules.proofs.Traces.Properties.ShutForGood.{waits_on_open}
+use Rattle.qrules.proofs.Traces.Properties.Waiting.{nothing_for}
 use Rattle.qrules.specs.Delivery.{newer}
-use Rattle.qrules.specs.Facts.{open_send, receive_of, Facts, OpenReceive, OpenSend}
+use Rattle.qrules.specs.Facts.{open_send, receive_of, Facts, OpenReceive, OpenSend, open_receives, receive_in, OpenCall, number_of}
 use Rattle.qrules.specs.Lawful.{facts_of}
-use Rattle.qrules.specs.Rules.{effect_of}
-use Rattle.qrules.proofs.Messages.{send_cases, NoSend, OneSend}
+use Rattle.qrules.proofs.Messages.{send_cases}
 use Rattle.qrules.proofs.Outcomes.{same_buffer}
 use Rattle.qlaws.specs.OpenCalls as laws
-use Rattle.qlaws.proofs.Waits.{all_receives, all_sends, before, receive_parts, send_parts}
-use Rattle.qrules.specs.Facts.{open_receives}
+use Rattle.qlaws.proofs.Lists.{all_unfilter}
+use Rattle.qlaws.proofs.Waits.{all_receives, all_sends, before}
+use Rattle.qrules.proofs.Traces.Past.Open.{open_receipt, open_own, open_parts, open_from, kept_number}
 
 -- ---- at most one for each thread
 
-waits_same : (c : Call) → (is_some (effect_of c).sends || is_some (effect_of c).receives) ≡ is_some (asks 0 c)
-waits_same calls.Shutdown = refl
-waits_same _ = refl
-
-waiter_at : (past : Trace) (i : ℕ) → accepted_at laws.waiter past i ≡ accepted_at old_laws.blocker past i
-waiter_at past i = ap (λ (say : Event → Option ℕ). accepted_at say past i) (fun_ext (λ e. ap (λ b. cond b (Some e.thread) None) (waits_same e.call)))
-
-unended_before : (past : Trace) (t i : ℕ) → laws.IsUnended past t i → old_laws.IsUnended past t i
-unended_before past t i h = record { blocks = sym (waiter_at past i) ∙ h.waits; going = h.going }
-
-unended_by_rules : (past : Trace) (t i : ℕ) → old_laws.IsUnended past t i → laws.IsUnended past t i
-unended_by_rules past t i h = record { waits = waiter_at past i ∙ h.blocks; going = h.going }
+-- it is an accepted call of its thread that may wait
+block_began : (roster : List Member) (past : Trace) (u : ℕ) (b : OpenCall) → block roster past u ≡ Some b → accepted_at waiter past (number_of b) ≡ Some u
+block_began roster [] u b is = absurd (none-some b is)
+block_began roster (e ∷ past) u b is = elim (begins_now roster e past u b is) [
+  | inl h ↦
+      let waits : may_wait e.call ≡ true = sym (asks_any (length past + 1) u (channel_of (item_of roster e past)) e.call) ∙ ap is_some h.asked in
+      let blocks : waiter e ≡ Some u = rw (waits, h.thread) refl in
+      subst (λ i. accepted_at waiter (e ∷ past) i ≡ Some u) (sym h.number) (made_newest waiter e past h.accepted ∙ blocks)
+  | inr h ↦ made_stays waiter e past (number_of b) u (block_began roster past u b h)
+]
 
 pub at_most_one_open : laws.AtMostOneOpen
-at_most_one_open roster past r l t i j first second =
-    unended.at_most_one_open roster past r (before roster past l) t i j (unended_before past t i first) (unended_before past t j second)
+at_most_one_open roster past r lawful t i j first second =
+    let l = before roster past lawful in
+    let k = unended_newest roster past t i l first.waits first.going in
+    let m = unended_newest roster past t j l second.waits second.going in
+    sym k.number ∙ ap number_of (same_Some k.block m.block (sym k.is ∙ m.is)) ∙ m.number
+
+unended_open : (roster : List Member) (past : Trace) (t i : ℕ) → option_map number_of (open_call roster past t) ≡ Some i → laws.IsUnended past t i
+unended_open roster past t i is =
+    elim (open_call roster past t) as (λ o. open_call roster past t ≡ o → option_map number_of o ≡ Some i → laws.IsUnended past t i) [
+      | None ↦ λ e at. absurd (none-some i at)
+      | Some o ↦ λ e at.
+          let k = open_parts roster past t o e in
+          let number : (number_of k.block) ≡ i = sym k.number ∙ same_Some (number_of o) i at in
+          record { waits = subst (λ j. accepted_at waiter past j ≡ Some t) number (block_began roster past t k.block k.is); going = subst (λ j. is_ended past j ≡ false) number k.going }
+    ] refl is
+
+open_unended : (roster : List Member) (past : Trace) (t i : ℕ) → old.IsLawful roster past → laws.IsUnended past t i → option_map number_of (open_call roster past t) ≡ Some i
+open_unended roster past t i l u =
+    let k = unended_newest roster past t i l u.waits u.going in
+    ap (option_map number_of) (open_from roster past t k.block k.is (subst (λ j. is_ended past j ≡ false) (sym k.number) u.going))
+    ∙ ap (λ n. Some n) (kept_number roster past k.block ∙ k.number)
 
 pub open_is_unended : laws.OpenIsUnended
-open_is_unended roster past r l t i =
-    let both = unended.open_is_unended roster past r (before roster past l) t i in
-    (λ is. unended_by_rules past t i (both.0 is), λ going. both.1 (unended_before past t i going))
+open_is_unended roster past r l t i = (unended_open roster past t i, open_unended roster past t i (before roster past l))
 
 -- ---- Sends
 
 pub open_sends_are_routed : laws.OpenSendsAreRouted
-open_sends_are_routed roster past r l = all_sends roster past l (laws.IsRouted (facts_of roster past)) (λ u s e.
-    let k = send_parts roster past l u s e in
-    let w = waiting.open_sends_are_live roster past r (before roster past l) u s.number s.connection s.message s.reply_buffer k.receipt k.is in
+open_sends_are_routed roster past r lawful =
+    let l = before roster past lawful in
+    all_sends (facts_of roster past) _ (λ u s is.
+    let c = open_on roster past u (Send s) l is refl in
     record {
-      connection = w.connection;
-      is_live = w.is_live;
-      is_open = w.is_open;
+      connection = c.0;
+      is_live = over_attached roster past u (Send s) l is refl ∙ c.1;
+      leads = sym (eqb-true s.channel c.0.channel c.2);
+      is_open = waits_on_open roster past r l u (Send s) s.channel is (eqb_same s.channel);
     })
 
--- whether the Send of a held message has a receipt
-abbrev has_receipt : Facts → ℕ → Bool
-has_receipt f i = option_map_or (λ s. is_some s.receipt) (open_send f i) false
-
-module _ (roster : List Member) (past : Trace) (i : ℕ) (law : (laws.is_held past i ≡ true) ↔ old_laws.IsHeldSend roster past i) where
-  abbrev facts : OldFacts
-  facts = old.facts_of roster past
-
-  no_send : NoSend facts i → laws.is_held past i ≡ false
-  no_send k = false_from_ne_true _ (λ held. none-some _ (sym k.none ∙ (law.0 held).is_sender))
-
-  one_send : (receipt : Option OldReceipt) (k : OneSend facts i) → k.receipt ≡ receipt → laws.is_held past i ≡ is_some receipt
-  one_send None k e = false_from_ne_true _ (λ held.
-      let h = law.0 held in
-      let thread : k.thread ≡ h.thread = same_Some _ _ (sym k.sent ∙ h.is_sender) in
-      let waiting : record { number = k.number; wait = Answer k.connection k.message k.reply_buffer None } ≡ h.waiting =
-      same_Some _ _ (ap (λ r. Some (record { number = k.number; wait = Answer k.connection k.message k.reply_buffer r })) (sym e) ∙ sym k.is ∙ ap (open_call roster past) thread ∙ h.is_open) in
-      true≢false (sym h.received ∙ ap (λ (o : OpenCall). old_laws.is_for_reply o.wait) (sym waiting)))
-  one_send (Some receipt) k e = law.1 (record {
-    thread = k.thread;
-    waiting = record { number = k.number; wait = Answer k.connection k.message k.reply_buffer (Some receipt) };
-    is_sender = k.sent;
-    is_open = k.is ∙ ap (λ r. Some (record { number = k.number; wait = Answer k.connection k.message k.reply_buffer r })) e;
-    received = refl;
-  })
+held_so : (roster : List Member) (past : Trace) (u : ℕ) (s : OpenSend) → open_call roster past u ≡ Some (Send s) → laws.is_held past s.number ≡ is_some s.receipt
+held_so roster past u s is =
+    let k = open_parts roster past u (Send s) is in
+    let going : is_ended past s.number ≡ false = subst (λ i. is_ended past i ≡ false) (sym k.number) k.going in
+    ap (λ b. is_received past s.number && not b) going ∙ and-true (is_received past s.number) ∙ open_receipt roster past u s is
 
 pub held_is_open_send : laws.HeldIsOpenSend
 held_is_open_send roster past r l i =
-    let law = held.held_is_held_send roster past r (before roster past l) i in
-    let f : OldFacts = old.facts_of roster past in
-    elim (send_cases f i) as (λ k. laws.is_held past i ≡ has_receipt f i) [
-      | inl k ↦ no_send roster past i law k ∙ ap (λ o. option_map_or (λ (s : OpenSend). is_some s.receipt) o false) (sym k.new)
-      | inr k ↦ one_send roster past i law k.receipt k refl ∙ ap (λ o. option_map_or (λ (s : OpenSend). is_some s.receipt) o false) (sym k.new)
+    let f = facts_of roster past in
+    let tells = λ (o : Option OpenSend). option_map_or (λ s. is_some s.receipt) o false in
+    elim (send_cases f i) as (λ k. laws.is_held past i ≡ tells (open_send f i)) [
+      | inl k ↦ false_from_ne_true _ (λ held. none-some _ (sym k.none ∙ (held_sender roster past r (before roster past l) i held).is_sender)) ∙ ap tells (sym k.new)
+      | inr k ↦ ap (laws.is_held past) (sym k.number) ∙ held_so roster past k.thread k.send k.is ∙ ap tells (sym k.new)
     ]
 
 -- ---- receives
@@ -136,24 +137,6 @@ newest_last a (x ∷ rs) =
           (most, (omega arith, k.1))
     ] refl
 
--- what is so of the items that pass
-of_passing : {X : Type 0} (P : X → Type 0) (p : X → Bool) (xs : List X) → AllByRecursion P (filter p xs) → AllByRecursion (λ x. p x ≡ true → P x) xs
-of_passing P p [] h = tt
-of_passing P p (x ∷ xs) h =
-    elim (p x) as (λ b. p x ≡ b → AllByRecursion P (cond b (x ∷ filter p xs) (filter p xs)) → AllByRecursion (λ x. p x ≡ true → P x) (x ∷ xs)) [
-      | true ↦ λ e h. (λ passes. h.0, of_passing P p xs h.1)
-      | false ↦ λ e h. (λ passes. absurd (true≢false (sym passes ∙ e)), of_passing P p xs h)
-    ] refl h
-
--- each item that passes does so
-all_pass : {X : Type 0} (P : X → Type 0) (p : X → Bool) (xs : List X) → AllByRecursion P xs → AllByRecursion (λ x. P x × (p x ≡ true)) (filter p xs)
-all_pass P p [] h = tt
-all_pass P p (x ∷ xs) h =
-    elim (p x) as (λ b. p x ≡ b → AllByRecursion (λ x. P x × (p x ≡ true)) (cond b (x ∷ filter p xs) (filter p xs))) [
-      | true ↦ λ e. ((h.0, e), all_pass P p xs h.1)
-      | false ↦ λ e. all_pass P p xs h.1
-    ] refl
-
 newest_of : (P : OpenReceive → Type 0) (rs : List OpenReceive) (r : OpenReceive) → AllByRecursion P rs → reduce newer rs ≡ Some r → P r × AllByRecursion (λ s. s.number ≤ r.number) rs
 newest_of P [] r all e = absurd (none-some r e)
 newest_of P (a ∷ rs) r all e =
@@ -164,10 +147,10 @@ pub newest_is_last : laws.NewestIsLast
 newest_is_last roster past r l m x e =
     let f : Facts = facts_of roster past in
     let may : OpenReceive → Bool = laws.may_receive m in
-    let each : AllByRecursion (λ s. receive_of f s.thread ≡ Some s) (open_receives f) = all_receives roster past l (λ s. receive_of f s.thread ≡ Some s) (λ u s is.
-    ap (receive_of f) (receive_parts roster past l u s is).thread ∙ is) in
-    let k = newest_of (λ s. (receive_of f s.thread ≡ Some s) × (may s ≡ true)) (filter may (open_receives f)) x (all_pass (λ s. receive_of f s.thread ≡ Some s) may (open_receives f) each) e in
-    record { is_open = k.0.0; may = k.0.1; last = of_passing (λ s. s.number ≤ x.number) may (open_receives f) k.1 }
+    let each : AllByRecursion (λ s. receive_of f s.thread ≡ Some s) (open_receives f) = all_receives f (λ s. receive_of f s.thread ≡ Some s) (λ u s is.
+    ap (receive_of f) (open_own roster past u (Receive s) is) ∙ ap (option_and_then receive_in) is) in
+    let k = newest_of (λ s. (receive_of f s.thread ≡ Some s) × (may s ≡ true)) (filter may (open_receives f)) x (all_passing (λ s. receive_of f s.thread ≡ Some s) may (open_receives f) each) e in
+    record { is_open = k.0.0; may = k.0.1; last = all_unfilter (λ s. s.number ≤ x.number) may (open_receives f) k.1 }
 
 nobody : (p : OpenReceive → Bool) (rs : List OpenReceive) → reduce newer (filter p rs) ≡ None → AllByRecursion (λ r. p r ≡ false) rs
 nobody p [] e = tt
@@ -187,20 +170,21 @@ none_is_newest roster past r l m =
     (nobody (laws.may_receive m) rs, none_passes (laws.may_receive m) rs)
 
 pub nothing_pending_for_waiting : laws.NothingPendingForWaiting
-nothing_pending_for_waiting roster past r l = all_receives roster past l _ (λ u s e.
-    (waiting.nothing_pending_for_waiting roster past r (before roster past l) u s.number s.channel s.kind s.buffer (receive_parts roster past l u s e).is))
+nothing_pending_for_waiting roster past r l =
+    all_receives (facts_of roster past) _ (λ u w is. nothing_for roster past r (before roster past l) u _ w.channel w.kind is refl)
 
 -- ---- buffers
 
+as_long : (past : Trace) (i : ℕ) (buffer : List ℕ) → (c : Call) × (call_at past i ≡ Some c) × (length buffer ≡ length (buffer_of c)) → laws.IsAsLong past i buffer
+as_long past i buffer k = record { call = k.0; is = k.1; same = k.2 ∙ ap length (sym (same_buffer k.0)) }
+
 pub reply_buffers_keep_length : laws.ReplyBuffersKeepLength
-reply_buffers_keep_length roster past r l = all_sends roster past l (λ s. laws.IsAsLong past s.number s.reply_buffer) (λ u s e.
-    let k = lengths.open_calls_keep_length roster past r (before roster past l) u _ (send_parts roster past l u s e).is in
-    record { call = k.call; is = k.is; same = k.same ∙ ap length (sym (same_buffer k.call)) })
+reply_buffers_keep_length roster past r l = all_sends (facts_of roster past) (λ s. laws.IsAsLong past s.number s.reply_buffer) (λ u s is.
+    as_long past s.number s.reply_buffer (open_calls_keep_length roster past u (Send s) is))
 
 pub receive_buffers_keep_length : laws.ReceiveBuffersKeepLength
-receive_buffers_keep_length roster past r l = all_receives roster past l (λ s. laws.IsAsLong past s.number s.buffer) (λ u s e.
-    let k = lengths.open_calls_keep_length roster past r (before roster past l) u _ (receive_parts roster past l u s e).is in
-    record { call = k.call; is = k.is; same = k.same ∙ ap length (sym (same_buffer k.call)) })
+receive_buffers_keep_length roster past r l = all_receives (facts_of roster past) (λ s. laws.IsAsLong past s.number s.buffer) (λ u s is.
+    as_long past s.number s.buffer (open_calls_keep_length roster past u (Receive s) is))
 
 -- ---- after a shutdown
 

@@ -1,96 +1,45 @@
--- The laws of the items that wait to be received.
-use Rattle.std.proofs.Common.{◌≡◌, ◌∙◌, ℕ, List, ◌∷◌, ◌++◌, refl, ap, sym, subst, true}
-use Rattle.std.specs.Prelude.{None, Some}
-use Rattle.std.specs.List.{AllByRecursion}
-use Rattle.std.proofs.lemmas.Bool.{true≢false}
-use Rattle.qbase.proofs.Lists.{all_more}
-use Rattle.qqueue.specs.Order.{comes_before}
-use Rattle.qqueue.specs.declared.item.Item.{Item}
-use Rattle.qtables.specs.Members.{IsRoster}
+-- What is pending rises in number, isn't held, and the Send of each message is the open call of its sender.
+use Rattle.std.proofs.Common.{◌≡◌, ◌∙◌, ℕ, List, ap, sym, true, option_and_then}
+use Rattle.std.specs.Prelude.{Some, not, ◌&&◌}
+use Rattle.std.proofs.lemmas.Bool.{not-true, or_parts, true≢false}
+use Rattle.qbase.proofs.Lists.{all_more, none_of}
 use Rattle.qtables.specs.declared.member.Member.{Member}
-use Rattle.qrules.specs.Private.Facts.{is_for_receipt}
-use Rattle.qrules.specs.Private.Laws as old_laws
-use Rattle.qrules.specs.Private.Past as old
-use Rattle.qmodel.specs.Trace.{Event, Trace}
-use Rattle.qmodel.specs.declared.call.Completion.{Completion}
+use Rattle.qmodel.specs.Trace.{Trace}
+use Rattle.qmodel.specs.OpenCalls.{number_of, send_in}
 use Rattle.qmodel.specs.declared.open_call.OpenCall.{OpenCall}
 use Rattle.qmodel.specs.declared.open_call.OpenCall.TheVariants.{Receive, Send}
-use Rattle.qrules.proofs.Traces.TraceLaws.Limits as limits
-use Rattle.qrules.proofs.Traces.TraceLaws.Order as order
-use Rattle.qrules.proofs.Traces.TraceLaws.Pending as pending
-use Rattle.qrules.proofs.Traces.TraceLaws.Setting as setting
-use Rattle.qrules.proofs.Traces.TraceLaws.CurrentPriority as current_priority
-use Rattle.qrules.specs.Lawful.{facts_of, IsLawful}
-use Rattle.qrules.specs.Past.{is_gone, sender_of}
-use Rattle.qrules.specs.Private.Facts.{send_view}
+use Rattle.qrules.specs.Facts.{send_of}
+use Rattle.qrules.specs.Lawful.{facts_of}
+use Rattle.qrules.specs.Private.Facts.{is_for_receipt}
+use Rattle.qrules.specs.Private.Past.{is_ended, open_call, pending_items, sender_of}
+use Rattle.qrules.proofs.Traces.Past.Cancels.{sent_by}
+use Rattle.qrules.proofs.Traces.Past.Items.{pending_all}
+use Rattle.qrules.proofs.Traces.Past.Open.{open_own}
+use Rattle.qrules.proofs.Traces.Past.Rising.{pending_rises as rises}
 use Rattle.qlaws.specs.Pending as laws
 use Rattle.qlaws.proofs.Waits.{before}
 
--- ---- what is pending
-
 pub pending_rises : laws.PendingRises
-pending_rises roster past r l h = pending.rises roster past r (before roster past l) h
-
-pub pulses_are_limited : laws.PulsesAreLimited
-pulses_are_limited roster past r l h =
-    limits.pulses_are_limited roster past r (before roster past l) h
+pending_rises roster past r l h = rises roster past h
 
 pub none_pending_is_held : laws.NonePendingIsHeld
 none_pending_is_held roster past r l h =
-    all_more _ _ (old.pending_items roster past h) (pending.none_pending_is_held roster past r (before roster past l) h) (λ item k. k.unread)
+    all_more _ _ (pending_items roster past h) (pending_all roster past h) (λ item p. ap (λ b. b && not (is_ended past item.number)) (or_parts _ _ p.stays).0)
 
-module _ (roster : List Member) (past : Trace) (l : IsLawful roster past) (i : ℕ) where
-  unreceived : (t : ℕ) (o : OpenCall) (w : Wait) → old.sender_of past i ≡ Some t → old.open_call roster past t ≡ Some o → o.number ≡ i → o.wait ≡ w → is_for_receipt w ≡ true → laws.IsUnreceived roster past i
-  unreceived t o (Answer coid message reply_buffer None) sent is number waits unread = record {
-    send = record { number = o.number; thread = t; connection = coid; message = message; reply_buffer = reply_buffer; receipt = None };
-    number = number;
-    sent = sent;
-    is_open = ap (send_view t) (is ∙ ap (λ w. Some (record { number = o.number; wait = w })) waits);
-    unread = refl;
-  }
-  unreceived t o (Answer coid message reply_buffer (Some receipt)) sent is number waits unread = absurd (true≢false (sym unread))
-  unreceived t o (ForItem chid kind buffer) sent is number waits unread = absurd (true≢false (sym unread))
+unreceived : (roster : List Member) (past : Trace) (i t : ℕ) (o : OpenCall) → sender_of past i ≡ Some t → open_call roster past t ≡ Some o → number_of o ≡ i → is_for_receipt o ≡ true → laws.IsUnreceived roster past i
+unreceived roster past i t (Send s) sent is number unread =
+    let own : s.thread ≡ t = open_own roster past t (Send s) is in
+    record {
+      send = s;
+      number = number;
+      sent = sent ∙ ap Some (sym own);
+      is_open = ap (send_of (facts_of roster past)) own ∙ ap (option_and_then send_in) is;
+      unread = none_of s.receipt (not-true _ unread);
+    }
+unreceived roster past i t (Receive r) sent is number unread = absurd (true≢false (sym unread))
 
 pub pending_is_open : laws.PendingIsOpen
 pending_is_open roster past r l h =
-    all_more _ _ (old.pending_items roster past h) (pending.pending_is_open roster past r (before roster past l) h) (λ item k message.
-    let s = k message in
-    unreceived roster past l item.number s.sender s.waiting s.waiting.wait s.sent s.is_open s.number refl s.unread)
-
-pub pending_follows_its_sender : laws.PendingFollowsItsSender
-pending_follows_its_sender roster past r l h =
-    all_more _ _ (old.pending_items roster past h) (current_priority.pending_follows_its_sender roster past r (before roster past l) h) (λ item k message t sent. k message t sent)
-
--- ---- the order of receipt
-
-takes_before : (past : Trace) (z : Completion) (i h : ℕ) (x : Item) → laws.TakesBeside past z i h x → old_laws.TakesBeside past z i h x
-takes_before past z i h x k =
-    record { request = k.request; call = k.call; channel = k.channel; may = k.may; item = k.item }
-
-first_by_rules : (past : Trace) (roster : List Member) (later : Trace) (e : Event) → IsRoster roster → IsLawful roster (e ∷ later ++ past) → (h : ℕ)
-    → AllByRecursion (λ x. AllByRecursion (λ y. comes_before x y ≡ true → laws.HasPriority roster (later ++ past) x → laws.HasPriority roster (later ++ past) y
-    → AllByRecursion (λ z. laws.TakesBeside (e ∷ later ++ past) z y.number h x → is_gone (later ++ past) x ≡ true) e.endings)
-    ((facts_of roster past).pending h)) ((facts_of roster past).pending h)
-first_by_rules past roster later e r l h =
-    let after : Trace = later ++ past in
-    (all_more _ _ (old.pending_items roster past h) (order.first_goes_first roster past later e r (before roster (e ∷ later ++ past) l) h) (λ x all.
-    all_more _ _ (old.pending_items roster past h) all (λ y k first of_x of_y.
-    all_more _ _ e.endings (k first of_x of_y) (λ z gone takes.
-    gone (takes_before (e ∷ after) z y.number h x takes)))))
-
-pub first_goes_first : laws.FirstGoesFirst
-first_goes_first past roster after e r l later is h =
-    subst (λ t. AllByRecursion (λ x. AllByRecursion (λ y. comes_before x y ≡ true → laws.HasPriority roster t x → laws.HasPriority roster t y
-    → AllByRecursion (λ z. laws.TakesBeside (e ∷ t) z y.number h x → is_gone t x ≡ true) e.endings)
-    ((facts_of roster past).pending h)) ((facts_of roster past).pending h)) (sym is)
-    (first_by_rules past roster later e r (subst (λ t. IsLawful roster (e ∷ t)) is l) h)
-
--- ---- setting a priority
-
-pub setting_moves_its_own : laws.SettingMovesItsOwn
-setting_moves_its_own roster past e r l accepted t priority is h =
-    setting.setting_moves_its_own roster past e r (before roster (e ∷ past) l) accepted t priority is h
-
-pub others_keep_their_order : laws.OthersKeepTheirOrder
-others_keep_their_order roster past e r l accepted t priority is h =
-    setting.others_keep_their_order roster past e r (before roster (e ∷ past) l) accepted t priority is h
+    all_more _ _ (pending_items roster past h) (pending_all roster past h) (λ item p message.
+    let s = sent_by roster past h item (before roster past l) p message in
+    unreceived roster past item.number s.sender s.waiting s.sent s.is_open s.number s.unread)

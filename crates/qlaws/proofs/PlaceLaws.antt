@@ -15,9 +15,8 @@ use Rattle.qrules.proofs.Traces.Past.Cancels.{sent_by}
 use Rattle.qrules.proofs.Traces.Past.CurrentPriority.{now, worth_newest, worth_set}
 use Rattle.qrules.proofs.Traces.Past.Items.{item_below, items_on, made_by, pending_is, standing_is, stands_all, staying, Stands}
 use Rattle.qrules.proofs.Traces.Past.Pending.{items_more, stays_gone}
-use Rattle.qrules.specs.Lawful.{facts_of}
-use Rattle.qrules.proofs.Lawful.{of_roster}
 use Rattle.qlaws.specs.Pending as laws
+use Rattle.qlaws.proofs.Lists.{all_two, all_unfilter, all_unmap}
 use Rattle.qlaws.proofs.Waits.{before}
 
 -- ---- counts
@@ -69,28 +68,15 @@ weigh false false true true stays put = omega arith
 weigh false false true false stays put = absurd (true≢false (sym (put refl refl)))
 weigh false false false before stays put = omega arith
 
-all_two : {X : Type 0} (P Q R : X → Type 0) (xs : List X) → AllByRecursion P xs → AllByRecursion Q xs → ((x : X) → P x → Q x → R x) → AllByRecursion R xs
-all_two P Q R [] p q f = tt
-all_two P Q R (x ∷ xs) p q f = (f x p.0 q.0, all_two P Q R xs p.1 q.1 f)
-
 -- what is so of those that pass, each as it is by now
 of_passing : (P : Item → Type 0) (p : Item → Bool) (k : Item → Item) (items : List Item) → AllByRecursion P (map k (filter p items)) → AllByRecursion (λ y. p y ≡ true → P (k y)) items
-of_passing P p k [] all = tt
-of_passing P p k (y ∷ items) all =
-    elim (p y) as (λ b. p y ≡ b → AllByRecursion P (map k (cond b (y ∷ filter p items) (filter p items))) → AllByRecursion (λ y. p y ≡ true → P (k y)) (y ∷ items)) [
-      | true ↦ λ is all. (λ passes. all.0, of_passing P p k items all.1)
-      | false ↦ λ is all. (λ passes. absurd (true≢false (sym passes ∙ is)), of_passing P p k items all)
-    ] refl all
+of_passing P p k items all = all_unfilter (λ y. P (k y)) p items (all_unmap P k (filter p items) all)
 
 -- ---- in the words of the proofs
 
--- the item with the priority that event e sets for its sender
-abbrev set_by : Event → Trace → Item → Item
-set_by e past y = with_priority (unwrap_or (option_and_then (priority_set_by e past) (sender_of past y.number)) y.priority) y
-
 module _ (roster : List Member) (past : Trace) (e : Event) (l : old.IsLawful roster past) (h : ℕ) (x : Item) where
   abbrev P : Item → Type 0
-  P y = comes_before (set_by e past y) x ≡ true → comes_before y x ≡ true
+  P y = comes_before (laws.as_set_by e past y) x ≡ true → comes_before y x ≡ true
 
   -- an item that stays comes before x only if it did so
   stays_behind : (y : Item) → Stands roster past h y → (not (is_gone past y) ≡ true → P (now past y)) → is_gone (e ∷ past) y ≡ false → comes_before (now (e ∷ past) y) x ≡ true → comes_before (now past y) x ≡ true
@@ -163,6 +149,4 @@ module _ (roster : List Member) (past : Trace) (e : Event) (l : old.IsLawful ros
 
 pub places_fall : laws.PlacesFall
 places_fall roster past e r l h x none =
-    let of = of_roster roster past l.0 in
-    let f = old.facts_of roster past in
     falls roster past e (before roster past l.0) h x none.made none.set

@@ -1,18 +1,15 @@
 -- At most one unblock pulse is made for a message.
-use mathlib.Core.Path.{fun_ext}
 use Rattle.std.proofs.Common.{◌≡◌, ◌∙◌, ◌≤◌, ◌+◌, ℕ, List, [], ◌∷◌, refl, ap, sym, subst, cond, arith, Bool, true, false}
 use Rattle.std.specs.Prelude.{None, Some, count_by}
-use Rattle.std.specs.Option.{option_to_list}
+use Rattle.std.specs.Option.{option_to_list, option_map_or}
 use Rattle.std.proofs.lemmas.Bool.{eqb-true, or_parts, true≢false}
 use Rattle.std.proofs.lemmas.List.Sums.{sum_by-append, sum_by-cons}
 use Rattle.std.proofs.lemmas.Option.{none-some, same_Some}
-use Rattle.qqueue.specs.declared.item.What.{What}
-use Rattle.qqueue.specs.declared.item.What.TheVariants as what
 use Rattle.qtables.specs.declared.member.Member.{Member}
 use Rattle.qrules.specs.Private.Effects.{makes, unblocks}
-use Rattle.qrules.specs.Private.Facts.{Facts as OldFacts}
+use Rattle.qrules.specs.Private.Facts.{Facts as OldFacts, held_call, number_of}
 use Rattle.qrules.specs.Private.Lawful as old
-use Rattle.qrules.specs.Private.Past.{call_by_now, copied_count_of, is_unblock_for, item_of, items as old_items, priority_of_item, unblocked_among, wait_with_receipt, with_receipt}
+use Rattle.qrules.specs.Private.Past.{copied_count_of, is_unblock_for, item_of, items, priority_of_item, unblocked_among, with_receipt, filled}
 use Rattle.qmodel.specs.Trace.{SentItem, Trace}
 use Rattle.qmodel.specs.declared.call.Call.{Call}
 use Rattle.qmodel.specs.declared.call.Call.TheVariants as calls
@@ -25,19 +22,18 @@ use Rattle.qrules.proofs.Traces.Past.CurrentPriority.{unblocked_among_now}
 use Rattle.qrules.proofs.Traces.Past.Items.{item_accepted}
 use Rattle.qrules.proofs.Traces.Past.Open.{is_unblocked, open_parts}
 use Rattle.qrules.proofs.Traces.Past.Unblocked.{none_unblocked}
-use Rattle.qrules.specs.Past as new
 use Rattle.qrules.specs.Properties.{items}
 use Rattle.qlaws.specs.Pending as laws
 use Rattle.qrules.proofs.Traces.Due.{unblock_same}
 
 -- the receipt doesn't tell that no unblock pulse was made
-abbrev told : Wait → Bool
-told (Answer coid message reply_buffer (Some receipt)) = receipt.unblocked
-told wait = true
+abbrev told : OpenCall → Bool
+told (Send s) = option_map_or (λ (r : OldReceipt). r.unblocked) s.receipt true
+told (Receive r) = true
 
-untold : (receipt : OldReceipt) (w : Wait) → told (wait_with_receipt receipt w) ≡ false → receipt.unblocked ≡ false
-untold receipt (Answer coid message reply_buffer before) e = e
-untold receipt (ForItem chid kind buffer) e = absurd (true≢false e)
+untold : (receipt : OldReceipt) (o : OpenCall) → told (held_call receipt o) ≡ false → receipt.unblocked ≡ false
+untold receipt (Send s) e = e
+untold receipt (Receive r) e = absurd (true≢false e)
 
 unblock_is : (c : Call) (v : ℕ) → unblocks c ≡ Some v → c ≡ calls.Unblock v
 unblock_is (calls.Unblock thread) v e = ap calls.Unblock (same_Some thread v e)
@@ -51,14 +47,14 @@ first_for roster past t c i m made is =
       | None ↦ λ none. absurd (true≢false (sym is ∙ (call_laws c).unblocks_none none f t m made i))
       | Some v ↦ λ some.
           let d = due_parts f (f.open_call v) m (sym (unblock_same f v) ∙ subst (λ c. makes f t c ≡ Some m) (unblock_is c v some) made) in
-          let p = open_parts roster past v d.waiting d.is in
-          let number : p.block.number ≡ i = sym p.number ∙ eqb-true _ _ (ap (λ (m : SentItem). is_unblock_for i m.item.what) d.made ∙ is) in
-          let first : told d.waiting.wait ≡ false = ap told d.waits ∙ d.first in
+          let p = open_parts roster past v (Send d.send) d.is in
+          let n : ℕ = number_of p.block in
+          let number : n ≡ i = sym p.number ∙ eqb-true _ _ (ap (λ (m : SentItem). is_unblock_for i m.item.what) d.made ∙ is) in
+          let first : told (Send d.send) ≡ false = ap (λ o. option_map_or (λ (r : OldReceipt). r.unblocked) o true) d.held ∙ d.first in
           subst (λ i. is_unblocked roster past i ≡ false) number (
-          elim (copied_count_of past p.block.number) as (λ r. copied_count_of past p.block.number ≡ r → d.waiting ≡ with_receipt (priority_of_item roster past p.block.number) (is_unblocked roster past p.block.number) r (call_by_now past p.block)
-          → is_unblocked roster past p.block.number ≡ false) [
-            | None ↦ λ none same. none_unblocked roster past p.block.number none
-            | Some copied ↦ λ taken same. untold _ (call_by_now past p.block).wait (ap (λ (o : OpenCall). told o.wait) (sym same) ∙ first)
+          elim (copied_count_of past n) as (λ r. copied_count_of past n ≡ r → Send d.send ≡ with_receipt (priority_of_item roster past n) (is_unblocked roster past n) r (filled past p.block) → is_unblocked roster past n ≡ false) [
+            | None ↦ λ none same. none_unblocked roster past n none
+            | Some copied ↦ λ taken same. untold _ (filled past p.block) (ap told (sym same) ∙ first)
           ] refl p.same)
     ] refl
 
@@ -73,28 +69,23 @@ none_counted i (m ∷ items) e =
     let rest : pulses_for i items ≡ 0 = none_counted i items p.1 in
     sum_by-cons (λ m. cond (is_unblock_for i m.item.what) 1 0) m items ∙ ap (λ b. cond b 1 0 + pulses_for i items) p.0 ∙ omega arith
 
-at_most_one : (roster : List Member) (past : Trace) (i : ℕ) → pulses_for i (old_items roster past) ≤ 1
+at_most_one : (roster : List Member) (past : Trace) (i : ℕ) → pulses_for i (items roster past) ≤ 1
 at_most_one roster [] i = omega arith
 at_most_one roster (e ∷ past) i =
-    let before : ℕ = pulses_for i (old_items roster past) in
+    let before : ℕ = pulses_for i (items roster past) in
     let most : before ≤ 1 = at_most_one roster past i in
-    subst (λ n. n ≤ 1) (sym (sum_by-append (λ m. cond (is_unblock_for i m.item.what) 1 0) (old_items roster past) (option_to_list (item_of roster e past)))) (
+    subst (λ n. n ≤ 1) (sym (sum_by-append (λ m. cond (is_unblock_for i m.item.what) 1 0) (items roster past) (option_to_list (item_of roster e past)))) (
     elim (item_of roster e past) as (λ o. item_of roster e past ≡ o → before + pulses_for i (option_to_list o) ≤ 1) [
       | None ↦ λ is. omega arith
       | Some m ↦ λ is.
           elim (is_unblock_for i m.item.what) as (λ b. is_unblock_for i m.item.what ≡ b → before + (0 + cond b 1 0) ≤ 1) [
             | true ↦ λ pulse.
                 let first = first_for roster past e.thread e.call i m (item_accepted roster e past m is).1 pulse in
-                let none : before ≡ 0 = none_counted i (old_items roster past) (sym (unblocked_among_now past (old_items roster past) i) ∙ first) in
+                let none : before ≡ 0 = none_counted i (items roster past) (sym (unblocked_among_now past (items roster past) i) ∙ first) in
                 omega arith
             | false ↦ λ other. omega arith
           ] refl
     ] refl)
 
-same_unblock : (i : ℕ) (w : What) → new.is_unblock_for i w ≡ is_unblock_for i w
-same_unblock i (what.Unblock rcvid) = refl
-same_unblock i _ = refl
-
 pub one_unblock_pulse : laws.OneUnblockPulse
-one_unblock_pulse roster past r l i =
-    subst (λ n. n ≤ 1) (sym (ap (λ (is : What → Bool). count_by (λ m. is m.item.what) (old_items roster past)) (fun_ext (same_unblock i)))) (at_most_one roster past i)
+one_unblock_pulse roster past r l i = at_most_one roster past i

@@ -2,11 +2,11 @@
 -- wait afterwards.
 use Rattle.std.specs.Prelude.{◌&&◌, ◌+◌, ◌==◌, ◌||◌, ◌∷◌, ◌≡◌, ◌↔◌, if◌then◌else◌}
 use Rattle.qrules.specs.Words.{[], false, is_some, length, list_any, member_at, option_map}
-use Rattle.qrules.specs.Words.{option_or, true, unwrap_or, AllByRecursion, Bool, Completion, Down, List}
-use Rattle.qrules.specs.Words.{Member, None, Option, Some}
+use Rattle.qrules.specs.Words.{option_map_or, true, AllByRecursion, Bool, Completion, Down, List}
+use Rattle.qrules.specs.Words.{Member, Some}
 use Rattle.qrules.specs.Words.mark
 use Rattle.qrules.specs.Trace.{Bytes, CallNo, ChannelId, ConnectionId, Event, ThreadNo, Trace}
-use Rattle.qrules.specs.Facts.{is_blocked, receive_of, send_of, Facts}
+use Rattle.qrules.specs.Facts.{buffer_in, is_blocked, Facts}
 use Rattle.qrules.specs.Rule.{buffer_of, own_ending, ReceiveRequest}
 use Rattle.qrules.specs.Rules.{effect_of}
 use Rattle.qrules.specs.Past.{attached_connection, is_accepted, is_destroyed, item_among, was_done}
@@ -14,18 +14,13 @@ use Rattle.qrules.specs.Lawful.{facts_of}
 use Rattle.qrules.specs.Properties.{connection_of, items, number_received, request_of}
 use Rattle.qlaws.specs.Lawful.{InEachNewest}
 use Rattle.qlaws.specs.OpenCalls.{waiting_number}
-pub use Rattle.qrules.specs.Trace.{AreApart, gets, RiseByThread}
+pub use Rattle.qrules.specs.Trace.{thread_at, AreApart, gets, RiseByThread}
 
 -- P holds of each ending of each event
 abbrev pub OfEachEnding : (List Member → Trace → Event → Completion → Type 0) → Type 0
 OfEachEnding P = InEachNewest (λ roster past e. AllByRecursion (P roster past e) e.endings)
 
 -- ---- the threads that get them
-
--- the thread that made the call of number i
-abbrev pub thread_at : Trace → CallNo → Option ThreadNo
-thread_at [] i = None
-thread_at (e ∷ past) i = if i == length past + 1 then Some e.thread else thread_at past i
 
 -- each ending goes to the thread that made the call that it ends
 abbrev pub EndingsNameOwnCalls : Type 0
@@ -74,9 +69,7 @@ CallerGetsItsOwn = InEachNewest (λ roster past e. gets e.endings e.thread ≡ e
 
 -- the buffer of the call that thread u waits in
 abbrev pub waiting_buffer : Facts → ThreadNo → Bytes
-waiting_buffer f u = unwrap_or
-    (option_or (option_map (λ s. s.reply_buffer) (send_of f u)) (option_map (λ r. r.buffer) (receive_of f u)))
-    []
+waiting_buffer f u = option_map_or buffer_in (f.open_call u) []
 
 -- each ending's buffer is as long as the one that its thread passed in, with this call or with the one that
 -- it waits in

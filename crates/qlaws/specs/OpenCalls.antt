@@ -1,9 +1,9 @@
 -- Laws of the calls that threads wait in.
-use Rattle.std.specs.Prelude.{◌&&◌, ◌==◌, ◌||◌, ◌≡◌, ◌↔◌, ◌≤◌, if◌then◌else◌}
+use Rattle.std.specs.Prelude.{◌&&◌, ◌==◌, ◌≡◌, ◌↔◌, ◌≤◌}
 use Rattle.qrules.specs.Words.{false, is_some, length, may_take, not, option_map_or}
 use Rattle.qrules.specs.Words.{true}
-use Rattle.qrules.specs.Words.{AllByRecursion, Bool, Call, Connection, None, Option, Some}
-use Rattle.qrules.specs.Trace.{call_at, Bytes, CallNo, Event, ReceiveId, ThreadNo, Trace}
+use Rattle.qrules.specs.Words.{AllByRecursion, Bool, Call, Connection, None, Some}
+use Rattle.qrules.specs.Trace.{call_at, Bytes, CallNo, ReceiveId, ThreadNo, Trace}
 use Rattle.qrules.specs.Facts.{is_blocked, open_receives, open_send, open_sends, receive_of, Facts}
 use Rattle.qrules.specs.Facts.{OpenReceive, OpenSend}
 use Rattle.qrules.specs.Rule.{buffer_of, SentItem}
@@ -13,13 +13,9 @@ use Rattle.qrules.specs.Past.{accepted_at, is_ended, is_received, was_done}
 use Rattle.qrules.specs.Lawful.{facts_of}
 use Rattle.qlaws.specs.Lawful.{AfterEach}
 pub use Rattle.qrules.specs.Facts.{waiting_number}
+pub use Rattle.qrules.specs.Past.{waiter}
 
 -- ---- at most one for each thread
-
--- the thread of an event whose call may wait
-abbrev pub waiter : Event → Option ThreadNo
-waiter e = if is_some (effect_of e.call).sends || is_some (effect_of e.call).receives then Some e.thread
-    else None
 
 -- call i is one of thread t that was accepted, may wait and isn't ended
 pub record IsUnended (past : Trace) (t : ThreadNo) (i : CallNo) : Type 0 where
@@ -38,11 +34,12 @@ OpenIsUnended = AfterEach (λ roster past. (t : ThreadNo) (i : CallNo)
 
 -- ---- Sends
 
--- the connection of the Send is live, and its channel open
+-- the connection of the Send is live and leads to the Send's channel, which is open
 pub record IsRouted (f : Facts) (s : OpenSend) : Type 0 where
   pub connection : Connection
   pub is_live : f.connection s.connection ≡ Some connection
-  pub is_open : is_some (f.channel connection.channel) ≡ true
+  pub leads : connection.channel ≡ s.channel
+  pub is_open : is_some (f.channel s.channel) ≡ true
 
 -- each open Send is routed
 abbrev pub OpenSendsAreRouted : Type 0

@@ -10,7 +10,7 @@ pub fn one_open_call()
     ensures same { OpenIsUnended }
 {}
 
-/// The connection of each open Send is live, and its channel open.
+/// The connection of each open Send is live and leads to the channel of the Send, which is open.
 pub fn open_sends_are_routed()
     ensures { OpenSendsAreRouted }
 {}

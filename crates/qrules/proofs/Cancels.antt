@@ -10,13 +10,10 @@ use Rattle.qrules.specs.Private.Cancelling.{cancel_where, cancels}
 use Rattle.qrules.specs.Private.Facts.{threads_of, Facts as OldFacts}
 use Rattle.qmodel.specs.declared.call.Completion.{Completion}
 use Rattle.qmodel.specs.declared.open_call.OpenCall.TheVariants.{Receive, Send}
-use Rattle.qrules.specs.Facts.{OpenReceive, OpenSend}
+use Rattle.qrules.specs.Facts.{OpenReceive, OpenSend, receive_in, send_in, open_receives, open_sends, OpenCall}
 use Rattle.qrules.specs.Delivery.{cancel, cancel_receive, cancel_send}
 use Rattle.qrules.proofs.Lists.{filter-filter_map, found, map-filter_map}
-use Rattle.qrules.specs.Facts.{receive_in, send_in}
 use Rattle.qrules.proofs.View.{receive_thread, send_thread, unknown, IsKnown}
-use Rattle.qrules.specs.Facts.{open_receives, open_sends}
-use Rattle.qrules.specs.Facts.{OpenCall}
 use Rattle.qmodel.specs.OpenCalls.{thread_of}
 
 -- what passes a test

@@ -16,13 +16,11 @@ use Rattle.qrules.specs.Private.Receivers.{is_newest, wait_on, newest_receiver a
 use Rattle.qrules.specs.Private.Rows.{receipt_ending}
 use Rattle.qmodel.specs.declared.call.Completion.{Completion}
 use Rattle.qmodel.specs.declared.open_call.OpenCall.TheVariants.{Receive, Send}
-use Rattle.qrules.specs.Facts.{OpenReceive}
+use Rattle.qrules.specs.Facts.{OpenReceive, receive_in, OpenCall}
 use Rattle.qrules.specs.Rule.{SentItem}
 use Rattle.qrules.specs.Delivery.{deliver, delivery, has_to_wait, newest_receiver}
 use Rattle.qrules.proofs.Cancels.{pass}
 use Rattle.qrules.proofs.Newest.{newest_same, taker, waits_same}
-use Rattle.qrules.specs.Facts.{receive_in}
-use Rattle.qrules.specs.Facts.{OpenCall}
 use Rattle.qrules.proofs.View.{IsKnown}
 
 -- no thread takes the item

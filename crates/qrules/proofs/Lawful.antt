@@ -1,11 +1,9 @@
 -- A trace is lawful by the rules exactly where it is by the words of the proofs.
-use Rattle.std.proofs.Common.{◌≡◌, ◌↔◌, List, [], ◌∷◌, refl, sym, subst}
+use Rattle.std.proofs.Common.{◌↔◌, List, [], ◌∷◌}
 use Rattle.qtables.specs.declared.member.Member.{Member}
 use Rattle.qrules.specs.Private.Lawful as old
-use Rattle.qrules.specs.Private.OnlyRun as old_only
-use Rattle.qmodel.specs.Trace.{Event, Trace}
-use Rattle.qrules.specs.Lawful.{IsLawful, IsOnlyRun}
-use Rattle.qrules.specs.Trace.{followed_by}
+use Rattle.qmodel.specs.Trace.{Trace}
+use Rattle.qrules.specs.Lawful.{IsLawful}
 use Rattle.qrules.proofs.Outcomes.{same_answers}
 use Rattle.qrules.proofs.Past.Facts.{facts_known}
 use Rattle.qrules.proofs.Same.{AreOfRoster}
@@ -40,13 +38,3 @@ lawful_by_rules roster (e ∷ past) l =
 
 pub same_lawful : (roster : List Member) (past : Trace) → IsLawful roster past ↔ old.IsLawful roster past
 same_lawful roster past = (lawful_as_before roster past, lawful_by_rules roster past)
-
-pub same_followed : (past : Trace) (events : List Event) → followed_by past events ≡ old.followed_by past events
-same_followed past [] = refl
-same_followed past (e ∷ events) = same_followed (e ∷ past) events
-
-pub same_only_run : (roster : List Member) (past : Trace) (events : List Event) → IsOnlyRun roster past events ↔ old_only.IsOnlyRun roster past events
-same_only_run roster past events = (
-  λ only had others calls lawful others_had. only had others calls (subst (IsLawful roster) (sym (same_followed past others)) (lawful_by_rules roster (old.followed_by past others) lawful)) others_had,
-  λ only had others calls lawful others_had. only had others calls (subst (old.IsLawful roster) (same_followed past others) (lawful_as_before roster (followed_by past others) lawful)) others_had,
-)

@@ -4,14 +4,11 @@ use Rattle.std.specs.Prelude.{Option, None, Some, ◌&&◌, find, filter_map, op
 use Rattle.std.specs.List.{cons_option}
 use Rattle.std.proofs.lemmas.Bool.{true≢false}
 use Rattle.std.proofs.Math.Bool.{and-false}
-use Rattle.qrules.specs.Private.Facts.{is_send, sender, sender_among, threads_of, Facts as OldFacts}
+use Rattle.qrules.specs.Private.Facts.{is_send, sender, sender_among, threads_of, Facts as OldFacts, is_for_answer}
 use Rattle.qmodel.specs.declared.open_call.OpenCall.{OpenCall}
 use Rattle.qmodel.specs.declared.open_call.OpenCall.TheVariants.{Receive, Send}
 use Rattle.qrules.proofs.Traces.Past.Senders.{sender_sends}
-use Rattle.qrules.specs.Facts.{OpenSend, open_send}
-use Rattle.qrules.specs.Facts.{send_in}
-use Rattle.qrules.specs.Facts.{number_of}
-use Rattle.qrules.specs.Private.Facts.{is_for_answer}
+use Rattle.qrules.specs.Facts.{OpenSend, open_send, send_in, number_of}
 
 module _ (open_call : ℕ → Option OpenCall) (i : ℕ) where
   open_among : (ts : List ℕ) → find (λ s. eqb s.number i) (filter_map (λ u. option_and_then send_in (open_call u)) ts) ≡ option_and_then (λ u. option_and_then send_in (open_call u)) (sender_among open_call i ts)
@@ -43,13 +40,14 @@ pub record NoSend (f : OldFacts) (i : ℕ) : Type 0 where
 pub record OneSend (f : OldFacts) (i : ℕ) : Type 0 where
   pub thread : ℕ
   pub send : OpenSend
+  pub number : send.number ≡ i
   pub sent : sender f i ≡ Some thread
   pub is : f.open_call thread ≡ Some (Send send)
   pub new : open_send f i ≡ Some send
 
-one_send : (f : OldFacts) (i s : ℕ) (o : OpenCall) → sender f i ≡ Some s → f.open_call s ≡ Some o → is_for_answer o ≡ true → open_send f i ≡ send_in o → OneSend f i
-one_send f i s (Send x) sent is answer new = record { thread = s; send = x; sent = sent; is = is; new = new }
-one_send f i s (Receive x) sent is answer new = absurd (true≢false (sym answer))
+one_send : (f : OldFacts) (i s : ℕ) (o : OpenCall) → sender f i ≡ Some s → f.open_call s ≡ Some o → number_of o ≡ i → is_for_answer o ≡ true → open_send f i ≡ send_in o → OneSend f i
+one_send f i s (Send x) sent is number answer new = record { thread = s; send = x; number = number; sent = sent; is = is; new = new }
+one_send f i s (Receive x) sent is number answer new = absurd (true≢false (sym answer))
 
 pub send_cases : (f : OldFacts) (i : ℕ) → NoSend f i ⊎ OneSend f i
 send_cases f i =
@@ -58,5 +56,5 @@ send_cases f i =
       | None ↦ λ e. inl (record { none = e; new = same ∙ ap (option_and_then (λ u. option_and_then send_in (f.open_call u))) e })
       | Some s ↦ λ e.
           let k = sender_sends f.open_call i (threads_of f.roster) s e in
-          inr (one_send f i s k.waiting e k.is k.answer (same ∙ ap (option_and_then (λ u. option_and_then send_in (f.open_call u))) e ∙ ap (option_and_then send_in) k.is))
+          inr (one_send f i s k.waiting e k.is k.number k.answer (same ∙ ap (option_and_then (λ u. option_and_then send_in (f.open_call u))) e ∙ ap (option_and_then send_in) k.is))
     ] refl

@@ -9,12 +9,10 @@ use Rattle.qqueue.specs.Best.{may_take}
 use Rattle.qrules.specs.Private.Facts.{first_where, threads_of, Facts as OldFacts}
 use Rattle.qrules.specs.Private.Receivers.{is_after, is_last_wait, is_newest, wait_on, newest_receiver as old_newest}
 use Rattle.qmodel.specs.declared.open_call.OpenCall.TheVariants.{Receive, Send}
-use Rattle.qrules.specs.Facts.{OpenReceive}
+use Rattle.qrules.specs.Facts.{OpenReceive, receive_in, OpenCall}
 use Rattle.qrules.specs.Rule.{SentItem}
 use Rattle.qrules.specs.Delivery.{newer, newest_receiver}
 use Rattle.qrules.proofs.Lists.{filter-filter_map}
-use Rattle.qrules.specs.Facts.{receive_in}
-use Rattle.qrules.specs.Facts.{OpenCall}
 
 -- ---- the newest of a list
 

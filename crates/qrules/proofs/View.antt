@@ -1,5 +1,5 @@
 -- A thread that waits is one of the roster.
-use Rattle.std.proofs.Common.{◌≡◌, ◌∙◌, ℕ, refl, ap, sym, true, false}
+use Rattle.std.proofs.Common.{◌≡◌, ◌∙◌, ℕ, refl, ap, sym, true, false, option_and_then}
 use Rattle.std.specs.Prelude.{None, Some, is_some}
 use Rattle.std.proofs.lemmas.Bool.{true≢false}
 use Rattle.std.proofs.lemmas.Option.{none-some, same_Some}
@@ -7,9 +7,7 @@ use Rattle.qbase.proofs.Lists.{is_among}
 use Rattle.qrules.specs.Private.Facts.{threads_of, Facts as OldFacts}
 use Rattle.qmodel.specs.declared.open_call.OpenCall.{OpenCall}
 use Rattle.qmodel.specs.declared.open_call.OpenCall.TheVariants.{Receive, Send}
-use Rattle.qrules.specs.Facts.{OpenReceive, OpenSend}
-use Rattle.qrules.specs.Facts.{receive_in, send_in}
-use Rattle.std.proofs.Common.{option_and_then}
+use Rattle.qrules.specs.Facts.{OpenReceive, OpenSend, receive_in, send_in}
 use Rattle.qmodel.specs.OpenCalls.{thread_of}
 
 -- a thread that waits is one of the roster, and its open call is its own

@@ -10,7 +10,7 @@ pub use Rattle.qmodel.specs.declared.open_call.Receipt.{Receipt}
 pub use Rattle.qmodel.specs.declared.open_call.OpenCall.{OpenCall}
 pub use Rattle.qmodel.specs.declared.open_call.OpenReceive.{OpenReceive}
 pub use Rattle.qmodel.specs.declared.open_call.OpenSend.{OpenSend}
-pub use Rattle.qmodel.specs.OpenCalls.{number_of, receive_in, send_in}
+pub use Rattle.qmodel.specs.OpenCalls.{buffer_in, number_of, receive_in, send_in}
 
 -- the facts after all past calls
 pub record Facts : Type 0 where

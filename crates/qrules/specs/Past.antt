@@ -165,6 +165,11 @@ with_writes (e ∷ past) i b =
     if is_accepted e past then buffer_after_write (effect_of e.call).writes i (with_writes past i b)
     else with_writes past i b
 
+-- the thread of an event whose call may wait
+abbrev pub waiter : Event → Option ThreadNo
+waiter e = if is_some (effect_of e.call).sends || is_some (effect_of e.call).receives then Some e.thread
+    else None
+
 -- the item is an unblock pulse for message i
 abbrev pub is_unblock_for : ReceiveId → What → Bool
 is_unblock_for i (what.Unblock rcvid) = rcvid == i

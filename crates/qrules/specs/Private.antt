@@ -15,7 +15,4 @@ pub mod Answer
 pub mod Past
 pub mod Lawful
 pub mod Step
-pub mod OnlyRun
 pub mod Blocked
-pub mod Laws
-pub mod Endings

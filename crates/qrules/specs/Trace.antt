@@ -24,6 +24,11 @@ abbrev pub call_at : Trace → CallNo → Option Call
 call_at [] i = None
 call_at (e ∷ past) i = if i == length past + 1 then Some e.call else call_at past i
 
+-- the thread that made the call of number i
+abbrev pub thread_at : Trace → CallNo → Option ThreadNo
+thread_at [] i = None
+thread_at (e ∷ past) i = if i == length past + 1 then Some e.thread else thread_at past i
+
 -- all endings so far
 abbrev pub endings_of : Trace → List Completion
 endings_of past = flat_map (λ e. e.endings) past

@@ -6,7 +6,7 @@ use Rattle.std.proofs.lemmas.Bool.{cases_Bool, eqb-false, true≢false}
 use Rattle.std.proofs.lemmas.List.Folds.{list_any-append}
 use Rattle.std.proofs.Math.Seq.{drop-cons}
 use Rattle.qmodel.specs.declared.call.Completion.{Completion}
-use Rattle.qrules.specs.Private.Endings.{gets, AreApart}
+use Rattle.qrules.specs.Trace.{gets, AreApart}
 use Rattle.qkernel.specs.EventLog.{Logged}
 use Rattle.qshared.specs.Due.{place}
 use Rattle.qshared.specs.Private.Rooms.{MayCopy, Copied}

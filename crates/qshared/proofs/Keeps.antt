@@ -11,12 +11,11 @@ use Rattle.qtables.specs.Members.{member_at}
 use Rattle.qtables.specs.declared.member.Member.{Member}
 use Rattle.qmodel.specs.declared.call.Call.{Call}
 use Rattle.qmodel.specs.declared.call.Completion.{Completion}
-use Rattle.qrules.specs.Private.Endings.{AreApart, gets}
+use Rattle.qrules.specs.Trace.{AreApart, gets, thread_at}
 use Rattle.qrules.specs.Private.Facts.{threads_of}
 use Rattle.qrules.specs.Private.Lawful.{with_event}
 use Rattle.qmodel.specs.Trace.{Trace}
 use Rattle.qrules.proofs.Traces.Rosters.{among_member}
-use Rattle.qrules.specs.Private.Laws.{thread_at}
 use Rattle.qrules.proofs.Traces.TraceLaws.Blocked.{caller_gets_its_own, endings_are_apart}
 use Rattle.qrules.proofs.Traces.TraceLaws.Ending.{endings_name_own_calls}
 use Rattle.qrules.specs.Facts.{is_blocked}

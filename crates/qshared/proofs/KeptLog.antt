@@ -13,7 +13,9 @@ use Rattle.qmodel.specs.declared.call.Call.{Call}
 use Rattle.qmodel.specs.declared.call.Call.TheVariants.{Shutdown}
 use Rattle.qmodel.specs.declared.call.Completion.{Completion}
 use Rattle.qrules.specs.Private.Answer.{Answers, refusal}
-use Rattle.qrules.specs.Private.Endings.{AreApart, GoesToBlocked, buffer_brought, gets}
+use Rattle.qrules.specs.Trace.{AreApart, gets, followed_by, Event, Trace}
+use Rattle.qrules.proofs.Traces.TraceLaws.Blocked.{GoesToBlocked, blocked_unless_ended, endings_are_apart, endings_go_to_blocked}
+use Rattle.qrules.proofs.Traces.TraceLaws.Lengths.{buffer_brought, after_fits, ending_fits}
 use Rattle.qrules.specs.Private.Facts.{threads_of}
 use Rattle.qrules.specs.Private.Lawful.{IsLawful, facts_of, with_event}
 use Rattle.qrules.specs.Private.Past.{open_call}
@@ -22,11 +24,8 @@ use Rattle.qrules.specs.Facts.{is_blocked}
 use Rattle.qrules.specs.Lawful as rules
 use Rattle.qrules.specs.Outcome as outcome
 use Rattle.qrules.specs.Rules.{effect_of}
-use Rattle.qrules.specs.Trace.{followed_by, Event, Trace}
 use Rattle.qrules.proofs.Traces.Past.Ends.{accepted}
 use Rattle.qrules.proofs.Traces.Rosters.{known}
-use Rattle.qrules.proofs.Traces.TraceLaws.Blocked.{blocked_unless_ended, endings_are_apart, endings_go_to_blocked}
-use Rattle.qrules.proofs.Traces.TraceLaws.Lengths.{after_fits, ending_fits}
 use Rattle.qkernel.specs.EventLog.{Logged, with_next}
 use Rattle.qshared.specs.Due.{place}
 use Rattle.qshared.specs.Past.{is_down}

@@ -13,7 +13,7 @@ use Rattle.qhandoff.specs.Rule.{line}
 use Rattle.qhandoff.specs.Steps.{cancelled_desk, put_desk}
 use Rattle.qhandoff.specs.Words.{one}
 use Rattle.qhandoff.proofs.Changes.{line_else, line_here}
-use Rattle.qrules.specs.Private.Endings.{gets, AreApart}
+use Rattle.qrules.specs.Trace.{gets, AreApart}
 use Rattle.qshared.specs.Due.{later_of, place, of_thread}
 use Rattle.qshared.specs.Private.Putting.{MayPut, Handed}
 use Rattle.qshared.proofs.Places.{place_same}

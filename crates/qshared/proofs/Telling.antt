@@ -10,13 +10,13 @@ use Rattle.qtables.specs.Members.{IsRoster}
 use Rattle.qtables.specs.declared.member.Member.{Member}
 use Rattle.qmodel.specs.declared.call.Call.{Call}
 use Rattle.qmodel.specs.declared.call.Completion.{Completion}
-use Rattle.qrules.specs.Private.Endings.{AreApart, GoesToBlocked, gets, may_end}
+use Rattle.qrules.specs.Trace.{AreApart, gets}
+use Rattle.qrules.proofs.Traces.TraceLaws.Blocked.{GoesToBlocked, may_end, blocked_unless_ended, endings_are_apart, endings_go_to_blocked}
 use Rattle.qrules.specs.Private.Past.{open_call}
 use Rattle.qrules.specs.Private.Facts.{threads_of}
 use Rattle.qrules.specs.Private.Lawful.{with_event}
 use Rattle.qmodel.specs.Trace.{Event, Trace}
 use Rattle.qrules.proofs.Traces.Rosters.{among_member, known}
-use Rattle.qrules.proofs.Traces.TraceLaws.Blocked.{blocked_unless_ended, endings_are_apart, endings_go_to_blocked}
 use Rattle.qrules.specs.Facts.{is_blocked}
 use Rattle.qrules.specs.Lawful.{IsLawful, facts_of}
 use Rattle.qrules.specs.Outcome.{Answers}

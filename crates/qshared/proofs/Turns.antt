@@ -6,7 +6,7 @@ use Rattle.std.proofs.lemmas.List.{take-append-drop}
 use Rattle.std.proofs.Math.Seq.{drop-append_seam}
 use Rattle.std.proofs.lemmas.Bool.{cases_Bool, eqb-true, eq-eqb, true≢false}
 use Rattle.qmodel.specs.declared.call.Completion.{Completion}
-use Rattle.qrules.specs.Private.Endings.{gets, AreApart}
+use Rattle.qrules.specs.Trace.{gets, AreApart}
 use Rattle.qmodel.specs.Trace.{Trace}
 use Rattle.qpast.specs.History.{Extends}
 use Rattle.qmodel.specs.declared.call.Call.{Call}

@@ -3,7 +3,7 @@ ghost use Rattle.std.specs.Prelude.{◌≡◌, ◌<◌, ◌≤◌, [], length, S
 ghost use Rattle.std.specs.List.{AllByRecursion};
 ghost use Rattle.qhandoff.specs.Steps.{put_desk};
 ghost use Rattle.qhandoff.specs.Words.{cells_id, kernel_id, desk, one};
-ghost use Rattle.qrules.specs.Private.Endings.{AreApart};
+ghost use Rattle.qrules.specs.Trace.{AreApart};
 ghost use Rattle.qrules.specs.Facts.{threads_of};
 ghost use Rattle.qstate.specs.Kept.{members_of};
 ghost use Rattle.qshared.specs.Due.{of_thread, place};

@@ -2,7 +2,7 @@
 ghost use Rattle.std.specs.Prelude.{◌≡◌, ◌<◌, ◌≤◌, ◌-◌, ◌^◌, ◌++◌, [], ◌∷◌, length, IfOk};
 ghost use Rattle.std.specs.List.{AllByRecursion};
 ghost use Rattle.qtables.specs.Members.{IsRoster};
-ghost use Rattle.qrules.specs.Private.Endings.{AreApart};
+ghost use Rattle.qrules.specs.Trace.{AreApart};
 ghost use Rattle.qrules.specs.Facts.{threads_of};
 ghost use Rattle.qstate.specs.Kept.{members_of};
 ghost use Rattle.qrules.specs.Trace.{followed_by};

@@ -10,13 +10,12 @@ use Rattle.qrules.specs.Private.Past as old
 use Rattle.qmodel.specs.Trace.{Trace}
 use Rattle.qmodel.specs.declared.open_call.OpenCall.{OpenCall}
 use Rattle.qrules.proofs.Traces.Past.Numbers.{block_cases}
-use Rattle.qrules.proofs.Traces.Past.Open.{open_parts}
+use Rattle.qrules.proofs.Traces.Past.Open.{open_parts, open_own}
 use Rattle.qrules.proofs.Traces.Rosters.{known}
 use Rattle.qrules.specs.Lawful.{facts_of}
 use Rattle.qrules.proofs.Same.{AreOfRoster}
 use Rattle.qrules.proofs.View.{IsKnown}
 use Rattle.qrules.specs.Private.Past.{newest_block}
-use Rattle.qrules.proofs.Traces.Past.Open.{open_own}
 
 block_member : (roster : List Member) (past : Trace) (u : ℕ) (b : OpenCall) → AreOfRoster roster past → old.block roster past u ≡ Some b → is_some (member_at roster u) ≡ true
 block_member roster [] u b l is = absurd (none-some b is)

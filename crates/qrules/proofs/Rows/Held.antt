@@ -1,5 +1,5 @@
 -- The calls on a held message.
-use Rattle.std.proofs.Common.{◌≡◌, ◌∙◌, ℕ, ℤ, List, [], ◌∷◌, refl, ap, sym, subst, cond, true, false, eqb, drop, inl, inr}
+use Rattle.std.proofs.Common.{◌≡◌, ◌∙◌, ℕ, ℤ, List, [], ◌∷◌, refl, ap, sym, subst, cond, true, false, eqb, drop, inl, inr, length}
 use Rattle.std.specs.Prelude.{None, Some, Option, is_some, option_map, option_and_then, option_to_list}
 use Rattle.std.specs.Option.{option_map_or}
 use Rattle.std.proofs.lemmas.Bool.{eqb-true}
@@ -21,14 +21,11 @@ use Rattle.qmodel.specs.declared.call.Info.{Info}
 use Rattle.qmodel.specs.declared.call.Mark.TheVariants as mark
 use Rattle.qmodel.specs.declared.open_call.OpenCall.TheVariants.{Send}
 use Rattle.qrules.proofs.Traces.Rosters.{among_member}
-use Rattle.qrules.specs.Facts.{open_send, OpenSend}
+use Rattle.qrules.specs.Facts.{open_send, OpenSend, Receipt}
 use Rattle.qrules.specs.Rules.Held.{info_of, refusal_unless_held}
-use Rattle.qrules.proofs.Messages.{send_cases, NoSend}
+use Rattle.qrules.proofs.Messages.{send_cases, NoSend, OneSend}
 use Rattle.qrules.proofs.Rows.Same.{after_own, alone, ending_of, own_alone, SameRow}
 use Rattle.qrules.proofs.View.{IsKnown}
-use Rattle.qrules.specs.Facts.{Receipt}
-use Rattle.std.proofs.Common.{length}
-use Rattle.qrules.proofs.Messages.{OneSend}
 
 pub held_same : (f : OldFacts) (t i : ℕ) → refusal_unless_held f t i ≡ refusal f t i
 held_same f t i = elim (send_cases f i) [

@@ -11,7 +11,7 @@ use Rattle.qqueue.specs.declared.item.What.TheVariants as what
 use Rattle.qtables.specs.declared.connection.Connection.{Connection}
 use Rattle.qrules.specs.Private.Calls.ConnectDetach.{due_pulse as last_pulse}
 use Rattle.qrules.specs.Private.Calls.Pulse.{is_negative, sent_pulse}
-use Rattle.qrules.specs.Private.Calls.Unblock.{due_pulse, other_ending}
+use Rattle.qrules.specs.Private.Calls.Unblock.{due_pulse, other_ending, due_pulse_of, guards}
 use Rattle.qrules.specs.Private.Cancelling.{cancel_call, cancel_where, cancels, is_over}
 use Rattle.qrules.specs.Private.Facts.{has_flag, is_of_process, Facts as OldFacts}
 use Rattle.qrules.specs.Private.Pulses.{ends_receiver, refusal_if_full, refusal_if_full_for, wants_room_for}
@@ -20,17 +20,14 @@ use Rattle.qmodel.specs.declared.call.Call.TheVariants as calls
 use Rattle.qmodel.specs.declared.call.Mark.TheVariants as mark
 use Rattle.qmodel.specs.declared.open_call.OpenCall.TheVariants.{Receive, Send}
 use Rattle.qrules.specs.Delivery.{cancel, deliver, has_to_wait}
-use Rattle.qrules.specs.Facts.{is_of_process as is_of_process_by, is_of_same_process}
+use Rattle.qrules.specs.Facts.{is_of_process as is_of_process_by, is_of_same_process, OpenCall}
 use Rattle.qrules.specs.Rule.{SentItem}
 use Rattle.qrules.proofs.Cancels.{cancel_same}
 use Rattle.qrules.proofs.Deliveries.{deliver_same, memory_same}
 use Rattle.qrules.proofs.Rows.Same.{after_own, ending_of, SameRow}
 use Rattle.qrules.proofs.View.{IsKnown}
 use Rattle.qrules.proofs.Traces.Due.{unblock_same}
-use Rattle.qrules.specs.Facts.{OpenCall}
 use Rattle.qrules.specs.Rules.Unblock.{is_guarded}
-use Rattle.qrules.specs.Private.Calls.Unblock.{due_pulse_of}
-use Rattle.qrules.specs.Private.Calls.Unblock.{guards}
 
 pulse_memory : (f : OldFacts) (pulse : Option SentItem) → has_to_wait f pulse ≡ wants_room_for f pulse
 pulse_memory f None = refl

@@ -12,7 +12,9 @@ use Rattle.qmodel.specs.declared.call.Mark.TheVariants as mark
 use Rattle.qrules.specs.Private.Answer.{Answers, MayRefuse, refusal, refusal_ending}
 use Rattle.qrules.specs.Private.Facts.{Facts}
 use Rattle.qrules.specs.Private.Lawful.{IsLawful, facts_of, followed_by}
-use Rattle.qrules.specs.Private.OnlyRun.{event_call, HadMemory, IsOnlyRun}
+use Rattle.qrules.specs.Lawful as rules
+use Rattle.qrules.specs.Lawful.{event_call, HadMemory, IsOnlyRun}
+use Rattle.qrules.proofs.Lawful.{same_lawful}
 use Rattle.qmodel.specs.Trace.{Event, Trace}
 
 -- no ending says that there was no memory
@@ -58,5 +60,6 @@ only_run-by roster past (e ∷ events) l h (o ∷ others) same m g =
     let after : others ≡ events = only_run-by roster (e ∷ past) events l h.1 others rest (subst (λ x. IsLawful roster (followed_by (x ∷ past) others)) event m) g.1 in
     cc
 
-pub only_run : (roster : List Member) (past : Trace) (events : List Event) → IsLawful roster (followed_by past events) → IsOnlyRun roster past events
-only_run roster past events l h others same m g = only_run-by roster past events l h others same m g
+pub only_run : (roster : List Member) (past : Trace) (events : List Event) → rules.IsLawful roster (followed_by past events) → IsOnlyRun roster past events
+only_run roster past events l h others same m g =
+    only_run-by roster past events ((same_lawful roster (followed_by past events)).0 l) h others same ((same_lawful roster (followed_by past others)).0 m) g

@@ -8,11 +8,9 @@ use Rattle.qmodel.specs.declared.open_call.OpenCall.{OpenCall}
 use Rattle.qrules.specs.Private.Calls.ConnectDetach.{detach_pulse, is_last_connection}
 use Rattle.qrules.specs.Private.Calls.Pulse.{is_negative}
 use Rattle.qrules.specs.Private.Facts.{Facts, is_of_process}
-use Rattle.qmodel.specs.Trace.{OpenChannel}
+use Rattle.qmodel.specs.Trace.{OpenChannel, ChannelId, ThreadNo, SentItem}
 use Rattle.qrules.specs.Private.Held.{is_held_by}
-use Rattle.qmodel.specs.Trace.{ChannelId, ThreadNo}
 use Rattle.qrules.specs.Private.Pulses.{refusal_if_full}
-use Rattle.qmodel.specs.Trace.{SentItem}
 use Rattle.qrules.specs.Private.Calls.Unblock.{due_pulse_of}
 
 -- this channel is of the thread's process

@@ -5,11 +5,10 @@ use Rattle.std.proofs.lemmas.Bool.{and_parts}
 use Rattle.std.proofs.lemmas.Option.{none-some, cond_some}
 use Rattle.qbase.specs.declared.errno.Errno.TheVariants.{Badf}
 use Rattle.qtables.specs.declared.connection.Connection.{Connection}
-use Rattle.qrules.proofs.Traces.Parts.{refusal_on}
+use Rattle.qrules.proofs.Traces.Parts.{refusal_on, leads_to}
 use Rattle.qrules.specs.Private.Calls.Pulse as pulse
 use Rattle.qrules.specs.Private.Calls.Send as send
 use Rattle.qrules.specs.Private.Facts.{Facts, route, is_of_process}
-use Rattle.qrules.proofs.Traces.Parts.{leads_to}
 
 -- there is a connection, it is to channel h, and that is open
 pub record Leads (f : Facts) (o : Option Connection) (h : ℕ) : Type 0 where

@@ -1,18 +1,15 @@
 -- The facts of the past that the answer to a call may depend on.
-use Rattle.std.specs.Prelude.{ℕ, ◌==◌, not, is_some, Bool, false, List, [], ◌∷◌, Option}
-use Rattle.std.specs.Prelude.{None, Some, if◌then◌else◌}
+use Rattle.std.specs.Prelude.{ℕ, ◌==◌, not, is_some, Bool, false, List, [], ◌∷◌, Option, None, Some}
+use Rattle.std.specs.Prelude.{if◌then◌else◌, true, ◌&&◌}
 use Rattle.std.specs.Option.{option_and_then, option_map_or}
 use Rattle.qtables.specs.declared.member.Member.{Member}
 use Rattle.qmodel.specs.declared.open_call.OpenCall.{OpenCall}
 use Rattle.qmodel.specs.declared.open_call.Receipt.{Receipt}
 use Rattle.qmodel.specs.declared.open_call.OpenCall.TheVariants.{Send, Receive}
-use Rattle.qmodel.specs.Trace.{OpenChannel}
-use Rattle.qmodel.specs.Trace.{ProcessNo, ReceiveId, ThreadNo}
+use Rattle.qmodel.specs.Trace.{OpenChannel, ProcessNo, ReceiveId, ThreadNo}
 pub use Rattle.qrules.specs.Facts.{count_to, has_flag, is_of_process, is_of_same_process, owns, route}
 pub use Rattle.qrules.specs.Facts.{threads_of, Facts}
-pub use Rattle.qmodel.specs.OpenCalls.{number_of, receive_in, send_in}
-use Rattle.std.specs.Prelude.{true}
-use Rattle.std.specs.Prelude.{◌&&◌}
+pub use Rattle.qmodel.specs.OpenCalls.{buffer_in, number_of, receive_in, send_in}
 
 -- ---- threads and processes
 
@@ -81,6 +78,10 @@ abbrev pub message : Facts → ReceiveId → List ℕ
 message f i = message_in (open_send f i)
 
 -- ---- open calls
+
+-- the buffer that an open call gets back; empty if there is none
+abbrev pub buffer_of_open : Option OpenCall → List ℕ
+buffer_of_open call = option_map_or buffer_in call []
 
 -- an open call whose message is received
 abbrev pub held_call : Receipt → OpenCall → OpenCall

@@ -4,11 +4,10 @@ use Rattle.qtables.specs.Members.{member_at}
 use Rattle.qtables.specs.declared.member.Member.{Member}
 use Rattle.qmodel.specs.declared.call.Call.{Call}
 use Rattle.qmodel.specs.declared.call.Completion.{Completion}
-use Rattle.qmodel.specs.Trace.{ThreadNo}
+use Rattle.qmodel.specs.Trace.{ThreadNo, Trace}
 use Rattle.qrules.specs.Private.Answer.{Answers}
 pub use Rattle.qrules.specs.Lawful.{facts_of}
 pub use Rattle.qrules.specs.Trace.{followed_by}
-use Rattle.qmodel.specs.Trace.{Trace}
 
 -- each event is a call of a thread of the roster, and its endings answer the events before it
 abbrev pub IsLawful : List Member → Trace → Type 0

@@ -1,18 +1,16 @@
 -- Searches in the list of all past calls, which has the newest event first.
-use Rattle.std.specs.Prelude.{ℕ, ◌==◌, ◌&&◌, Bool, List, [], ◌∷◌}
-use Rattle.std.specs.Prelude.{length, Option, None, Some, if◌then◌else◌, option_and_then}
+use Rattle.std.specs.Prelude.{ℕ, ◌==◌, ◌&&◌, Bool, List, [], ◌∷◌, length, Option, None, Some, if◌then◌else◌}
+use Rattle.std.specs.Prelude.{option_and_then, ◌+◌, is_some}
 use Rattle.std.specs.List.{list_any}
 use Rattle.std.specs.Option.{option_map_or}
 use Rattle.qqueue.specs.declared.item.Item.{Item}
 use Rattle.qtables.specs.declared.member.Member.{Member}
 use Rattle.qmodel.specs.declared.call.Completion.{Completion}
 use Rattle.qmodel.specs.declared.open_call.OpenCall.{OpenCall}
-use Rattle.qmodel.specs.Trace.{CallNo, ChannelId, Priority, ThreadNo}
-use Rattle.qmodel.specs.Trace.{Event, Trace}
-use Rattle.qrules.specs.Private.Facts.{count_to, is_fixed}
-use Rattle.qmodel.specs.Trace.{OpenChannel}
+use Rattle.qmodel.specs.Trace.{CallNo, ChannelId, Priority, ThreadNo, Event, Trace, OpenChannel, SentItem}
+use Rattle.qmodel.specs.Trace.{ReceiveId}
+use Rattle.qrules.specs.Private.Facts.{count_to, is_fixed, with_buffer, held_call}
 use Rattle.qrules.specs.Private.Rows.{item_in}
-use Rattle.qmodel.specs.Trace.{SentItem}
 pub use Rattle.qrules.specs.Past.{accepted_at, attached_connection, channel_at, connection_at}
 pub use Rattle.qrules.specs.Past.{is_accepted, is_destroyed, is_ended, is_failure, is_unblock_for}
 pub use Rattle.qrules.specs.Past.{item_among, priority_set_by, sender_of, was_done, with_writes}
@@ -21,18 +19,9 @@ pub use Rattle.qrules.specs.Past.{first_among, is_gone, is_received, items_by_no
 pub use Rattle.qrules.specs.Past.{priority_set_since, ReceivedItem}
 pub use Rattle.qrules.specs.Past.{asks, call_by_now, newest_block, open_call_by, send_by_now}
 use Rattle.qmodel.specs.OpenCalls.{number_of}
-pub use Rattle.qrules.specs.Past.{first_among, is_gone, is_received, items_by_now}
-pub use Rattle.qrules.specs.Past.{priority_set_since}
-pub use Rattle.qrules.specs.Past.{newest_block}
-use Rattle.qrules.specs.Past.{open_call_by, pending_among, ReceivedItem}
-use Rattle.qmodel.specs.Trace.{ReceiveId}
+use Rattle.qrules.specs.Past.{channel_of}
 use Rattle.qrules.specs.Lawful.{facts_of, item_made_by, items_and_priorities}
 pub use Rattle.qrules.specs.Properties.{items, priority_before}
-use Rattle.qrules.specs.Private.Facts.{with_buffer}
-use Rattle.qrules.specs.Private.Facts.{held_call}
-use Rattle.std.specs.Prelude.{◌+◌}
-use Rattle.qrules.specs.Past.{channel_of}
-use Rattle.std.specs.Prelude.{is_some}
 
 -- ---- accepted, ended
 
@@ -79,7 +68,8 @@ filled past o = with_buffer (with_writes past (number_of o)) o
 -- an open call with the record of its message's receipt, if there was one
 abbrev pub with_receipt : Priority → Bool → Option ℕ → OpenCall → OpenCall
 with_receipt priority unblocked copied o =
-    option_map_or (λ n. held_call (record { priority = priority; copied = n; unblocked = unblocked }) o) copied o
+    option_map_or (λ n. held_call (record { priority = priority; copied = n; unblocked = unblocked }) o)
+    copied o
 
 -- one of these items is an unblock pulse for message i
 abbrev pub unblocked_among : List SentItem → ReceiveId → Bool

@@ -7,11 +7,10 @@ use Rattle.qqueue.specs.Best.{is_pulse}
 use Rattle.qqueue.specs.declared.item.Item.{Item}
 use Rattle.qmodel.specs.declared.call.Completion.{Completion}
 use Rattle.qmodel.specs.declared.call.Mark.TheVariants as mark
-use Rattle.qmodel.specs.Trace.{ChannelId, ThreadNo}
+use Rattle.qmodel.specs.Trace.{ChannelId, ThreadNo, SentItem}
 use Rattle.qrules.specs.Private.Delivering.{delivers, receiver, receipt_when_sent, wants_room}
 use Rattle.qrules.specs.Private.Facts.{Facts}
 use Rattle.qrules.specs.Private.Rows.{Received, Row, plain_row}
-use Rattle.qmodel.specs.Trace.{SentItem}
 
 -- how many pulses are pending
 abbrev pub pulses_among : List Item → ℕ

@@ -14,10 +14,9 @@ use Rattle.qmodel.specs.declared.call.Mark.TheVariants as mark
 use Rattle.qmodel.specs.declared.open_call.OpenCall.{OpenCall}
 use Rattle.qmodel.specs.declared.open_call.Receipt.{Receipt}
 use Rattle.qmodel.specs.declared.open_call.OpenCall.TheVariants.{Send, Receive}
-use Rattle.qmodel.specs.Trace.{SentItem}
+use Rattle.qmodel.specs.Trace.{SentItem, CallNo, ChannelId, Priority, ProcessNo, ReceiveId, ThreadNo}
 use Rattle.qrules.specs.Rule.{PriorityChange}
 pub use Rattle.qrules.specs.Past.{buffer_after_write, item_in}
-use Rattle.qmodel.specs.Trace.{CallNo, ChannelId, Priority, ProcessNo, ReceiveId, ThreadNo}
 
 -- a receipt: the item's number and channel, the thread that takes it, the thread that waits for its answer,
 -- and what is kept of the receipt

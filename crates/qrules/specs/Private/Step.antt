@@ -12,20 +12,15 @@ use Rattle.qmodel.specs.declared.call.Call.{Call}
 use Rattle.qmodel.specs.declared.open_call.OpenCall.{OpenCall}
 use Rattle.qmodel.specs.declared.open_call.Receipt.{Receipt}
 use Rattle.qmodel.specs.declared.open_call.OpenCall.TheVariants.{Send, Receive}
-use Rattle.qmodel.specs.Trace.{ChannelId, ConnectionId, Priority, ReceiveId, ThreadNo}
+use Rattle.qmodel.specs.Trace.{ChannelId, ConnectionId, Priority, ReceiveId, ThreadNo, OpenChannel, SentItem}
 pub use Rattle.qrules.specs.Private.Facts.{held_call, with_buffer}
-use Rattle.qrules.specs.Private.Facts.{Facts, sender, is_fixed, threads_of}
-use Rattle.qmodel.specs.Trace.{OpenChannel}
+use Rattle.qrules.specs.Private.Facts.{Facts, sender, is_fixed, threads_of, number_of, is_for_receipt}
 use Rattle.qrules.specs.Private.Effects.{asks, attaches, closes, creates, detaches, makes, sets, shuts_down}
-use Rattle.qrules.specs.Private.Effects.{unblocks}
-use Rattle.qrules.specs.Private.Effects.{writes}
+use Rattle.qrules.specs.Private.Effects.{unblocks, writes}
 use Rattle.qrules.specs.Private.Rows.{Received, Row, names, priority_set_for}
-use Rattle.qmodel.specs.Trace.{SentItem}
 use Rattle.qrules.specs.Private.Calls.{row_of}
 use Rattle.qrules.specs.Private.Past.{made_on}
 use Rattle.qrules.specs.Rule.{PriorityChange, Transfer}
-use Rattle.qrules.specs.Private.Facts.{number_of}
-use Rattle.qrules.specs.Private.Facts.{is_for_receipt}
 use Rattle.qrules.specs.Past.{channel_of}
 use Rattle.qrules.specs.Private.Cancelling.{is_on}
 
@@ -84,8 +79,8 @@ after_unblock m (Some thread) u o = if (u == thread) && is_some m then option_ma
 abbrev pub unless : Bool → Option OpenCall → Option OpenCall
 unless b o = if b then None else o
 
--- what the caller t, which is thread u, waits for after its call with this row: its request, with the receipt if the message is
--- received at once; nothing if the call has ended
+-- what the caller t, which is thread u, waits for after its call with this row: its request, with the receipt
+-- if the message is received at once; nothing if the call has ended
 abbrev pub own_call_after : Facts → ThreadNo → Call → Row → ThreadNo → Option OpenCall
 own_call_after f t c row u =
     unless (is_some row.own) (after_receipt row.receipt u (asks f.number t (channel_of (makes f t c)) c))

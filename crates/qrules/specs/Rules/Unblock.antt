@@ -8,7 +8,8 @@ use Rattle.qrules.specs.Delivery.{cancel, pulse_row, refusal_if_full}
 use Rattle.qrules.specs.Words.what
 use Rattle.qrules.specs.Words.{Bool}
 
--- the message is held on a channel with the unblock flag: then the server gets a pulse, and the Send stays open
+-- the message is held on a channel with the unblock flag: then the server gets a pulse, and the Send stays
+-- open
 abbrev pub is_guarded : Facts → OpenSend → Bool
 is_guarded f s = is_some s.receipt && has_flag 2 (f.channel s.channel)
 

@@ -1,7 +1,7 @@
 -- The endings of one event on their way into the cells.
 use Rattle.std.specs.Prelude.{◌≡◌, ℕ, true, false, if◌then◌else◌, List, ◌++◌, Some}
 use Rattle.qmodel.specs.declared.call.Completion.{Completion}
-use Rattle.qrules.specs.Private.Endings.{gets}
+use Rattle.qrules.specs.Trace.{gets}
 use Rattle.qhandoff.specs.declared.view.Desk.{Desk}
 use Rattle.qhandoff.specs.Rule.{line}
 use Rattle.qshared.specs.Due.{later_of, place}

@@ -1,17 +1,15 @@
 -- Room for copies of the buffers of a past that is kept.
-use Rattle.std.specs.Prelude.{◌≡◌, ℕ, ◌+◌, ◌<◌, ◌≤◌, ◌⊎◌, ◌^◌}
-use Rattle.std.specs.Prelude.{Bool, true, false, List, [], length, Some, slice_index_or}
+use Rattle.std.specs.Prelude.{◌≡◌, ℕ, ◌+◌, ◌<◌, ◌≤◌, ◌⊎◌, ◌^◌, Bool, true, false, List, [], length, Some}
+use Rattle.std.specs.Prelude.{slice_index_or}
 use Rattle.qtables.specs.declared.member.Member.{Member}
 use Rattle.qtables.specs.Members.{IsRoster}
 use Rattle.qmodel.specs.declared.call.Call.{Call}
 use Rattle.qmodel.specs.declared.call.Call.TheVariants.{Shutdown}
 use Rattle.qmodel.specs.declared.call.Completion.{Completion}
 use Rattle.qmodel.specs.Buffers.{buffer_of}
-use Rattle.qrules.specs.Private.Endings.{buffer_of_open, gets}
-use Rattle.qrules.specs.Private.Facts.{threads_of}
+use Rattle.qrules.specs.Private.Facts.{buffer_of_open, threads_of}
+use Rattle.qrules.specs.Trace.{gets, followed_by, Trace}
 use Rattle.qrules.specs.Private.Past.{open_call}
-use Rattle.qrules.specs.Trace.{followed_by}
-use Rattle.qrules.specs.Trace.{Trace}
 use Rattle.qkernel.specs.EventLog.{Logged}
 use Rattle.qshared.specs.Due.{place}
 use Rattle.qshared.specs.Past.{is_down}

@@ -1,4 +1,4 @@
-use Rattle.qlaws.proofs.PendingLaws.{first_goes_first}
+use Rattle.qlaws.proofs.OrderLaws.{first_goes_first}
 use Rattle.qlaws.proofs.pending.first_goes_first.Goals as goal
 
 pub returns : goal.returns

@@ -1,4 +1,5 @@
-use Rattle.qlaws.proofs.PendingLaws.{none_pending_is_held, pending_follows_its_sender, pending_is_open, pending_rises}
+use Rattle.qlaws.proofs.PendingLaws.{none_pending_is_held, pending_is_open, pending_rises}
+use Rattle.qlaws.proofs.PriorityLaws.{pending_follows_its_sender}
 use Rattle.qlaws.proofs.pending.pending_is_sent.Goals as goal
 
 pub returns-clause-rising : goal.returns-clause-rising

@@ -1,4 +1,4 @@
-use Rattle.qlaws.proofs.PendingLaws.{pulses_are_limited}
+use Rattle.qlaws.proofs.LimitLaws.{pulses_are_limited}
 use Rattle.qlaws.proofs.pending.pulses_are_limited.Goals as goal
 
 pub returns : goal.returns

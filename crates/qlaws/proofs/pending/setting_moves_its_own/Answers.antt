@@ -1,4 +1,4 @@
-use Rattle.qlaws.proofs.PendingLaws.{others_keep_their_order, setting_moves_its_own}
+use Rattle.qlaws.proofs.SettingLaws.{others_keep_their_order, setting_moves_its_own}
 use Rattle.qlaws.proofs.pending.setting_moves_its_own.Goals as goal
 
 pub returns-clause-moved : goal.returns-clause-moved

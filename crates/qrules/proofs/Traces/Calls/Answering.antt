@@ -1,5 +1,5 @@
 -- Calls that answer a held message.
-use Rattle.std.proofs.Common.{◌≡◌, ◌∙◌, ℕ, List, ap, sym}
+use Rattle.std.proofs.Common.{◌≡◌, ◌∙◌, ℕ, List, ap, sym, is_some}
 use Rattle.std.specs.Prelude.{None, Some}
 use Rattle.std.proofs.lemmas.Option.{none-some, same_Some}
 use Rattle.qrules.specs.Private.Calls.{row_of}
@@ -14,7 +14,6 @@ use Rattle.qrules.proofs.Traces.Calls.Held.{SenderEnds, sender_ends}
 use Rattle.qrules.proofs.Traces.Past.Laws.{IsOfOpen, IsSettled, RowLaws, is_settled}
 use Rattle.qrules.specs.Rule.{Transfer}
 use Rattle.qmodel.specs.declared.open_call.OpenCall.TheVariants.{Send}
-use Rattle.std.proofs.Common.{is_some}
 
 of_open : (f : Facts) (t rcvid : ℕ) (finish : Finish) (u : ℕ) (y : Completion) → SenderEnds f t rcvid finish u y → IsOfOpen f u y
 of_open f t rcvid finish u y s = record {

@@ -12,11 +12,10 @@ use Rattle.qrules.specs.Private.Calls.ConnectDetach.{connections_between, due_pu
 use Rattle.qrules.proofs.Traces.Parts.{due_pulse_over, is_own}
 use Rattle.qrules.specs.Private.Cancelling.{cancel_where, is_over}
 use Rattle.qrules.specs.Private.Facts.{Facts, tells_disconnect}
-use Rattle.qmodel.specs.Trace.{OpenChannel}
+use Rattle.qmodel.specs.Trace.{OpenChannel, SentItem}
 use Rattle.qrules.specs.Private.Past.{is_unblock_for}
 use Rattle.qrules.specs.Private.Pulses.{refusal_if_full_for, ends_receiver, pulse_receipt}
 use Rattle.qrules.specs.Private.Rows.{Received, disconnect_item, item_in}
-use Rattle.qmodel.specs.Trace.{SentItem}
 use Rattle.qmodel.specs.declared.call.Call.TheVariants.{ConnectDetach}
 use Rattle.qmodel.specs.declared.call.Completion.{Completion}
 use Rattle.qrules.proofs.Traces.Past.Laws.{CallLaws, IsOfOpen, IsOwn, IsReceipt, IsReceived, Passes, RowLaws}

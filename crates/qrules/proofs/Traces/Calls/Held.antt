@@ -1,11 +1,11 @@
 -- What the calls on held messages share: whose message is held, and how an answer ends its Send.
-use Rattle.std.proofs.Common.{◌≡◌, ◌∙◌, ℕ, List, ap, refl, sym, subst, cond, eqb, Bool, true, false}
+use Rattle.std.proofs.Common.{◌≡◌, ◌∙◌, ℕ, List, ap, refl, sym, subst, cond, eqb, Bool, true, false, is_some}
 use Rattle.std.specs.Prelude.{Option, None, Some}
 use Rattle.std.specs.Option.{option_and_then}
-use Rattle.std.proofs.lemmas.Bool.{eqb-true, true≢false}
+use Rattle.std.proofs.lemmas.Bool.{eqb-true, true≢false, and_parts}
 use Rattle.std.proofs.lemmas.Option.{none-some, same_Some}
 use Rattle.qbase.specs.declared.errno.Errno.{Errno}
-use Rattle.qrules.specs.Private.Facts.{Facts, sender, threads_of}
+use Rattle.qrules.specs.Private.Facts.{Facts, sender, threads_of, number_of, owns}
 use Rattle.qrules.specs.Private.Held.{Finish, ends_sender, answer_ending, refusal}
 use Rattle.qrules.proofs.Traces.Parts.{is_held_for}
 use Rattle.qmodel.specs.declared.call.Completion.{Completion}
@@ -13,11 +13,7 @@ use Rattle.qmodel.specs.declared.open_call.OpenCall.{OpenCall}
 use Rattle.qmodel.specs.declared.open_call.Receipt.{Receipt}
 use Rattle.qmodel.specs.declared.open_call.OpenCall.TheVariants.{Receive, Send}
 use Rattle.qrules.proofs.Traces.Past.Senders.{sender_sends}
-use Rattle.qrules.specs.Private.Facts.{number_of}
-use Rattle.std.proofs.lemmas.Bool.{and_parts}
 use Rattle.qmodel.specs.declared.open_call.OpenSend.{OpenSend}
-use Rattle.std.proofs.Common.{is_some}
-use Rattle.qrules.specs.Private.Facts.{owns}
 use Rattle.qbase.proofs.Lists.{some_of}
 
 -- the ending of call m of thread u that is answered so

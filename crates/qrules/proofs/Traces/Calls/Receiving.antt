@@ -1,5 +1,5 @@
 -- The laws of a call that receives.
-use Rattle.std.proofs.Common.{◌≡◌, ◌∙◌, ℕ, List, ap, refl, sym, subst, inr}
+use Rattle.std.proofs.Common.{◌≡◌, ◌∙◌, ℕ, List, ap, refl, sym, subst, inr, true≢false}
 use Rattle.std.specs.Prelude.{Option, None, Some}
 use Rattle.std.proofs.lemmas.Option.{none-some, same_Some}
 use Rattle.qqueue.specs.Best.{best_of}
@@ -18,7 +18,6 @@ use Rattle.qbase.proofs.Lists.{eqb_same}
 use Rattle.qrules.proofs.Traces.Past.Laws.{BeginsToWait, CallLaws, RowLaws, IsOwn, IsReceived}
 use Rattle.qrules.proofs.Traces.Calls.Taking.{given_no_failure, given_received, receipt_from, receipt_in_at}
 use Rattle.qrules.specs.Past.{ReceivedItem}
-use Rattle.std.proofs.Common.{true≢false}
 
 -- the open call of a receive
 abbrev pub receiver : ℕ → Kind → List ℕ → ℕ → ℕ → OpenCall

@@ -4,13 +4,12 @@ use Rattle.std.specs.Prelude.{Some}
 use Rattle.std.proofs.lemmas.Option.{none-some, same_Some}
 use Rattle.qqueue.specs.Best.{is_pulse}
 use Rattle.qrules.specs.Private.Calls.Send.{item}
-use Rattle.qrules.specs.Private.Facts.{Facts, route}
+use Rattle.qrules.specs.Private.Facts.{Facts, route, is_for_answer}
 use Rattle.qrules.specs.Private.Past.{is_unblock_for}
 use Rattle.qmodel.specs.declared.call.Call.TheVariants.{Send}
 use Rattle.qrules.proofs.Traces.Past.Laws.{BeginsToWait, CallLaws, RowLaws, Passes}
 use Rattle.qrules.proofs.Traces.Calls.Delivering.{delivers_open, delivers_settled, delivers_receipt, delivers_received, goes_to_open, sent_item, sent_way}
 use Rattle.qrules.proofs.Traces.Routes.{has_way}
-use Rattle.qrules.specs.Private.Facts.{is_for_answer}
 use Rattle.qbase.proofs.Lists.{eqb_same}
 
 pub call_laws : (coid : ℕ) (message reply_buffer : List ℕ) → CallLaws (Send coid message reply_buffer)

@@ -1,18 +1,17 @@
 -- The laws of Unblock.
-use Rattle.std.proofs.Common.{◌≡◌, ◌∙◌, ℕ, [], ap, refl, sym, subst, cond, eqb, Bool, true, false}
+use Rattle.std.proofs.Common.{◌≡◌, ◌∙◌, ℕ, [], ap, refl, sym, subst, cond, eqb, Bool, true, false, option_and_then}
 use Rattle.std.specs.Prelude.{Option, None, Some, is_some, not, ◌&&◌}
-use Rattle.std.proofs.lemmas.Bool.{true≢false}
+use Rattle.std.proofs.lemmas.Bool.{true≢false, and_parts, not-true}
 use Rattle.std.proofs.lemmas.Option.{none-some, same_Some}
 use Rattle.qbase.specs.declared.errno.Errno.TheVariants.{Intr, Srch}
 use Rattle.qqueue.specs.Best.{is_pulse}
 use Rattle.qrules.specs.Private.Calls.{row_of}
-use Rattle.qrules.specs.Private.Calls.Unblock.{due_pulse, other_ending, refusal}
+use Rattle.qrules.specs.Private.Calls.Unblock.{due_pulse, other_ending, refusal, guards}
 use Rattle.qrules.proofs.Traces.Parts.{due_pulse_of_open}
-use Rattle.qrules.specs.Private.Facts.{Facts, is_of_same_process, tells_unblock}
-use Rattle.qmodel.specs.Trace.{OpenChannel}
+use Rattle.qrules.specs.Private.Facts.{Facts, is_of_same_process, tells_unblock, has_flag}
+use Rattle.qmodel.specs.Trace.{OpenChannel, SentItem}
 use Rattle.qrules.specs.Private.Pulses.{refusal_if_full_for, pulse_receipt}
 use Rattle.qrules.specs.Private.Rows.{Received, item_in, unblock_item}
-use Rattle.qmodel.specs.Trace.{SentItem}
 use Rattle.qmodel.specs.declared.call.Call.TheVariants.{Unblock}
 use Rattle.qmodel.specs.declared.call.Completion.{Completion}
 use Rattle.qmodel.specs.declared.open_call.OpenCall.{OpenCall}
@@ -24,12 +23,7 @@ use Rattle.qrules.proofs.Traces.Calls.Delivering.{delivers_open, delivers_receip
 use Rattle.qrules.specs.Past.{ReceivedItem}
 use Rattle.qrules.proofs.Traces.Due.{unblock_same}
 use Rattle.qmodel.specs.declared.open_call.OpenSend.{OpenSend}
-use Rattle.qrules.specs.Private.Calls.Unblock.{guards}
 use Rattle.qrules.specs.Rules.Unblock.{pulse_for}
-use Rattle.std.proofs.Common.{option_and_then}
-use Rattle.qrules.specs.Private.Facts.{has_flag}
-use Rattle.std.proofs.lemmas.Bool.{and_parts}
-use Rattle.std.proofs.lemmas.Bool.{not-true}
 
 -- ---- the pulse that is due
 
@@ -90,7 +84,7 @@ call_laws thread = record {
   unblocks_one = λ v is f t m e.
       let k = due_parts f (f.open_call thread) m (sym (unblock_same f thread) ∙ e) in
       record {
-        waiting = Send k.send;
+        send = k.send;
         is = ap f.open_call (sym (same_Some thread v is)) ∙ k.is;
         held = ap is_some k.held;
         what = ap (λ x. x.item.what) (sym k.made);

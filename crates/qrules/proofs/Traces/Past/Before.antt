@@ -5,7 +5,7 @@ use Rattle.std.specs.Option.{option_map}
 use Rattle.std.proofs.lemmas.Option.{none-some, same_Some}
 use Rattle.qbase.specs.Laying.{lay_over}
 use Rattle.qrules.specs.Private.Calls.{row_of}
-use Rattle.qrules.specs.Private.Facts.{Facts, sender}
+use Rattle.qrules.specs.Private.Facts.{Facts, sender, with_buffer}
 use Rattle.qrules.specs.Private.Effects.{makes, unblocks, writes}
 use Rattle.qrules.specs.Private.Rows.{Received}
 use Rattle.qmodel.specs.Trace.{SentItem}
@@ -14,7 +14,6 @@ use Rattle.qmodel.specs.declared.call.Call.{Call}
 use Rattle.qmodel.specs.declared.open_call.OpenCall.{OpenCall}
 use Rattle.qmodel.specs.declared.open_call.Receipt.{Receipt}
 use Rattle.qrules.specs.Rule.{Transfer}
-use Rattle.qrules.specs.Private.Facts.{with_buffer}
 
 -- what is so of a wait was so of it before
 pub record IsBefore {A : Type 0} (g : OpenCall → A) (before : Option OpenCall) (o : OpenCall) : Type 0 where

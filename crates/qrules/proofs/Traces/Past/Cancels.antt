@@ -10,9 +10,9 @@ use Rattle.qtables.specs.declared.member.Member.{Member}
 use Rattle.qrules.specs.Private.Answer.{Outcome}
 use Rattle.qrules.specs.Private.Calls.{row_of}
 use Rattle.qrules.specs.Private.Cancelling.{is_on}
-use Rattle.qrules.specs.Private.Facts.{Facts, threads_of}
+use Rattle.qrules.specs.Private.Facts.{Facts, threads_of, number_of, is_for_receipt, is_for_answer}
 use Rattle.qrules.specs.Private.Lawful.{facts_of, IsLawful, with_event}
-use Rattle.qrules.specs.Private.Past.{has_ending_of, is_ended, is_received, open_call, priority_of_item, copied_count_of, sender_of}
+use Rattle.qrules.specs.Private.Past.{has_ending_of, is_ended, is_received, open_call, priority_of_item, copied_count_of, sender_of, filled, with_receipt}
 use Rattle.qrules.specs.Private.Step.{is_cancelled, uncut_items, is_unread_send}
 use Rattle.qmodel.specs.Trace.{Trace}
 use Rattle.qmodel.specs.declared.call.Call.{Call}
@@ -24,18 +24,10 @@ use Rattle.qrules.proofs.Traces.Past.Items.{IsPending, item_at, item_message}
 use Rattle.qrules.proofs.Traces.Past.Laws.{IsSettled, is_settled}
 use Rattle.qbase.proofs.Lists.{any_never, any_only, filter_whole, none_of}
 use Rattle.qrules.proofs.Traces.Past.Numbers.{block_fresh}
-use Rattle.qrules.proofs.Traces.Past.Open.{filled_answer, filled_settled, open_from, open_parts, open_thread, is_unblocked}
+use Rattle.qrules.proofs.Traces.Past.Open.{filled_answer, filled_settled, open_from, open_parts, open_thread, is_unblocked, buffer_on, buffer_number}
 use Rattle.qrules.proofs.Traces.Properties.Messages.{item_waits, pending_going}
-use Rattle.qrules.proofs.Traces.Properties.Sends.{block_sender}
+use Rattle.qrules.proofs.Traces.Properties.Sends.{block_sender, block_on}
 use Rattle.qrules.proofs.Traces.Rosters.{known}
-use Rattle.qrules.specs.Private.Facts.{number_of}
-use Rattle.qrules.specs.Private.Facts.{is_for_receipt}
-use Rattle.qrules.specs.Private.Facts.{is_for_answer}
-use Rattle.qrules.specs.Private.Past.{filled}
-use Rattle.qrules.specs.Private.Past.{with_receipt}
-use Rattle.qrules.proofs.Traces.Past.Open.{buffer_on}
-use Rattle.qrules.proofs.Traces.Properties.Sends.{block_on}
-use Rattle.qrules.proofs.Traces.Past.Open.{buffer_number}
 
 -- ---- a Send that isn't received
 

@@ -9,14 +9,13 @@ use Rattle.qtables.specs.declared.member.Member.{Member}
 use Rattle.qrules.specs.Private.Answer.{Outcome}
 use Rattle.qrules.specs.Private.Calls.{row_of}
 use Rattle.qrules.specs.Private.Facts.{Facts, owns}
-use Rattle.qmodel.specs.Trace.{OpenChannel}
+use Rattle.qmodel.specs.Trace.{OpenChannel, Event, Trace}
 use Rattle.qrules.proofs.Traces.Parts.{is_owned_by}
 use Rattle.qrules.specs.Private.Lawful.{facts_of, IsLawful, with_event}
 use Rattle.qrules.specs.Private.Effects.{closes, creates}
 use Rattle.qrules.specs.Private.Past.{channel_at, is_destroyed, open_channels, refuses}
 use Rattle.qrules.specs.Private.Rows.{names}
 use Rattle.qrules.specs.Private.Step.{channel_after, one_for}
-use Rattle.qmodel.specs.Trace.{Event, Trace}
 use Rattle.qmodel.specs.declared.call.Call.{Call}
 use Rattle.qmodel.specs.declared.call.Call.TheVariants.{ChannelCreate, ChannelDestroy}
 use Rattle.qmodel.specs.declared.call.Completion.{Completion}

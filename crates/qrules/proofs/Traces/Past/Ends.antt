@@ -10,9 +10,9 @@ use Rattle.qtables.specs.Members.{member_at}
 use Rattle.qtables.specs.declared.member.Member.{Member}
 use Rattle.qrules.specs.Private.Answer.{refusal, ending, Outcome, Answers}
 use Rattle.qrules.specs.Private.Calls.{row_of}
-use Rattle.qrules.specs.Private.Facts.{Facts, threads_of}
+use Rattle.qrules.specs.Private.Facts.{Facts, threads_of, number_of}
 use Rattle.qrules.specs.Private.Lawful.{facts_of, IsLawful}
-use Rattle.qrules.specs.Private.Past.{has_ending_of, refuses, is_ended, open_call}
+use Rattle.qrules.specs.Private.Past.{has_ending_of, refuses, is_ended, open_call, block}
 use Rattle.qmodel.specs.Trace.{Trace}
 use Rattle.qmodel.specs.declared.call.Call.{Call}
 use Rattle.qmodel.specs.declared.call.Completion.{Completion}
@@ -23,8 +23,6 @@ use Rattle.qrules.proofs.Traces.Calls.{row_laws}
 use Rattle.qrules.proofs.Traces.Past.Numbers.{block_cases}
 use Rattle.qrules.proofs.Traces.Past.Open.{open_parts, open_below, open_thread}
 use Rattle.qrules.proofs.Traces.Rosters.{known}
-use Rattle.qrules.specs.Private.Facts.{number_of}
-use Rattle.qrules.specs.Private.Past.{block}
 
 -- ---- what an accepted call passed
 

@@ -7,7 +7,7 @@ use Rattle.qqueue.specs.declared.item.Kind.{Kind}
 use Rattle.qqueue.specs.declared.item.What.TheVariants as what
 use Rattle.qrules.specs.Private.Answer.{ending}
 use Rattle.qrules.specs.Private.Calls.{row_of}
-use Rattle.qrules.specs.Private.Facts.{Facts, sender}
+use Rattle.qrules.specs.Private.Facts.{Facts, sender, number_of, is_for_answer}
 use Rattle.qrules.specs.Private.Past.{is_failure, is_unblock_for}
 use Rattle.qrules.specs.Private.Receiving.{sender_for}
 use Rattle.qrules.specs.Private.Effects.{asks, makes, unblocks, writes}
@@ -20,11 +20,9 @@ use Rattle.qmodel.specs.declared.open_call.OpenCall.{OpenCall}
 use Rattle.qmodel.specs.declared.open_call.OpenCall.TheVariants.{Receive, Send}
 use Rattle.qrules.specs.Rule.{Transfer}
 use Rattle.qrules.specs.Past.{ReceivedItem}
-use Rattle.qrules.specs.Private.Facts.{number_of}
-use Rattle.qrules.specs.Private.Facts.{is_for_answer}
 use Rattle.qmodel.specs.OpenCalls.{thread_of}
-use Rattle.qrules.specs.Private.Laws.{is_for_reply}
 use Rattle.qrules.specs.Private.Cancelling.{is_on}
+use Rattle.qmodel.specs.declared.open_call.OpenSend.{OpenSend}
 
 -- ---- a call by itself
 
@@ -46,12 +44,12 @@ pub record MakesItem (n : ℕ) (c : Call) (m : SentItem) : Type 0 where
   pub waits : (t h : ℕ) (o : OpenCall) → asks n t h c ≡ Some o → is_for_answer o ≡ true
   pub message : (t h : ℕ) (o : OpenCall) → asks n t h c ≡ Some o → is_pulse m.item.what ≡ false
 
--- the item is the unblock pulse for what thread v is blocked in, a message that is received
+-- the item is the unblock pulse for the Send that thread v is blocked in, whose message is received
 pub record IsUnblock (f : Facts) (v : ℕ) (m : SentItem) : Type 0 where
-  pub waiting : OpenCall
-  pub is : f.open_call v ≡ Some waiting
-  pub held : is_for_reply waiting ≡ true
-  pub what : m.item.what ≡ what.Unblock (number_of waiting)
+  pub send : OpenSend
+  pub is : f.open_call v ≡ Some (Send send)
+  pub held : is_some send.receipt ≡ true
+  pub what : m.item.what ≡ what.Unblock send.number
 
 pub record CallLaws (c : Call) : Type 0 where
   pub asks_one : (n t h : ℕ) (o : OpenCall) → asks n t h c ≡ Some o → BeginsToWait n t h o

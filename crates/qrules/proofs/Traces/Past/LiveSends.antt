@@ -7,12 +7,12 @@ use Rattle.qtables.specs.Members.{member_at}
 use Rattle.qtables.specs.declared.member.Member.{Member}
 use Rattle.qrules.specs.Private.Calls.{row_of}
 use Rattle.qrules.specs.Private.Cancelling.{is_over}
-use Rattle.qrules.specs.Private.Facts.{Facts}
+use Rattle.qrules.specs.Private.Facts.{Facts, is_for_answer}
 use Rattle.qrules.specs.Private.Effects.{asks, attaches, detaches, makes, unblocks, writes}
 use Rattle.qrules.specs.Private.Lawful.{facts_of, IsLawful}
 use Rattle.qrules.specs.Private.Past.{attached_connection, connection_at, open_call}
 use Rattle.qrules.specs.Private.Rows.{names}
-use Rattle.qrules.specs.Private.Step.{after_receipt, after_unblock, after_write, connection_after, open_call_after, put_at, unless}
+use Rattle.qrules.specs.Private.Step.{after_receipt, after_unblock, after_write, connection_after, open_call_after, put_at, unless, unblocked_call}
 use Rattle.qmodel.specs.Trace.{Trace}
 use Rattle.qmodel.specs.declared.call.Call.{Call}
 use Rattle.qmodel.specs.declared.call.Call.TheVariants.{ConnectDetach}
@@ -26,8 +26,6 @@ use Rattle.qrules.proofs.Traces.Past.Open.{buffer_answer, held_for_answer}
 use Rattle.qrules.proofs.Traces.Past.OpenCalls.{open_accepted, open_refused}
 use Rattle.qrules.proofs.Traces.Properties.Answers.{over, sends_over}
 use Rattle.qrules.proofs.Traces.Properties.Sends.{buffer_over, held_over}
-use Rattle.qrules.specs.Private.Step.{unblocked_call}
-use Rattle.qrules.specs.Private.Facts.{is_for_answer}
 use Rattle.qrules.specs.Past.{channel_of}
 
 -- ---- by each call's row

@@ -8,7 +8,7 @@ use Rattle.qqueue.specs.Best.{is_pulse, with_priority, without_item}
 use Rattle.qqueue.specs.declared.item.Item.{Item}
 use Rattle.qtables.specs.declared.member.Member.{Member}
 use Rattle.qrules.specs.Private.Answer.{Outcome}
-use Rattle.qrules.specs.Private.Facts.{Facts}
+use Rattle.qrules.specs.Private.Facts.{Facts, number_of}
 use Rattle.qrules.specs.Private.Effects.{makes, sets}
 use Rattle.qrules.specs.Private.Lawful.{IsLawful, facts_of, with_event}
 use Rattle.qrules.specs.Private.Past.{is_gone, is_received, made_on, priority_set_by, current_priority}
@@ -24,7 +24,6 @@ use Rattle.qrules.proofs.Traces.Past.Ends.{accepted}
 use Rattle.qrules.proofs.Traces.Past.Items.{Stands, item_below, standing_is}
 use Rattle.qrules.proofs.Traces.Past.CurrentPriority.{now, sets_none, worth_set, worth_stays}
 use Rattle.qrules.specs.Rule.{PriorityChange}
-use Rattle.qrules.specs.Private.Facts.{number_of}
 
 -- ---- items that are changed in their priority alone
 

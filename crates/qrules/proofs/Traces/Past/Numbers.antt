@@ -4,10 +4,9 @@ use Rattle.std.specs.Prelude.{Option, None, Some, is_some, not, ◌&&◌}
 use Rattle.std.proofs.lemmas.Bool.{eqb-true, ne_eqb, and_parts}
 use Rattle.std.proofs.lemmas.Option.{none-some}
 use Rattle.qtables.specs.declared.member.Member.{Member}
-use Rattle.qrules.specs.Private.Past.{is_accepted, accepted_at}
+use Rattle.qrules.specs.Private.Past.{is_accepted, accepted_at, block, item_of}
 use Rattle.qrules.specs.Private.Facts.{is_for_answer}
 use Rattle.qrules.specs.Trace.{call_at}
-use Rattle.qrules.specs.Private.Past.{is_accepted, accepted_at}
 use Rattle.qrules.specs.Private.Effects.{asks}
 use Rattle.qmodel.specs.Trace.{Event, Trace}
 use Rattle.qmodel.specs.declared.call.Call.{Call}
@@ -15,11 +14,8 @@ use Rattle.qmodel.specs.declared.open_call.OpenCall.{OpenCall}
 use Rattle.qbase.proofs.Lists.{eqb_same}
 use Rattle.qrules.proofs.Traces.Past.Laws.{is_settled}
 use Rattle.qrules.proofs.Traces.Calls.{call_laws}
-use Rattle.qrules.specs.Private.Past.{block}
 use Rattle.qmodel.specs.OpenCalls.{number_of}
 use Rattle.qrules.specs.Past.{channel_of}
-use Rattle.qrules.specs.Private.Facts.{is_for_answer}
-use Rattle.qrules.specs.Private.Past.{item_of}
 
 -- ---- what an event makes
 

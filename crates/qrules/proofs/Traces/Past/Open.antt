@@ -1,34 +1,25 @@
 -- The open call of a thread: its newest blocking call, unless that is ended.
-use Rattle.std.proofs.Common.{◌≡◌, ℕ, ◌+◌, ◌≤◌, List, [], ◌∷◌, length, refl, ap, sym, ◌∙◌, cond, arith, Bool, true, false}
-use Rattle.std.specs.Prelude.{Option, None, Some, not}
+use Rattle.std.proofs.Common.{◌≡◌, ℕ, ◌+◌, ◌≤◌, List, [], ◌∷◌, length, refl, ap, sym, subst, ◌∙◌, cond, arith, Bool, true, false}
+use Rattle.std.specs.Prelude.{Option, None, Some, is_some, not}
 use Rattle.std.specs.Option.{option_map}
 use Rattle.std.proofs.lemmas.Option.{same_Some, none-some}
 use Rattle.qtables.specs.declared.member.Member.{Member}
-use Rattle.qrules.specs.Private.Past.{items_by_now, call_by_now, is_ended, newest_block, unless_ended, open_call, copied_count_of, priority_of_item, unblocked_among, items}
-use Rattle.qmodel.specs.Trace.{Trace}
+use Rattle.qrules.proofs.Traces.Past.Waits.{some_map}
+use Rattle.qmodel.specs.declared.open_call.OpenSend.{OpenSend}
+use Rattle.qrules.specs.Private.Past.{is_received, items_by_now, call_by_now, is_ended, newest_block, unless_ended, open_call, copied_count_of, priority_of_item, unblocked_among, items, block, with_receipt, filled, with_writes, item_of}
+use Rattle.qmodel.specs.Trace.{Trace, SentItem}
 use Rattle.qmodel.specs.declared.open_call.OpenCall.{OpenCall}
 use Rattle.qmodel.specs.declared.open_call.Receipt.{Receipt}
 use Rattle.qmodel.specs.declared.open_call.OpenCall.TheVariants.{Receive, Send}
 use Rattle.qrules.proofs.Traces.Past.Laws.{is_settled}
 use Rattle.qrules.proofs.Traces.Calls.{call_laws}
-use Rattle.qrules.specs.Private.Past.{block}
-use Rattle.qrules.specs.Private.Past.{with_receipt}
-use Rattle.qrules.specs.Private.Past.{filled}
 use Rattle.qrules.proofs.Traces.Past.Numbers.{block_asked, block_below, block_fresh, block_thread}
-use Rattle.qrules.proofs.Traces.Past.CurrentPriority.{among_now}
+use Rattle.qrules.proofs.Traces.Past.CurrentPriority.{among_now, now}
 use Rattle.qrules.proofs.Traces.Past.Items.{found_earlier, found_there}
-use Rattle.qmodel.specs.OpenCalls.{thread_of}
-use Rattle.qrules.specs.Private.Facts.{is_for_answer}
-use Rattle.qmodel.specs.OpenCalls.{number_of}
-use Rattle.qmodel.specs.Trace.{SentItem}
-use Rattle.qrules.specs.Private.Facts.{with_buffer}
-use Rattle.qrules.specs.Private.Past.{with_writes}
-use Rattle.qrules.specs.Past.{channel_of}
-use Rattle.qrules.specs.Private.Facts.{held_call}
-use Rattle.qrules.specs.Past.{item_among}
+use Rattle.qmodel.specs.OpenCalls.{thread_of, number_of}
+use Rattle.qrules.specs.Private.Facts.{is_for_answer, with_buffer, held_call}
+use Rattle.qrules.specs.Past.{channel_of, item_among}
 use Rattle.qbase.proofs.Lists.{none_of}
-use Rattle.qrules.specs.Private.Past.{item_of}
-use Rattle.qrules.proofs.Traces.Past.CurrentPriority.{now}
 use Rattle.qrules.specs.Private.Cancelling.{is_on}
 
 -- ---- open calls
@@ -183,3 +174,18 @@ open_own roster past u o is =
     let k = open_parts roster past u o is in
     let a = block_asked roster past u k.block k.is in
     ap thread_of k.same ∙ kept_thread roster past k.block ∙ ((call_laws a.call).asks_one (number_of k.block) u a.channel k.block a.asks_it).thread
+
+-- ---- receipts
+
+-- a Send has a receipt exactly if its message is received
+abbrev TellsReceipt : Trace → OpenCall → Type 0
+TellsReceipt past (Send s) = is_received past s.number ≡ is_some s.receipt
+TellsReceipt past (Receive r) = Unit {0}
+
+by_now : (past : Trace) (made : List SentItem) (o : Option OpenCall) (x : OpenCall) → option_map (call_by_now past made) o ≡ Some x → TellsReceipt past x
+by_now past made None x e = absurd (none-some x e)
+by_now past made (Some (Send s)) x e = subst (TellsReceipt past) (same_Some _ x e) (sym (some_map _ (copied_count_of past s.number)))
+by_now past made (Some (Receive r)) x e = subst (TellsReceipt past) (same_Some _ x e) tt
+
+pub open_receipt : (roster : List Member) (past : Trace) (u : ℕ) (s : OpenSend) → open_call roster past u ≡ Some (Send s) → is_received past s.number ≡ is_some s.receipt
+open_receipt roster past u s is = by_now past _ _ (Send s) is

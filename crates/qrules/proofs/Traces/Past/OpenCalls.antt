@@ -11,15 +11,14 @@ use Rattle.qtables.specs.Members.{member_at}
 use Rattle.qtables.specs.declared.member.Member.{Member}
 use Rattle.qrules.specs.Private.Answer.{Outcome}
 use Rattle.qrules.specs.Private.Calls.{row_of}
-use Rattle.qrules.specs.Private.Facts.{Facts, sender, threads_of}
+use Rattle.qrules.specs.Private.Facts.{Facts, sender, threads_of, number_of}
 use Rattle.qrules.specs.Private.Lawful.{facts_of, IsLawful, with_event}
-use Rattle.qrules.specs.Private.Past.{refuses, has_ending_of, is_ended, is_received, item_of, copied_count_of, priority_of_item, unless_ended, open_call, unblocked_among}
+use Rattle.qrules.specs.Private.Past.{refuses, has_ending_of, is_ended, is_received, item_of, copied_count_of, priority_of_item, unless_ended, open_call, unblocked_among, block, with_receipt, filled}
 use Rattle.qrules.specs.Private.Receiving.{sender_for}
 use Rattle.qrules.specs.Private.Effects.{asks, makes, unblocks, writes}
 use Rattle.qrules.specs.Private.Rows.{Received, buffer_after_write}
-use Rattle.qmodel.specs.Trace.{SentItem}
+use Rattle.qmodel.specs.Trace.{SentItem, Event, Trace}
 use Rattle.qrules.specs.Private.Step.{held_call, is_thread, after_receipt, after_unblock, after_write, unblocked_call, unless, written_call, open_call_after}
-use Rattle.qmodel.specs.Trace.{Event, Trace}
 use Rattle.qmodel.specs.declared.call.Call.{Call}
 use Rattle.qmodel.specs.declared.call.Completion.{Completion}
 use Rattle.qmodel.specs.declared.open_call.OpenCall.{OpenCall}
@@ -28,7 +27,7 @@ use Rattle.qrules.proofs.Traces.Calls.PrioritySet.{sets_alone}
 use Rattle.qrules.proofs.Traces.Past.Laws.{IsReceived}
 use Rattle.qrules.proofs.Traces.Calls.{call_laws}
 use Rattle.qrules.proofs.Traces.Past.Numbers.{block_below}
-use Rattle.qrules.proofs.Traces.Past.Open.{filled_answer, open_from, open_thread, receipt_for_answer, is_unblocked}
+use Rattle.qrules.proofs.Traces.Past.Open.{filled_answer, open_from, open_thread, receipt_for_answer, is_unblocked, kept, kept_number, open_is}
 use Rattle.qrules.proofs.Traces.Past.Ends.{laws_of, passes_of, accepted, refused, refused_ends, ended_below, ends_other, ends_own, block_known}
 use Rattle.qrules.proofs.Traces.Past.Items.{item_at, item_answer, item_message, item_below, priority_earlier, priority_newest}
 use Rattle.qrules.proofs.Traces.Past.Receipts.{copied_by, accepted_receipts, refused_receipts, best_pending, best_priority, receipt_beyond}
@@ -38,13 +37,6 @@ use Rattle.qrules.proofs.Traces.Past.CurrentPriority.{refused_sets_none, sets_no
 use Rattle.qrules.proofs.Traces.Past.Writes.{changed, filled_accepted, filled_fresh, filled_refused, receipt_written, written_sender}
 use Rattle.qrules.proofs.Traces.Rosters.{known}
 use Rattle.qrules.specs.Rule.{Transfer}
-use Rattle.qrules.specs.Private.Past.{block}
-use Rattle.qrules.specs.Private.Past.{with_receipt}
-use Rattle.qrules.specs.Private.Past.{filled}
-use Rattle.qrules.specs.Private.Facts.{number_of}
-use Rattle.qrules.proofs.Traces.Past.Open.{kept}
-use Rattle.qrules.proofs.Traces.Past.Open.{kept_number}
-use Rattle.qrules.proofs.Traces.Past.Open.{open_is}
 use Rattle.qrules.specs.Past.{channel_of}
 use Rattle.qmodel.specs.declared.call.Call.TheVariants.{Send as CallSend}
 

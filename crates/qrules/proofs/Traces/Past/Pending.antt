@@ -17,9 +17,8 @@ use Rattle.qrules.specs.Private.Lawful.{facts_of, IsLawful, with_event}
 use Rattle.qrules.specs.Private.Past.{channel_at, has_ending_of, is_destroyed, is_ended, is_received, is_gone, items, item_of, pending_items, copied_count_among, copied_count_of, open_call, made_on}
 use Rattle.qrules.specs.Private.Effects.{closes, makes, sets}
 use Rattle.qrules.specs.Private.Rows.{Received, names}
-use Rattle.qmodel.specs.Trace.{SentItem}
+use Rattle.qmodel.specs.Trace.{SentItem, Event, Trace}
 use Rattle.qrules.specs.Private.Step.{is_cancelled, uncut_items, items_with_priority_set, unreceived_items, pending_after, is_unread_send}
-use Rattle.qmodel.specs.Trace.{Event, Trace}
 use Rattle.qmodel.specs.declared.call.Call.{Call}
 use Rattle.qmodel.specs.declared.call.Completion.{Completion}
 use Rattle.qbase.proofs.Lists.{cond_same, eqb_either, none_of, all_append, all_filter, all_more, filter_same, filter_twice, filter_all, filter_whole, any_never}
@@ -33,8 +32,7 @@ use Rattle.qrules.proofs.Traces.Past.Moves.{left_map, moved_append, moved_left, 
 use Rattle.qrules.proofs.Traces.Past.CurrentPriority.{now, refused_sets_none, worth_newest, worth_stays}
 use Rattle.qrules.proofs.Traces.Past.Receipts.{copied_by, accepted_receipts, refused_receipts, best_pending, receipt_beyond}
 use Rattle.qrules.proofs.Traces.Past.Open.{open_below}
-use Rattle.qrules.specs.Private.Facts.{threads_of}
-use Rattle.qrules.specs.Private.Facts.{number_of}
+use Rattle.qrules.specs.Private.Facts.{threads_of, number_of}
 
 -- ---- the items of a channel
 

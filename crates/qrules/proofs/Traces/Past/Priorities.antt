@@ -14,9 +14,8 @@ use Rattle.qrules.specs.Private.Lawful.{facts_of, IsLawful, with_event}
 use Rattle.qrules.specs.Private.Past.{items_by_now, carried_priority, channel_at, first_among, priority_from_ending, item_of, items, item_among, priority_of_thread, refuses, current_priority}
 use Rattle.qrules.specs.Private.Effects.{sets}
 use Rattle.qrules.specs.Private.Rows.{Received, item_in, priority_set_for}
-use Rattle.qmodel.specs.Trace.{SentItem}
+use Rattle.qmodel.specs.Trace.{SentItem, Event, Trace}
 use Rattle.qrules.specs.Private.Step.{priority_taken, priority_after}
-use Rattle.qmodel.specs.Trace.{Event, Trace}
 use Rattle.qmodel.specs.declared.call.Call.{Call}
 use Rattle.qmodel.specs.declared.call.Completion.{Completion}
 use Rattle.qrules.proofs.Traces.Past.Ends.{accepted, ending_names, laws_of, refused}

@@ -1,6 +1,6 @@
 -- The messages for which an unblock pulse was made: each of them was received before.
 use Rattle.std.proofs.Common.{◌≡◌, ℕ, ◌+◌, ◌≤◌, List, [], ◌∷◌, length, refl, ap, sym, subst, ◌∙◌, cond, arith, Bool, true, false, eqb, inl, inr}
-use Rattle.std.specs.Prelude.{Option, None, Some, is_some, not, ◌&&◌, ◌||◌}
+use Rattle.std.specs.Prelude.{Option, None, Some, is_some, ◌&&◌, ◌||◌}
 use Rattle.std.specs.Option.{option_map, option_to_list, option_or}
 use Rattle.std.proofs.lemmas.Bool.{cases_Bool, eqb-true, ne_eqb, true≢false, or_cases}
 use Rattle.std.proofs.lemmas.List.Folds.{list_any-append}
@@ -9,45 +9,18 @@ use Rattle.std.proofs.Math.Bool.{and-false, or-true, or-false}
 use Rattle.qtables.specs.declared.member.Member.{Member}
 use Rattle.qrules.specs.Private.Effects.{makes, unblocks}
 use Rattle.qrules.specs.Private.Lawful.{facts_of}
-use Rattle.qrules.specs.Private.Past.{is_received, is_unblock_for, item_of, items, open_call, priority_of_item, copied_count_among, copied_count_of, unblocked_among}
-use Rattle.qmodel.specs.Trace.{SentItem}
-use Rattle.qrules.specs.Private.Step.{after_unblock, unblocked_call}
-use Rattle.qmodel.specs.Trace.{Event, Trace}
+use Rattle.qrules.specs.Private.Past.{is_received, is_unblock_for, item_of, items, open_call, copied_count_among, copied_count_of, unblocked_among, with_receipt}
+use Rattle.qmodel.specs.Trace.{SentItem, Event, Trace}
+use Rattle.qrules.specs.Private.Step.{after_unblock, unblocked_call, held_call}
 use Rattle.qmodel.specs.declared.call.Call.{Call}
 use Rattle.qmodel.specs.declared.open_call.OpenCall.{OpenCall}
 use Rattle.qmodel.specs.declared.open_call.OpenCall.TheVariants.{Receive, Send}
 use Rattle.qbase.proofs.Lists.{eqb_same}
-use Rattle.qrules.proofs.Traces.Past.Laws.{is_settled}
 use Rattle.qrules.proofs.Traces.Calls.{call_laws}
-use Rattle.qrules.proofs.Traces.Past.Numbers.{block_fresh}
-use Rattle.qrules.proofs.Traces.Past.Open.{IsOpen, filled_answer, filled_settled, open_below, open_parts, open_thread, is_unblocked}
+use Rattle.qrules.proofs.Traces.Past.Open.{open_receipt, open_below, open_thread, is_unblocked}
 use Rattle.qrules.proofs.Traces.Past.Items.{item_accepted}
 use Rattle.qrules.proofs.Traces.Past.CurrentPriority.{unblocked_among_now}
-use Rattle.qrules.specs.Private.Past.{with_receipt}
-use Rattle.qrules.specs.Private.Step.{held_call}
 use Rattle.qmodel.specs.OpenCalls.{number_of}
-use Rattle.qrules.specs.Private.Laws.{is_for_reply}
-use Rattle.qrules.specs.Private.Facts.{is_for_answer}
-use Rattle.qrules.specs.Private.Past.{filled}
-
--- ---- what is held is taken
-
--- an open call whose message is received: the receipt is in the past
-pub held_is_taken : (roster : List Member) (past : Trace) (u : ℕ) (o : OpenCall) (k : IsOpen roster past u o) → is_for_answer o ≡ true → is_settled o ≡ true → is_received past (number_of k.block) ≡ true
-held_is_taken roster past u o k w s =
-    elim (copied_count_of past (number_of k.block)) as (λ r. o ≡ with_receipt (priority_of_item roster past (number_of k.block)) (is_unblocked roster past (number_of k.block)) r (filled past k.block) → is_some r ≡ true) [
-      | None ↦ λ same.
-          absurd (true≢false (sym (ap is_settled (sym same) ∙ s) ∙ filled_settled past k.block ∙ block_fresh roster past u k.block k.is ∙ ap not (sym (filled_answer past k.block) ∙ ap is_for_answer (sym same) ∙ w)))
-      | Some copied ↦ λ same. refl
-    ] k.same
-
-reply_answer : (o : OpenCall) → is_for_reply o ≡ true → is_for_answer o ≡ true
-reply_answer (Send s) e = refl
-reply_answer (Receive r) e = absurd (true≢false (sym e))
-
-reply_settled : (o : OpenCall) → is_for_reply o ≡ true → is_settled o ≡ true
-reply_settled (Send s) e = e
-reply_settled (Receive r) e = refl
 
 -- ---- what is unblocked
 
@@ -63,11 +36,10 @@ by_item roster past t c i m made is =
       | None ↦ λ none. absurd (true≢false (sym is ∙ (call_laws c).unblocks_none none (facts_of roster past) t m made i))
       | Some v ↦ λ some.
           let k = (call_laws c).unblocks_one v some (facts_of roster past) t m made in
-          let same : (number_of k.waiting) ≡ i = eqb-true _ _ (ap (is_unblock_for i) (sym k.what) ∙ is) in
-          let p = open_parts roster past v k.waiting k.is in
+          let same : k.send.number ≡ i = eqb-true _ _ (ap (is_unblock_for i) (sym k.what) ∙ is) in
           record {
-            below = subst (λ j. j ≤ length past) same (open_below roster past v k.waiting k.is);
-            taken = subst (λ j. is_received past j ≡ true) (sym p.number ∙ same) (held_is_taken roster past v k.waiting p (reply_answer k.waiting k.held) (reply_settled k.waiting k.held));
+            below = subst (λ j. j ≤ length past) same (open_below roster past v (Send k.send) k.is);
+            taken = subst (λ j. is_received past j ≡ true) same (open_receipt roster past v k.send k.is ∙ k.held);
           }
     ] refl
 
@@ -143,11 +115,11 @@ marks_it roster past t c u o is =
             | Some v ↦ λ named.
                 let k = (call_laws c).unblocks_one v named (facts_of roster past) t m some in
                 ap (is_unblock_for (number_of o)) k.what ∙ (
-                elim (cases_Bool (eqb u v)) as (λ _. eqb (number_of k.waiting) (number_of o) ≡ (eqb u v && true)) [
+                elim (cases_Bool (eqb u v)) as (λ _. eqb k.send.number (number_of o) ≡ (eqb u v && true)) [
                   | inl same ↦
-                      let one : k.waiting ≡ o = same_Some _ _ (sym k.is ∙ ap (open_call roster past) (sym (eqb-true u v same)) ∙ is) in
+                      let one : Send k.send ≡ o = same_Some _ _ (sym k.is ∙ ap (open_call roster past) (sym (eqb-true u v same)) ∙ is) in
                       ap (λ n. eqb n (number_of o)) (ap number_of one) ∙ eqb_same (number_of o) ∙ rw same refl
-                  | inr other ↦ ne_eqb (number_of k.waiting) (number_of o) (λ n. true≢false (sym (eqb_same u) ∙ ap (eqb u) (open_thread roster past u v o k.waiting is k.is (sym n)) ∙ other)) ∙ rw other refl
+                  | inr other ↦ ne_eqb k.send.number (number_of o) (λ n. true≢false (sym (eqb_same u) ∙ ap (eqb u) (open_thread roster past u v o (Send k.send) is k.is (sym n)) ∙ other)) ∙ rw other refl
                 ])
           ] refl)
     ] refl

@@ -1,5 +1,5 @@
 -- A call that is accepted ends in its own event, or its thread waits.
-use Rattle.std.proofs.Common.{◌≡◌, ◌∙◌, ℕ, List, [], ◌∷◌, refl, ap, sym, cond, eqb, true, false}
+use Rattle.std.proofs.Common.{◌≡◌, ◌∙◌, ℕ, List, [], ◌∷◌, refl, ap, sym, cond, eqb, true, false, Bool}
 use Rattle.std.specs.Prelude.{Option, None, Some, is_some, ◌||◌}
 use Rattle.std.specs.Option.{option_map}
 use Rattle.std.proofs.lemmas.Bool.{true≢false}
@@ -9,7 +9,7 @@ use Rattle.qtables.specs.Members.{member_at}
 use Rattle.qrules.specs.Private.Calls.{row_of}
 use Rattle.qrules.specs.Private.Calls.Info.{info_of}
 use Rattle.qrules.specs.Private.Facts.{Facts, is_send, sender, sender_among, threads_of}
-use Rattle.qrules.specs.Private.Effects.{asks}
+use Rattle.qrules.specs.Rules.{effect_of}
 use Rattle.qmodel.specs.declared.call.Call.{Call}
 use Rattle.qmodel.specs.declared.call.Call.TheVariants.{Send, Receive, Info, ReceivePulse}
 use Rattle.qmodel.specs.declared.open_call.OpenCall.{OpenCall}
@@ -43,7 +43,11 @@ pub some_map : {A B : Type 0} (k : A → B) (o : Option A) → is_some (option_m
 some_map k None = refl
 some_map k (Some x) = refl
 
-pub waits_or_ends : (f : Facts) (t : ℕ) (c : Call) → Passes f t c → (row_of f t c).own ≡ None → is_some (asks 0 0 0 c) ≡ true
+-- the call may wait
+abbrev pub may_wait : Call → Bool
+may_wait c = is_some (effect_of c).sends || is_some (effect_of c).receives
+
+pub waits_or_ends : (f : Facts) (t : ℕ) (c : Call) → Passes f t c → (row_of f t c).own ≡ None → may_wait c ≡ true
 waits_or_ends f t (Send coid message reply_buffer) p e = refl
 waits_or_ends f t (Receive chid buffer) p e = refl
 waits_or_ends f t (Info rcvid) p e = absurd (true≢false (sym (some_map _ (info_of f (sender f rcvid)) ∙ info_tells f t rcvid p) ∙ ap is_some e))

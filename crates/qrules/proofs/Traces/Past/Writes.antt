@@ -6,9 +6,9 @@ use Rattle.std.proofs.lemmas.Option.{same_Some}
 use Rattle.qbase.specs.Laying.{lay_over}
 use Rattle.qtables.specs.declared.member.Member.{Member}
 use Rattle.qrules.specs.Private.Answer.{Outcome}
-use Rattle.qrules.specs.Private.Facts.{Facts, sender, threads_of}
+use Rattle.qrules.specs.Private.Facts.{Facts, sender, threads_of, number_of, with_buffer}
 use Rattle.qrules.specs.Private.Lawful.{facts_of, IsLawful, with_event}
-use Rattle.qrules.specs.Private.Past.{is_accepted, open_call, refuses, with_writes}
+use Rattle.qrules.specs.Private.Past.{is_accepted, open_call, refuses, with_writes, filled, with_receipt}
 use Rattle.qrules.specs.Private.Effects.{asks, writes}
 use Rattle.qrules.specs.Private.Rows.{buffer_after_write}
 use Rattle.qrules.specs.Private.Step.{after_write, is_thread, written_call}
@@ -23,10 +23,6 @@ use Rattle.qrules.proofs.Traces.Past.Open.{open_below, open_thread}
 use Rattle.qrules.proofs.Traces.Calls.{call_laws}
 use Rattle.qrules.proofs.Traces.Past.Senders.{sender_sends}
 use Rattle.qrules.specs.Rule.{Transfer}
-use Rattle.qrules.specs.Private.Facts.{number_of}
-use Rattle.qrules.specs.Private.Past.{filled}
-use Rattle.qrules.specs.Private.Facts.{with_buffer}
-use Rattle.qrules.specs.Private.Past.{with_receipt}
 
 -- ---- a reply buffer
 

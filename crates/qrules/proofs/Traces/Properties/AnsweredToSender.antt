@@ -1,5 +1,5 @@
 -- A message is answered at most once, by a call that may answer it, and to the thread that sent it.
-use Rattle.std.proofs.Common.{◌≡◌, ◌≢◌, ◌∙◌, ℕ, ◌+◌, ◌<◌, List, [], ◌∷◌, refl, ap, sym, subst, arith, cond, eqb, Bool, true, false, inl, inr}
+use Rattle.std.proofs.Common.{◌≡◌, ◌≢◌, ◌∙◌, ℕ, ◌+◌, ◌<◌, List, [], ◌∷◌, refl, ap, sym, subst, arith, cond, eqb, Bool, true, false, inl, inr, is_some}
 use Rattle.std.specs.Prelude.{Option, None, Some, not, ◌&&◌, count_by}
 use Rattle.std.specs.List.{AllByRecursion, filter_map, cons_option}
 use Rattle.std.specs.Option.{option_map_or}
@@ -9,7 +9,7 @@ use Rattle.std.proofs.lemmas.Option.{none-some}
 use Rattle.qtables.specs.declared.member.Member.{Member}
 use Rattle.qtables.specs.Members.{IsRoster}
 use Rattle.qrules.specs.Private.Answer.{ending, Outcome, Answers}
-use Rattle.qrules.specs.Private.Facts.{is_for_answer, owns, threads_of}
+use Rattle.qrules.specs.Private.Facts.{is_for_answer, owns, threads_of, number_of}
 use Rattle.qrules.specs.Properties.{is_answer, items, AnsweredToSender, AnswersIts, AnswersOnce}
 use Rattle.qrules.specs.Past.{item_among}
 use Rattle.qrules.specs.Private.Lawful.{facts_of, IsLawful}
@@ -22,19 +22,11 @@ use Rattle.qbase.proofs.Lists.{all_filter_map, all_more, is_among}
 use Rattle.qrules.proofs.Traces.Properties.Answers.{AnswersHeld, answers_held, answers_one}
 use Rattle.qrules.proofs.Traces.Properties.Events.{is_accepted_by, outcome_of}
 use Rattle.qrules.proofs.Traces.Properties.ReceivedOnce.{different_calls}
-use Rattle.qrules.proofs.Traces.Past.Unblocked.{held_is_taken}
 use Rattle.qrules.proofs.Traces.Rosters.{known}
-use Rattle.qrules.proofs.Traces.Properties.Sends.{block_sender, open_keeps, open_over}
-use Rattle.qrules.specs.Private.Facts.{number_of}
-use Rattle.qrules.proofs.Traces.Past.Open.{buffer_answer}
-use Rattle.qrules.proofs.Traces.Past.Open.{held_for_answer}
-use Rattle.qrules.proofs.Traces.Past.Open.{open_parts}
+use Rattle.qrules.proofs.Traces.Properties.Sends.{block_sender, open_keeps, open_over, block_on}
+use Rattle.qrules.proofs.Traces.Past.Open.{open_receipt, buffer_answer, held_for_answer, open_parts, held_on, buffer_on}
 use Rattle.qmodel.specs.declared.open_call.OpenCall.TheVariants.{Send as InSend}
-use Rattle.std.proofs.Common.{is_some}
 use Rattle.qrules.specs.Private.Cancelling.{is_on}
-use Rattle.qrules.proofs.Traces.Past.Open.{held_on}
-use Rattle.qrules.proofs.Traces.Past.Open.{buffer_on}
-use Rattle.qrules.proofs.Traces.Properties.Sends.{block_on}
 
 -- ---- each answer is one to the message that the call names
 
@@ -47,7 +39,7 @@ answers_its roster past e u y l a h =
     let number : (number_of k.block) ≡ y.call = sym k.number ∙ h.number in
     let answer : is_for_answer o ≡ true = refl in
     let began : is_for_answer k.block ≡ true = sym (open_keeps is_for_answer roster past u o k held_for_answer buffer_answer) ∙ answer in
-    let taken : is_received past (number_of k.block) ≡ true = held_is_taken roster past u o k answer (ap is_some h.held.held) in
+    let taken : is_received past (number_of k.block) ≡ true = subst (λ i. is_received past i ≡ true) k.number (open_receipt roster past u h.held.send h.held.is_open ∙ ap is_some h.held.held) in
     let s = open_over roster past u o k l answer in
     let on : is_on s.made.channel o ≡ true = open_keeps (is_on s.made.channel) roster past u o k (held_on s.made.channel) (buffer_on s.made.channel) ∙ block_on roster past u k.block s.made k.is began s.is_made in
     record {

@@ -20,7 +20,7 @@ use Rattle.qrules.specs.Private.Held.{Finish, ends_sender, refusal}
 use Rattle.qmodel.specs.declared.call.Info.{Info as Told}
 use Rattle.qmodel.specs.declared.call.Mark.TheVariants as mark
 use Rattle.qrules.specs.Private.Cancelling.{is_on}
-use Rattle.qrules.specs.Private.Facts.{Facts, is_for_answer, message, sender, threads_of, route}
+use Rattle.qrules.specs.Private.Facts.{Facts, is_for_answer, message, sender, threads_of, route, number_of}
 use Rattle.qrules.specs.Private.Effects.{asks, makes, thread_of_send}
 use Rattle.qrules.specs.Properties.{is_answer}
 use Rattle.qrules.specs.Rules.{effect_of}
@@ -46,7 +46,6 @@ use Rattle.qrules.specs.Private.Calls.Unblock as unblock
 use Rattle.qrules.specs.Private.Calls.Pulse as pulse
 use Rattle.qrules.proofs.Traces.Calls.ConnectDetach.{detach_ends}
 use Rattle.qrules.proofs.Traces.Properties.Rows.Telling.{told_meets, unblock_ends}
-use Rattle.qrules.specs.Private.Facts.{number_of}
 
 -- ---- what answers
 

@@ -13,8 +13,7 @@ use Rattle.qrules.specs.Private.Effects.{makes}
 use Rattle.qrules.specs.Rules.{effect_of}
 use Rattle.qrules.specs.Private.Past.{item_of, pending_items, priority_before, attached_connection, made_on}
 use Rattle.qrules.specs.Private.Rows.{message_item, pulse_item, item_sent_over}
-use Rattle.qmodel.specs.Trace.{SentItem}
-use Rattle.qmodel.specs.Trace.{Event, Trace}
+use Rattle.qmodel.specs.Trace.{SentItem, Event, Trace}
 use Rattle.qmodel.specs.declared.call.Call.{Call}
 use Rattle.qmodel.specs.declared.call.Call.TheVariants.{Send, Pulse}
 use Rattle.qrules.proofs.Traces.Past.Items.{before_earlier, before_newest, item_accepted, IsPending, item_at, item_below, item_earlier, item_newest, item_priority, made_by, pending_all, pending_each}

@@ -23,7 +23,7 @@ use Rattle.qrules.specs.Private.Calls.Info.{info_of, info_ending}
 use Rattle.qrules.specs.Private.Calls.Reply.{reply_finish}
 use Rattle.qrules.specs.Private.Calls.Send as send
 use Rattle.qrules.specs.Private.Cancelling.{cancel_call, is_on, is_over}
-use Rattle.qrules.specs.Private.Facts.{Facts, message, message_in, sender, threads_of, route}
+use Rattle.qrules.specs.Private.Facts.{Facts, message, message_in, sender, threads_of, route, number_of}
 use Rattle.qrules.specs.Private.Held.{Finish, refusal, reply_buffer, reply_buffer_in}
 use Rattle.qrules.specs.Properties.{buffer_at, message_at, CopiedExactly, IsCopied}
 use Rattle.qrules.specs.Rules.{effect_of}
@@ -31,8 +31,7 @@ use Rattle.qrules.specs.Trace.{call_at}
 use Rattle.qrules.specs.Private.Lawful.{facts_of, IsLawful}
 use Rattle.qrules.specs.Private.Past.{open_call, refuses}
 use Rattle.qrules.specs.Private.Rows.{receipt_ending}
-use Rattle.qmodel.specs.Trace.{SentItem}
-use Rattle.qmodel.specs.Trace.{Event, Trace}
+use Rattle.qmodel.specs.Trace.{SentItem, Event, Trace}
 use Rattle.qmodel.specs.declared.call.Call.{Call}
 use Rattle.qmodel.specs.declared.call.Call.TheVariants.{Send, Receive, Reply, Error, Read, Write, Info, ReceivePulse, Pulse, ChannelDestroy, Shutdown, Unblock, ConnectDetach}
 use Rattle.qmodel.specs.declared.call.Completion.{Completion}
@@ -65,7 +64,6 @@ use Rattle.qrules.proofs.Traces.Calls.ConnectDetach as detaching
 use Rattle.qrules.proofs.Traces.Calls.ConnectDetach.{detach_ends}
 use Rattle.qrules.proofs.Traces.Calls.Unblock as unblocking
 use Rattle.qrules.proofs.Traces.Calls.Unblock.{is_cancelled}
-use Rattle.qrules.specs.Private.Facts.{number_of}
 use Rattle.qmodel.specs.OpenCalls.{buffer_in}
 use Rattle.qmodel.specs.declared.open_call.OpenCall.TheVariants.{Receive as InReceive, Send as InSend}
 

@@ -11,8 +11,7 @@ use Rattle.qrules.specs.Properties.{number_received}
 use Rattle.qrules.specs.Private.Lawful.{facts_of}
 use Rattle.qrules.specs.Private.Past.{is_accepted, item_of}
 use Rattle.qrules.specs.Private.Effects.{makes}
-use Rattle.qmodel.specs.Trace.{SentItem}
-use Rattle.qmodel.specs.Trace.{Event, Trace}
+use Rattle.qmodel.specs.Trace.{SentItem, Event, Trace}
 use Rattle.qmodel.specs.declared.call.Call.{Call}
 use Rattle.qmodel.specs.declared.call.Completion.{Completion}
 use Rattle.qrules.proofs.Traces.Past.Ends.{accepted, passes_of, refused}

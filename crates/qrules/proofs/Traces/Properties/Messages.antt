@@ -1,5 +1,5 @@
 -- The messages and buffers of open calls are those that their calls brought, and a message that is pending has its Send open.
-use Rattle.std.proofs.Common.{◌≡◌, ◌∙◌, ℕ, ◌+◌, List, [], ◌∷◌, length, refl, ap, sym, subst, cond, eqb, true, false}
+use Rattle.std.proofs.Common.{◌≡◌, ◌∙◌, ℕ, ◌+◌, List, [], ◌∷◌, length, refl, ap, sym, subst, cond, eqb, true, false, Option}
 use Rattle.std.specs.Prelude.{None, Some, is_some, not, ◌&&◌}
 use Rattle.std.specs.Option.{option_and_then, option_map_or}
 use Rattle.std.proofs.lemmas.Bool.{eqb-true, or_parts, and_parts, true≢false}
@@ -7,17 +7,15 @@ use Rattle.std.proofs.lemmas.Option.{none-some, same_Some}
 use Rattle.qqueue.specs.Best.{is_pulse}
 use Rattle.qqueue.specs.declared.item.Item.{Item}
 use Rattle.qtables.specs.declared.member.Member.{Member}
-use Rattle.qrules.specs.Private.Facts.{is_for_answer, message, message_in, message_of, sender, threads_of, is_send}
+use Rattle.qrules.specs.Private.Facts.{is_for_answer, message, message_in, message_of, sender, threads_of, is_send, Facts, number_of, held_call, with_buffer}
 use Rattle.qrules.specs.Properties.{buffer_at, message_at}
 use Rattle.qrules.specs.Rule.{buffer_of}
 use Rattle.qrules.specs.Rules.{effect_of}
 use Rattle.qrules.specs.Private.Lawful.{facts_of, IsLawful}
-use Rattle.qrules.specs.Private.Past.{has_ending_of, is_ended, item_of, open_call, with_writes}
-use Rattle.qrules.specs.Private.Facts.{Facts}
+use Rattle.qrules.specs.Private.Past.{has_ending_of, is_ended, item_of, open_call, with_writes, block, filled}
 use Rattle.qrules.specs.Private.Effects.{asks, makes}
 use Rattle.qrules.specs.Private.Rows.{pulse_item}
-use Rattle.qmodel.specs.Trace.{SentItem}
-use Rattle.qmodel.specs.Trace.{Event, Trace}
+use Rattle.qmodel.specs.Trace.{SentItem, Event, Trace}
 use Rattle.qmodel.specs.declared.call.Call.{Call}
 use Rattle.qmodel.specs.declared.call.Call.TheVariants.{Send, Receive, ReceivePulse, Pulse, Unblock, ConnectDetach}
 use Rattle.qmodel.specs.declared.open_call.OpenCall.{OpenCall}
@@ -36,21 +34,9 @@ use Rattle.qrules.proofs.Traces.Calls.ConnectDetach as detaching
 use Rattle.qrules.proofs.Traces.Calls.Unblock.{due_is_pulse}
 use Rattle.qrules.proofs.Traces.Rosters.{known}
 use Rattle.qrules.proofs.Traces.Due.{unblock_same}
-use Rattle.qrules.specs.Private.Facts.{number_of}
-use Rattle.qrules.specs.Private.Past.{block}
-use Rattle.qrules.specs.Private.Facts.{held_call}
-use Rattle.qrules.specs.Private.Facts.{with_buffer}
-use Rattle.qrules.specs.Private.Past.{filled}
-use Rattle.qrules.proofs.Traces.Past.Open.{open_from}
-use Rattle.qrules.proofs.Traces.Past.Open.{filled_answer}
-use Rattle.qrules.proofs.Traces.Past.Open.{open_parts}
-use Rattle.qrules.proofs.Traces.Past.Open.{open_thread}
-use Rattle.qrules.proofs.Traces.Past.Open.{receipt_for_answer}
+use Rattle.qrules.proofs.Traces.Past.Open.{open_from, filled_answer, open_parts, open_thread, receipt_for_answer, kept, kept_number}
 use Rattle.qrules.specs.Past.{channel_of}
-use Rattle.std.proofs.Common.{Option}
 use Rattle.qmodel.specs.OpenCalls.{buffer_in}
-use Rattle.qrules.proofs.Traces.Past.Open.{kept}
-use Rattle.qrules.proofs.Traces.Past.Open.{kept_number}
 
 -- ---- what a call brings is what it waits with
 

@@ -16,7 +16,7 @@ use Rattle.qrules.specs.Private.Calls.Info.{info_of}
 use Rattle.qrules.specs.Private.Calls.Reply.{reply_finish}
 use Rattle.qrules.specs.Private.Calls.Send.{item}
 use Rattle.qrules.specs.Private.Cancelling.{is_on}
-use Rattle.qrules.specs.Private.Facts.{Facts, message, sender, route}
+use Rattle.qrules.specs.Private.Facts.{Facts, message, sender, route, number_of}
 use Rattle.qrules.specs.Private.Effects.{makes}
 use Rattle.qrules.specs.Rule.{ReceiveRequest}
 use Rattle.qrules.specs.Rules.{effect_of}
@@ -44,7 +44,6 @@ use Rattle.qrules.proofs.Traces.Properties.Rows.Telling.{Tells, told_meets, unbl
 use Rattle.qrules.proofs.Traces.Calls.Delivering.{sent_way}
 use Rattle.qrules.specs.Past.{ReceivedItem}
 use Rattle.qrules.proofs.Traces.Due.{unblock_same}
-use Rattle.qrules.specs.Private.Facts.{number_of}
 
 -- ---- whose ending it is
 

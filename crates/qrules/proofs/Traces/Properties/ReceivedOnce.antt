@@ -13,13 +13,11 @@ use Rattle.qrules.specs.Private.Answer.{ending, Answers, Outcome}
 use Rattle.qrules.specs.Private.Facts.{Facts, threads_of}
 use Rattle.qrules.specs.Properties.{AllDifferent, ReceivedOnce, items, number_received}
 use Rattle.qrules.specs.Past.{item_among}
-use Rattle.qrules.specs.Trace.{InEachEvent}
-use Rattle.qrules.specs.Trace.{endings_of}
+use Rattle.qrules.specs.Trace.{InEachEvent, endings_of}
 use Rattle.qrules.specs.Private.Lawful.{facts_of, IsLawful}
 use Rattle.qrules.specs.Private.Past.{copied_count_in, has_ending_of, is_ended, is_received, copied_count_among, copied_count_of}
 use Rattle.qrules.specs.Private.Rows.{item_in}
-use Rattle.qmodel.specs.Trace.{SentItem}
-use Rattle.qmodel.specs.Trace.{Event, Trace}
+use Rattle.qmodel.specs.Trace.{SentItem, Event, Trace}
 use Rattle.qmodel.specs.declared.call.Call.{Call}
 use Rattle.qmodel.specs.declared.call.Completion.{Completion}
 use Rattle.qrules.proofs.Traces.Past.Ends.{ending_names, laws_of, not_ended, other_below}

@@ -5,40 +5,25 @@ use Rattle.std.proofs.lemmas.Bool.{ne_eqb, and_parts}
 use Rattle.std.proofs.lemmas.Option.{none-some}
 use Rattle.qtables.specs.declared.connection.Connection.{Connection}
 use Rattle.qtables.specs.declared.member.Member.{Member}
-use Rattle.qrules.specs.Private.Facts.{is_for_answer}
+use Rattle.qrules.specs.Private.Facts.{is_for_answer, number_of, held_call, with_buffer}
 use Rattle.qrules.specs.Private.Lawful.{facts_of, IsLawful}
 use Rattle.qrules.specs.Private.Effects.{asks, thread_of_send}
-use Rattle.qrules.specs.Private.Past.{is_accepted, accepted_at, priority_of_item, copied_count_of, sender_of, with_receipt, with_writes, attached_connection}
-use Rattle.qmodel.specs.Trace.{SentItem}
-use Rattle.qmodel.specs.Trace.{Event, Trace}
+use Rattle.qrules.specs.Private.Past.{is_accepted, accepted_at, priority_of_item, copied_count_of, sender_of, with_receipt, with_writes, attached_connection, block, filled, item_of, open_call}
+use Rattle.qmodel.specs.Trace.{SentItem, Event, Trace}
 use Rattle.qmodel.specs.declared.open_call.OpenCall.{OpenCall}
 use Rattle.qmodel.specs.declared.open_call.Receipt.{Receipt}
 use Rattle.qmodel.specs.declared.open_call.OpenCall.TheVariants.{Receive, Send}
 use Rattle.qrules.proofs.Traces.Past.Ends.{passes_of}
 use Rattle.qrules.proofs.Traces.Past.Items.{item_at, item_below, item_earlier, item_newest}
 use Rattle.qbase.proofs.Lists.{eqb_same}
-use Rattle.qrules.proofs.Traces.Past.Numbers.{blocks, blocks_thread, made_below}
+use Rattle.qrules.proofs.Traces.Past.Numbers.{blocks, blocks_thread, made_below, block_below}
 use Rattle.qrules.proofs.Traces.Calls.{call_laws}
 use Rattle.qrules.proofs.Traces.Properties.Answers.{over, sends_by, sends_over}
 use Rattle.qrules.proofs.Traces.Properties.Events.{made_now, outcome_of}
 use Rattle.qrules.proofs.Traces.Past.Connections.{live_attached}
-use Rattle.qrules.specs.Private.Facts.{number_of}
-use Rattle.qrules.specs.Private.Past.{block}
-use Rattle.qrules.specs.Private.Facts.{held_call}
-use Rattle.qrules.specs.Private.Facts.{with_buffer}
-use Rattle.qrules.proofs.Traces.Past.Open.{IsOpen}
-use Rattle.qrules.specs.Private.Past.{filled}
-use Rattle.qrules.proofs.Traces.Past.Open.{buffer_answer}
-use Rattle.qrules.proofs.Traces.Past.Open.{held_for_answer}
-use Rattle.qrules.proofs.Traces.Past.Open.{is_unblocked}
+use Rattle.qrules.proofs.Traces.Past.Open.{IsOpen, buffer_answer, held_for_answer, is_unblocked, open_parts, held_on, buffer_on}
 use Rattle.qrules.specs.Past.{channel_of}
 use Rattle.qrules.specs.Private.Cancelling.{is_on}
-use Rattle.qrules.specs.Private.Past.{item_of}
-use Rattle.qrules.proofs.Traces.Past.Numbers.{block_below}
-use Rattle.qrules.specs.Private.Past.{open_call}
-use Rattle.qrules.proofs.Traces.Past.Open.{open_parts}
-use Rattle.qrules.proofs.Traces.Past.Open.{held_on}
-use Rattle.qrules.proofs.Traces.Past.Open.{buffer_on}
 
 -- ---- what events made
 

@@ -14,7 +14,7 @@ use Rattle.qrules.specs.Private.Answer.{Outcome}
 use Rattle.qrules.specs.Private.Calls.{row_of}
 use Rattle.qrules.specs.Private.Cancelling.{is_on}
 use Rattle.qrules.specs.Private.Facts.{Facts, owns}
-use Rattle.qrules.specs.Past.{item_among}
+use Rattle.qrules.specs.Past.{item_among, channel_of}
 use Rattle.qrules.specs.Private.Effects.{asks, closes, makes, unblocks, writes}
 use Rattle.qrules.specs.Facts.{receive_in, receive_of, send_in, send_of, threads_of, OpenReceive, OpenSend}
 use Rattle.qrules.specs.Properties.{number_received, IsShut, ShutForGood}
@@ -22,7 +22,7 @@ use Rattle.qrules.specs.Private.Lawful.{facts_of, IsLawful}
 use Rattle.qrules.specs.Rules.{effect_of}
 use Rattle.qrules.specs.Private.Past.{attached_connection, is_destroyed, items, open_call}
 use Rattle.qrules.specs.Private.Rows.{names}
-use Rattle.qrules.specs.Private.Step.{after_receipt, after_write, channel_after, open_call_after, unless, after_unblock}
+use Rattle.qrules.specs.Private.Step.{after_receipt, after_write, channel_after, open_call_after, unless, after_unblock, unblocked_call}
 use Rattle.qmodel.specs.Trace.{Event, Trace}
 use Rattle.qmodel.specs.declared.call.Call.{Call}
 use Rattle.qmodel.specs.declared.call.Call.TheVariants.{Send, Receive, ReceivePulse, ChannelDestroy}
@@ -39,15 +39,11 @@ use Rattle.qrules.proofs.Traces.Properties.Receipts.{TakesOne}
 use Rattle.qrules.proofs.Traces.Past.Before.{Lasts, before_other, before_receipt, unless_is}
 use Rattle.qrules.proofs.Traces.Routes.{has_way}
 use Rattle.qrules.proofs.Traces.Past.LiveSends.{stays_open}
-use Rattle.qrules.specs.Private.Step.{unblocked_call}
-use Rattle.qrules.specs.Past.{channel_of}
 use Rattle.qmodel.specs.declared.open_call.OpenCall.TheVariants.{Receive as InReceive, Send as InSend}
-use Rattle.qrules.proofs.Traces.Calls.Delivering.{sent_way}
-use Rattle.qrules.proofs.Traces.Past.Open.{held_on}
+use Rattle.qrules.proofs.Traces.Calls.Delivering.{sent_way, goes_to_open}
+use Rattle.qrules.proofs.Traces.Past.Open.{held_on, buffer_on}
 use Rattle.qrules.proofs.Traces.Properties.Sends.{open_on}
-use Rattle.qrules.proofs.Traces.Past.Open.{buffer_on}
 use Rattle.qrules.specs.Private.Calls.Send as send
-use Rattle.qrules.proofs.Traces.Calls.Delivering.{goes_to_open}
 use Rattle.qrules.specs.Private.Calls.Send.{item}
 
 -- ---- by each call's row

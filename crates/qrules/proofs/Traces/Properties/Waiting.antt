@@ -16,7 +16,7 @@ use Rattle.qrules.specs.Private.Calls.{row_of}
 use Rattle.qrules.specs.Private.Calls.Send.{item}
 use Rattle.qrules.specs.Private.Delivering.{receiver, receipt_when_sent}
 use Rattle.qrules.specs.Private.Receiving.{own_receipt}
-use Rattle.qrules.specs.Private.Facts.{Facts, sender, threads_of, route}
+use Rattle.qrules.specs.Private.Facts.{Facts, sender, threads_of, route, held_call, with_buffer}
 use Rattle.qrules.specs.Private.Effects.{asks, closes, makes, sets, unblocks, writes}
 use Rattle.qrules.specs.Private.Lawful.{facts_of, IsLawful}
 use Rattle.qrules.specs.Rule.{ReceiveRequest}
@@ -24,9 +24,8 @@ use Rattle.qrules.specs.Rules.{effect_of}
 use Rattle.qrules.specs.Private.Past.{made_on}
 use Rattle.qrules.specs.Private.Receivers.{newest_receiver}
 use Rattle.qrules.specs.Private.Rows.{Received, names, item_sent_over, takes, receipt_ending}
-use Rattle.qmodel.specs.Trace.{SentItem}
-use Rattle.qrules.specs.Private.Step.{after_receipt, after_write, is_cancelled, uncut_items, items_with_priority_set, open_call_after, pending_after, unreceived_items, unless, after_unblock}
-use Rattle.qmodel.specs.Trace.{Trace}
+use Rattle.qmodel.specs.Trace.{SentItem, Trace}
+use Rattle.qrules.specs.Private.Step.{after_receipt, after_write, is_cancelled, uncut_items, items_with_priority_set, open_call_after, pending_after, unreceived_items, unless, after_unblock, unblocked_call}
 use Rattle.qmodel.specs.declared.call.Call.{Call}
 use Rattle.qmodel.specs.declared.call.Call.TheVariants.{Send, Receive, ReceivePulse, Pulse, Unblock, ConnectDetach}
 use Rattle.qmodel.specs.declared.open_call.OpenCall.{OpenCall}
@@ -46,10 +45,7 @@ use Rattle.qrules.proofs.Traces.Rosters.{known}
 use Rattle.qrules.proofs.Traces.Calls.Delivering.{sent_way}
 use Rattle.qrules.specs.Private.Pulses.{pulse_receipt}
 use Rattle.qrules.proofs.Traces.Due.{unblock_same}
-use Rattle.qrules.specs.Private.Step.{unblocked_call}
 use Rattle.qrules.specs.Past.{channel_of}
-use Rattle.qrules.specs.Private.Facts.{held_call}
-use Rattle.qrules.specs.Private.Facts.{with_buffer}
 use Rattle.qmodel.specs.declared.open_call.OpenReceive.{OpenReceive}
 
 -- ---- what a thread waits for

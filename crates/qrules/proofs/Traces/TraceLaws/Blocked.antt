@@ -1,37 +1,34 @@
 -- Whose the endings of an event are, and who is blocked after it.
-use Rattle.std.proofs.Common.{◌≡◌, ◌∙◌, ℕ, ◌+◌, List, [], ◌∷◌, length, refl, ap, sym, subst, cond, arith, Bool, true, false, eqb, inl, inr}
+use Rattle.std.proofs.Common.{◌≡◌, ◌∙◌, ℕ, ◌+◌, List, [], ◌∷◌, length, refl, ap, sym, subst, cond, Bool, true, false, eqb, inl, inr}
 use Rattle.std.specs.Prelude.{Option, None, Some, is_some, ◌||◌, ◌&&◌}
 use Rattle.std.specs.List.{filter_map, cons_option, AllByRecursion}
 use Rattle.std.specs.Option.{option_map}
 use Rattle.std.proofs.lemmas.Bool.{cases_Bool, eqb-true, eqb-false, ne_eqb, or_parts, true≢false}
 use Rattle.std.proofs.lemmas.Option.{none-some}
 use Rattle.std.proofs.Math.Bool.{or-true}
-use Rattle.qtables.specs.Members.{member_at}
+use Rattle.qtables.specs.Members.{member_at, IsRoster}
 use Rattle.qtables.specs.declared.member.Member.{Member}
 use Rattle.qrules.specs.Private.Answer.{ending}
 use Rattle.qrules.specs.Private.Calls.{row_of}
-use Rattle.qrules.specs.Private.Endings.{gets, may_end, AreApart, BlockedUnlessEnded, CallerGetsItsOwn, EndingsAreApart, EndingsGoToBlocked, EndsOrWaits, GoesToBlocked}
+use Rattle.qrules.specs.Trace.{gets, AreApart}
 use Rattle.qrules.specs.Private.Facts.{Facts, sender, threads_of}
 use Rattle.qrules.specs.Private.Effects.{asks, makes, unblocks, writes}
-use Rattle.qrules.specs.Private.Laws.{blocker}
 use Rattle.qrules.specs.Private.Lawful.{facts_of, IsLawful}
-use Rattle.qrules.specs.Private.Past.{has_ending_of, is_accepted, is_ended, open_call}
+use Rattle.qrules.specs.Private.Past.{has_ending_of, open_call}
 use Rattle.qrules.specs.Private.Rows.{Received}
-use Rattle.qmodel.specs.Trace.{SentItem}
+use Rattle.qmodel.specs.Trace.{SentItem, Event, Trace}
 use Rattle.qrules.specs.Private.Step.{after_receipt, after_unblock, after_write, held_call, is_thread, open_call_after, unblocked_call, unless, written_call}
-use Rattle.qmodel.specs.Trace.{Event, Trace}
 use Rattle.qmodel.specs.declared.call.Call.{Call}
 use Rattle.qmodel.specs.declared.call.Completion.{Completion}
 use Rattle.qmodel.specs.declared.open_call.OpenCall.{OpenCall}
-use Rattle.qbase.proofs.Lists.{is_among, eqb_same, any_filter_map, any_filter_map_at, all_filter_map, cond_same, none_of}
-use Rattle.qrules.proofs.Traces.Past.Ends.{accepted, ended_below, ending_names, ends_own, laws_of, open_known, passes_of}
+use Rattle.qbase.proofs.Lists.{is_among, eqb_same, any_filter_map, any_filter_map_at, all_filter_map, cond_same}
+use Rattle.qrules.proofs.Traces.Past.Ends.{ending_names, ends_own, laws_of, open_known, passes_of}
 use Rattle.qrules.proofs.Traces.Past.Laws.{Passes}
 use Rattle.qrules.proofs.Traces.Past.OpenCalls.{open_accepted, open_refused}
 use Rattle.qrules.proofs.Traces.Past.Waits.{some_map, waits_or_ends}
-use Rattle.qrules.proofs.Traces.Properties.Sends.{made_newest}
 use Rattle.qrules.proofs.Traces.Rosters.{Rises, rises, not_among, known}
 use Rattle.qrules.proofs.Traces.TraceLaws.Ending.{ending_thread}
-use Rattle.qrules.proofs.Traces.TraceLaws.Unended.{asks_any, open_is_unended}
+use Rattle.qrules.proofs.Traces.TraceLaws.Unended.{asks_any}
 use Rattle.qrules.specs.Rule.{Transfer}
 use Rattle.qrules.specs.Past.{channel_of}
 
@@ -64,7 +61,7 @@ module _ (g : ℕ → Option Completion) (names : (u : ℕ) (y : Completion) →
       ] refl
 
 -- each ending of an event goes to a thread of its own
-pub endings_are_apart : EndingsAreApart
+pub endings_are_apart : (roster : List Member) (past : Trace) (e : Event) → IsRoster roster → IsLawful roster (e ∷ past) → AreApart e.endings
 endings_are_apart roster past e r l =
     let f = facts_of roster past in
     elim (l.2) [
@@ -72,11 +69,20 @@ endings_are_apart roster past e r l =
       | inr a ↦ subst AreApart (sym a.2) (refl, tt)
     ]
 
+-- a call of thread u may end in an event of thread t: it is the event's own, or u is blocked in it
+abbrev pub may_end : List Member → Trace → ℕ → ℕ → Bool
+may_end roster past t u = eqb u t || is_some (open_call roster past u)
+
+-- the ending goes to a thread of the roster whose call may end in an event of thread t
+pub record GoesToBlocked (roster : List Member) (past : Trace) (t : ℕ) (x : Completion) : Type 0 where
+  pub known : is_some (member_at roster x.thread) ≡ true
+  pub may : may_end roster past t x.thread ≡ true
+
 -- an ending of the caller
 own_due : (roster : List Member) (past : Trace) (t : ℕ) (y : Completion) → is_some (member_at roster t) ≡ true → y.thread ≡ t → GoesToBlocked roster past t y
 own_due roster past t y member e = record { known = subst (λ u. is_some (member_at roster u) ≡ true) (sym e) member; may = rw (e, eqb_same t) refl }
 
-pub endings_go_to_blocked : EndingsGoToBlocked
+pub endings_go_to_blocked : (roster : List Member) (past : Trace) (e : Event) → IsRoster roster → IsLawful roster (e ∷ past) → AllByRecursion (GoesToBlocked roster past e.thread) e.endings
 endings_go_to_blocked roster past e r l =
     let f = facts_of roster past in
     elim (l.2) [
@@ -153,7 +159,8 @@ member_blocked roster past e l idle u member =
       | inr a ↦ ap is_some (open_refused roster past t c e.endings u a) ∙ rw (a.2) (refused_blocked (open_call roster past u) (open_call roster past t) t u (λ s. ap (open_call roster past) (eqb-true u t s)) idle)
     ]
 
-pub blocked_unless_ended : BlockedUnlessEnded
+pub blocked_unless_ended : (roster : List Member) (past : Trace) (e : Event) → IsRoster roster → IsLawful roster (e ∷ past) → is_some (open_call roster past e.thread) ≡ false
+    → (u : ℕ) → is_some (open_call roster (e ∷ past) u) ≡ cond (gets e.endings u) false (may_end roster past e.thread u)
 blocked_unless_ended roster past e r l idle u = elim (cases_Bool (is_some (member_at roster u))) [
   | inl member ↦ member_blocked roster past e l idle u member
   | inr none ↦
@@ -164,7 +171,7 @@ blocked_unless_ended roster past e r l idle u = elim (cases_Bool (is_some (membe
 
 -- ---- the event's own call
 
-pub caller_gets_its_own : CallerGetsItsOwn
+pub caller_gets_its_own : (roster : List Member) (past : Trace) (e : Event) → IsRoster roster → IsLawful roster (e ∷ past) → gets e.endings e.thread ≡ has_ending_of e.endings (length past + 1)
 caller_gets_its_own roster past e r l =
     let f = facts_of roster past in
     let t = e.thread in
@@ -175,32 +182,3 @@ caller_gets_its_own roster past e r l =
           got ∙ rw (eqb_same t) refl ∙ sym (ends_own roster past t c e.endings l.1 a)
       | inr a ↦ rw (a.2, eqb_same t, eqb_same (length past + 1)) refl
     ]
-
--- a call that doesn't end in its own event is accepted, and may wait
-record Waits (e : Event) (past : Trace) : Type 0 where
-  pub accepted : is_accepted e past ≡ true
-  pub blocks : blocker e ≡ Some e.thread
-
-waits : (roster : List Member) (past : Trace) (e : Event) → IsLawful roster (e ∷ past) → has_ending_of e.endings (length past + 1) ≡ false → Waits e past
-waits roster past e l none =
-    let f = facts_of roster past in
-    elim (l.2) [
-      | inl a ↦
-          let own = none_of (row_of f e.thread e.call).own (sym (ends_own roster past e.thread e.call e.endings l.1 a) ∙ none) in
-          let may : is_some (asks 0 0 0 e.call) ≡ true = waits_or_ends f e.thread e.call (passes_of f e.thread e.call e.endings a) own in
-          record { accepted = rw (accepted roster past e.thread e.call e.endings a) refl; blocks = rw may refl }
-      | inr a ↦
-          let own : has_ending_of e.endings (length past + 1) ≡ true = rw (a.2, eqb_same (length past + 1)) refl in
-          absurd (true≢false (sym own ∙ none))
-    ]
-
-pub ends_or_waits : EndsOrWaits
-ends_or_waits roster past e r l = (
-  λ none.
-      let w = waits roster past e l none in
-      let going : is_ended (e ∷ past) (length past + 1) ≡ false = rw (none, ended_below roster past (length past + 1) l.0 (omega arith)) refl in
-      (open_is_unended roster (e ∷ past) r l e.thread (length past + 1)).1 (record { blocks = made_newest blocker e past w.accepted ∙ w.blocks; going = going }),
-  λ is.
-      let u = (open_is_unended roster (e ∷ past) r l e.thread (length past + 1)).0 is in
-      (or_parts (has_ending_of e.endings (length past + 1)) (is_ended past (length past + 1)) u.going).0,
-)

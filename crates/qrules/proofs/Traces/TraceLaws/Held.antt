@@ -1,50 +1,50 @@
--- A message is held by what the past says exactly where it is by what its sender waits for.
+-- The sender of a message that is held waits in its Send.
 use Rattle.std.proofs.Common.{◌≡◌, ◌∙◌, ◌+◌, ℕ, List, [], ◌∷◌, length, refl, ap, sym, subst, cond, eqb, true, false}
-use Rattle.std.specs.Prelude.{Option, None, Some, is_some, not, ◌&&◌, Bool}
+use Rattle.std.specs.Prelude.{Option, None, Some, is_some, not, ◌&&◌}
 use Rattle.std.specs.List.{AllByRecursion}
 use Rattle.std.specs.Option.{option_map, option_or}
-use Rattle.std.proofs.lemmas.Bool.{and_from, and_parts, eqb-true, not-true, not_from_false, or_parts, true≢false}
+use Rattle.std.proofs.lemmas.Bool.{and_parts, eqb-true, not-true, or_parts, true≢false}
 use Rattle.std.proofs.lemmas.Option.{none-some, same_Some}
 use Rattle.qtables.specs.Members.{IsRoster}
 use Rattle.qtables.specs.declared.member.Member.{Member}
 use Rattle.qrules.specs.Private.Calls.{row_of}
-use Rattle.qrules.specs.Private.Facts.{is_for_answer, is_send, sender, threads_of}
-use Rattle.qrules.specs.Properties.{number_received, TakesBest}
-use Rattle.qrules.specs.Private.Laws.{HeldIsHeldSend, IsHeldSend, blocker, is_for_reply}
+use Rattle.qrules.specs.Private.Facts.{is_for_answer, is_send, sender, threads_of, number_of}
+use Rattle.qrules.specs.Properties.{number_received, TakesBest, takeable}
+use Rattle.qrules.specs.Past.{waiter, ReceivedItem}
+use Rattle.qrules.proofs.Traces.Past.Waits.{may_wait, waits_or_ends}
 use Rattle.qrules.specs.Private.Lawful.{IsLawful, facts_of}
-use Rattle.qrules.specs.Private.Past.{copied_count_in, has_ending_of, is_ended, is_received, item_of, accepted_at, open_call, copied_count_among, copied_count_of, with_receipt}
-use Rattle.qrules.specs.Private.Effects.{asks}
+use Rattle.qrules.specs.Private.Past.{copied_count_in, has_ending_of, is_ended, is_received, item_of, accepted_at, open_call, copied_count_among, copied_count_of, filled}
 use Rattle.qrules.specs.Private.Rows.{item_in}
-use Rattle.qmodel.specs.Trace.{SentItem}
-use Rattle.qmodel.specs.Trace.{Trace}
+use Rattle.qmodel.specs.Trace.{SentItem, Trace, Event}
 use Rattle.qmodel.specs.declared.call.Completion.{Completion}
 use Rattle.qmodel.specs.declared.open_call.OpenCall.{OpenCall}
-use Rattle.qmodel.specs.declared.open_call.Receipt.{Receipt}
-use Rattle.qmodel.specs.declared.open_call.OpenCall.TheVariants.{Receive, Send}
 use Rattle.qrules.proofs.Traces.Past.Ends.{ends_own, open_known, passes_of}
-use Rattle.qrules.proofs.Traces.Past.Items.{item_accepted, item_answer, item_at, item_below, item_earlier}
-use Rattle.qrules.proofs.Traces.Past.Senders.{send_from, send_parts, sender_found, sender_sends}
-use Rattle.qrules.proofs.Traces.Past.Unblocked.{held_is_taken}
-use Rattle.qrules.proofs.Traces.Past.Waits.{waits_or_ends}
+use Rattle.qrules.proofs.Traces.Past.Items.{item_accepted, item_answer, item_at, item_below, item_earlier, item_made}
+use Rattle.qrules.proofs.Traces.Past.Senders.{send_from, send_parts, sender_found}
 use Rattle.qrules.proofs.Traces.Properties.BestFirst.{best_first}
 use Rattle.qrules.proofs.Traces.Properties.Events.{outcome_of}
 use Rattle.qrules.proofs.Traces.Properties.Sends.{made_newest, made_stays}
 use Rattle.qrules.proofs.Traces.Rosters.{known}
-use Rattle.qrules.proofs.Traces.TraceLaws.Pending.{reply_parts}
-use Rattle.qrules.proofs.Traces.TraceLaws.Sent.{taken_stands}
 use Rattle.qrules.proofs.Traces.TraceLaws.Unended.{unended_newest}
-use Rattle.qrules.specs.Past.{ReceivedItem}
-use Rattle.qrules.specs.Private.Facts.{number_of}
-use Rattle.qrules.specs.Private.Facts.{held_call}
-use Rattle.qrules.specs.Private.Past.{filled}
-use Rattle.qrules.proofs.Traces.Past.Open.{open_from}
-use Rattle.qrules.proofs.Traces.Past.Open.{filled_answer}
-use Rattle.qrules.proofs.Traces.Past.Open.{open_parts}
-use Rattle.qrules.proofs.Traces.Past.Open.{open_thread}
-use Rattle.qrules.proofs.Traces.Past.Open.{kept}
-use Rattle.qrules.proofs.Traces.Past.Open.{kept_number}
+use Rattle.qrules.proofs.Traces.Past.Open.{open_from, filled_answer, open_thread, kept, kept_number, receipt_for_answer}
+use Rattle.qqueue.specs.Best.{best_of}
+use Rattle.qqueue.proofs.OrderLaws.{best-at}
+use Rattle.qrules.proofs.Traces.Properties.Connections.{IsMadeFor, takeable_made}
 
 -- ---- what is taken was made
+
+-- it stood on its channel
+pub taken_stands : (roster : List Member) (past : Trace) (e : Event) (x : Completion) (i : ℕ) (k : TakesBest roster past e x i) → (m : SentItem) × (item_at roster (e ∷ past) i ≡ Some m) × (m.item.number ≡ i) × (m.channel ≡ k.request.channel)
+taken_stands roster past e x i k =
+    elim (best_of k.request.kind (takeable roster past e k.request.channel)) as (λ o. best_of k.request.kind (takeable roster past e k.request.channel) ≡ o → option_map (λ item. item.number) o ≡ Some i
+    → (m : SentItem) × (item_at roster (e ∷ past) i ≡ Some m) × (m.item.number ≡ i) × (m.channel ≡ k.request.channel)) [
+      | None ↦ λ is at. absurd (none-some i at)
+      | Some item ↦ λ is at.
+          let made = best-at (IsMadeFor roster (e ∷ past) k.request.channel) k.request.kind (takeable roster past e k.request.channel) item (takeable_made roster past e k.request.channel) is in
+          let number : item.number ≡ i = same_Some item.number i at in
+          let stands = subst (λ j. item_at roster (e ∷ past) j ≡ Some (record { item = made.0; channel = k.request.channel })) number made.1 in
+          (record { item = made.0; channel = k.request.channel }, stands, (item_made roster (e ∷ past) i _ stands).makes_it.number, refl)
+    ] refl k.best
 
 -- what is so of each item that these endings receive is so of this one
 of_received : (P : ℕ → Type 0) (X : List Completion) (i copied : ℕ) → AllByRecursion (λ x. (j : ℕ) → number_received x ≡ Some j → P j) X → copied_count_among X i ≡ Some copied → P i
@@ -80,33 +80,23 @@ no_own : (o : Option Completion) → is_some o ≡ false → o ≡ None
 no_own None h = refl
 no_own (Some y) h = absurd (true≢false h)
 
-made_waits : (roster : List Member) (past : Trace) (i : ℕ) (m : SentItem) → IsLawful roster past → item_at roster past i ≡ Some m → is_ended past i ≡ false → (t : ℕ) × (accepted_at blocker past i ≡ Some t)
+made_waits : (roster : List Member) (past : Trace) (i : ℕ) (m : SentItem) → IsLawful roster past → item_at roster past i ≡ Some m → is_ended past i ≡ false → (t : ℕ) × (accepted_at waiter past i ≡ Some t)
 made_waits roster [] i m l is going = absurd (none-some m is)
 made_waits roster (e ∷ past) i m l is going =
     let p = or_parts (has_ending_of e.endings i) (is_ended past i) going in
-    elim (eqb i (length past + 1)) as (λ b. eqb i (length past + 1) ≡ b → cond b (item_of roster e past) (item_at roster past i) ≡ Some m → (t : ℕ) × (accepted_at blocker (e ∷ past) i ≡ Some t)) [
+    elim (eqb i (length past + 1)) as (λ b. eqb i (length past + 1) ≡ b → cond b (item_of roster e past) (item_at roster past i) ≡ Some m → (t : ℕ) × (accepted_at waiter (e ∷ past) i ≡ Some t)) [
       | true ↦ λ same at. let number : i ≡ length past + 1 = eqb-true _ _ same in now number at (subst (λ j. has_ending_of e.endings j ≡ false) number p.0)
-      | false ↦ λ other at. let k = made_waits roster past i m l.0 at p.1 in (k.0, made_stays blocker e past i k.0 k.1)
+      | false ↦ λ other at. let k = made_waits roster past i m l.0 at p.1 in (k.0, made_stays waiter e past i k.0 k.1)
     ] refl is
   where
-    now : i ≡ length past + 1 → item_of roster e past ≡ Some m → has_ending_of e.endings (length past + 1) ≡ false → (t : ℕ) × (accepted_at blocker (e ∷ past) i ≡ Some t)
+    now : i ≡ length past + 1 → item_of roster e past ≡ Some m → has_ending_of e.endings (length past + 1) ≡ false → (t : ℕ) × (accepted_at waiter (e ∷ past) i ≡ Some t)
     now number at unended =
         let f = facts_of roster past in
         let a = item_accepted roster e past m at in
         let o = outcome_of roster e past l.2 a.0 in
         let none : (row_of f e.thread e.call).own ≡ None = no_own ((row_of f e.thread e.call).own) (sym (ends_own roster past e.thread e.call e.endings l.1 o) ∙ unended) in
-        let waits : is_some (asks 0 0 0 e.call) ≡ true = waits_or_ends f e.thread e.call (passes_of f e.thread e.call e.endings o) none in
-        (e.thread, subst (λ j. accepted_at blocker (e ∷ past) j ≡ Some e.thread) (sym number) (made_newest blocker e past a.0 ∙ rw waits refl))
-
--- ---- a receipt
-
-held_for_reply : (receipt : Receipt) (w : OpenCall) → is_for_answer w ≡ true → is_for_reply (held_call receipt w) ≡ true
-held_for_reply receipt (Send s) answer = refl
-held_for_reply receipt (Receive r) answer = absurd (true≢false (sym answer))
-
-received_for_reply : (priority : ℕ) (unblocked : Bool) (r : Option ℕ) (b : OpenCall) → is_some r ≡ true → is_for_answer b ≡ true → is_for_reply (with_receipt priority unblocked r b) ≡ true
-received_for_reply priority unblocked None b there answer = absurd (true≢false (sym there))
-received_for_reply priority unblocked (Some copied) b there answer = held_for_reply (record { priority = priority; copied = copied; unblocked = unblocked }) b answer
+        let waits : may_wait e.call ≡ true = waits_or_ends f e.thread e.call (passes_of f e.thread e.call e.endings o) none in
+        (e.thread, subst (λ j. accepted_at waiter (e ∷ past) j ≡ Some e.thread) (sym number) (made_newest waiter e past a.0 ∙ rw waits refl))
 
 -- ---- the law
 
@@ -118,37 +108,22 @@ found_sender roster past i u o l is number answer =
     let s = send_parts i (open_call roster past v) sends in
     open_thread roster past v u s.waiting o s.is is (s.number ∙ sym number))
 
-held_to_send : (roster : List Member) (past : Trace) (i : ℕ) → IsRoster roster → IsLawful roster past → (is_received past i && not (is_ended past i)) ≡ true → IsHeldSend roster past i
-held_to_send roster past i r l held =
+-- a thread is blocked in the Send of number i
+pub record HasSender (roster : List Member) (past : Trace) (i : ℕ) : Type 0 where
+  pub thread : ℕ
+  pub is_sender : sender (facts_of roster past) i ≡ Some thread
+
+pub held_sender : (roster : List Member) (past : Trace) → IsRoster roster → IsLawful roster past → (i : ℕ) → (is_received past i && not (is_ended past i)) ≡ true → HasSender roster past i
+held_sender roster past r l i held =
     let p = and_parts (is_received past i) (not (is_ended past i)) held in
     let going : is_ended past i ≡ false = not-true (is_ended past i) p.1 in
     let m = taken_made roster past i r l p.0 in
     let t = made_waits roster past i m.0 l m.1 going in
     let k = unended_newest roster past t.0 i l t.1 going in
     let made : item_at roster past (number_of k.block) ≡ Some m.0 = ap (item_at roster past) k.number ∙ m.1 in
-    let answer = item_answer roster past t.0 m.0 k.block made k.is in
-    let waiting = kept roster past k.block in
-    let is_open : open_call roster past t.0 ≡ Some waiting = open_from roster past t.0 k.block k.is (subst (λ j. is_ended past j ≡ false) (sym k.number) going) in
-    let number : (number_of waiting) ≡ i = kept_number roster past k.block ∙ k.number in
-    let reply : is_for_reply waiting ≡ true = received_for_reply _ _ (copied_count_of past (number_of k.block)) (filled past k.block) (subst (λ j. is_received past j ≡ true) (sym k.number) p.0) (filled_answer past k.block ∙ answer) in
+    let is_open : open_call roster past t.0 ≡ Some (kept roster past k.block) = open_from roster past t.0 k.block k.is (subst (λ j. is_ended past j ≡ false) (sym k.number) going) in
     record {
       thread = t.0;
-      waiting = waiting;
-      is_sender = found_sender roster past i t.0 waiting l is_open number (reply_parts waiting reply).0;
-      is_open = is_open;
-      received = reply;
+      is_sender = found_sender roster past i t.0 (kept roster past k.block) l is_open (kept_number roster past k.block ∙ k.number)
+          (receipt_for_answer _ _ (copied_count_of past (number_of k.block)) (filled past k.block) ∙ filled_answer past k.block ∙ item_answer roster past t.0 m.0 k.block made k.is);
     }
-
-send_to_held : (roster : List Member) (past : Trace) (i : ℕ) → IsHeldSend roster past i → (is_received past i && not (is_ended past i)) ≡ true
-send_to_held roster past i h =
-    let s = sender_sends (λ t. open_call roster past t) i (threads_of roster) h.thread h.is_sender in
-    let same : s.waiting ≡ h.waiting = same_Some s.waiting h.waiting (sym s.is ∙ h.is_open) in
-    let number : (number_of h.waiting) ≡ i = ap number_of (sym same) ∙ s.number in
-    let k = open_parts roster past h.thread h.waiting h.is_open in
-    let w = reply_parts h.waiting h.received in
-    let at : (number_of k.block) ≡ i = sym k.number ∙ number in
-    and_from (is_received past i) (not (is_ended past i)) (subst (λ j. is_received past j ≡ true) at (held_is_taken roster past h.thread h.waiting k w.0 w.1))
-    (not_from_false (is_ended past i) (subst (λ j. is_ended past j ≡ false) at k.going))
-
-pub held_is_held_send : HeldIsHeldSend
-held_is_held_send roster past r l i = (held_to_send roster past i r l, send_to_held roster past i)

@@ -23,13 +23,12 @@ use Rattle.qrules.specs.Private.Calls.Unblock as unblock
 use Rattle.qrules.specs.Private.Calls.Info.{info_of, info_ending}
 use Rattle.qrules.specs.Private.Calls.Pulse as pulse
 use Rattle.qrules.specs.Private.Cancelling.{is_on}
-use Rattle.qrules.specs.Private.Endings.{buffer_of_open, buffer_brought, EndingsKeepLength, OpenCallsKeepLength}
-use Rattle.qrules.specs.Private.Facts.{Facts, message, sender, threads_of, route}
+use Rattle.qrules.specs.Private.Facts.{buffer_of_open, Facts, message, sender, threads_of, route, number_of, with_buffer}
 use Rattle.qrules.specs.Private.Held.{Finish, ends_sender, refusal}
 use Rattle.qrules.specs.Private.Rows.{Received, receipt_ending, buffer_after_write}
-use Rattle.qmodel.specs.Trace.{SentItem}
+use Rattle.qmodel.specs.Trace.{SentItem, Event, Trace}
 use Rattle.qrules.specs.Private.Step.{after_receipt, after_unblock, after_write, held_call, is_thread, open_call_after, unblocked_call, unless, written_call}
-use Rattle.qrules.specs.Private.Past.{is_accepted, with_writes}
+use Rattle.qrules.specs.Private.Past.{is_accepted, with_writes, open_call, filled, with_receipt}
 use Rattle.qmodel.specs.declared.call.Call.{Call}
 use Rattle.qmodel.specs.declared.call.Call.TheVariants.{Send, Receive, Reply, Error, Read, Info, ReceivePulse, Pulse, ChannelDestroy, Shutdown, Unblock, ConnectDetach}
 use Rattle.qmodel.specs.declared.call.Completion.{Completion}
@@ -52,20 +51,14 @@ use Rattle.qtables.specs.Members.{IsRoster}
 use Rattle.qtables.specs.declared.member.Member.{Member}
 use Rattle.qrules.specs.Trace.{call_at}
 use Rattle.qrules.specs.Private.Lawful.{facts_of, IsLawful}
-use Rattle.qrules.specs.Private.Past.{open_call}
-use Rattle.qmodel.specs.Trace.{Event, Trace}
 use Rattle.qbase.proofs.Lengths.{lay_length}
 use Rattle.qbase.proofs.Lists.{all_filter_map, all_more, eqb_same}
 use Rattle.qrules.proofs.Traces.Past.Ends.{ending_names, laws_of, passes_of}
 use Rattle.qrules.proofs.Traces.TraceLaws.Blocked.{some_receipt}
 use Rattle.qrules.proofs.Traces.Past.OpenCalls.{open_accepted, open_refused}
 use Rattle.qrules.specs.Rule.{Transfer}
-use Rattle.qrules.specs.Private.Facts.{number_of}
 use Rattle.qmodel.specs.OpenCalls.{buffer_in}
-use Rattle.qrules.specs.Private.Past.{filled}
 use Rattle.qrules.specs.Past.{channel_of}
-use Rattle.qrules.specs.Private.Facts.{with_buffer}
-use Rattle.qrules.specs.Private.Past.{with_receipt}
 
 taking_length : (item : Item) (message : List ℕ) (u m : ℕ) (buffer : List ℕ) → length (receipt_ending item message u m buffer).buffer ≡ length buffer
 taking_length item message u m buffer =
@@ -121,7 +114,11 @@ ends_length f t c u y p e = absurd (none-some y e)
 
 -- ---- an event's endings
 
-pub endings_keep_length : EndingsKeepLength
+-- the buffer that thread u gets back if its call ends in call c of thread t: the one of that call, or of the call that it is blocked in
+abbrev pub buffer_brought : List Member → Trace → ℕ → Call → ℕ → List ℕ
+buffer_brought roster past t c u = cond (eqb u t) (buffer_of c) (buffer_of_open (open_call roster past u))
+
+pub endings_keep_length : (roster : List Member) (past : Trace) (e : Event) → IsRoster roster → IsLawful roster (e ∷ past) → AllByRecursion (λ x. length x.buffer ≡ length (buffer_brought roster past e.thread e.call x.thread)) e.endings
 endings_keep_length roster past e r l =
     let f = facts_of roster past in
     let P = λ (x : Completion). length x.buffer ≡ length (buffer_brought roster past e.thread e.call x.thread) in
@@ -223,16 +220,17 @@ kept_length : (priority : ℕ) (unblocked : Bool) (r : Option ℕ) (o : OpenCall
 kept_length priority unblocked None o = refl
 kept_length priority unblocked (Some copied) o = held_length _ o
 
-pub open_calls_keep_length : OpenCallsKeepLength
-open_calls_keep_length roster past r l u o is =
+-- its buffer is as long as the one that it was made with
+pub open_calls_keep_length : (roster : List Member) (past : Trace) (u : ℕ) (o : OpenCall) → open_call roster past u ≡ Some o → (c : Call) × (call_at past (number_of o) ≡ Some c) × (length (buffer_in o) ≡ length (buffer_of c))
+open_calls_keep_length roster past u o is =
     let k = open_parts roster past u o is in
     let a = block_asked roster past u k.block k.is in
     let asked : length (buffer_in k.block) ≡ length (buffer_of a.call) = ap (λ x. length (buffer_of_open x)) (sym a.asks_it) ∙ asked_length (number_of k.block) u a.channel a.call (ap is_some a.asks_it) in
-    record {
-      call = a.call;
-      is = ap (call_at past) k.number ∙ a.is;
-      same = ap (λ x. length (buffer_in x)) k.same ∙ kept_length _ _ _ (filled past k.block) ∙ filled_length past (number_of k.block) k.block ∙ asked;
-    }
+    (
+      a.call,
+      ap (call_at past) k.number ∙ a.is,
+      ap (λ x. length (buffer_in x)) k.same ∙ kept_length _ _ _ (filled past k.block) ∙ filled_length past (number_of k.block) k.block ∙ asked,
+    )
 
 -- ---- what is at most so long
 

@@ -6,12 +6,11 @@ use Rattle.qbase.specs.declared.errno.Errno.{Errno}
 use Rattle.qbase.specs.declared.errno.Errno.TheVariants.{Badf, Inval}
 use Rattle.qtables.specs.declared.connection.Connection.{Connection}
 use Rattle.qmodel.specs.declared.call.Completion.{Completion}
-use Rattle.qmodel.specs.Trace.{ChannelId, ConnectionId, ProcessNo, ThreadNo}
+use Rattle.qmodel.specs.Trace.{ChannelId, ConnectionId, ProcessNo, ThreadNo, SentItem}
 use Rattle.qrules.specs.Private.Cancelling.{cancels, is_over}
 use Rattle.qrules.specs.Private.Facts.{Facts, count_to, is_of_process, tells_disconnect}
 use Rattle.qrules.specs.Private.Pulses.{refusal_if_full_for, ends_receiver, pulse_row}
 use Rattle.qrules.specs.Private.Rows.{Row, disconnect_item}
-use Rattle.qmodel.specs.Trace.{SentItem}
 
 -- the connection, if it is one of process p to channel h
 abbrev pub connection_between : ProcessNo → ChannelId → Option Connection → Option Connection

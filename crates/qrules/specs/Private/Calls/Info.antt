@@ -13,8 +13,8 @@ use Rattle.qrules.specs.Private.Facts.{Facts, sender}
 use Rattle.qrules.specs.Private.Held.{refusal}
 use Rattle.qrules.specs.Private.Rows.{Row, ends_with, empty_row}
 
--- the data of an open Send: the sender, the connection, how many bytes were copied at the receipt, the lengths
--- of message and reply buffer, and the priority of the receipt; None if it isn't received
+-- the data of an open Send: the sender, the connection, how many bytes were copied at the receipt, the
+-- lengths of message and reply buffer, and the priority of the receipt; None if it isn't received
 abbrev pub info_of_call : Member → OpenCall → Option Info
 info_of_call m (Send s) = option_map (λ receipt. record {
   process = m.process;

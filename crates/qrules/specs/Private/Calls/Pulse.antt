@@ -3,11 +3,10 @@ use Rattle.std.specs.Option.{option_map_or}
 use Rattle.std.specs.Prelude.{ℤ, pos, negsuc, Bool, true, false, Option, Some, if◌then◌else◌}
 use Rattle.qbase.specs.declared.errno.Errno.{Errno}
 use Rattle.qbase.specs.declared.errno.Errno.TheVariants.{Badf, Inval}
-use Rattle.qmodel.specs.Trace.{ConnectionId, Priority, ThreadNo}
+use Rattle.qmodel.specs.Trace.{ConnectionId, Priority, ThreadNo, SentItem}
 use Rattle.qrules.specs.Private.Facts.{Facts, route}
 use Rattle.qrules.specs.Private.Pulses.{refusal_if_full, ends_receiver, pulse_row}
 use Rattle.qrules.specs.Private.Rows.{Row, pulse_item, item_sent_over}
-use Rattle.qmodel.specs.Trace.{SentItem}
 
 -- true of a code below 0
 abbrev pub is_negative : ℤ → Bool

@@ -1,22 +1,18 @@
 -- Unblock: stands for a signal or a timeout. It cancels a thread's open call. If the thread's message is held
 -- on a channel with the unblock flag, the server gets one pulse instead, and the thread stays blocked.
 use Rattle.std.specs.Option.{option_and_then}
-use Rattle.std.specs.Prelude.{◌==◌, ◌&&◌, not, Option, None, Some, if◌then◌else◌}
+use Rattle.std.specs.Prelude.{◌==◌, ◌&&◌, not, Option, None, Some, if◌then◌else◌, Bool, false}
 use Rattle.qbase.specs.declared.errno.Errno.{Errno}
 use Rattle.qbase.specs.declared.errno.Errno.TheVariants.{Intr, Srch}
 use Rattle.qmodel.specs.declared.call.Completion.{Completion}
 use Rattle.qmodel.specs.declared.open_call.OpenCall.TheVariants.{Receive, Send}
-use Rattle.qmodel.specs.Trace.{ThreadNo}
+use Rattle.qmodel.specs.Trace.{ThreadNo, SentItem}
 use Rattle.qrules.specs.Private.Cancelling.{cancels}
 use Rattle.qrules.specs.Private.Facts.{Facts, is_of_same_process}
 use Rattle.qrules.specs.Private.Pulses.{refusal_if_full_for, ends_receiver, pulse_row}
 use Rattle.qrules.specs.Private.Rows.{Row}
-use Rattle.qmodel.specs.Trace.{SentItem}
 use Rattle.qmodel.specs.declared.open_call.OpenCall.{OpenCall}
-use Rattle.qrules.specs.Rules.Unblock.{pulse_for}
-use Rattle.std.specs.Prelude.{Bool}
-use Rattle.qrules.specs.Rules.Unblock.{is_guarded}
-use Rattle.std.specs.Prelude.{false}
+use Rattle.qrules.specs.Rules.Unblock.{pulse_for, is_guarded}
 
 -- the open call is a Send that a channel guards against cancelling
 abbrev pub guards : Facts → OpenCall → Bool

@@ -5,14 +5,13 @@ use Rattle.std.proofs.lemmas.Option.{none-some, same_Some}
 use Rattle.qqueue.specs.Best.{may_take}
 use Rattle.qqueue.specs.declared.item.Item.{Item}
 use Rattle.qrules.specs.Private.Delivering.{delivers, receiver}
-use Rattle.qrules.specs.Private.Facts.{Facts}
+use Rattle.qrules.specs.Private.Facts.{Facts, number_of}
 use Rattle.qrules.specs.Private.Rows.{receipt_ending}
 use Rattle.qmodel.specs.declared.call.Completion.{Completion}
 use Rattle.qmodel.specs.declared.open_call.OpenCall.{OpenCall}
 use Rattle.qmodel.specs.declared.open_call.OpenCall.TheVariants.{Receive}
 use Rattle.qrules.proofs.Traces.Properties.Receivers.{WaitsOn, newest_waits}
 use Rattle.qrules.proofs.Traces.Calls.Delivering.{met_by, takes_item}
-use Rattle.qrules.specs.Private.Facts.{number_of}
 use Rattle.qmodel.specs.declared.open_call.OpenReceive.{OpenReceive}
 use Rattle.qmodel.specs.OpenCalls.{buffer_in}
 

@@ -1,6 +1,6 @@
 use Rattle.std.proofs.Common.{◌≡◌, ◌≤◌, length, arith, false, refl, sym, ap, subst}
 use Rattle.std.specs.Prelude.{Some}
-use Rattle.qrules.specs.Private.Endings.{AreApart}
+use Rattle.qrules.specs.Trace.{AreApart}
 use Rattle.qrules.specs.Facts.{threads_of}
 use Rattle.qshared.specs.Due.{place}
 use Rattle.qshared.proofs.Places.{seated}

@@ -15,12 +15,15 @@ use Rattle.qrules.specs.Private.Calls.ConnectDetach as connect_detach
 use Rattle.qrules.specs.Private.Calls.Unblock as unblock
 use Rattle.qrules.specs.Private.Pulses.{refusal_if_full, refusal_if_full_for, pulses_among}
 use Rattle.qrules.specs.Private.Facts.{Facts, route}
-use Rattle.qrules.specs.Private.Laws.{PulsesAreLimited}
-use Rattle.qrules.specs.Private.Lawful.{facts_of}
+use Rattle.qtables.specs.Members.{IsRoster}
+use Rattle.qtables.specs.declared.member.Member.{Member}
+use Rattle.qmodel.specs.Trace.{Trace, SentItem}
+use Rattle.qlaws.specs.Pending as laws
+use Rattle.qlaws.proofs.Waits.{before}
+use Rattle.qrules.specs.Private.Lawful.{facts_of, IsLawful}
 use Rattle.qrules.specs.Private.Past.{pending_items, made_on}
 use Rattle.qrules.specs.Private.Effects.{closes, makes, sets}
 use Rattle.qrules.specs.Private.Rows.{Received, message_item, names, pulse_item, item_sent_over}
-use Rattle.qmodel.specs.Trace.{SentItem}
 use Rattle.qrules.specs.Private.Step.{is_cancelled, uncut_items, items_with_priority_set, pending_after, unreceived_items}
 use Rattle.qrules.specs.Private.Calls.{row_of}
 use Rattle.qmodel.specs.declared.call.Call.{Call}
@@ -156,15 +159,18 @@ limited_after f t c h p few =
     let same : pulses_among (items_with_priority_set f h (sets c) (unreceived_items (row_of f t c).receipt h L)) ≡ pulses_among (unreceived_items (row_of f t c).receipt h L) = same_moved f h (sets c) (unreceived_items (row_of f t c).receipt h L) in
     elim (names (closes c) h) as (λ b. pulses_among (cond b [] (items_with_priority_set f h (sets c) (unreceived_items (row_of f t c).receipt h L))) ≤ 1024) [ true ↦ omega arith | false ↦ omega (arith, made, less, out, same) ]
 
-pub pulses_are_limited : PulsesAreLimited
-pulses_are_limited roster [] r l h = omega arith
-pulses_are_limited roster (e ∷ past) r l h =
-    let before : pulses_among (pending_items roster past h) ≤ 1024 = pulses_are_limited roster past r l.0 h in
+limited_on : (roster : List Member) (past : Trace) → IsRoster roster → IsLawful roster past → (h : ℕ) → pulses_among (pending_items roster past h) ≤ 1024
+limited_on roster [] r l h = omega arith
+limited_on roster (e ∷ past) r l h =
+    let few : pulses_among (pending_items roster past h) ≤ 1024 = limited_on roster past r l.0 h in
     elim (l.2) [
       | inl a ↦
           let k = past_follows true roster past e.thread e.call e.endings r l.0 l.1 a in
-          subst (λ items. pulses_among items ≤ 1024) (sym (k.pending h)) (limited_after (facts_of roster past) e.thread e.call h (passes_of (facts_of roster past) e.thread e.call e.endings a) before)
+          subst (λ items. pulses_among items ≤ 1024) (sym (k.pending h)) (limited_after (facts_of roster past) e.thread e.call h (passes_of (facts_of roster past) e.thread e.call e.endings a) few)
       | inr a ↦
           let k = past_follows false roster past e.thread e.call e.endings r l.0 l.1 a in
-          subst (λ items. pulses_among items ≤ 1024) (sym (k.pending h)) before
+          subst (λ items. pulses_among items ≤ 1024) (sym (k.pending h)) few
     ]
+
+pub pulses_are_limited : laws.PulsesAreLimited
+pulses_are_limited roster past r l h = limited_on roster past r (before roster past l) h

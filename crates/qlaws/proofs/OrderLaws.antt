@@ -1,9 +1,8 @@
 -- What comes before another is received first.
-use Rattle.std.proofs.Common.{◌≡◌, ◌≢◌, ◌∙◌, ℕ, ◌+◌, ◌≤◌, List, [], ◌∷◌, ◌++◌, map, length, refl, ap, sym, subst, cond, arith, Bool, true, false, eqb}
-use Rattle.std.specs.Prelude.{Some, filter, not}
+use Rattle.std.proofs.Common.{◌≡◌, ◌≢◌, ◌∙◌, ℕ, ◌+◌, ◌≤◌, List, [], ◌∷◌, ◌++◌, map, length, refl, ap, sym, subst, cond, arith, true, false, eqb}
+use Rattle.std.specs.Prelude.{Some, not}
 use Rattle.std.specs.List.{AllByRecursion}
 use Rattle.std.specs.Option.{option_map}
-use Rattle.std.proofs.lemmas.Bool.{true≢false}
 use Rattle.std.proofs.lemmas.Bool.Decides.{nat_tests}
 use Rattle.std.proofs.lemmas.List.Elements.{recursion_from_All}
 use Rattle.std.proofs.lemmas.Option.{none-some, same_Some}
@@ -16,10 +15,14 @@ use Rattle.qqueue.proofs.OrderLaws.{best-at, best_is_first}
 use Rattle.qtables.specs.declared.member.Member.{Member}
 use Rattle.qrules.specs.Properties.{number_received, takeable, TakesBest}
 use Rattle.qrules.specs.Rule.{ReceiveRequest}
-use Rattle.qrules.specs.Private.Laws.{FirstGoesFirst, HasPriority, TakesBeside}
+use Rattle.qlaws.specs.Pending.{FirstGoesFirst, HasPriority, TakesBeside}
+use Rattle.qrules.specs.Lawful.{IsLawful}
+use Rattle.qrules.specs.Private.Lawful as old
+use Rattle.qtables.specs.Members.{IsRoster}
+use Rattle.qlaws.proofs.Lists.{all_unfilter, all_unmap}
+use Rattle.qlaws.proofs.Waits.{before}
 use Rattle.qrules.specs.Private.Past.{is_destroyed, is_gone, item_of, made_on, pending_items, priority_before}
-use Rattle.qmodel.specs.Trace.{SentItem}
-use Rattle.qmodel.specs.Trace.{Event, Trace}
+use Rattle.qmodel.specs.Trace.{SentItem, Event, Trace}
 use Rattle.qmodel.specs.declared.call.Completion.{Completion}
 use Rattle.qbase.proofs.Lists.{all_more, eqb_same}
 use Rattle.qrules.proofs.Traces.Past.Best.{some_number}
@@ -35,18 +38,6 @@ use Rattle.qrules.proofs.Traces.Properties.Connections.{takeable_priorities}
 all_parts : (P : Item → Type 0) (xs ys : List Item) → AllByRecursion P (xs ++ ys) → AllByRecursion P xs × AllByRecursion P ys
 all_parts P [] ys all = (tt, all)
 all_parts P (x ∷ xs) ys all = let rest = all_parts P xs ys all.1 in ((all.0, rest.0), rest.1)
-
-all_unmap : (P : Item → Type 0) (g : Item → Item) (xs : List Item) → AllByRecursion P (map g xs) → AllByRecursion (λ x. P (g x)) xs
-all_unmap P g [] all = tt
-all_unmap P g (x ∷ xs) all = (all.0, all_unmap P g xs all.1)
-
-all_unfilter : (P : Item → Type 0) (p : Item → Bool) (xs : List Item) → AllByRecursion P (filter p xs) → AllByRecursion (λ x. p x ≡ true → P x) xs
-all_unfilter P p [] all = tt
-all_unfilter P p (x ∷ xs) all =
-    elim (p x) as (λ b. p x ≡ b → AllByRecursion P (cond b (x ∷ filter p xs) (filter p xs)) → AllByRecursion (λ x. p x ≡ true → P x) (x ∷ xs)) [
-      | true ↦ λ passes all. (λ _. all.0, all_unfilter P p xs all.1)
-      | false ↦ λ fails all. (λ passes. absurd (true≢false (sym passes ∙ fails)), all_unfilter P p xs all)
-    ] refl all
 
 -- ---- what was made for a channel is among its items
 
@@ -149,12 +140,20 @@ gone_first roster past later e h x y z px py before has_x has_y b t =
     gone_of past a c number what =
         ap (λ n. is_gone past (record { number = n; priority = a.priority; what = a.what })) number ∙ ap (λ w. is_gone past (record { number = c.number; priority = a.priority; what = w })) what
 
-pub first_goes_first : FirstGoesFirst
-first_goes_first roster past later e r l h =
+-- what the law says of one trace and channel
+abbrev GoesFirst : List Member → Trace → Trace → Event → ℕ → Type 0
+GoesFirst roster past after e h = AllByRecursion (λ x. AllByRecursion (λ y. comes_before x y ≡ true → HasPriority roster after x → HasPriority roster after y
+    → AllByRecursion (λ z. TakesBeside (e ∷ after) z y.number h x → is_gone after x ≡ true) e.endings) (pending_items roster past h)) (pending_items roster past h)
+
+goes_first : (roster : List Member) (past later : Trace) (e : Event) → IsRoster roster → old.IsLawful roster (e ∷ later ++ past) → (h : ℕ) → GoesFirst roster past (later ++ past) e h
+goes_first roster past later e r l h =
     let L = later ++ past in
-    all_more (IsPending roster past h) (λ x. AllByRecursion (λ y. comes_before x y ≡ true → HasPriority roster L x → HasPriority roster L y
-    → AllByRecursion (λ z. TakesBeside (e ∷ L) z y.number h x → is_gone L x ≡ true) e.endings) (pending_items roster past h)) (pending_items roster past h) (pending_all roster past h) (λ x px.
-    all_more (IsPending roster past h) (λ y. comes_before x y ≡ true → HasPriority roster L x → HasPriority roster L y
-    → AllByRecursion (λ z. TakesBeside (e ∷ L) z y.number h x → is_gone L x ≡ true) e.endings) (pending_items roster past h) (pending_all roster past h) (λ y py before has_x has_y.
-    all_more (λ z. (i : ℕ) → number_received z ≡ Some i → TakesBest roster L e z i) (λ z. TakesBeside (e ∷ L) z y.number h x → is_gone L x ≡ true) e.endings (best_first roster (e ∷ L) r l).1 (λ z best t.
-    gone_first roster past later e h x y z px py before has_x has_y (best y.number t.item) t)))
+    all_more _ _ (pending_items roster past h) (pending_all roster past h) (λ x px.
+    all_more _ _ (pending_items roster past h) (pending_all roster past h) (λ y py first has_x has_y.
+    all_more (λ z. (i : ℕ) → number_received z ≡ Some i → TakesBest roster L e z i) _ e.endings (best_first roster (e ∷ L) r l).1 (λ z best t.
+    gone_first roster past later e h x y z px py first has_x has_y (best y.number t.item) t)))
+
+pub first_goes_first : FirstGoesFirst
+first_goes_first past roster after e r l later is h =
+    subst (λ t. GoesFirst roster past t e h) (sym is)
+    (goes_first roster past later e r (before roster (e ∷ later ++ past) (subst (λ t. IsLawful roster (e ∷ t)) is l)) h)

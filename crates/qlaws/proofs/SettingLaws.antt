@@ -1,5 +1,5 @@
 -- What an accepted PrioritySet changes of what is pending.
-use Rattle.std.proofs.Common.{◌≡◌, ℕ, List, [], ◌∷◌, ◌++◌, refl, ap, sym, ◌∙◌, cond, true, false, eqb}
+use Rattle.std.proofs.Common.{◌≡◌, ℕ, List, [], ◌∷◌, ◌++◌, refl, ap, sym, ◌∙◌, cond, true, false, eqb, map}
 use Rattle.std.specs.Prelude.{Some, filter, not, ◌&&◌}
 use Rattle.std.proofs.lemmas.Bool.{eqb-true, eq-eqb}
 use Rattle.std.proofs.lemmas.List.{append-nil}
@@ -9,7 +9,9 @@ use Rattle.qqueue.specs.declared.item.Item.{Item}
 use Rattle.qtables.specs.declared.member.Member.{Member}
 use Rattle.qrules.specs.Private.Answer.{Outcome}
 use Rattle.qrules.specs.Private.Lawful.{IsLawful, facts_of}
-use Rattle.qrules.specs.Private.Laws.{OthersKeepTheirOrder, SettingMovesItsOwn, is_message_of, others_than, with_messages_at}
+use Rattle.qlaws.specs.Pending as laws
+use Rattle.qlaws.specs.Pending.{is_message_of}
+use Rattle.qlaws.proofs.Waits.{before}
 use Rattle.qrules.specs.Private.Past.{open_call, pending_items, sender_of}
 use Rattle.qrules.specs.Private.Rows.{names}
 use Rattle.qrules.specs.Private.Step.{items_with_priority_set, pending_after, is_unread_send}
@@ -22,6 +24,14 @@ use Rattle.qrules.proofs.Traces.Past.Items.{IsPending, pending_all}
 use Rattle.qrules.proofs.Traces.Past.Moves.{mover, map_same}
 use Rattle.qrules.proofs.Traces.Properties.Events.{outcome_of}
 use Rattle.qrules.specs.Rule.{PriorityChange}
+
+-- the items, where each message of thread t has this priority
+abbrev with_messages_at : Trace → ℕ → ℕ → List Item → List Item
+with_messages_at past t priority items = map (λ item. cond (is_message_of past t item) (with_priority priority item) item) items
+
+-- the items without the messages of thread t
+abbrev others_than : Trace → ℕ → List Item → List Item
+others_than past t items = filter (λ item. not (is_message_of past t item)) items
 
 -- a pending item is what thread v waits with to be received exactly where it is a message of that thread
 unread_of : (roster : List Member) (past : Trace) (h : ℕ) (item : Item) (v : ℕ) → IsLawful roster past → IsPending roster past h item
@@ -50,8 +60,9 @@ moves_own roster past t u priority h l =
     (all_more (IsPending roster past h) (λ item. mover f h s item ≡ cond (is_message_of past u item) (with_priority priority item) item) (pending_items roster past h) (pending_all roster past h)
     (λ item p. ap (λ b. cond b (with_priority priority item) item) (unread_of roster past h item u l p)))
 
-pub setting_moves_its_own : SettingMovesItsOwn
-setting_moves_its_own roster past e r l accepted t priority is h =
+pub setting_moves_its_own : laws.SettingMovesItsOwn
+setting_moves_its_own roster past e r lawful accepted t priority is h =
+    let l = before roster (e ∷ past) lawful in
     let a : Outcome true (facts_of roster past) e.thread e.call e.endings = outcome_of roster e past l.2 accepted in
     (past_follows true roster past e.thread e.call e.endings r l.0 l.1 a).pending h
     ∙ ap (λ c. pending_after (facts_of roster past) e.thread c h) is
@@ -67,6 +78,6 @@ others_same past t priority (x ∷ items) =
       | false ↦ λ other. rw other (ap (λ l. x ∷ l) (others_same past t priority items))
     ] refl
 
-pub others_keep_their_order : OthersKeepTheirOrder
+pub others_keep_their_order : laws.OthersKeepTheirOrder
 others_keep_their_order roster past e r l accepted t priority is h =
     ap (others_than past t) (setting_moves_its_own roster past e r l accepted t priority is h) ∙ others_same past t priority (pending_items roster past h)

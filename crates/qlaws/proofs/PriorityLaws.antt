@@ -12,14 +12,14 @@ use Rattle.qrules.specs.Private.Answer.{Outcome}
 use Rattle.qrules.specs.Private.Calls.{row_of}
 use Rattle.qrules.specs.Private.Calls.Send.{item as message_of}
 use Rattle.qrules.specs.Private.Effects.{makes, sets, thread_of_send}
-use Rattle.qrules.specs.Private.Facts.{Facts, is_fixed}
-use Rattle.qrules.specs.Private.Laws.{PendingFollowsItsSender}
+use Rattle.qrules.specs.Private.Facts.{Facts, is_fixed, is_for_receipt}
+use Rattle.qlaws.specs.Pending as laws
+use Rattle.qlaws.proofs.Waits.{before}
 use Rattle.qrules.specs.Private.Lawful.{IsLawful, facts_of}
 use Rattle.qrules.specs.Private.Past.{is_accepted, is_gone, is_received, item_of, priority_of_thread, sender_of, current_priority}
 use Rattle.qrules.specs.Private.Rows.{Received, item_sent_over, priority_set_for}
-use Rattle.qmodel.specs.Trace.{SentItem}
+use Rattle.qmodel.specs.Trace.{SentItem, Trace}
 use Rattle.qrules.specs.Private.Step.{priority_taken}
-use Rattle.qmodel.specs.Trace.{Trace}
 use Rattle.qmodel.specs.declared.call.Call.{Call}
 use Rattle.qmodel.specs.declared.call.Call.TheVariants.{Send}
 use Rattle.qmodel.specs.declared.call.Completion.{Completion}
@@ -33,7 +33,6 @@ use Rattle.qrules.proofs.Traces.Past.Priorities.{priority_accepted, priority_ref
 use Rattle.qrules.proofs.Traces.Past.CurrentPriority.{refused_sets_none, worth_newest, worth_set, worth_stays}
 use Rattle.qrules.proofs.Traces.Properties.Events.{is_accepted_by, is_refused_by, outcome_of}
 use Rattle.qrules.proofs.Traces.Properties.Receipts.{TakesOne, takes_one, waits_for}
-use Rattle.qrules.specs.Private.Facts.{is_for_receipt}
 
 -- a thread that takes nothing takes no priority
 none_taken : (f : Facts) (t : ℕ) (c : Call) (X : List Completion) (u : ℕ) → Outcome true f t c X → ((y : Completion) (i : ℕ) → TakesOne f t c u y i → ⊥) → priority_taken f (row_of f t c).receipt u ≡ None
@@ -101,13 +100,13 @@ is_senders roster (e ∷ past) l h item t at stays message sent =
           ∙ sym (priority_accepted roster past e.thread e.call e.endings e.thread l.0 l.1 a)
           ∙ ap (priority_of_thread roster (e ∷ past)) s.same
       | false ↦ λ other.
-          let before : item_at roster past item.number ≡ Some (record { item = item; channel = h }) = ap (λ b. cond b (item_of roster e past) (item_at roster past item.number)) (sym other) ∙ at in
+          let was : item_at roster past item.number ≡ Some (record { item = item; channel = h }) = ap (λ b. cond b (item_of roster e past) (item_at roster past item.number)) (sym other) ∙ at in
           let by : sender_of past item.number ≡ Some t = ap (λ b. cond b (cond (is_accepted e past) (thread_of_send e.thread e.call) None) (sender_of past item.number)) (sym other) ∙ sent in
           let going : is_gone past item ≡ false = false_from_ne_true _ (λ gone. true≢false (sym (stays_gone past e.thread e.call e.endings item gone) ∙ stays)) in
-          let below : item.number ≤ length past = item_below roster past item.number _ before in
+          let below : item.number ≤ length past = item_below roster past item.number _ was in
           let unread : is_received past item.number ≡ false = (or_parts _ _ going).0 in
-          let earlier : current_priority past item ≡ priority_of_thread roster past t = is_senders roster past l.0 h item t before going message by in
-          let s = sent_by roster past h item l.0 (standing_is roster past h item before going) message in
+          let earlier : current_priority past item ≡ priority_of_thread roster past t = is_senders roster past l.0 h item t was going message by in
+          let s = sent_by roster past h item l.0 (standing_is roster past h item was going) message in
           let sender : s.sender ≡ t = same_Some s.sender t (sym s.sent ∙ by) in
           elim (l.2) as (λ _. current_priority (e ∷ past) item ≡ priority_of_thread roster (e ∷ past) t) [
             | inl a ↦
@@ -126,7 +125,7 @@ is_senders roster (e ∷ past) l h item t at stays message sent =
           ]
     ] refl
 
-pub pending_follows_its_sender : PendingFollowsItsSender
+pub pending_follows_its_sender : laws.PendingFollowsItsSender
 pending_follows_its_sender roster past r l h =
     pending_each (λ item. is_pulse item.what ≡ false → (t : ℕ) → sender_of past item.number ≡ Some t → item.priority ≡ priority_of_thread roster past t) roster past h
-    (λ item at stays. λ message t sent. is_senders roster past l h item t at stays message sent)
+    (λ item at stays message t sent. is_senders roster past (before roster past l) h item t at stays message sent)

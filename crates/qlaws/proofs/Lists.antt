@@ -1,0 +1,21 @@
+-- What is so of each element of a list.
+use Rattle.std.proofs.Common.{◌≡◌, ◌∙◌, List, [], ◌∷◌, map, refl, sym, cond, Bool, true, false}
+use Rattle.std.specs.Prelude.{filter}
+use Rattle.std.specs.List.{AllByRecursion}
+use Rattle.std.proofs.lemmas.Bool.{true≢false}
+
+pub all_two : {X : Type 0} (P Q R : X → Type 0) (xs : List X) → AllByRecursion P xs → AllByRecursion Q xs → ((x : X) → P x → Q x → R x) → AllByRecursion R xs
+all_two P Q R [] p q f = tt
+all_two P Q R (x ∷ xs) p q f = (f x p.0 q.0, all_two P Q R xs p.1 q.1 f)
+
+pub all_unmap : {X Y : Type 0} (P : Y → Type 0) (g : X → Y) (xs : List X) → AllByRecursion P (map g xs) → AllByRecursion (λ x. P (g x)) xs
+all_unmap P g [] all = tt
+all_unmap P g (x ∷ xs) all = (all.0, all_unmap P g xs all.1)
+
+pub all_unfilter : {X : Type 0} (P : X → Type 0) (p : X → Bool) (xs : List X) → AllByRecursion P (filter p xs) → AllByRecursion (λ x. p x ≡ true → P x) xs
+all_unfilter P p [] all = tt
+all_unfilter P p (x ∷ xs) all =
+    elim (p x) as (λ b. p x ≡ b → AllByRecursion P (cond b (x ∷ filter p xs) (filter p xs)) → AllByRecursion (λ x. p x ≡ true → P x) (x ∷ xs)) [
+      | true ↦ λ passes all. (λ _. all.0, all_unfilter P p xs all.1)
+      | false ↦ λ fails all. (λ passes. absurd (true≢false (sym passes ∙ fails)), all_unfilter P p xs all)
+    ] refl all
