@@ -2,7 +2,7 @@
 use Rattle.std.proofs.Common.{◌≡◌, ℕ, ◌+◌, ◌<◌, List, [], ◌∷◌, ◌++◌, length, take, get_or, refl, ap, ◌∙◌}
 use Rattle.std.specs.Prelude.{Option, None, Some}
 use Rattle.std.specs.List.{filter_map, cons_option, AllByRecursion}
-use Rattle.std.specs.Option.{option_map, option_to_list}
+use Rattle.std.specs.Option.{option_map, option_to_list, option_map_or}
 use Rattle.std.proofs.lemmas.Grind.{take_at_read}
 use Rattle.std.proofs.lemmas.List.Elements.{filter_map-append}
 use Rattle.qtables.specs.Members.{IsRoster}
@@ -24,7 +24,6 @@ use Rattle.qmodel.specs.declared.open_call.Blocked.{Blocked}
 use Rattle.qmodel.specs.declared.open_call.OpenCall.{OpenCall}
 use Rattle.qstate.specs.declared.thread.Thread.{Thread}
 use Rattle.qstate.proofs.Senders.{own_open}
-use Rattle.std.specs.Option.{option_map_or}
 use Rattle.qbase.specs.declared.state.ThreadState.TheVariants.{Ready}
 use Rattle.qrules.specs.Facts.{number_of}
 

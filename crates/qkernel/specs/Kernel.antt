@@ -6,8 +6,7 @@ use Rattle.qrules.specs.Facts.{Facts}
 use Rattle.qtables.specs.Entries.{entry_at, IsRising}
 use Rattle.qtables.specs.Members.{IsRoster}
 use Rattle.qstate.specs.Channel.{ids_of}
-use Rattle.qstate.specs.Kept.{channel_in, pending_in}
-use Rattle.qstate.specs.Kept.{thread_priority, members_of}
+use Rattle.qstate.specs.Kept.{channel_in, pending_in, thread_priority, members_of}
 use Rattle.qstate.specs.Thread.{open_in}
 use Rattle.qstate.specs.declared.channel.Channel.{Channel}
 use Rattle.qstate.specs.declared.thread.Thread.{Thread}

@@ -1,7 +1,6 @@
 -- Laws of the calls that threads wait in.
 use Rattle.std.specs.Prelude.{◌&&◌, ◌==◌, ◌≡◌, ◌↔◌, ◌≤◌}
-use Rattle.qrules.specs.Words.{false, is_some, length, may_take, not, option_map_or}
-use Rattle.qrules.specs.Words.{true}
+use Rattle.qrules.specs.Words.{false, is_some, length, may_take, not, option_map_or, true}
 use Rattle.qrules.specs.Words.{AllByRecursion, Bool, Call, Connection, None, Some}
 use Rattle.qrules.specs.Trace.{call_at, Bytes, CallNo, ReceiveId, ThreadNo, Trace}
 use Rattle.qrules.specs.Facts.{is_blocked, open_receives, open_send, open_sends, receive_of, Facts}

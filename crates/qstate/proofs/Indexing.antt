@@ -1,5 +1,5 @@
 -- What is kept of where the threads stand stays right as their records are written.
-use Rattle.std.proofs.Common.{◌≡◌, ◌≢◌, ◌<◌, ◌≤◌, ℕ, suc, zero, ◌+◌, List, [], ◌∷◌, length, map, set, get_or, Bool, ◌&&◌, refl, ap, sym, ◌∙◌, cond, arith, true, false, eqb}
+use Rattle.std.proofs.Common.{◌≡◌, ◌≢◌, ◌<◌, ◌≤◌, ℕ, suc, zero, ◌+◌, List, [], ◌∷◌, length, map, set, get_or, Bool, ◌&&◌, refl, ap, sym, ◌∙◌, cond, arith, true, false, eqb, option_and_then, slice_get, IfSome}
 use Rattle.std.specs.Prelude.{Option, None, Some, nat_lt}
 use Rattle.std.specs.List.{position_from}
 use Rattle.std.specs.Option.{option_map}
@@ -13,32 +13,21 @@ use Rattle.qtables.specs.declared.member.Member.{Member}
 use Rattle.qmodel.specs.declared.open_call.OpenCall.{OpenCall}
 use Rattle.qmodel.specs.declared.open_call.Receipt.{Receipt}
 use Rattle.qmodel.specs.declared.open_call.OpenCall.TheVariants.{Receive, Send}
-use Rattle.qrules.specs.Private.Step.{held_call, unblocked_call, written_call}
+use Rattle.qrules.specs.Private.Step.{held_call, unblocked_call, written_call, with_buffer}
 use Rattle.qstate.specs.declared.cancelling.CancelSet.{CancelSet}
 use Rattle.qstate.specs.declared.index.Index.{Index}
 use Rattle.qstate.specs.declared.thread.Thread.{Thread}
 use Rattle.qstate.specs.Cancelling.{is_cancelled_by, is_cancelled_open, thread_after_cancelled}
 use Rattle.qstate.specs.Index.{is_receive, Forgets, Notes}
 use Rattle.qstate.specs.Kept.{members_of}
-use Rattle.qmodel.specs.OpenCalls.{receive_in}
+use Rattle.qmodel.specs.OpenCalls.{receive_in, thread_of, number_of}
 use Rattle.qstate.specs.Thread.{ready_thread, seat_in}
-use Rattle.qstate.specs.Threads.{IsIndexed, number_at, open_at, receive_at}
-use Rattle.qstate.proofs.Seats.{call_here, first_at, first_below, set_members, IsFirstAt}
+use Rattle.qstate.specs.Threads.{IsIndexed, number_at, open_at, receive_at, opener_at}
+use Rattle.qstate.proofs.Seats.{call_here, first_at, first_below, set_members, IsFirstAt, first_number}
 use Rattle.qstate.proofs.Senders.{roster_first}
-use Rattle.qmodel.specs.OpenCalls.{thread_of}
-use Rattle.qrules.specs.Private.Step.{with_buffer}
-use Rattle.qmodel.specs.OpenCalls.{number_of}
-use Rattle.qstate.specs.Threads.{opener_at}
 use Rattle.qbase.specs.Laying.{lay_over}
-use Rattle.qrules.proofs.Traces.Past.Open.{held_number}
-use Rattle.std.proofs.Common.{option_and_then}
-use Rattle.std.proofs.Common.{slice_get}
+use Rattle.qrules.proofs.Traces.Past.Open.{held_number, buffer_number, held_thread, buffer_thread}
 use Rattle.qrules.specs.Facts.{threads_of}
-use Rattle.qrules.proofs.Traces.Past.Open.{buffer_number}
-use Rattle.qrules.proofs.Traces.Past.Open.{held_thread}
-use Rattle.qstate.proofs.Seats.{first_number}
-use Rattle.qrules.proofs.Traces.Past.Open.{buffer_thread}
-use Rattle.std.proofs.Common.{IfSome}
 
 -- ---- a thread stands where its number says
 

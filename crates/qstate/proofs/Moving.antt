@@ -1,5 +1,5 @@
 -- What becomes of a message that isn't received as its thread's priority is set.
-use Rattle.std.proofs.Common.{◌≡◌, ℕ, List, [], ◌∷◌, map, refl, ap, sym, ◌∙◌, cond, Bool, true, false, eqb}
+use Rattle.std.proofs.Common.{◌≡◌, ℕ, List, [], ◌∷◌, map, refl, ap, sym, ◌∙◌, cond, Bool, true, false, eqb, is_some, not}
 use Rattle.std.specs.Prelude.{Option, None, Some, ◌&&◌}
 use Rattle.std.proofs.Math.Bool.{and-false, and-true}
 use Rattle.std.proofs.lemmas.Bool.{eqb-true}
@@ -15,8 +15,6 @@ use Rattle.qstate.specs.declared.unread.Unread.{Unread}
 use Rattle.qstate.specs.Channel.{SetsItems}
 use Rattle.qstate.specs.Kept.{pending_in}
 use Rattle.qstate.specs.Unread.{MovesUnread, unread_in}
-use Rattle.std.proofs.Common.{is_some}
-use Rattle.std.proofs.Common.{not}
 use Rattle.qmodel.specs.declared.open_call.OpenSend.{OpenSend}
 
 -- ---- an open call and what waits on a channel

@@ -1,5 +1,5 @@
 -- The receivers of a channel, by the records of their threads.
-use Rattle.std.proofs.Common.{◌≡◌, ◌<◌, ℕ, List, [], ◌∷◌, refl, ap, sym, ◌∙◌, arith, cond, true, false, eqb}
+use Rattle.std.proofs.Common.{◌≡◌, ◌<◌, ℕ, List, [], ◌∷◌, refl, ap, sym, ◌∙◌, arith, cond, true, false, eqb, option_and_then}
 use Rattle.std.specs.Prelude.{Option, None, Some, is_some, not, nat_lt, Bool, ◌||◌}
 use Rattle.std.specs.List.{AllByRecursion}
 use Rattle.std.specs.Option.{option_map, option_map_or, IfSome}
@@ -21,7 +21,6 @@ use Rattle.qstate.specs.Thread.{later_of_two, newest_in, open_in}
 use Rattle.qstate.specs.Kept.{members_of}
 use Rattle.qbase.proofs.Lists.{is_among}
 use Rattle.qstate.proofs.Senders.{own_open}
-use Rattle.std.proofs.Common.{option_and_then}
 
 -- ---- the search through the threads, and what it finds
 

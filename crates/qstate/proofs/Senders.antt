@@ -1,8 +1,8 @@
 -- The thread whose open call is a Send, by its place and by its number.
-use Rattle.std.proofs.Common.{◌≡◌, ℕ, suc, zero, ◌+◌, ◌<◌, List, [], ◌∷◌, length, get_or, refl, ap, sym, subst, ◌∙◌, cond, arith, true, false, eqb}
+use Rattle.std.proofs.Common.{◌≡◌, ℕ, suc, zero, ◌+◌, ◌<◌, List, [], ◌∷◌, length, get_or, refl, ap, sym, subst, ◌∙◌, cond, arith, true, false, eqb, option_and_then}
 use Rattle.std.specs.Prelude.{Option, None, Some, Result, is_some, position, ◌&&◌}
 use Rattle.std.specs.List.{position_from, AllByRecursion}
-use Rattle.std.specs.Option.{ok_or, option_map, IfNone, IfSome}
+use Rattle.std.specs.Option.{ok_or, option_map, IfNone, IfSome, option_map_or}
 use Rattle.std.specs.Result.{IfErr, IfOk}
 use Rattle.std.proofs.lemmas.Bool.{eqb-true, eq-eqb, ne_eqb, true≢false, and_parts}
 use Rattle.std.proofs.lemmas.Iterator.Adapters.{position_from-zero}
@@ -13,20 +13,15 @@ use Rattle.qmodel.specs.declared.open_call.OpenCall.{OpenCall}
 use Rattle.qmodel.specs.declared.open_call.OpenCall.TheVariants.{Receive, Send}
 use Rattle.qrules.specs.Private.Held.{Finish, answer_ending}
 use Rattle.qmodel.specs.declared.open_call.OpenSend.{OpenSend}
-use Rattle.qmodel.specs.OpenCalls.{send_in}
+use Rattle.qmodel.specs.OpenCalls.{send_in, number_of}
 use Rattle.qstate.specs.declared.thread.Thread.{Thread}
 use Rattle.qrules.specs.Private.Facts.{threads_of, is_send, sender_among, message_in}
-use Rattle.qstate.specs.Held.{is_held_in}
+use Rattle.qstate.specs.Held.{is_held_in, is_held_of}
 use Rattle.qstate.specs.Thread.{open_in, seat_in, sender_in, sent_call, message_from, ChangesOpen, ChangesSender}
-use Rattle.qstate.specs.Kept.{members_of}
+use Rattle.qstate.specs.Kept.{members_of, channel_in}
 use Rattle.qstate.specs.Threads.{number_at}
 use Rattle.qstate.proofs.Seats.{call_here, first_at, first_number, IsFirstAt, first_open}
-use Rattle.qmodel.specs.OpenCalls.{number_of}
-use Rattle.std.proofs.Common.{option_and_then}
-use Rattle.std.specs.Option.{option_map_or}
-use Rattle.qstate.specs.Held.{is_held_of}
 use Rattle.qstate.specs.Channel.{is_of}
-use Rattle.qstate.specs.Kept.{channel_in}
 
 -- ---- each thread waits for what its own record says
 

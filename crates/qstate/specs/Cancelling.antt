@@ -14,9 +14,8 @@ use Rattle.qstate.specs.declared.cancelling.CancelSet.{CancelSet}
 use Rattle.qstate.specs.declared.cancelling.CancelSet.TheVariants.{On, All, Of, Over}
 use Rattle.qstate.specs.declared.thread.Thread.{Thread}
 use Rattle.qstate.specs.Channel.{ids_of}
-use Rattle.qstate.specs.Kept.{channel_in, pending_in}
+use Rattle.qstate.specs.Kept.{channel_in, pending_in, members_of, thread_priority}
 use Rattle.qstate.specs.Thread.{open_in}
-use Rattle.qstate.specs.Kept.{members_of, thread_priority}
 
 -- true if the open call of thread u is cancelled
 abbrev pub is_cancelled_by : CancelSet → ℕ → OpenCall → Bool

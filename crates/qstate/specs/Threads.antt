@@ -1,6 +1,6 @@
 -- The seats of threads, and the index that is kept beside their records.
 use Rattle.std.specs.Prelude.{◌≡◌, ◌≢◌, ◌≤◌, ◌<◌, ℕ, zero, suc, true, List, [], ◌∷◌, length, nat_lt}
-use Rattle.std.specs.Prelude.{Option, None, Some, if◌then◌else◌}
+use Rattle.std.specs.Prelude.{Option, None, Some, if◌then◌else◌, option_and_then, slice_get}
 use Rattle.std.specs.Option.{option_map}
 use Rattle.qbase.specs.ByteSet.{has}
 use Rattle.qqueue.specs.declared.item.Item.{Item}
@@ -11,12 +11,8 @@ use Rattle.qstate.specs.declared.index.Index.{Index}
 use Rattle.qstate.specs.declared.seat.Seat.{Seat}
 use Rattle.qstate.specs.declared.thread.Thread.{Thread}
 use Rattle.qstate.specs.Kept.{members_of, thread_priority}
-use Rattle.qmodel.specs.OpenCalls.{receive_in}
+use Rattle.qmodel.specs.OpenCalls.{receive_in, thread_of, number_of}
 use Rattle.qstate.specs.Thread.{open_in, seat_in}
-use Rattle.qmodel.specs.OpenCalls.{thread_of}
-use Rattle.std.specs.Prelude.{option_and_then}
-use Rattle.qmodel.specs.OpenCalls.{number_of}
-use Rattle.std.specs.Prelude.{slice_get}
 use Rattle.qrules.specs.Facts.{threads_of}
 
 -- the seat has the index of its thread
@@ -47,9 +43,9 @@ receive_at threads k = option_map (λ r. r.number) (option_and_then receive_in (
 abbrev pub opener_at : List Thread → ℕ → Option ℕ
 opener_at threads k = option_map thread_of (open_at threads k)
 
--- there are at most 64 threads, each open call is its thread's own, and each thread that is blocked in a receive is among the receivers; while
--- rising is true, no two open calls have the same number, none is above latest, and each receive but that of
--- the last receiver is below newest
+-- there are at most 64 threads, each open call is its thread's own, and each thread that is blocked in a
+-- receive is among the receivers; while rising is true, no two open calls have the same number, none is above
+-- latest, and each receive but that of the last receiver is below newest
 pub record IsIndexed (threads : List Thread) (index : Index) : Type 0 where
   pub few : length threads ≤ 64
   pub roster : IsRoster (members_of threads)

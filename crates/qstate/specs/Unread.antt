@@ -1,5 +1,5 @@
 -- The messages that are not received, by the kernel's content.
-use Rattle.std.specs.Prelude.{◌≡◌, ℕ, List, map, Option, None, Some, if◌then◌else◌}
+use Rattle.std.specs.Prelude.{◌≡◌, ℕ, List, map, Option, None, Some, if◌then◌else◌, option_and_then, is_some}
 use Rattle.qqueue.specs.Best.{with_priority}
 use Rattle.qrules.specs.Private.Step.{is_unread_send}
 use Rattle.qmodel.specs.declared.open_call.OpenCall.{OpenCall}
@@ -8,12 +8,11 @@ use Rattle.qstate.specs.declared.channel.Channel.{Channel}
 use Rattle.qstate.specs.declared.unread.Unread.{Unread}
 use Rattle.qstate.specs.Channel.{ids_of}
 use Rattle.qstate.specs.Kept.{channel_in, pending_in}
-use Rattle.std.specs.Prelude.{option_and_then}
-use Rattle.std.specs.Prelude.{is_some}
 
 -- the message of an open call, if it isn't received yet
 abbrev pub unread_of : OpenCall → Option Unread
-unread_of (Send s) = if is_some s.receipt then None else Some (record { number = s.number; channel = s.channel })
+unread_of (Send s) =
+    if is_some s.receipt then None else Some (record { number = s.number; channel = s.channel })
 unread_of (Receive r) = None
 
 -- the message of a thread's open call, if it isn't received yet

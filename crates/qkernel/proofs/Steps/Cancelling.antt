@@ -9,10 +9,9 @@ use Rattle.qrules.specs.Private.Cancelling.{cancel_where}
 use Rattle.qrules.specs.Private.Facts.{threads_of}
 use Rattle.qmodel.specs.declared.call.Completion.{Completion}
 use Rattle.qmodel.specs.declared.call.Mark.TheVariants as mark
-use Rattle.qstate.specs.Kept.{pending_in}
+use Rattle.qstate.specs.Kept.{pending_in, members_of}
 use Rattle.qstate.specs.Cancelling.{AreCancelled, LoseCancelled, ending_for, is_cancelled_among, is_cancelled_by}
 use Rattle.qstate.specs.Thread.{open_in}
-use Rattle.qstate.specs.Kept.{members_of}
 use Rattle.qstate.specs.declared.channel.Channel.{Channel}
 use Rattle.qstate.specs.declared.cancelling.CancelSet.{CancelSet}
 use Rattle.qstate.specs.declared.thread.Thread.{Thread}

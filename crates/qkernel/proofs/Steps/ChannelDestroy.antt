@@ -13,10 +13,9 @@ use Rattle.qrules.specs.Private.Step.{uncut_items}
 use Rattle.qmodel.specs.declared.call.Call.TheVariants.{ChannelDestroy}
 use Rattle.qmodel.specs.declared.call.Completion.{Completion}
 use Rattle.qstate.specs.Channel.{ClosesIn, is_of}
-use Rattle.qstate.specs.Kept.{channel_in, pending_in}
+use Rattle.qstate.specs.Kept.{channel_in, pending_in, members_of}
 use Rattle.qstate.specs.Cancelling.{AreCancelled, LoseCancelled}
 use Rattle.qstate.specs.Thread.{open_in}
-use Rattle.qstate.specs.Kept.{members_of}
 use Rattle.qstate.specs.declared.channel.Channel.{Channel}
 use Rattle.qstate.specs.declared.cancelling.CancelSet.TheVariants.{On}
 use Rattle.qstate.specs.declared.thread.Thread.{Thread}

@@ -25,14 +25,13 @@ use Rattle.qrules.proofs.Traces.Past.Ends.{row_passes}
 use Rattle.qrules.proofs.Traces.Past.Laws.{is_forceful}
 use Rattle.qrules.proofs.Traces.Calls.{row_laws}
 use Rattle.qstate.specs.Channel.{ids_of, is_of, route_in}
-use Rattle.qstate.specs.Kept.{channel_in, pending_in}
+use Rattle.qstate.specs.Kept.{channel_in, pending_in, members_of, thread_priority}
 use Rattle.qrules.specs.Private.Facts.{Facts, is_in_process}
 use Rattle.qmodel.specs.Trace.{OpenChannel}
 use Rattle.qrules.proofs.Traces.Parts.{is_owned_by, leads_to}
 use Rattle.qkernel.specs.Kernel.{State, IsSound}
 use Rattle.qkernel.specs.Private.Steps.{Steps, facts_in}
 use Rattle.qstate.specs.Thread.{open_in}
-use Rattle.qstate.specs.Kept.{members_of, thread_priority}
 
 -- ---- refused calls
 

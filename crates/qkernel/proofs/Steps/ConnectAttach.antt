@@ -10,13 +10,12 @@ use Rattle.qmodel.specs.declared.call.Call.TheVariants.{ConnectAttach}
 use Rattle.qmodel.specs.declared.call.Completion.{Completion}
 use Rattle.qmodel.specs.declared.call.Mark.TheVariants as mark
 use Rattle.qrules.specs.Private.Answer.{MayRefuse, refusal_ending}
-use Rattle.qstate.specs.Kept.{channel_in}
+use Rattle.qstate.specs.Kept.{channel_in, members_of}
 use Rattle.qrules.specs.Private.Effects.{attaches}
 use Rattle.qkernel.specs.Kernel.{State, IsSound}
 use Rattle.qkernel.specs.Private.Steps.{Steps, facts_in}
 use Rattle.qrules.specs.Private.Step.{put_at, one_for}
 use Rattle.qstate.specs.Thread.{open_in}
-use Rattle.qstate.specs.Kept.{members_of}
 use Rattle.qrules.proofs.Traces.Rosters.{rises, among, only_own}
 use Rattle.qbase.proofs.Lists.{all_append}
 use Rattle.qkernel.proofs.Steps.Common.{uncut, counted, step_refused_alone, all_up_to, stays_free, up_to_below}

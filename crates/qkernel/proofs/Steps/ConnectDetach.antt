@@ -32,13 +32,12 @@ use Rattle.qstate.specs.declared.channel.Channel.{Channel}
 use Rattle.qstate.specs.declared.cancelling.CancelSet.TheVariants.{Over}
 use Rattle.qstate.specs.declared.thread.Thread.{Thread}
 use Rattle.qstate.specs.Channel.{own_channel_in}
-use Rattle.qstate.specs.Kept.{channel_in, pending_in}
+use Rattle.qstate.specs.Kept.{channel_in, pending_in, thread_priority, members_of}
 use Rattle.qstate.specs.Cancelling.{AreCancelled, LoseCancelled, ending_for, is_cancelled_among}
 use Rattle.qstate.specs.Endings.{with_ending_if}
 use Rattle.qstate.specs.Pulses.{has_room}
 use Rattle.qrules.specs.Private.Receivers.{newest_receiver}
 use Rattle.qstate.specs.Thread.{newest_in, open_in}
-use Rattle.qstate.specs.Kept.{thread_priority, members_of}
 use Rattle.qkernel.specs.Kernel.{State, IsSound}
 use Rattle.qkernel.specs.Private.Steps.{Steps, facts_in}
 use Rattle.qtables.proofs.LookUps.{entry_at-without_entry}

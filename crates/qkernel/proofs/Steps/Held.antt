@@ -1,6 +1,6 @@
 -- What the calls on held messages share, by the kernel's content.
 use Rattle.std.proofs.Common.{◌≡◌, ◌≢◌, ℕ, ◌+◌, List, [], ◌∷◌, refl, ap, sym, ◌∙◌, cond, true, false, eqb, inl}
-use Rattle.std.specs.Prelude.{Option, None, Some, is_some, ◌||◌}
+use Rattle.std.specs.Prelude.{Option, None, Some, is_some, ◌||◌, ◌&&◌}
 use Rattle.std.specs.List.{filter_map}
 use Rattle.std.proofs.lemmas.Bool.{eqb-true, eq-eqb}
 use Rattle.std.proofs.lemmas.Option.{same_Some, none-some}
@@ -15,24 +15,21 @@ use Rattle.qmodel.specs.declared.open_call.OpenCall.TheVariants.{Receive, Send}
 use Rattle.qstate.specs.declared.thread.Thread.{Thread}
 use Rattle.qrules.specs.Private.Answer.{refusal_ending}
 use Rattle.qrules.specs.Private.Calls.{row_of}
-use Rattle.qstate.specs.Kept.{channel_in}
+use Rattle.qstate.specs.Kept.{channel_in, members_of}
 use Rattle.qstate.specs.Endings.{with_ending_in_place}
 use Rattle.qrules.specs.Private.Facts.{is_send, sender, sender_among, threads_of}
 use Rattle.qrules.specs.Private.Held.{Finish, ends_sender, answer_ending, refusal}
 use Rattle.qrules.proofs.Traces.Parts.{is_held_for}
-use Rattle.qstate.specs.Held.{is_held_in}
+use Rattle.qstate.specs.Held.{is_held_in, is_held_of}
 use Rattle.qkernel.specs.Kernel.{State, IsSound}
 use Rattle.qkernel.specs.Private.Steps.{Steps, facts_in}
 use Rattle.qrules.specs.Private.Step.{unless}
 use Rattle.qstate.specs.Thread.{open_in, sender_in, sent_call, SetsOpen}
-use Rattle.qstate.specs.Kept.{members_of}
 use Rattle.qstate.proofs.Inserting.{two_endings}
 use Rattle.qbase.proofs.Lists.{is_among, cond_same}
 use Rattle.qrules.proofs.Traces.Rosters.{rises, among, filter_map_same}
 use Rattle.qkernel.proofs.Steps.Common.{counted, step_refused_alone, owned_by_member}
 use Rattle.std.specs.Option.{option_map_or}
-use Rattle.qstate.specs.Held.{is_held_of}
-use Rattle.std.specs.Prelude.{◌&&◌}
 
 module _ (s : State) (t : ℕ) (m : Member) (i : ℕ) (sound : IsSound s) (known : member_at (members_of s.threads) t ≡ Some m) where
   held_same : (o : Option OpenCall) → is_held_for (facts_in s) t o ≡ option_map_or (is_held_of s.channels m.process) o false

@@ -1,9 +1,9 @@
 -- Info as a step of the kernel.
-use Rattle.std.proofs.Common.{◌≡◌, ℕ, ◌+◌, List, [], ◌∷◌, refl, ap, sym, ◌∙◌, cond, eqb, arith, true, append-nil, false}
+use Rattle.std.proofs.Common.{◌≡◌, ℕ, ◌+◌, List, [], ◌∷◌, refl, ap, sym, ◌∙◌, cond, eqb, arith, true, append-nil, false, subst}
 use Rattle.std.specs.Prelude.{Option, None, Some, is_some}
 use Rattle.std.specs.List.{filter_map}
-use Rattle.std.specs.Option.{option_and_then, option_map}
-use Rattle.std.proofs.lemmas.Bool.{true≢false}
+use Rattle.std.specs.Option.{option_and_then, option_map, option_map_or}
+use Rattle.std.proofs.lemmas.Bool.{true≢false, and_parts}
 use Rattle.qtables.specs.Members.{member_at, IsRoster}
 use Rattle.qtables.specs.declared.member.Member.{Member}
 use Rattle.qmodel.specs.declared.call.Call.TheVariants.{Info}
@@ -14,29 +14,23 @@ use Rattle.qmodel.specs.declared.open_call.OpenCall.TheVariants.{Receive, Send}
 use Rattle.qstate.specs.declared.thread.Thread.{Thread}
 use Rattle.qmodel.specs.declared.call.Info.{Info as Told}
 use Rattle.qrules.specs.Private.Calls.Info.{info_of, info_of_open, info_ending}
-use Rattle.qrules.specs.Private.Facts.{sender, threads_of}
-use Rattle.qstate.specs.Held.{is_held_in}
+use Rattle.qrules.specs.Private.Facts.{sender, threads_of, Facts}
+use Rattle.qstate.specs.Held.{is_held_in, is_held_of}
 use Rattle.qkernel.specs.Kernel.{State, IsSound}
 use Rattle.qkernel.specs.Private.Steps.{Steps, facts_in}
 use Rattle.qkernel.specs.Stands.{InfoAtTraces}
 use Rattle.qstate.specs.Thread.{open_in, sender_in}
 use Rattle.qstate.specs.Threads.{IsRecordOf}
-use Rattle.qstate.specs.Kept.{members_of}
+use Rattle.qstate.specs.Kept.{members_of, channel_in}
 use Rattle.qstate.proofs.Senders.{held_sent}
 use Rattle.qrules.proofs.Traces.Rosters.{among, only_own, rises}
 use Rattle.qrules.proofs.Rows.Held.{info_same}
 use Rattle.qkernel.proofs.Contents.{open_among}
 use Rattle.qkernel.proofs.Steps.Common.{uncut, counted, stays_free}
 use Rattle.qkernel.proofs.Steps.Held.{is_held}
-use Rattle.std.specs.Option.{option_map_or}
-use Rattle.qstate.specs.Held.{is_held_of}
 use Rattle.qrules.proofs.Traces.Past.Waits.{some_map}
-use Rattle.std.proofs.lemmas.Bool.{and_parts}
 use Rattle.qrules.proofs.View.{IsKnown}
 use Rattle.qrules.specs.Private.Lawful.{facts_of}
-use Rattle.std.proofs.Common.{subst}
-use Rattle.qrules.specs.Private.Facts.{Facts}
-use Rattle.qstate.specs.Kept.{channel_in}
 use Rattle.qstate.specs.Channel.{is_of}
 use Rattle.qbase.proofs.Lists.{is_among}
 use Rattle.qrules.proofs.Traces.Past.Open.{open_own}

@@ -19,9 +19,8 @@ use Rattle.qstate.specs.declared.channel.Channel.{Channel}
 use Rattle.qstate.specs.declared.thread.Thread.{Thread}
 use Rattle.qkernel.specs.Kernel.{State, IsSound}
 use Rattle.qkernel.specs.Private.Steps.{Steps, facts_in}
-use Rattle.qstate.specs.Kept.{pending_in}
+use Rattle.qstate.specs.Kept.{pending_in, thread_priority, members_of}
 use Rattle.qstate.specs.Thread.{open_in, SetsPriority}
-use Rattle.qstate.specs.Kept.{thread_priority, members_of}
 use Rattle.qstate.specs.Unread.{MovesUnread}
 use Rattle.qrules.specs.Private.Step.{items_with_priority_set, is_unread_send}
 use Rattle.qrules.proofs.Traces.Past.Cancels.{none_cancelled}

@@ -21,7 +21,7 @@ use Rattle.qmodel.specs.declared.open_call.Receipt.{Receipt}
 use Rattle.qstate.specs.declared.thread.Thread.{Thread}
 use Rattle.qrules.specs.Private.Answer.{ending}
 use Rattle.qstate.specs.Channel.{ids_of, is_of, SetsItems}
-use Rattle.qstate.specs.Kept.{channel_in, pending_in}
+use Rattle.qstate.specs.Kept.{channel_in, pending_in, members_of, thread_priority}
 use Rattle.qrules.specs.Private.Facts.{owns, threads_of, is_fixed}
 use Rattle.qrules.specs.Private.Receiving.{own_receipt, receipt_when_taken, receive_of}
 use Rattle.qrules.specs.Private.Rows.{Received, receipt_ending}
@@ -29,7 +29,6 @@ use Rattle.qkernel.specs.Kernel.{State, IsSound}
 use Rattle.qkernel.specs.Private.Steps.{Steps, facts_in}
 use Rattle.qrules.specs.Private.Step.{after_receipt, is_thread, held_call, unreceived_items, unless, priority_taken}
 use Rattle.qstate.specs.Thread.{open_in, message_from, sender_in, SetsOpen, HandsOver, SetsPriority}
-use Rattle.qstate.specs.Kept.{members_of, thread_priority}
 use Rattle.qbase.proofs.Lists.{all_filter, eqb_either, cond_same}
 use Rattle.qrules.proofs.Traces.Rosters.{rises, among, nothing, filter_map_same, only_own}
 use Rattle.qkernel.proofs.Steps.Common.{uncut, counted, step_refused_alone, owned_by_member, all_up_to, stays_free}

@@ -19,7 +19,7 @@ use Rattle.qmodel.specs.declared.open_call.OpenCall.TheVariants.{Send as InSend}
 use Rattle.qstate.specs.declared.thread.Thread.{Thread}
 use Rattle.qrules.specs.Private.Answer.{refusal_ending, ending}
 use Rattle.qstate.specs.Channel.{route_in, SetsItems}
-use Rattle.qstate.specs.Kept.{pending_in}
+use Rattle.qstate.specs.Kept.{pending_in, members_of, thread_priority}
 use Rattle.qrules.specs.Private.Facts.{route, threads_of}
 use Rattle.qrules.specs.Private.Receivers.{newest_receiver}
 use Rattle.qrules.specs.Private.Rows.{message_item, takes, item_in, item_sent_over}
@@ -28,7 +28,6 @@ use Rattle.qkernel.specs.Private.Steps.{Steps, facts_in}
 use Rattle.qrules.specs.Private.Step.{unless, held_call}
 use Rattle.qrules.specs.Private.Past.{made_on}
 use Rattle.qstate.specs.Thread.{open_in, newest_in, SetsOpen, Wakes}
-use Rattle.qstate.specs.Kept.{members_of, thread_priority}
 use Rattle.qbase.proofs.Lists.{is_among, cond_same}
 use Rattle.qrules.proofs.Traces.Rosters.{rises, nothing, filter_map_same, only_own}
 use Rattle.qkernel.proofs.Steps.Delivering.{counted_room, count_kept, items_after, some_sent, some_way, with_item, priority_at}

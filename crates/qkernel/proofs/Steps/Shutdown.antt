@@ -8,10 +8,9 @@ use Rattle.qtables.specs.declared.member.Member.{Member}
 use Rattle.qrules.specs.Private.Step.{uncut_items}
 use Rattle.qmodel.specs.declared.call.Call.TheVariants.{Shutdown}
 use Rattle.qmodel.specs.declared.call.Completion.{Completion}
-use Rattle.qstate.specs.Kept.{pending_in}
+use Rattle.qstate.specs.Kept.{pending_in, members_of}
 use Rattle.qstate.specs.Cancelling.{AreCancelled, LoseCancelled}
 use Rattle.qstate.specs.Thread.{open_in}
-use Rattle.qstate.specs.Kept.{members_of}
 use Rattle.qstate.specs.declared.channel.Channel.{Channel}
 use Rattle.qstate.specs.declared.cancelling.CancelSet.TheVariants.{All}
 use Rattle.qstate.specs.declared.thread.Thread.{Thread}

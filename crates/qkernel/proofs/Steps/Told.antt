@@ -23,11 +23,10 @@ use Rattle.qrules.proofs.Traces.Rosters.{filter_map_same, rises}
 use Rattle.qrules.proofs.Traces.Calls.Delivering.{ForAnItem, met_item, met_settled}
 use Rattle.qrules.proofs.Traces.Past.Laws.{IsSettled}
 use Rattle.qstate.specs.Channel.{ids_of}
-use Rattle.qstate.specs.Kept.{channel_in, pending_in}
+use Rattle.qstate.specs.Kept.{channel_in, pending_in, thread_priority, members_of}
 use Rattle.qstate.specs.Endings.{with_ending_if}
 use Rattle.qstate.specs.Pulses.{IsLeft, IsMet, IsSentIfDue}
 use Rattle.qstate.specs.Thread.{open_in}
-use Rattle.qstate.specs.Kept.{thread_priority, members_of}
 use Rattle.qstate.specs.declared.channel.Channel.{Channel}
 use Rattle.qstate.specs.declared.thread.Thread.{Thread}
 use Rattle.qstate.proofs.Inserting.{endings_fewer, inserted_among}

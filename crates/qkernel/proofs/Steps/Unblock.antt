@@ -1,5 +1,5 @@
 -- Unblock as a step of the kernel.
-use Rattle.std.proofs.Common.{◌≡◌, ℕ, ◌+◌, List, [], ◌∷◌, ◌++◌, refl, ap, sym, subst, ◌∙◌, cond, arith, true, false, eqb, inl, inr}
+use Rattle.std.proofs.Common.{◌≡◌, ℕ, ◌+◌, List, [], ◌∷◌, ◌++◌, refl, ap, sym, subst, ◌∙◌, cond, arith, true, false, eqb, inl, inr, Bool, option_and_then}
 use Rattle.std.specs.Prelude.{Option, None, Some, filter, is_some, not, ◌&&◌}
 use Rattle.std.specs.List.{list_any}
 use Rattle.std.specs.Option.{option_map}
@@ -12,10 +12,10 @@ use Rattle.qqueue.specs.declared.item.Item.{Item}
 use Rattle.qtables.specs.Members.{member_at}
 use Rattle.qtables.specs.declared.member.Member.{Member}
 use Rattle.qrules.specs.Private.Answer.{MayRefuse, ending, refusal_ending}
-use Rattle.qrules.specs.Private.Calls.Unblock.{due_pulse, other_ending}
+use Rattle.qrules.specs.Private.Calls.Unblock.{due_pulse, other_ending, guards}
 use Rattle.qrules.proofs.Traces.Parts.{due_pulse_of_open}
 use Rattle.qrules.specs.Private.Cancelling.{cancel_call, cancel_where}
-use Rattle.qrules.specs.Private.Facts.{is_in_process, threads_of}
+use Rattle.qrules.specs.Private.Facts.{is_in_process, threads_of, tells_unblock}
 use Rattle.qrules.specs.Private.Pulses.{pulse_receipt, refusal_if_full}
 use Rattle.qrules.specs.Private.Rows.{unblock_item}
 use Rattle.qmodel.specs.Trace.{SentItem}
@@ -29,13 +29,12 @@ use Rattle.qstate.specs.declared.channel.Channel.{Channel}
 use Rattle.qstate.specs.declared.cancelling.CancelSet.TheVariants.{Of}
 use Rattle.qstate.specs.declared.held.Held.{Held}
 use Rattle.qstate.specs.declared.thread.Thread.{Thread}
-use Rattle.qstate.specs.Kept.{pending_in}
+use Rattle.qstate.specs.Kept.{pending_in, members_of, channel_in}
 use Rattle.qstate.specs.Cancelling.{AreCancelled, LoseCancelled}
 use Rattle.qstate.specs.Held.{guarded_message_in}
 use Rattle.qstate.specs.Pulses.{has_room}
 use Rattle.qrules.specs.Private.Receivers.{newest_receiver}
 use Rattle.qstate.specs.Thread.{newest_in, open_in, ChangesOpen}
-use Rattle.qstate.specs.Kept.{members_of}
 use Rattle.qkernel.specs.Kernel.{State, IsSound}
 use Rattle.qkernel.specs.Private.Steps.{Steps, facts_in}
 use Rattle.qrules.proofs.Traces.Rosters.{among, filter_map_same, only_own, rises}
@@ -46,13 +45,8 @@ use Rattle.qkernel.proofs.Steps.Telling.{AreMarked, Tells}
 use Rattle.qkernel.proofs.Steps.Told.{IsNew}
 use Rattle.qrules.proofs.Traces.Due.{unblock_same}
 use Rattle.qrules.specs.Private.Effects.{makes}
-use Rattle.qrules.specs.Private.Facts.{tells_unblock}
 use Rattle.qmodel.specs.declared.open_call.Receipt.{Receipt}
 use Rattle.qmodel.specs.declared.open_call.OpenSend.{OpenSend}
-use Rattle.qrules.specs.Private.Calls.Unblock.{guards}
-use Rattle.qstate.specs.Kept.{channel_in}
-use Rattle.std.proofs.Common.{Bool}
-use Rattle.std.proofs.Common.{option_and_then}
 
 -- ---- what guards an open call, by the kernel's content
 

@@ -1,12 +1,11 @@
 -- Unblock: stands for a signal or a timeout.
 use Rattle.std.specs.Prelude.{◌&&◌, ◌==◌, if◌then◌else◌}
-use Rattle.qrules.specs.Words.{is_some, not, option_and_then, Intr, None, Option, Some, Srch}
+use Rattle.qrules.specs.Words.{is_some, not, option_and_then, Intr, None, Option, Some, Srch, Bool}
 use Rattle.qrules.specs.Trace.{ThreadNo}
 use Rattle.qrules.specs.Facts.{has_flag, is_of_same_process, send_of, Facts, OpenSend}
 use Rattle.qrules.specs.Rule.{new_item, no_effect, Rule, SentItem}
 use Rattle.qrules.specs.Delivery.{cancel, pulse_row, refusal_if_full}
 use Rattle.qrules.specs.Words.what
-use Rattle.qrules.specs.Words.{Bool}
 
 -- the message is held on a channel with the unblock flag: then the server gets a pulse, and the Send stays
 -- open

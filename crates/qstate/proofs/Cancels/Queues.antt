@@ -1,5 +1,5 @@
 -- What becomes of the queues as items leave them.
-use Rattle.std.proofs.Common.{◌≡◌, ℕ, List, [], Bool, not, ◌&&◌, ◌||◌, refl, ap, sym, subst, ◌∙◌, cond, true, false, eqb}
+use Rattle.std.proofs.Common.{◌≡◌, ℕ, List, [], Bool, not, ◌&&◌, ◌||◌, refl, ap, sym, subst, ◌∙◌, cond, true, false, eqb, is_some}
 use Rattle.std.specs.Prelude.{Option, None, Some, filter}
 use Rattle.std.proofs.lemmas.Bool.{eqb-true, and_left, and_right, not_from_false}
 use Rattle.std.proofs.lemmas.Option.{none-some}
@@ -17,7 +17,6 @@ use Rattle.qstate.specs.Kept.{pending_in, items_waiting_on}
 use Rattle.qstate.specs.Cancelling.{unread_on_by, call_if_cancelled, is_taken_from, Lose}
 use Rattle.qbase.proofs.Lists.{eqb_either, filter_twice, filter_whole}
 use Rattle.qrules.specs.Private.Facts.{number_of}
-use Rattle.std.proofs.Common.{is_some}
 
 -- without those of which one thing is so, and then without those of which another is
 pub filter_after : {A : Type 0} (p q : A → Bool) (xs : List A) → filter (λ x. not (q x)) (filter (λ x. not (p x)) xs) ≡ filter (λ x. not (p x || q x)) xs

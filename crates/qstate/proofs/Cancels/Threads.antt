@@ -16,10 +16,9 @@ use Rattle.qstate.specs.declared.channel.Channel.{Channel}
 use Rattle.qstate.specs.declared.cancelling.CancelSet.{CancelSet}
 use Rattle.qstate.specs.declared.thread.Thread.{Thread}
 use Rattle.qstate.specs.Channel.{ids_of}
-use Rattle.qstate.specs.Kept.{channel_in, pending_in}
+use Rattle.qstate.specs.Kept.{channel_in, pending_in, members_of, thread_priority}
 use Rattle.qstate.specs.Cancelling.{is_cancelled_by, is_cancelled_open, is_taken_from, is_cancelled_among, ending_for, with_ending, thread_after_cancelled, Lose, LoseCancelled, AreCancelled}
 use Rattle.qstate.specs.Thread.{open_in}
-use Rattle.qstate.specs.Kept.{members_of, thread_priority}
 use Rattle.qbase.proofs.Lists.{filter_whole}
 use Rattle.qstate.proofs.Cancels.Queues.{filter_after}
 use Rattle.qstate.proofs.Senders.{own_open}

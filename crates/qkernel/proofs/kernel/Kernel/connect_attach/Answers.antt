@@ -1,6 +1,5 @@
 use Rattle.std.proofs.Common.{◌≡◌, refl, sym, true, length, arith}
-use Rattle.std.specs.Prelude.{is_some}
-use Rattle.std.specs.Prelude.{nat_lt}
+use Rattle.std.specs.Prelude.{is_some, nat_lt}
 use Rattle.std.proofs.lemmas.Bool.{lt-ltb}
 use Rattle.qstate.specs.Kept.{channel_in}
 use Rattle.qkernel.proofs.Steps.Common.{sound_counted_alone, up_to_below}

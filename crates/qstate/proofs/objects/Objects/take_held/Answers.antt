@@ -1,10 +1,9 @@
-use Rattle.std.proofs.Common.{ap, ◌∙◌}
+use Rattle.std.proofs.Common.{ap, ◌∙◌, option_and_then}
 use Rattle.std.specs.Prelude.{is_some}
 use Rattle.qmodel.specs.OpenCalls.{send_in}
 use Rattle.qstate.specs.Thread.{open_in}
 use Rattle.qstate.proofs.Senders.{never_err, send_of_sender, send_taken}
 use Rattle.qstate.proofs.objects.Objects.take_held.Goals as goal
-use Rattle.std.proofs.Common.{option_and_then}
 
 pub returns-clause-held : goal.returns-clause-held
 returns-clause-held c =
