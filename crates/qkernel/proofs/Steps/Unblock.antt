@@ -84,7 +84,7 @@ one_by s x None tells g e = absurd (none-some g e)
 one_by s x (Some r) false g e = absurd (none-some g e)
 one_by s x (Some r) true g e = (
   (elim (r.unblocked) as (λ b. cond (not b) (Some (pulse_on s r.priority x.number x.channel)) None ≡ cond b None (Some (pulse_on s r.priority x.number x.channel))) [ true ↦ refl | false ↦ refl ])
-  ∙ ap (λ (h : Held). cond h.receipt.unblocked None (Some (pulse_on s h.receipt.priority h.rcvid h.channel))) (same_Some _ g e),
+      ∙ ap (λ (h : Held). cond h.receipt.unblocked None (Some (pulse_on s h.receipt.priority h.rcvid h.channel))) (same_Some _ g e),
   refl,
 )
 

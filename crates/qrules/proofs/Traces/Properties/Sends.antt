@@ -141,12 +141,11 @@ pub open_on : (roster : List Member) (past : Trace) (u : ℕ) (o : OpenCall) →
 open_on roster past u o l is w =
     let k = open_parts roster past u o is in
     let began : is_for_answer k.block ≡ true = sym (open_keeps is_for_answer roster past u o k held_for_answer buffer_answer) ∙ w in
-    let s = block_over roster past u k.block l k.is began in
-    (
+    let s = block_over roster past u k.block l k.is began in (
       s.connection,
       ap (attached_connection roster past) (open_keeps over roster past u o k held_over buffer_over) ∙ s.is_connection,
       open_keeps (is_on s.connection.channel) roster past u o k (held_on s.connection.channel) (buffer_on s.connection.channel)
-      ∙ subst (λ h. is_on h k.block ≡ true) s.channel (block_on roster past u k.block s.made k.is began s.is_made),
+          ∙ subst (λ h. is_on h k.block ≡ true) s.channel (block_on roster past u k.block s.made k.is began s.is_made),
     )
 
 -- the connection of an open Send, and its item

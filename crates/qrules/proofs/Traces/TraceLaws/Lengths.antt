@@ -225,8 +225,7 @@ pub open_calls_keep_length : (roster : List Member) (past : Trace) (u : ℕ) (o 
 open_calls_keep_length roster past u o is =
     let k = open_parts roster past u o is in
     let a = block_asked roster past u k.block k.is in
-    let asked : length (buffer_in k.block) ≡ length (buffer_of a.call) = ap (λ x. length (buffer_of_open x)) (sym a.asks_it) ∙ asked_length (number_of k.block) u a.channel a.call (ap is_some a.asks_it) in
-    (
+    let asked : length (buffer_in k.block) ≡ length (buffer_of a.call) = ap (λ x. length (buffer_of_open x)) (sym a.asks_it) ∙ asked_length (number_of k.block) u a.channel a.call (ap is_some a.asks_it) in (
       a.call,
       ap (call_at past) k.number ∙ a.is,
       ap (λ x. length (buffer_in x)) k.same ∙ kept_length _ _ _ (filled past k.block) ∙ filled_length past (number_of k.block) k.block ∙ asked,
