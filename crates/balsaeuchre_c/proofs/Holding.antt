@@ -17,7 +17,7 @@ use Rattle.qrules.specs.Private.Answer.{Answers, Outcome, ending}
 use Rattle.qrules.specs.Private.Calls.{row_of}
 use Rattle.qrules.specs.Private.Calls.ConnectDetach as connect_detach
 use Rattle.qrules.specs.Private.Calls.Error.{error_finish}
-use Rattle.qrules.specs.Private.Calls.Info.{info_of, info_of_open, info_of_wait}
+use Rattle.qrules.specs.Private.Calls.Info.{info_of, info_of_open}
 use Rattle.qrules.specs.Private.Calls.Pulse as pulse
 use Rattle.qrules.specs.Private.Calls.Reply.{reply_finish}
 use Rattle.qrules.specs.Private.Calls.Send.{item}
@@ -26,7 +26,7 @@ use Rattle.qrules.specs.Private.Cancelling.{is_on}
 use Rattle.qrules.specs.Private.Effects.{makes}
 use Rattle.qrules.specs.Private.Facts.{Facts, is_for_answer, message, sender, threads_of, route}
 use Rattle.qrules.specs.Private.Lawful.{IsLawful, facts_of, with_event}
-use Rattle.qrules.specs.Private.Past.{call_by_now, copied_count_among, copied_count_of, has_ending_of, is_ended, open_call, priority_of_item, wait_with_receipt, with_receipt}
+use Rattle.qrules.specs.Private.Past.{copied_count_among, copied_count_of, filled, has_ending_of, is_ended, open_call, priority_of_item, with_receipt}
 use Rattle.qrules.specs.Private.Rows.{item_in, receipt_ending}
 use Rattle.qmodel.specs.Trace.{SentItem}
 use Rattle.qmodel.specs.Trace.{Trace}
@@ -36,6 +36,7 @@ use Rattle.qmodel.specs.declared.call.Completion.{Completion}
 use Rattle.qmodel.specs.declared.call.Info.{Info as Told}
 use Rattle.qmodel.specs.declared.call.Mark.{Mark}
 use Rattle.qmodel.specs.declared.call.Mark.TheVariants as mark
+use Rattle.qmodel.specs.OpenCalls.{number_of}
 use Rattle.qmodel.specs.declared.open_call.OpenCall.{OpenCall}
 use Rattle.qmodel.specs.declared.open_call.OpenCall.TheVariants.{Receive as InReceive, Send as InSend}
 use Rattle.qbase.proofs.Lists.{all_filter_map, some_of}
@@ -48,7 +49,7 @@ use Rattle.qrules.proofs.Traces.Calls.Error.{no_receipt}
 use Rattle.qrules.proofs.Traces.Calls.Held.{sender_ends}
 use Rattle.qrules.proofs.Traces.Calls.Info.{plain}
 use Rattle.qrules.proofs.Traces.Past.Ends.{ended_below, ends_other, ends_own, laws_of, open_known, passes_of}
-use Rattle.qrules.proofs.Traces.Past.Open.{is_unblocked, open_from, open_parts, receipt_for_answer, receipt_number}
+use Rattle.qrules.proofs.Traces.Past.Open.{is_unblocked, kept, kept_number, open_from, open_parts, receipt_for_answer}
 use Rattle.qrules.proofs.Traces.Past.Receipts.{accepted_receipts, best_pending, ending_receives}
 use Rattle.qrules.proofs.Traces.Past.Senders.{sender_sends}
 use Rattle.qrules.proofs.Traces.Properties.Messages.{item_waits, pending_going}
@@ -115,7 +116,7 @@ record TakesMade (f : Facts) (t : ℕ) (c : Call) (i : ℕ) : Type 0 where
 met_message : (f : Facts) (t : ℕ) (c : Call) (o : Option ℕ) (x : Item) (sent : List ℕ) (u : ℕ) (y : Completion) (i copied : ℕ) → Delivers f o x sent u y → ((h : ℕ) → o ≡ Some h → makes f t c ≡ Some (record { item = x; channel = h }))
     → y.mark ≡ mark.Message i copied → TakesMade f t c i
 met_message f t c o x sent u y i copied s made m =
-    record { made = record { item = x; channel = s.channel }; is_made = made s.channel s.leads; takes = message_taken x sent u s.waiting.number s.buffer y i copied s.ending m }
+    record { made = record { item = x; channel = s.channel }; is_made = made s.channel s.leads; takes = message_taken x sent u s.receive.number s.receive.buffer y i copied s.ending m }
 
 told_message : (f : Facts) (t : ℕ) (c : Call) (o : Option SentItem) (u : ℕ) (y : Completion) (i copied : ℕ) → makes f t c ≡ o → Tells f o u y → y.mark ≡ mark.Message i copied → TakesMade f t c i
 told_message f t c o u y i copied made k m =
@@ -126,8 +127,8 @@ ends_message f t (Reply rcvid status bytes) u y i copied r e m =
     absurd (no_message y i copied m (answer_receives f t rcvid (reply_finish status bytes) u y (λ buffer. refl) (sender_ends f t rcvid (reply_finish status bytes) u y r e)))
 ends_message f t (Error rcvid code) u y i copied r e m =
     absurd (no_message y i copied m (answer_receives f t rcvid (error_finish code) u y (λ buffer. no_receipt code) (sender_ends f t rcvid (error_finish code) u y r e)))
-ends_message f t (ChannelDestroy chid) u y i copied r e m = absurd (no_message y i copied m (ap (λ x. item_in x.mark) (sym (cancel_parts (is_on f.connection chid) Srch u (f.open_call u) y e).ending)))
-ends_message f t Shutdown u y i copied r e m = absurd (no_message y i copied m (ap (λ x. item_in x.mark) (sym (cancel_parts (λ wait. true) Srch u (f.open_call u) y e).ending)))
+ends_message f t (ChannelDestroy chid) u y i copied r e m = absurd (no_message y i copied m (ap (λ x. item_in x.mark) (sym (cancel_parts (is_on chid) Srch u (f.open_call u) y e).ending)))
+ends_message f t Shutdown u y i copied r e m = absurd (no_message y i copied m (ap (λ x. item_in x.mark) (sym (cancel_parts (λ o. true) Srch u (f.open_call u) y e).ending)))
 ends_message f t (Unblock thread) u y i copied r e m = elim (unblock_ends f thread u y (unblock.due_pulse f thread) e) [
   | inl cancel ↦ absurd (no_message y i copied m (ap (λ x. item_in x.mark) (sym cancel.ending)))
   | inr k ↦ told_message f t (Unblock thread) (unblock.due_pulse f thread) u y i copied (unblock_same f thread) k m
@@ -154,11 +155,11 @@ module _ (roster : List Member) (past : Trace) (t : ℕ) (c : Call) (X : List Co
       let place = best_pending roster past k.channel k.kind k.best_item k.best in
       let going : is_ended past k.best_item.number ≡ false = pending_going roster past k.channel k.best_item place k.takes.message in
       let w = item_waits roster past k.best_item.number _ l place.made (ap is_pulse place.what ∙ k.takes.message) going in
-      let unended : is_ended past w.block.number ≡ false = subst (λ j. is_ended past j ≡ false) (sym w.number) going in
+      let unended : is_ended past (number_of w.block) ≡ false = subst (λ j. is_ended past j ≡ false) (sym w.number) going in
       let is_open = open_from roster past w.thread w.block w.is unended in
-      let here = receipt_number (priority_of_item roster past w.block.number) (is_unblocked roster past w.block.number) (copied_count_of past w.block.number) (call_by_now past w.block) in
+      let here = kept_number roster past w.block in
       let other : eqb w.thread t ≡ false = ne_eqb w.thread t (λ same. none-some _ (sym (passes_of f t c X a).idle ∙ ap (open_call roster past) (sym same) ∙ is_open)) in
-      let kept : has_ending_of X w.block.number ≡ false =
+      let kept : has_ending_of X (number_of w.block) ≡ false =
       ap (has_ending_of X) (sym here) ∙ ends_other roster past t c X w.thread _ l a other is_open ∙ ap is_some (k.alone w.thread) in
       subst (λ j. is_ended (with_event t c X past) j ≡ false) (w.number ∙ k.takes.number) (rw (kept, unended) refl)
 
@@ -183,22 +184,17 @@ module _ (roster : List Member) (past : Trace) (t : ℕ) (c : Call) (X : List Co
 
 -- ---- what is told of it
 
--- a wait for an answer with a receipt is told with its count
+-- an open Send with a receipt is told with its count
 pub record IsToldOf (told : Option Told) (copied : ℕ) : Type 0 where
   pub info : Told
   pub is : told ≡ Some info
   pub count : info.msglen ≡ copied
 
-wait_told : (m : Member) (priority copied : ℕ) (unblocked : Bool) (w : Wait) → is_for_answer w ≡ true
-    → IsToldOf (info_of_wait m (wait_with_receipt (record { priority = priority; copied = copied; unblocked = unblocked }) w)) copied
-wait_told m priority copied unblocked (Answer coid sent reply_buffer before) answer = record { info = _; is = refl; count = refl }
-wait_told m priority copied unblocked (ForItem chid kind buffer) answer = absurd (true≢false (sym answer))
-
-call_told : (m : Member) (priority copied : ℕ) (unblocked : Bool) (count : Option ℕ) (o : OpenCall) → count ≡ Some copied → is_for_answer o.wait ≡ true
+call_told : (m : Member) (priority copied : ℕ) (unblocked : Bool) (count : Option ℕ) (o : OpenCall) → count ≡ Some copied → is_for_answer o ≡ true
     → IsToldOf (info_of_open m (Some (with_receipt priority unblocked count o))) copied
 call_told m priority copied unblocked None o is answer = absurd (none-some copied is)
-call_told m priority copied unblocked (Some n) o is answer =
-    subst (λ (k : ℕ). IsToldOf (info_of_open m (Some (with_receipt priority unblocked (Some n) o))) k) (same_Some n copied is) (wait_told m priority n unblocked o.wait answer)
+call_told m priority copied unblocked (Some n) (InSend s) is answer = record { info = _; is = refl; count = same_Some n copied is }
+call_told m priority copied unblocked (Some n) (InReceive r) is answer = absurd (true≢false (sym answer))
 
 held_told : (roster : List Member) (past : Trace) (i copied : ℕ) → IsRoster roster → IsLawful roster past → is_ended past i ≡ false → copied_count_of past i ≡ Some copied
     → IsToldOf (info_of (facts_of roster past) (sender (facts_of roster past) i)) copied
@@ -208,13 +204,13 @@ held_told roster past i copied rises l going count =
     let h = held_sender roster past rises l i (and_from (is_some (copied_count_of past i)) (not (is_ended past i)) taken (not_from_false (is_ended past i) going)) in
     let s = sender_sends (λ u. open_call roster past u) i (threads_of roster) h.thread h.is_sender in
     let k = open_parts roster past h.thread s.waiting s.is in
-    let number : k.block.number ≡ i = sym k.number ∙ s.number in
+    let number : number_of k.block ≡ i = sym k.number ∙ s.number in
     let m = some_of (member_at roster h.thread) (open_known roster past h.thread s.waiting l s.is) in
-    let n = k.block.number in
-    let answer : is_for_answer (call_by_now past k.block).wait ≡ true =
-    sym (receipt_for_answer (priority_of_item roster past n) (is_unblocked roster past n) (copied_count_of past n) (call_by_now past k.block)) ∙ ap (λ (o : OpenCall). is_for_answer o.wait) (sym k.same) ∙ s.answer in
-    let told = call_told m.0 (priority_of_item roster past n) copied (is_unblocked roster past n) (copied_count_of past n) (call_by_now past k.block) (ap (copied_count_of past) number ∙ count) answer in
-    let same : info_of f (sender f i) ≡ info_of_open m.0 (Some (with_receipt (priority_of_item roster past n) (is_unblocked roster past n) (copied_count_of past n) (call_by_now past k.block))) =
+    let n = number_of k.block in
+    let answer : is_for_answer (filled past k.block) ≡ true =
+    sym (receipt_for_answer (priority_of_item roster past n) (is_unblocked roster past n) (copied_count_of past n) (filled past k.block)) ∙ ap is_for_answer (sym k.same) ∙ s.answer in
+    let told = call_told m.0 (priority_of_item roster past n) copied (is_unblocked roster past n) (copied_count_of past n) (filled past k.block) (ap (copied_count_of past) number ∙ count) answer in
+    let same : info_of f (sender f i) ≡ info_of_open m.0 (Some (kept roster past k.block)) =
     ap (info_of f) h.is_sender ∙ ap (option_and_then (λ x. info_of_open x (f.open_call h.thread))) m.1 ∙ ap (info_of_open m.0) (s.is ∙ ap Some k.same) in
     record { info = told.info; is = same ∙ told.is; count = told.count }
 

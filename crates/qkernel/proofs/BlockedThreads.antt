@@ -1,22 +1,17 @@
 -- The threads that are blocked, by their records.
-use Rattle.std.proofs.Common.{◌≡◌, ℕ, ◌+◌, ◌<◌, List, [], ◌∷◌, ◌++◌, length, take, get_or, refl, ap, sym, ◌∙◌}
+use Rattle.std.proofs.Common.{◌≡◌, ℕ, ◌+◌, ◌<◌, List, [], ◌∷◌, ◌++◌, length, take, get_or, refl, ap, ◌∙◌}
 use Rattle.std.specs.Prelude.{Option, None, Some}
 use Rattle.std.specs.List.{filter_map, cons_option, AllByRecursion}
-use Rattle.std.specs.Option.{option_map, option_or, option_to_list}
+use Rattle.std.specs.Option.{option_map, option_to_list}
 use Rattle.std.proofs.lemmas.Grind.{take_at_read}
 use Rattle.std.proofs.lemmas.List.Elements.{filter_map-append}
 use Rattle.qtables.specs.Members.{IsRoster}
-use Rattle.qtables.specs.declared.connection.Connection.{Connection}
 use Rattle.qtables.specs.declared.member.Member.{Member}
 use Rattle.qrules.specs.Private.Blocked.{blocked_thread, blocked_threads_in}
 use Rattle.qrules.specs.Private.Facts.{threads_of, Facts}
-use Rattle.qrules.specs.Private.ThreadState.{state_in}
-use Rattle.qmodel.specs.declared.open_call.OpenCall.TheVariants.{Receive, Send}
+use Rattle.qrules.specs.Rules.Threads.{state_in}
 use Rattle.qrules.proofs.Traces.Rosters.{filter_map_same}
 use Rattle.qrules.specs.Lawful.{facts_of}
-use Rattle.qrules.proofs.Rows.Plain.{state_same}
-use Rattle.qrules.proofs.View.{IsKnown}
-use Rattle.qrules.specs.Facts.{waiting_number}
 use Rattle.qkernel.specs.Blocked.{blocked_threads}
 use Rattle.qkernel.specs.Blocked as told
 use Rattle.qkernel.specs.Stands.{StandsAt}
@@ -29,39 +24,36 @@ use Rattle.qmodel.specs.declared.open_call.Blocked.{Blocked}
 use Rattle.qmodel.specs.declared.open_call.OpenCall.{OpenCall}
 use Rattle.qstate.specs.declared.thread.Thread.{Thread}
 use Rattle.qstate.proofs.Senders.{own_open}
-use Rattle.qkernel.proofs.Contents.{open_among}
+use Rattle.std.specs.Option.{option_map_or}
+use Rattle.qbase.specs.declared.state.ThreadState.TheVariants.{Ready}
+use Rattle.qrules.specs.Facts.{number_of}
 
 -- what is told of each thread that is blocked, by its record
-abbrev pub blocked_by : (ℕ → Option Connection) → List Thread → List Blocked
-blocked_by connection threads = filter_map (λ t. blocked_thread connection t.member.thread t.open_call) threads
+abbrev pub blocked_by : List Thread → List Blocked
+blocked_by threads = filter_map (λ t. blocked_thread t.member.thread t.open_call) threads
 
 one_told : (given : Option Blocked) → cons_option given [] ≡ option_to_list given
 one_told None = refl
 one_told (Some b) = refl
 
-pub blocked_more : (connection : ℕ → Option Connection) (threads : List Thread) (i : ℕ) (d : Thread) → i < length threads
-    → blocked_by connection (take i threads) ++ option_to_list (blocked_thread connection (get_or threads i d).member.thread (get_or threads i d).open_call) ≡ blocked_by connection (take (i + 1) threads)
-blocked_more connection threads i d within = rw ((take_at_read threads i d within).1, filter_map-append (λ t. blocked_thread connection t.member.thread t.open_call) (take i threads) (get_or threads i d ∷ []), one_told (blocked_thread connection (get_or threads i d).member.thread (get_or threads i d).open_call)) refl
+pub blocked_more : (threads : List Thread) (i : ℕ) (d : Thread) → i < length threads
+    → blocked_by (take i threads) ++ option_to_list (blocked_thread (get_or threads i d).member.thread (get_or threads i d).open_call) ≡ blocked_by (take (i + 1) threads)
+blocked_more threads i d within = rw ((take_at_read threads i d within).1, filter_map-append (λ t. blocked_thread t.member.thread t.open_call) (take i threads) (get_or threads i d ∷ []), one_told (blocked_thread (get_or threads i d).member.thread (get_or threads i d).open_call)) refl
 
-same_told : (connection : ℕ → Option Connection) (open_call : ℕ → Option OpenCall) (threads : List Thread) → AllByRecursion (λ x. open_call x.member.thread ≡ x.open_call) threads
-    → blocked_by connection threads ≡ filter_map (λ u. blocked_thread connection u (open_call u)) (threads_of (members_of threads))
-same_told connection open_call [] h = refl
-same_told connection open_call (t ∷ threads) h = rw (h.0, same_told connection open_call threads h.1) refl
+same_told : (open_call : ℕ → Option OpenCall) (threads : List Thread) → AllByRecursion (λ x. open_call x.member.thread ≡ x.open_call) threads
+    → blocked_by threads ≡ filter_map (λ u. blocked_thread u (open_call u)) (threads_of (members_of threads))
+same_told open_call [] h = refl
+same_told open_call (t ∷ threads) h = rw (h.0, same_told open_call threads h.1) refl
 
 -- ---- what is told by the rules
 
-module _ (f : Facts) (known : IsKnown f) where
-  told_same : (u : ℕ) → blocked_thread f.connection u (f.open_call u) ≡ told.blocked_thread f u
-  told_same u = sym (
-      ap (λ s. option_map (λ n. record { number = n; thread = u; state = s }) (waiting_number f u)) (state_same f u known)
-      ∙ elim (f.open_call u) as (λ o. option_map (λ n. record { number = n; thread = u; state = state_in f.connection o }) (option_map (λ o. o.number) o) ≡ blocked_thread f.connection u o) [ None ↦ refl | Some o ↦ refl ])
+module _ (f : Facts) where
+  told_same : (u : ℕ) → blocked_thread u (f.open_call u) ≡ told.blocked_thread f u
+  told_same u = elim (f.open_call u) as (λ o. blocked_thread u o ≡ option_map (λ n. record { number = n; thread = u; state = option_map_or state_in o Ready }) (option_map number_of o)) [ None ↦ refl | Some o ↦ refl ]
 
   all_told : blocked_threads_in f ≡ blocked_threads f
   all_told = filter_map_same _ _ (threads_of f.roster) told_same
 
 pub blocked_now : (roster : List Member) (s : State) (past : Trace) → IsRoster (members_of s.threads) → StandsAt roster s past
-    → blocked_by (facts_in s).connection s.threads ≡ blocked_threads (facts_of roster past)
-blocked_now roster s past rises stands =
-    same_told (facts_in s).connection (open_in s.threads) s.threads (own_open s.threads rises)
-    ∙ all_told (facts_in s) (open_among s.threads)
-    ∙ ap blocked_threads stands
+    → blocked_by s.threads ≡ blocked_threads (facts_of roster past)
+blocked_now roster s past rises stands = same_told (open_in s.threads) s.threads (own_open s.threads rises) ∙ all_told (facts_in s) ∙ ap blocked_threads stands

@@ -14,8 +14,6 @@ use Rattle.qrules.specs.Private.Answer.{Outcome, ending, refusal_ending}
 use Rattle.qrules.specs.Private.Answer as old_answer
 use Rattle.qrules.specs.Private.Facts.{Facts, threads_of}
 use Rattle.qrules.specs.Private.Lawful.{facts_of, with_event}
-use Rattle.qrules.specs.Facts as rules
-use Rattle.qrules.specs.Outcome.{Answers}
 use Rattle.qrules.proofs.Same.{AreOfRoster}
 use Rattle.qrules.proofs.Lawful.{of_roster, same_lawful}
 use Rattle.qrules.proofs.Outcomes.{same_answers, same_buffer}

@@ -1,7 +1,7 @@
 //! Open calls: calls that haven't ended, in which their threads are blocked.
 
-ghost use Rattle.std.specs.Prelude.{◌≡◌};
-ghost use Rattle.qmodel.specs.OpenCalls.{number_of};
+ghost use Rattle.std.specs.Prelude.{◌≡◌, option_copied};
+ghost use Rattle.qmodel.specs.OpenCalls.{buffer_in, number_of, receive_in, send_in};
 
 use crate::call::{Completion, Mark};
 use qbase::bytes::Bytes;
@@ -103,6 +103,56 @@ impl OpenCall {
         match self {
             OpenCall::Send(send) => send.number,
             OpenCall::Receive(receive) => receive.number,
+        }
+    }
+
+    /// Returns the Send, if the call is one.
+    pub fn send(&self) -> Option<&OpenSend>
+        ensures { option_copied result ≡ send_in self.now }
+    {
+        match self {
+            OpenCall::Send(send) => Some(send),
+            OpenCall::Receive(_) => None,
+        }
+    }
+
+    /// Returns the receive, if the call is one.
+    pub fn receive(&self) -> Option<&OpenReceive>
+        ensures { option_copied result ≡ receive_in self.now }
+    {
+        match self {
+            OpenCall::Send(_) => None,
+            OpenCall::Receive(receive) => Some(receive),
+        }
+    }
+
+    /// Returns the Send, if the call is one.
+    pub fn into_send(self) -> Option<OpenSend>
+        ensures { result ≡ send_in self }
+    {
+        match self {
+            OpenCall::Send(send) => Some(send),
+            OpenCall::Receive(_) => None,
+        }
+    }
+
+    /// Returns the receive, if the call is one.
+    pub fn into_receive(self) -> Option<OpenReceive>
+        ensures { result ≡ receive_in self }
+    {
+        match self {
+            OpenCall::Send(_) => None,
+            OpenCall::Receive(receive) => Some(receive),
+        }
+    }
+
+    /// Returns the buffer that the call gets back.
+    pub fn into_buffer(self) -> Bytes
+        ensures { result ≡ buffer_in self }
+    {
+        match self {
+            OpenCall::Send(send) => send.reply_buffer,
+            OpenCall::Receive(receive) => receive.buffer,
         }
     }
 }

@@ -6,9 +6,6 @@ use Rattle.std.proofs.lemmas.Bool.{eqb-true}
 use Rattle.std.proofs.lemmas.Option.{none-some, same_Some}
 use Rattle.qqueue.specs.Best.{with_item_priority, with_priority}
 use Rattle.qqueue.specs.declared.item.Item.{Item}
-use Rattle.qtables.specs.Entries.{entry_at}
-use Rattle.qtables.specs.declared.connection.Connection.{Connection}
-use Rattle.qrules.specs.Private.Cancelling.{is_to}
 use Rattle.qrules.specs.Private.Step.{is_unread_send}
 use Rattle.qmodel.specs.declared.open_call.OpenCall.{OpenCall}
 use Rattle.qmodel.specs.declared.open_call.OpenCall.TheVariants.{Receive, Send}
@@ -17,29 +14,35 @@ use Rattle.qstate.specs.declared.channel.Channel.{Channel}
 use Rattle.qstate.specs.declared.unread.Unread.{Unread}
 use Rattle.qstate.specs.Channel.{SetsItems}
 use Rattle.qstate.specs.Kept.{pending_in}
-use Rattle.qstate.specs.Unread.{MovesUnread, unread_in, unread_of}
+use Rattle.qstate.specs.Unread.{MovesUnread, unread_in}
+use Rattle.std.proofs.Common.{is_some}
+use Rattle.std.proofs.Common.{not}
+use Rattle.qmodel.specs.declared.open_call.OpenSend.{OpenSend}
 
 -- ---- an open call and what waits on a channel
 
--- one that isn't the Send of a message to be received is none of any number
-none_unread : (connection : ℕ → Option Connection) (h i : ℕ) (o : Option OpenCall) → unread_in o ≡ None → is_unread_send connection h i o ≡ false
-none_unread connection h i None none = refl
-none_unread connection h i (Some o) none = of_wait o.number o.wait none where
-  of_wait : (n : ℕ) (w : Wait) → unread_of n w ≡ None → is_unread_send connection h i (Some (record { number = n; wait = w })) ≡ false
-  of_wait n (Answer coid message reply_buffer None) e = absurd (none-some _ (sym e))
-  of_wait n (Answer coid message reply_buffer (Some receipt)) e = elim (eqb n i) as (λ b. (b && false && is_to h (connection coid)) ≡ false) [ true ↦ refl | false ↦ refl ]
-  of_wait n (ForItem chid kind buffer) e = elim (eqb n i) as (λ b. (b && false && eqb chid h) ≡ false) [ true ↦ refl | false ↦ refl ]
+abbrev that : OpenSend → Unread
+that s = record { number = s.number; channel = s.channel }
 
--- one that is is that of its number, on the channel of its connection
-some_unread : (connection : ℕ → Option Connection) (h i : ℕ) (o : Option OpenCall) (u : Unread) → unread_in o ≡ Some u → is_unread_send connection h i o ≡ (eqb u.number i && is_to h (connection u.coid))
-some_unread connection h i None u is = absurd (none-some u is)
-some_unread connection h i (Some o) u is = of_wait o.number o.wait is where
-  of_wait : (n : ℕ) (w : Wait) → unread_of n w ≡ Some u → is_unread_send connection h i (Some (record { number = n; wait = w })) ≡ (eqb u.number i && is_to h (connection u.coid))
-  of_wait n (Answer coid message reply_buffer None) e =
-      elim (eqb n i) as (λ b. (b && true && is_to h (connection coid)) ≡ (b && is_to h (connection coid))) [ true ↦ refl | false ↦ refl ]
-      ∙ ap (λ (x : Unread). eqb x.number i && is_to h (connection x.coid)) (same_Some _ u e)
-  of_wait n (Answer coid message reply_buffer (Some receipt)) e = absurd (none-some u e)
-  of_wait n (ForItem chid kind buffer) e = absurd (none-some u e)
+-- one that isn't the Send of a message to be received is none of any number
+none_unread : (h i : ℕ) (o : Option OpenCall) → unread_in o ≡ None → is_unread_send h i o ≡ false
+none_unread h i None none = refl
+none_unread h i (Some (Receive r)) none = elim (eqb r.number i) as (λ b. (b && false && eqb r.channel h) ≡ false) [ true ↦ refl | false ↦ refl ]
+none_unread h i (Some (Send s)) none =
+    elim (is_some s.receipt) as (λ b. cond b None (Some (that s)) ≡ None → (eqb s.number i && not b && eqb s.channel h) ≡ false) [
+      | true ↦ λ e. elim (eqb s.number i) as (λ b. (b && false && eqb s.channel h) ≡ false) [ true ↦ refl | false ↦ refl ]
+      | false ↦ λ e. absurd (none-some _ (sym e))
+    ] none
+
+-- one that is is that of its number, on its channel
+some_unread : (h i : ℕ) (o : Option OpenCall) (u : Unread) → unread_in o ≡ Some u → is_unread_send h i o ≡ (eqb u.number i && eqb u.channel h)
+some_unread h i None u is = absurd (none-some u is)
+some_unread h i (Some (Receive r)) u is = absurd (none-some u is)
+some_unread h i (Some (Send s)) u is =
+    elim (is_some s.receipt) as (λ b. cond b None (Some (that s)) ≡ Some u → (eqb s.number i && not b && eqb s.channel h) ≡ (eqb u.number i && eqb u.channel h)) [
+      | true ↦ λ e. absurd (none-some u e)
+      | false ↦ λ e. ap (λ b. b && eqb s.channel h) (and-true (eqb s.number i)) ∙ ap (λ (x : Unread). eqb x.number i && eqb x.channel h) (same_Some _ u e)
+    ] is
 
 -- ---- lists of items
 
@@ -58,34 +61,36 @@ moved p n priority (x ∷ items) one =
 -- ---- the channels
 
 -- no channel has such a message
-nothing_moves : (o : Option OpenCall) (connections : List (ℕ × Connection)) (priority : ℕ) (channels : List (ℕ × Channel)) → ((h i : ℕ) → is_unread_send (λ k. entry_at connections k) h i o ≡ false)
-    → MovesUnread o connections priority channels channels
-nothing_moves o connections priority channels none = record {
+pub moves_none : (o : Option OpenCall) (priority : ℕ) (channels : List (ℕ × Channel)) → unread_in o ≡ None → MovesUnread o priority channels channels
+moves_none o priority channels none = record {
   ids = refl;
   channel = λ h. refl;
-  pending = λ h. sym (unmoved (λ i. is_unread_send (λ k. entry_at connections k) h i o) priority (pending_in channels h) (λ i. none h i));
+  pending = λ h. sym (unmoved (λ i. is_unread_send h i o) priority (pending_in channels h) (λ i. none_unread h i o none));
 }
 
-pub moves_none : (o : Option OpenCall) (connections : List (ℕ × Connection)) (priority : ℕ) (channels : List (ℕ × Channel)) → unread_in o ≡ None → MovesUnread o connections priority channels channels
-moves_none o connections priority channels none = nothing_moves o connections priority channels (λ h i. none_unread (λ k. entry_at connections k) h i o none)
+-- the message's channel isn't open, so nothing waits there
+pub moves_nowhere : (o : Option OpenCall) (priority : ℕ) (channels : List (ℕ × Channel)) (u : Unread) → unread_in o ≡ Some u → pending_in channels u.channel ≡ [] → MovesUnread o priority channels channels
+moves_nowhere o priority channels u is gone = record {
+  ids = refl;
+  channel = λ h. refl;
+  pending = λ h. elim (eqb u.channel h) as (λ b. eqb u.channel h ≡ b → pending_in channels h ≡ map (λ item. cond (is_unread_send h item.number o) (with_priority priority item) item) (pending_in channels h)) [
+    | true ↦ λ there. let none : pending_in channels h ≡ [] = ap (pending_in channels) (sym (eqb-true u.channel h there)) ∙ gone in rw none refl
+    | false ↦ λ elsewhere. sym (unmoved (λ i. is_unread_send h i o) priority (pending_in channels h) (λ i. some_unread h i o u is ∙ rw elsewhere (and-false (eqb u.number i))))
+  ] refl;
+}
 
-pub moves_nowhere : (o : Option OpenCall) (connections : List (ℕ × Connection)) (priority : ℕ) (channels : List (ℕ × Channel)) (u : Unread) → unread_in o ≡ Some u → entry_at connections u.coid ≡ None
-    → MovesUnread o connections priority channels channels
-moves_nowhere o connections priority channels u is gone = nothing_moves o connections priority channels (λ h i.
-    some_unread (λ k. entry_at connections k) h i o u is ∙ ap (λ c. eqb u.number i && is_to h c) gone ∙ and-false (eqb u.number i))
-
-pub moves_one : (o : Option OpenCall) (connections : List (ℕ × Connection)) (priority : ℕ) (old new : List (ℕ × Channel)) (u : Unread) (c : Connection) → unread_in o ≡ Some u → entry_at connections u.coid ≡ Some c
-    → SetsItems c.channel (with_item_priority u.number priority (pending_in old c.channel)) old new → MovesUnread o connections priority old new
-moves_one o connections priority old new u c is over sets = record {
+pub moves_one : (o : Option OpenCall) (priority : ℕ) (old new : List (ℕ × Channel)) (u : Unread) → unread_in o ≡ Some u
+    → SetsItems u.channel (with_item_priority u.number priority (pending_in old u.channel)) old new → MovesUnread o priority old new
+moves_one o priority old new u is sets = record {
   ids = sets.ids;
   channel = sets.channel;
   pending = λ h. sets.pending h ∙ (
-      let p = λ (i : ℕ). is_unread_send (λ k. entry_at connections k) h i o in
-      let is_that : (i : ℕ) → p i ≡ (eqb u.number i && eqb c.channel h) = λ i. some_unread (λ k. entry_at connections k) h i o u is ∙ ap (λ x. eqb u.number i && is_to h x) over in
-      elim (eqb h c.channel) as (λ b. eqb h c.channel ≡ b → cond b (with_item_priority u.number priority (pending_in old c.channel)) (pending_in old h) ≡ map (λ item. cond (p item.number) (with_priority priority item) item) (pending_in old h)) [
+      let p = λ (i : ℕ). is_unread_send h i o in
+      let is_that : (i : ℕ) → p i ≡ (eqb u.number i && eqb u.channel h) = λ i. some_unread h i o u is in
+      elim (eqb h u.channel) as (λ b. eqb h u.channel ≡ b → cond b (with_item_priority u.number priority (pending_in old u.channel)) (pending_in old h) ≡ map (λ item. cond (p item.number) (with_priority priority item) item) (pending_in old h)) [
         | true ↦ λ there.
-            ap (λ k. with_item_priority u.number priority (pending_in old k)) (sym (eqb-true h c.channel there))
-            ∙ moved p u.number priority (pending_in old h) (λ i. is_that i ∙ ap (λ b. eqb u.number i && b) (eqb_either c.channel h ∙ there) ∙ and-true (eqb u.number i))
-        | false ↦ λ elsewhere. sym (unmoved p priority (pending_in old h) (λ i. is_that i ∙ ap (λ b. eqb u.number i && b) (eqb_either c.channel h ∙ elsewhere) ∙ and-false (eqb u.number i)))
+            ap (λ k. with_item_priority u.number priority (pending_in old k)) (sym (eqb-true h u.channel there))
+            ∙ moved p u.number priority (pending_in old h) (λ i. is_that i ∙ ap (λ b. eqb u.number i && b) (eqb_either u.channel h ∙ there) ∙ and-true (eqb u.number i))
+        | false ↦ λ elsewhere. sym (unmoved p priority (pending_in old h) (λ i. is_that i ∙ ap (λ b. eqb u.number i && b) (eqb_either u.channel h ∙ elsewhere) ∙ and-false (eqb u.number i)))
       ] refl);
 }

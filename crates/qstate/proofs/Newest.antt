@@ -12,7 +12,7 @@ use Rattle.qqueue.specs.declared.item.Item.{Item}
 use Rattle.qtables.specs.Members.{IsRoster}
 use Rattle.qmodel.specs.declared.open_call.OpenCall.{OpenCall}
 use Rattle.qmodel.specs.declared.open_call.OpenCall.TheVariants.{Receive, Send}
-use Rattle.qrules.specs.Private.Receivers.{wait_for, wait_on}
+use Rattle.qrules.specs.Private.Receivers.{wait_on}
 use Rattle.qstate.specs.declared.index.Index.{Index}
 use Rattle.qstate.specs.declared.seat.Seat.{Seat}
 use Rattle.qstate.specs.declared.thread.Thread.{Thread}
@@ -71,13 +71,11 @@ newest_is_found h item threads roster = ap (option_map (λ (b : ℕ × ℕ). b.1
 
 pub waits_receives : (h : ℕ) (item : Item) (o : Option OpenCall) (n : ℕ) → wait_on h item o ≡ Some n → receive_number o ≡ Some n
 waits_receives h item None n e = absurd (none-some n e)
-waits_receives h item (Some o) n e = by_wait o.wait e where
-  by_wait : (w : Wait) → wait_for h item o.number w ≡ Some n → receive_number (Some (record { number = o.number; wait = w })) ≡ Some n
-  by_wait (Answer coid message reply_buffer receipt) e = absurd (none-some n e)
-  by_wait (ForItem chid kind buffer) e = elim (eqb chid h && may_take kind item) as (λ b. cond b (Some o.number) None ≡ Some n → Some o.number ≡ Some n) [
-    | true ↦ λ is. is
-    | false ↦ λ is. absurd (none-some n is)
-  ] e
+waits_receives h item (Some (Send s)) n e = absurd (none-some n e)
+waits_receives h item (Some (Receive r)) n e = elim (eqb r.channel h && may_take r.kind item) as (λ b. cond b (Some r.number) None ≡ Some n → Some r.number ≡ Some n) [
+  | true ↦ λ is. is
+  | false ↦ λ is. absurd (none-some n is)
+] e
 
 -- ---- threads that don't wait for it are passed over
 

@@ -13,14 +13,15 @@ use Rattle.qmodel.specs.declared.open_call.OpenCall.TheVariants.{Receive, Send}
 use Rattle.qstate.specs.declared.thread.Thread.{Thread}
 use Rattle.qrules.specs.Private.Facts.{threads_of, first_where}
 use Rattle.qrules.specs.Private.Receivers.{is_after, wait_on}
-use Rattle.qrules.specs.Private.Rows.{receipt_ending, takes, takes_into}
-use Rattle.qstate.specs.declared.open.OpenReceive.{OpenReceive}
-use Rattle.qstate.specs.Open.{receive_in}
+use Rattle.qrules.specs.Private.Rows.{receipt_ending, takes}
+use Rattle.qmodel.specs.declared.open_call.OpenReceive.{OpenReceive}
+use Rattle.qmodel.specs.OpenCalls.{receive_in}
 use Rattle.qrules.proofs.Traces.Properties.Receivers.{after_less, any_after, newest_parts}
 use Rattle.qstate.specs.Thread.{later_of_two, newest_in, open_in}
 use Rattle.qstate.specs.Kept.{members_of}
 use Rattle.qbase.proofs.Lists.{is_among}
 use Rattle.qstate.proofs.Senders.{own_open}
+use Rattle.std.proofs.Common.{option_and_then}
 
 -- ---- the search through the threads, and what it finds
 
@@ -108,42 +109,28 @@ waits_among h item m (t ∷ threads) u e =
 -- what waits for an item takes one
 pub waits_takes : (h m : ℕ) (item : Item) (message : List ℕ) (u : ℕ) (o : Option OpenCall) → wait_on h item o ≡ Some m → is_some (takes item message u o) ≡ true
 waits_takes h m item message u None e = absurd (none-some m e)
-waits_takes h m item message u (Some o) e = waits o.wait e where
-  waits : (w : Wait) → wait_on h item (Some (record { number = o.number; wait = w })) ≡ Some m → is_some (takes item message u (Some (record { number = o.number; wait = w }))) ≡ true
-  waits (Answer coid sent reply_buffer receipt) e = absurd (none-some m e)
-  waits (ForItem chid kind buffer) e = refl
+waits_takes h m item message u (Some (Send s)) e = absurd (none-some m e)
+waits_takes h m item message u (Some (Receive r)) e = refl
 
 -- how it ends is of its thread
 pub ended_thread : (item : Item) (message : List ℕ) (r : ℕ) (o : Option OpenCall) (y : Completion) → takes item message r o ≡ Some y → y.thread ≡ r
 ended_thread item message r None y e = absurd (none-some y e)
-ended_thread item message r (Some o) y e = by_wait o.wait e where
-  by_wait : (w : Wait) → takes_into item message r o.number w ≡ Some y → y.thread ≡ r
-  by_wait (Answer coid sent reply_buffer receipt) e = absurd (none-some y e)
-  by_wait (ForItem chid kind buffer) e = sym (ap (λ x. x.thread) (same_Some _ y e))
+ended_thread item message r (Some (Send s)) y e = absurd (none-some y e)
+ended_thread item message r (Some (Receive x)) y e = sym (ap (λ x. x.thread) (same_Some _ y e))
 
 -- what waits is a receive
-pub waits_receive : (h m : ℕ) (item : Item) (u : ℕ) (o : Option OpenCall) → wait_on h item o ≡ Some m → is_some (receive_in u o) ≡ true
-waits_receive h m item u None e = absurd (none-some m e)
-waits_receive h m item u (Some o) e = by_wait o.wait e where
-  by_wait : (w : Wait) → wait_on h item (Some (record { number = o.number; wait = w })) ≡ Some m → is_some (receive_in u (Some (record { number = o.number; wait = w }))) ≡ true
-  by_wait (Answer coid sent reply_buffer receipt) e = absurd (none-some m e)
-  by_wait (ForItem chid kind buffer) e = refl
+pub waits_receive : (h m : ℕ) (item : Item) (o : Option OpenCall) → wait_on h item o ≡ Some m → is_some (option_and_then receive_in o) ≡ true
+waits_receive h m item None e = absurd (none-some m e)
+waits_receive h m item (Some (Send s)) e = absurd (none-some m e)
+waits_receive h m item (Some (Receive r)) e = refl
 
--- the receive that a thread is blocked in, if it is in one, is that thread's own
-pub receive_own : (u : ℕ) (o : Option OpenCall) (r : Option OpenReceive) (P : OpenReceive → Type 0) → r ≡ receive_in u o → ((x : OpenReceive) → x.thread ≡ u → receive_in u o ≡ Some x → P x) → IfSome r P
-receive_own u o None P had each = tt
-receive_own u o (Some r) P had each = each r (thread_of o had) (sym had) where
-  thread_of : (o : Option OpenCall) → Some r ≡ receive_in u o → r.thread ≡ u
-  thread_of None had = absurd (none-some r (sym had))
-  thread_of (Some o) had = by_wait o.wait had where
-    by_wait : (w : Wait) → Some r ≡ receive_in u (Some (record { number = o.number; wait = w })) → r.thread ≡ u
-    by_wait (Answer coid sent reply_buffer receipt) had = absurd (none-some r (sym had))
-    by_wait (ForItem chid kind buffer) had = sym (ap (λ x. x.thread) (same_Some _ r (sym had)))
+-- what holds of the thread's own receive holds of the one that is given
+pub receive_own : (u : ℕ) (o : Option OpenCall) (r : Option OpenReceive) (P : OpenReceive → Type 0) → r ≡ option_and_then receive_in o → IfSome r (λ x. x.thread ≡ u) → ((x : OpenReceive) → x.thread ≡ u → option_and_then receive_in o ≡ Some x → P x) → IfSome r P
+receive_own u o None P had own each = tt
+receive_own u o (Some r) P had own each = each r own (sym had)
 
 -- how it ends that takes an item
-pub taken_by : (item : Item) (message : List ℕ) (u : ℕ) (o : Option OpenCall) (r : OpenReceive) → receive_in u o ≡ Some r → takes item message u o ≡ Some (receipt_ending item message r.thread r.number r.buffer)
+pub taken_by : (item : Item) (message : List ℕ) (u : ℕ) (o : Option OpenCall) (r : OpenReceive) → option_and_then receive_in o ≡ Some r → takes item message u o ≡ Some (receipt_ending item message u r.number r.buffer)
 taken_by item message u None r e = absurd (none-some r e)
-taken_by item message u (Some o) r e = by_wait o.wait e where
-  by_wait : (w : Wait) → receive_in u (Some (record { number = o.number; wait = w })) ≡ Some r → takes item message u (Some (record { number = o.number; wait = w })) ≡ Some (receipt_ending item message r.thread r.number r.buffer)
-  by_wait (Answer coid sent reply_buffer receipt) e = absurd (none-some r e)
-  by_wait (ForItem chid kind buffer) e = ap (λ x. Some (receipt_ending item message x.thread x.number x.buffer)) (same_Some _ r e)
+taken_by item message u (Some (Send s)) r e = absurd (none-some r e)
+taken_by item message u (Some (Receive x)) r e = ap (λ (x : OpenReceive). Some (receipt_ending item message u x.number x.buffer)) (same_Some _ r e)

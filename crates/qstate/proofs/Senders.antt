@@ -1,6 +1,6 @@
 -- The thread whose open call is a Send, by its place and by its number.
 use Rattle.std.proofs.Common.{◌≡◌, ℕ, suc, zero, ◌+◌, ◌<◌, List, [], ◌∷◌, length, get_or, refl, ap, sym, subst, ◌∙◌, cond, arith, true, false, eqb}
-use Rattle.std.specs.Prelude.{Option, None, Some, Result, is_some, position}
+use Rattle.std.specs.Prelude.{Option, None, Some, Result, is_some, position, ◌&&◌}
 use Rattle.std.specs.List.{position_from, AllByRecursion}
 use Rattle.std.specs.Option.{ok_or, option_map, IfNone, IfSome}
 use Rattle.std.specs.Result.{IfErr, IfOk}
@@ -8,20 +8,25 @@ use Rattle.std.proofs.lemmas.Bool.{eqb-true, eq-eqb, ne_eqb, true≢false, and_p
 use Rattle.std.proofs.lemmas.Iterator.Adapters.{position_from-zero}
 use Rattle.std.proofs.lemmas.Option.{same_Some, none-some}
 use Rattle.qtables.specs.Members.{IsRoster}
-use Rattle.qtables.specs.declared.connection.Connection.{Connection}
 use Rattle.qstate.specs.declared.channel.Channel.{Channel}
 use Rattle.qmodel.specs.declared.open_call.OpenCall.{OpenCall}
 use Rattle.qmodel.specs.declared.open_call.OpenCall.TheVariants.{Receive, Send}
 use Rattle.qrules.specs.Private.Held.{Finish, answer_ending}
-use Rattle.qstate.specs.declared.open.OpenSend.{OpenSend}
-use Rattle.qstate.specs.Open.{send_in}
+use Rattle.qmodel.specs.declared.open_call.OpenSend.{OpenSend}
+use Rattle.qmodel.specs.OpenCalls.{send_in}
 use Rattle.qstate.specs.declared.thread.Thread.{Thread}
 use Rattle.qrules.specs.Private.Facts.{threads_of, is_send, sender_among, message_in}
-use Rattle.qstate.specs.Held.{is_held_in, is_held_over}
-use Rattle.qstate.specs.Thread.{held_over_in, open_in, seat_in, sender_in, sent_call, message_from, ChangesOpen, ChangesSender}
+use Rattle.qstate.specs.Held.{is_held_in}
+use Rattle.qstate.specs.Thread.{open_in, seat_in, sender_in, sent_call, message_from, ChangesOpen, ChangesSender}
 use Rattle.qstate.specs.Kept.{members_of}
 use Rattle.qstate.specs.Threads.{number_at}
 use Rattle.qstate.proofs.Seats.{call_here, first_at, first_number, IsFirstAt, first_open}
+use Rattle.qmodel.specs.OpenCalls.{number_of}
+use Rattle.std.proofs.Common.{option_and_then}
+use Rattle.std.specs.Option.{option_map_or}
+use Rattle.qstate.specs.Held.{is_held_of}
+use Rattle.qstate.specs.Channel.{is_of}
+use Rattle.qstate.specs.Kept.{channel_in}
 
 -- ---- each thread waits for what its own record says
 
@@ -122,25 +127,11 @@ module _ (i : ℕ) (threads : List Thread) (k : ℕ) (d : Thread) (r : IsRoster 
   pub message_there : message_from threads i ≡ message_in (get_or threads k d).open_call
   message_there = ap message_in call_there
 
--- ---- whether its message is held
-
-pub held_there : (connections : List (ℕ × Connection)) (channels : List (ℕ × Channel)) (p i : ℕ) (threads : List Thread) (k : ℕ) (d : Thread) → IsRoster (members_of threads) → position (λ t. is_send i t.open_call) threads ≡ Some k
-    → is_held_in threads connections channels p i ≡ is_held_over connections channels p (held_over_in (get_or threads k d).open_call)
-held_there connections channels p i threads k d r at = ap (λ o. is_held_over connections channels p (held_over_in o)) (call_there i threads k d r at)
-
--- a message that is held has a sender
-pub sender_of_held : (connections : List (ℕ × Connection)) (channels : List (ℕ × Channel)) (p : ℕ) (o : Option OpenCall) → is_held_over connections channels p (held_over_in o) ≡ true → is_some (held_over_in o) ≡ true
-sender_of_held connections channels p o e =
-    elim (held_over_in o) as (λ x. is_held_over connections channels p x ≡ true → is_some x ≡ true) [
-      | None ↦ λ h. absurd (true≢false (sym h))
-      | Some coid ↦ λ h. refl
-    ] e
-
 -- ---- a sender that was looked up at a guess
 
-send_number : (i : ℕ) (o : Option OpenCall) → is_send i o ≡ true → option_map (λ c. c.number) o ≡ Some i
+send_number : (i : ℕ) (o : Option OpenCall) → is_send i o ≡ true → option_map number_of o ≡ Some i
 send_number i None e = absurd (true≢false (sym e))
-send_number i (Some o) e = ap Some (eqb-true o.number i (and_parts _ _ e).0)
+send_number i (Some o) e = ap Some (eqb-true (number_of o) i (and_parts _ _ e).0)
 
 -- no other thread before it sends the same, where open calls have numbers of their own
 pub sender_alone : (i : ℕ) (threads : List Thread) (k : ℕ) (d : Thread) → k < length threads → is_send i (get_or threads k d).open_call ≡ true → ((j m n : ℕ) → number_at threads j ≡ Some n → number_at threads m ≡ Some n → j ≡ m)
@@ -149,7 +140,7 @@ sender_alone i [] k d l sends apart = absurd (omega arith)
 sender_alone i (t ∷ threads) zero d l sends apart = rw sends refl
 sender_alone i (t ∷ threads) (suc k) d l sends apart =
     elim (is_send i t.open_call) as (λ b. is_send i t.open_call ≡ b → cond b (Some t.member.thread) (sender_by i threads) ≡ Some (get_or threads k d).member.thread) [
-      | true ↦ λ first. let same : 0 ≡ suc k = apart 0 (suc k) i (send_number i t.open_call first) (ap (option_map (λ c. c.number)) (call_here threads k d (omega arith)) ∙ send_number i _ sends) in absurd (omega arith)
+      | true ↦ λ first. let same : 0 ≡ suc k = apart 0 (suc k) i (send_number i t.open_call first) (ap (option_map number_of) (call_here threads k d (omega arith)) ∙ send_number i _ sends) in absurd (omega arith)
       | false ↦ λ other. sender_alone i threads k d (omega arith) sends (λ j m n a b. let same : suc j ≡ suc m = apart (suc j) (suc m) n a b in omega arith)
     ] refl
 
@@ -172,11 +163,23 @@ message_sent i u threads sent = rw sent refl
 pub changes_sender : (i u : ℕ) (change : OpenCall → OpenCall) (old new : List Thread) → sender_in old i ≡ Some u → ChangesOpen u change old new → ChangesSender i change old new
 changes_sender i u change old new sent c = record { members = c.members; open_call = λ v. rw sent (c.open_call v); priority = c.priority }
 
-pub held_none : (connections : List (ℕ × Connection)) (channels : List (ℕ × Channel)) (p i : ℕ) (threads : List Thread) → sender_in threads i ≡ None → is_held_in threads connections channels p i ≡ false
-held_none connections channels p i threads none = rw none refl
+pub held_none : (channels : List (ℕ × Channel)) (p i : ℕ) (threads : List Thread) → sender_in threads i ≡ None → is_held_in threads channels p i ≡ false
+held_none channels p i threads none = rw none refl
 
-pub held_sent : (connections : List (ℕ × Connection)) (channels : List (ℕ × Channel)) (p i u : ℕ) (threads : List Thread) → sender_in threads i ≡ Some u → is_held_in threads connections channels p i ≡ is_held_over connections channels p (held_over_in (open_in threads u))
-held_sent connections channels p i u threads sent = rw sent refl
+pub held_sent : (channels : List (ℕ × Channel)) (p i u : ℕ) (threads : List Thread) → sender_in threads i ≡ Some u → is_held_in threads channels p i ≡ option_map_or (is_held_of channels p) (open_in threads u) false
+held_sent channels p i u threads sent = rw sent refl
+
+-- a Send is held where it is received, and its channel is the process's
+pub held_send : (channels : List (ℕ × Channel)) (p : ℕ) (o : Option OpenCall) (s : OpenSend) → option_and_then send_in o ≡ Some s → option_map_or (is_held_of channels p) o false ≡ (is_some s.receipt && is_of p (channel_in channels s.channel))
+held_send channels p None s e = absurd (none-some s e)
+held_send channels p (Some (Receive r)) s e = absurd (none-some s e)
+held_send channels p (Some (Send x)) s e = ap (λ (x : OpenSend). is_some x.receipt && is_of p (channel_in channels x.channel)) (same_Some x s e)
+
+-- and what is no Send isn't
+pub held_no_send : (channels : List (ℕ × Channel)) (p : ℕ) (o : Option OpenCall) → option_and_then send_in o ≡ None → option_map_or (is_held_of channels p) o false ≡ false
+held_no_send channels p None e = refl
+held_no_send channels p (Some (Receive r)) e = refl
+held_no_send channels p (Some (Send x)) e = absurd (none-some x (sym e))
 
 pub call_sent : (i u : ℕ) (threads : List Thread) → sender_in threads i ≡ Some u → sent_call threads i ≡ open_in threads u
 call_sent i u threads sent = rw sent refl
@@ -191,26 +194,13 @@ sends_it threads i u e = found (threads_of (members_of threads)) e where
     | false ↦ λ is e. found ts e
   ] refl e
 
-send_there : (i u : ℕ) (o : Option OpenCall) → is_send i o ≡ true → is_some (send_in u o) ≡ true
-send_there i u None e = absurd (true≢false (sym e))
-send_there i u (Some o) e = by_wait o.wait e where
-  by_wait : (w : Wait) → is_send i (Some (record { number = o.number; wait = w })) ≡ true → is_some (send_in u (Some (record { number = o.number; wait = w }))) ≡ true
-  by_wait (Answer coid message reply_buffer receipt) e = refl
-  by_wait (ForItem chid kind buffer) e = absurd (true≢false (sym (and_parts _ _ e).1))
+send_there : (i : ℕ) (o : Option OpenCall) → is_send i o ≡ true → is_some (option_and_then send_in o) ≡ true
+send_there i None e = absurd (true≢false (sym e))
+send_there i (Some (Send s)) e = refl
+send_there i (Some (Receive r)) e = absurd (true≢false (sym (and_parts (eqb r.number i) false e).1))
 
-pub send_of_sender : (threads : List Thread) (i u : ℕ) → sender_in threads i ≡ Some u → is_some (send_in u (open_in threads u)) ≡ true
-send_of_sender threads i u sent = send_there i u (open_in threads u) (sends_it threads i u sent)
-
--- the Send that a thread is blocked in, if it is in one, is that thread's own
-send_own : (u : ℕ) (o : Option OpenCall) (s : Option OpenSend) (P : OpenSend → Type 0) → s ≡ send_in u o → ((x : OpenSend) → x.thread ≡ u → send_in u o ≡ Some x → P x) → IfSome s P
-send_own u o None P had each = tt
-send_own u o (Some s) P had each = each s (thread_of o had) (sym had) where
-  thread_of : (o : Option OpenCall) → Some s ≡ send_in u o → s.thread ≡ u
-  thread_of None had = absurd (none-some s (sym had))
-  thread_of (Some o) had = by_wait o.wait had where
-    by_wait : (w : Wait) → Some s ≡ send_in u (Some (record { number = o.number; wait = w })) → s.thread ≡ u
-    by_wait (Answer coid message reply_buffer receipt) had = sym (ap (λ x. x.thread) (same_Some _ s (sym had)))
-    by_wait (ForItem chid kind buffer) had = absurd (none-some s (sym had))
+pub send_of_sender : (threads : List Thread) (i u : ℕ) → sender_in threads i ≡ Some u → is_some (option_and_then send_in (open_in threads u)) ≡ true
+send_of_sender threads i u sent = send_there i (open_in threads u) (sends_it threads i u sent)
 
 -- what is there isn't missing
 pub there_not_none : {A : Type 0} (o : Option A) (P : Type 0) → is_some o ≡ true → IfNone o P
@@ -218,9 +208,9 @@ there_not_none None P some = absurd (true≢false (sym some))
 there_not_none (Some x) P some = tt
 
 -- a Send that is there is an Ok, and what holds of the thread's own Send holds of it
-pub send_taken : {E : Type 0} (u : ℕ) (o : Option OpenCall) (s : Option OpenSend) (e : E) (r : Result OpenSend E) (P : OpenSend → Type 0) → r ≡ ok_or s e → s ≡ send_in u o → ((x : OpenSend) → x.thread ≡ u → send_in u o ≡ Some x → P x) → IfOk r P
-send_taken u o None e r P is had each = rw is tt
-send_taken u o (Some s) e r P is had each = rw is (send_own u o (Some s) P had each)
+pub send_taken : {E : Type 0} (u : ℕ) (o : Option OpenCall) (s : Option OpenSend) (e : E) (r : Result OpenSend E) (P : OpenSend → Type 0) → r ≡ ok_or s e → s ≡ option_and_then send_in o → IfSome s (λ x. x.thread ≡ u) → ((x : OpenSend) → x.thread ≡ u → option_and_then send_in o ≡ Some x → P x) → IfOk r P
+send_taken u o None e r P is had own each = rw is tt
+send_taken u o (Some s) e r P is had own each = rw is (each s own (sym had))
 
 -- and no error
 pub never_err : {A E : Type 0} (o : Option A) (e : E) (r : Result A E) (P : E → Type 0) → r ≡ ok_or o e → is_some o ≡ true → IfErr r P
@@ -228,9 +218,7 @@ never_err None e r P is some = absurd (true≢false (sym some))
 never_err (Some x) e r P is some = rw is tt
 
 -- how it ends that is answered
-pub answered_by : (finish : Finish) (u : ℕ) (o : Option OpenCall) (s : OpenSend) → send_in u o ≡ Some s → answer_ending finish u o ≡ Some (record { call = s.number; thread = s.thread; mark = (finish s.reply_buffer).0; buffer = (finish s.reply_buffer).1 })
+pub answered_by : (finish : Finish) (u : ℕ) (o : Option OpenCall) (s : OpenSend) → option_and_then send_in o ≡ Some s → answer_ending finish u o ≡ Some (record { call = s.number; thread = u; mark = (finish s.reply_buffer).0; buffer = (finish s.reply_buffer).1 })
 answered_by finish u None s e = absurd (none-some s e)
-answered_by finish u (Some o) s e = by_wait o.wait e where
-  by_wait : (w : Wait) → send_in u (Some (record { number = o.number; wait = w })) ≡ Some s → answer_ending finish u (Some (record { number = o.number; wait = w })) ≡ Some (record { call = s.number; thread = s.thread; mark = (finish s.reply_buffer).0; buffer = (finish s.reply_buffer).1 })
-  by_wait (Answer coid message reply_buffer receipt) e = ap (λ x. Some (record { call = x.number; thread = x.thread; mark = (finish x.reply_buffer).0; buffer = (finish x.reply_buffer).1 })) (same_Some _ s e)
-  by_wait (ForItem chid kind buffer) e = absurd (none-some s e)
+answered_by finish u (Some (Receive r)) s e = absurd (none-some s e)
+answered_by finish u (Some (Send x)) s e = ap (λ (x : OpenSend). Some (record { call = x.number; thread = u; mark = (finish x.reply_buffer).0; buffer = (finish x.reply_buffer).1 })) (same_Some _ s e)

@@ -2,9 +2,7 @@
 use Rattle.std.specs.Prelude.{◌≡◌, ℕ, ◌==◌, ◌&&◌, Bool, true, false, not, is_some, List, [], ◌∷◌, ◌++◌}
 use Rattle.std.specs.Prelude.{filter, Option, None, Some, if◌then◌else◌}
 use Rattle.std.specs.List.{list_any}
-use Rattle.std.specs.Option.{option_map, option_and_then}
 use Rattle.qbase.specs.declared.errno.Errno.{Errno}
-use Rattle.qtables.specs.declared.connection.Connection.{Connection}
 use Rattle.qmodel.specs.declared.call.Completion.{Completion}
 use Rattle.qmodel.specs.declared.open_call.OpenCall.{OpenCall}
 use Rattle.qmodel.specs.declared.open_call.OpenCall.TheVariants.{Receive, Send}
@@ -20,75 +18,70 @@ use Rattle.qstate.specs.Kept.{channel_in, pending_in}
 use Rattle.qstate.specs.Thread.{open_in}
 use Rattle.qstate.specs.Kept.{members_of, thread_priority}
 
--- true if the wait of thread u is cancelled
-abbrev pub is_cancelled_by : (ℕ → Option Connection) → CancelSet → ℕ → Wait → Bool
-is_cancelled_by connection (On chid) u wait = is_on connection chid wait
-is_cancelled_by connection All u wait = true
-is_cancelled_by connection (Of thread) u wait = u == thread
-is_cancelled_by connection (Over coid) u wait = is_over coid wait
+-- true if the open call of thread u is cancelled
+abbrev pub is_cancelled_by : CancelSet → ℕ → OpenCall → Bool
+is_cancelled_by (On chid) u o = is_on chid o
+is_cancelled_by All u o = true
+is_cancelled_by (Of thread) u o = u == thread
+is_cancelled_by (Over coid) u o = is_over coid o
 
 -- the completion of the call of thread u: own for the caller; for another thread, that of its open call if it
 -- is cancelled
-abbrev pub ending_for : (ℕ → Option Connection) → CancelSet → Errno → Completion → ℕ → Option OpenCall
+abbrev pub ending_for : CancelSet → Errno → Completion → ℕ → Option OpenCall
     → Option Completion
-ending_for connection cancel e own u o =
-    if u == own.thread then Some own else cancel_where (is_cancelled_by connection cancel u) e u o
+ending_for cancel e own u o =
+    if u == own.thread then Some own else cancel_where (is_cancelled_by cancel u) e u o
 
 -- each thread whose call is cancelled has no open call any more, and nothing else changes
-pub record AreCancelled (connection : ℕ → Option Connection) (cancel : CancelSet) (e : Errno)
+pub record AreCancelled (cancel : CancelSet) (e : Errno)
     (old new : List Thread) : Type
     0 where
   pub members : members_of new ≡ members_of old
   pub open_call : (v : ℕ) → open_in new v
-      ≡ (if is_some (cancel_where (is_cancelled_by connection cancel v) e v (open_in old v)) then None
+      ≡ (if is_some (cancel_where (is_cancelled_by cancel v) e v (open_in old v)) then None
       else open_in old v)
   pub priority : (v : ℕ) → thread_priority new v ≡ thread_priority old v
 
 -- true if the Send of number i of one of these threads is cancelled while it is blocked on channel h and not
 -- received
-abbrev pub is_cancelled_among : (ℕ → Option Connection) → CancelSet → Errno → List Thread → ℕ → ℕ → Bool
-is_cancelled_among connection cancel e threads h i =
-    list_any (λ s. is_unread_send connection h i (open_in threads s)
-    && is_some (cancel_where (is_cancelled_by connection cancel s) e s (open_in threads s)))
+abbrev pub is_cancelled_among : CancelSet → Errno → List Thread → ℕ → ℕ → Bool
+is_cancelled_among cancel e threads h i =
+    list_any (λ s. is_unread_send h i (open_in threads s)
+    && is_some (cancel_where (is_cancelled_by cancel s) e s (open_in threads s)))
     (threads_of (members_of threads))
 
 -- each message whose Send is cancelled leaves its channel, and nothing else changes
-pub record LoseCancelled (connection : ℕ → Option Connection) (cancel : CancelSet) (e : Errno)
+pub record LoseCancelled (cancel : CancelSet) (e : Errno)
     (threads : List Thread)
     (old new : List (ℕ × Channel)) : Type 0 where
   pub ids : ids_of new ≡ ids_of old
   pub channel : (k : ℕ) → channel_in new k ≡ channel_in old k
   pub pending : (k : ℕ) → pending_in new k
-      ≡ filter (λ item. not (is_cancelled_among connection cancel e threads k item.number)) (pending_in old k)
+      ≡ filter (λ item. not (is_cancelled_among cancel e threads k item.number)) (pending_in old k)
 
 -- ---- one thread
 
--- the connection over which a Send's message was sent, if the message isn't received
-abbrev pub unread_over_by : Wait → Option ℕ
-unread_over_by (Answer coid message reply_buffer None) = Some coid
-unread_over_by (Answer coid message reply_buffer (Some receipt)) = None
-unread_over_by (ForItem chid kind buffer) = None
-
 -- the channel on which a Send's message waits, if the message isn't received
-abbrev pub unread_on_by : (ℕ → Option Connection) → Wait → Option ℕ
-unread_on_by connection wait = option_map (λ c. c.channel) (option_and_then connection (unread_over_by wait))
+abbrev pub unread_on_by : OpenCall → Option ℕ
+unread_on_by (Send s) = if is_some s.receipt then None else Some s.channel
+unread_on_by (Receive r) = None
 
 -- the endings, followed by one more if there is one
 abbrev pub with_ending : List Completion → Option Completion → List Completion
 with_ending endings None = endings
 with_ending endings (Some ending) = endings ++ ending ∷ []
 
--- true if there is an open call and its wait is cancelled
-abbrev pub is_cancelled_open : (Wait → Bool) → Option OpenCall → Bool
+-- true if there is an open call and it is cancelled
+abbrev pub is_cancelled_open : (OpenCall → Bool) → Option OpenCall → Bool
 is_cancelled_open is_cancelled None = false
-is_cancelled_open is_cancelled (Some o) = is_cancelled o.wait
+is_cancelled_open is_cancelled (Some o) = is_cancelled o
 
 -- the open call if it is cancelled; else None
-abbrev pub call_if_cancelled : (Wait → Bool) → Option OpenCall → Option OpenCall
+abbrev pub call_if_cancelled : (OpenCall → Bool) → Option OpenCall → Option OpenCall
 call_if_cancelled is_cancelled o = if is_cancelled_open is_cancelled o then o else None
 
 -- the thread, without its open call if that is cancelled
-abbrev pub thread_unless_cancelled : (Wait → Bool) → Thread → Thread
+abbrev pub thread_unless_cancelled : (OpenCall → Bool) → Thread → Thread
 thread_unless_cancelled is_cancelled t =
     record {
       member = t.member;
@@ -99,14 +92,14 @@ thread_unless_cancelled is_cancelled t =
     }
 
 -- the thread, without its open call if cancel applies to it
-abbrev pub thread_after_cancelled : (ℕ → Option Connection) → CancelSet → Thread → Thread
-thread_after_cancelled connection cancel t =
-    thread_unless_cancelled (is_cancelled_by connection cancel t.member.thread) t
+abbrev pub thread_after_cancelled : CancelSet → Thread → Thread
+thread_after_cancelled cancel t =
+    thread_unless_cancelled (is_cancelled_by cancel t.member.thread) t
 
 -- true if the open call is cancelled and is the Send of number i, blocked on channel h and not received
-abbrev pub is_taken_from : (ℕ → Option Connection) → (Wait → Bool) → Option OpenCall → ℕ → ℕ → Bool
-is_taken_from connection is_cancelled o h i =
-    is_unread_send connection h i o && is_cancelled_open is_cancelled o
+abbrev pub is_taken_from : (OpenCall → Bool) → Option OpenCall → ℕ → ℕ → Bool
+is_taken_from is_cancelled o h i =
+    is_unread_send h i o && is_cancelled_open is_cancelled o
 
 -- each item for which goes is true leaves its channel, and nothing else changes
 pub record Lose (goes : ℕ → ℕ → Bool) (old new : List (ℕ × Channel)) : Type 0 where

@@ -1,24 +1,25 @@
 -- How the index of the threads changes.
 use Rattle.std.specs.Prelude.{◌≡◌, ◌≢◌, ◌==◌, ℕ, true, false, Bool, ◌&&◌, nat_lt, if◌then◌else◌}
 use Rattle.qbase.specs.ByteSet.{has}
+use Rattle.qmodel.specs.OpenCalls.{number_of}
 use Rattle.qmodel.specs.declared.open_call.OpenCall.{OpenCall}
 use Rattle.qmodel.specs.declared.open_call.OpenCall.TheVariants.{Receive, Send}
 use Rattle.qstate.specs.declared.index.Index.{Index}
 
--- true if the wait is for an item
-abbrev pub is_receive : Wait → Bool
-is_receive (Answer coid message reply_buffer receipt) = false
-is_receive (ForItem chid kind buffer) = true
+-- true if the call is a receive
+abbrev pub is_receive : OpenCall → Bool
+is_receive (Send s) = false
+is_receive (Receive r) = true
 
 -- a call blocks the thread at a place: rising stays true only if the call has a greater number than all
 -- before, and a receive makes the thread a receiver and the last one
 pub record Notes (place : ℕ) (call : OpenCall) (old new : Index) : Type 0 where
-  pub rising : new.rising ≡ (old.rising && nat_lt old.latest call.number)
-  pub latest : new.latest ≡ call.number
-  pub newest : new.newest ≡ (if is_receive call.wait then call.number else old.newest)
-  pub last : new.last ≡ (if is_receive call.wait then place else old.last)
+  pub rising : new.rising ≡ (old.rising && nat_lt old.latest (number_of call))
+  pub latest : new.latest ≡ number_of call
+  pub newest : new.newest ≡ (if is_receive call then number_of call else old.newest)
+  pub last : new.last ≡ (if is_receive call then place else old.last)
   pub receivers : (k : ℕ) → has new.receivers k
-      ≡ (if is_receive call.wait && (k == place) then true else has old.receivers k)
+      ≡ (if is_receive call && (k == place) then true else has old.receivers k)
 
 -- the thread at a place isn't blocked any more, so it may leave the receivers; nothing else changes
 pub record Forgets (place : ℕ) (old new : Index) : Type 0 where

@@ -1,6 +1,5 @@
 pub mod Kept
 pub mod Thread
-pub mod Open
 pub mod Index
 pub mod Threads
 pub mod Channel

@@ -6,7 +6,6 @@ use Rattle.qqueue.specs.declared.item.Item.{Item}
 use Rattle.qtables.specs.declared.member.Member.{Member}
 use Rattle.qmodel.specs.declared.open_call.OpenCall.{OpenCall}
 use Rattle.qmodel.specs.declared.open_call.Receipt.{Receipt}
-use Rattle.qmodel.specs.declared.open_call.OpenCall.TheVariants.{Receive, Send}
 use Rattle.qstate.specs.declared.thread.Thread.{Thread}
 use Rattle.qstate.specs.Kept.{members_of, thread_priority}
 use Rattle.qrules.specs.Private.Facts.{threads_of, sender_among, message_in}
@@ -71,17 +70,6 @@ pub record ChangesOpen (u : ℕ) (change : OpenCall → OpenCall) (old new : Lis
   pub open_call : (v : ℕ) → open_in new v
       ≡ (if v == u then option_map change (open_in old v) else open_in old v)
   pub priority : (v : ℕ) → thread_priority new v ≡ thread_priority old v
-
--- the connection over which a Send's message was sent, if the message is held
-abbrev pub held_over_by : Wait → Option ℕ
-held_over_by (Answer coid message reply_buffer (Some receipt)) = Some coid
-held_over_by (Answer coid message reply_buffer None) = None
-held_over_by (ForItem chid kind buffer) = None
-
--- the connection over which the message of an open call was sent, if the message is held
-abbrev pub held_over_in : Option OpenCall → Option ℕ
-held_over_in None = None
-held_over_in (Some o) = held_over_by o.wait
 
 -- the thread whose open call is the Send of number i
 abbrev pub sender_in : List Thread → ℕ → Option ℕ

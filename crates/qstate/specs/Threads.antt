@@ -11,8 +11,13 @@ use Rattle.qstate.specs.declared.index.Index.{Index}
 use Rattle.qstate.specs.declared.seat.Seat.{Seat}
 use Rattle.qstate.specs.declared.thread.Thread.{Thread}
 use Rattle.qstate.specs.Kept.{members_of, thread_priority}
-use Rattle.qstate.specs.Open.{receive_in}
+use Rattle.qmodel.specs.OpenCalls.{receive_in}
 use Rattle.qstate.specs.Thread.{open_in, seat_in}
+use Rattle.qmodel.specs.OpenCalls.{thread_of}
+use Rattle.std.specs.Prelude.{option_and_then}
+use Rattle.qmodel.specs.OpenCalls.{number_of}
+use Rattle.std.specs.Prelude.{slice_get}
+use Rattle.qrules.specs.Facts.{threads_of}
 
 -- the seat has the index of its thread
 abbrev pub IsSeatIn : List Thread → Seat → Type 0
@@ -32,18 +37,23 @@ open_at (t ∷ threads) (suc k) = open_at threads k
 
 -- the number of the open call of the thread at an index
 abbrev pub number_at : List Thread → ℕ → Option ℕ
-number_at threads k = option_map (λ o. o.number) (open_at threads k)
+number_at threads k = option_map number_of (open_at threads k)
 
 -- the number of the open call of the thread at an index, if that is a receive
 abbrev pub receive_at : List Thread → ℕ → Option ℕ
-receive_at threads k = option_map (λ r. r.number) (receive_in 0 (open_at threads k))
+receive_at threads k = option_map (λ r. r.number) (option_and_then receive_in (open_at threads k))
 
--- there are at most 64 threads, and each thread that is blocked in a receive is among the receivers; while
+-- the thread that the open call of the thread at an index names
+abbrev pub opener_at : List Thread → ℕ → Option ℕ
+opener_at threads k = option_map thread_of (open_at threads k)
+
+-- there are at most 64 threads, each open call is its thread's own, and each thread that is blocked in a receive is among the receivers; while
 -- rising is true, no two open calls have the same number, none is above latest, and each receive but that of
 -- the last receiver is below newest
 pub record IsIndexed (threads : List Thread) (index : Index) : Type 0 where
   pub few : length threads ≤ 64
   pub roster : IsRoster (members_of threads)
+  pub own : (k u : ℕ) → opener_at threads k ≡ Some u → slice_get (threads_of (members_of threads)) k ≡ Some u
   pub receivers : (k n : ℕ) → receive_at threads k ≡ Some n → has index.receivers k ≡ true
   pub latest : index.rising ≡ true → (k n : ℕ) → number_at threads k ≡ Some n → n ≤ index.latest
   pub apart : index.rising ≡ true → (j k n : ℕ) → number_at threads j ≡ Some n → number_at threads k ≡ Some n

@@ -1,8 +1,6 @@
 -- The messages that are not received, by the kernel's content.
 use Rattle.std.specs.Prelude.{◌≡◌, ℕ, List, map, Option, None, Some, if◌then◌else◌}
 use Rattle.qqueue.specs.Best.{with_priority}
-use Rattle.qtables.specs.Entries.{entry_at}
-use Rattle.qtables.specs.declared.connection.Connection.{Connection}
 use Rattle.qrules.specs.Private.Step.{is_unread_send}
 use Rattle.qmodel.specs.declared.open_call.OpenCall.{OpenCall}
 use Rattle.qmodel.specs.declared.open_call.OpenCall.TheVariants.{Receive, Send}
@@ -10,24 +8,24 @@ use Rattle.qstate.specs.declared.channel.Channel.{Channel}
 use Rattle.qstate.specs.declared.unread.Unread.{Unread}
 use Rattle.qstate.specs.Channel.{ids_of}
 use Rattle.qstate.specs.Kept.{channel_in, pending_in}
-
--- the message of call n, if it isn't received yet
-abbrev pub unread_of : ℕ → Wait → Option Unread
-unread_of n (Answer coid message reply_buffer None) = Some (record { number = n; coid = coid })
-unread_of n (Answer coid message reply_buffer (Some receipt)) = None
-unread_of n (ForItem chid kind buffer) = None
+use Rattle.std.specs.Prelude.{option_and_then}
+use Rattle.std.specs.Prelude.{is_some}
 
 -- the message of an open call, if it isn't received yet
+abbrev pub unread_of : OpenCall → Option Unread
+unread_of (Send s) = if is_some s.receipt then None else Some (record { number = s.number; channel = s.channel })
+unread_of (Receive r) = None
+
+-- the message of a thread's open call, if it isn't received yet
 abbrev pub unread_in : Option OpenCall → Option Unread
-unread_in None = None
-unread_in (Some o) = unread_of o.number o.wait
+unread_in call = option_and_then unread_of call
 
 -- if the message of this open call isn't received, it has this priority in its channel's queue; nothing else
 -- changes
-pub record MovesUnread (o : Option OpenCall) (connections : List (ℕ × Connection)) (priority : ℕ)
+pub record MovesUnread (o : Option OpenCall) (priority : ℕ)
     (old new : List (ℕ × Channel)) : Type 0 where
   pub ids : ids_of new ≡ ids_of old
   pub channel : (h : ℕ) → channel_in new h ≡ channel_in old h
   pub pending : (h : ℕ) → pending_in new h
-      ≡ map (λ item. if is_unread_send (λ k. entry_at connections k) h item.number o
+      ≡ map (λ item. if is_unread_send h item.number o
       then with_priority priority item else item) (pending_in old h)

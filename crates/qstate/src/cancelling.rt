@@ -1,12 +1,11 @@
 //! Calls that are ended by force.
 
 ghost use Rattle.std.specs.Prelude.{◌≡◌, ◌==◌, ◌&&◌, ◌≤◌, ◌<◌, [], true, Some, None, is_some, length, filter_map, map, if◌then◌else◌};
-ghost use Rattle.qtables.specs.Entries.{entry_at};
 ghost use Rattle.qtables.specs.Members.{IsRoster};
-ghost use Rattle.qrules.specs.Private.Cancelling.{buffer_of_wait, is_on, cancel_call, cancel_where};
+ghost use Rattle.qrules.specs.Private.Cancelling.{is_on, cancel_call, cancel_where};
 ghost use Rattle.qrules.specs.Private.Step.{is_unread_send};
 ghost use Rattle.qrules.specs.Private.Facts.{threads_of};
-ghost use Rattle.qstate.specs.Cancelling.{is_cancelled_by, ending_for, with_ending, thread_after_cancelled, thread_unless_cancelled, unread_over_by, unread_on_by, call_if_cancelled, is_taken_from, Lose, AreCancelled, LoseCancelled};
+ghost use Rattle.qstate.specs.Cancelling.{is_cancelled_by, ending_for, with_ending, thread_after_cancelled, thread_unless_cancelled, unread_on_by, call_if_cancelled, is_taken_from, Lose, AreCancelled, LoseCancelled};
 ghost use Rattle.qstate.specs.Thread.{open_in};
 ghost use Rattle.qstate.specs.Kept.{members_of};
 
@@ -14,13 +13,11 @@ use crate::channel::Channel;
 use crate::endings::Endings;
 use crate::objects::Objects;
 use crate::thread::Thread;
-use qbase::bytes::Bytes;
 use qbase::errno::Errno;
 use qbase::ids::{ChannelId, ConnectionId, ThreadNo};
 use qmodel::call::{Completion, Mark};
-use qmodel::open_call::{OpenCall, Wait};
+use qmodel::open_call::OpenCall;
 use qtables::channels::Channels;
-use qtables::connections::Connections;
 
 /// The calls that are cancelled.
 #[derive(Clone, Copy, Debug, PartialEq, Eq)]
@@ -42,89 +39,55 @@ struct Cancel {
     errno: Errno,
 }
 
-/// Returns whether a call that waits in this way is blocked on the channel.
-fn waits_on(connections: &Connections, chid: ChannelId, wait: &Wait) -> bool
-    ensures { result ≡ is_on (entry_at connections.now) chid wait.now }
+/// Returns whether a call is blocked on the channel.
+fn is_on(chid: ChannelId, call: &OpenCall) -> bool
+    ensures { result ≡ is_on chid call.now }
 {
-    match wait {
-        Wait::Answer { coid, .. } => match connections.get(*coid) {
-            None => false,
-            Some(connection) => connection.channel == chid,
-        },
-        Wait::Item { chid: named, .. } => *named == chid,
+    match call {
+        OpenCall::Send(send) => send.channel == chid,
+        OpenCall::Receive(receive) => receive.channel == chid,
     }
 }
 
-/// Returns whether a thread's wait is cancelled.
-fn is_cancelled(
-    connections: &Connections,
-    cancel: &CancelSet,
-    thread: ThreadNo,
-    wait: &Wait,
-) -> bool
-    ensures { result ≡ is_cancelled_by (entry_at connections.now) cancel.now thread wait.now }
+/// Returns whether the open call of a thread is cancelled.
+fn is_cancelled(cancel: &CancelSet, thread: ThreadNo, call: &OpenCall) -> bool
+    ensures { result ≡ is_cancelled_by cancel.now thread call.now }
 {
     match cancel {
-        CancelSet::On(chid) => waits_on(connections, *chid, wait),
+        CancelSet::On(chid) => is_on(*chid, call),
         CancelSet::All => true,
         CancelSet::Of(named) => thread == *named,
-        CancelSet::Over(coid) => match wait {
-            Wait::Answer { coid: over, .. } => over == coid,
-            Wait::Item { .. } => false,
+        CancelSet::Over(coid) => match call {
+            OpenCall::Send(send) => send.connection == *coid,
+            OpenCall::Receive(_) => false,
         },
-    }
-}
-
-/// Returns the connection over which a Send's message was sent, if the message isn't received yet.
-fn unread_over(wait: &Wait) -> Option<ConnectionId>
-    ensures { result ≡ unread_over_by wait.now }
-{
-    match wait {
-        Wait::Answer {
-            coid,
-            receipt: None,
-            ..
-        } => Some(*coid),
-        _ => None,
     }
 }
 
 /// Returns the channel on which a Send's message waits, if the message isn't received yet.
-fn unread_on(connections: &Connections, wait: &Wait) -> Option<ChannelId>
-    ensures { result ≡ unread_on_by (entry_at connections.now) wait.now }
+fn unread_on(call: &OpenCall) -> Option<ChannelId>
+    ensures { result ≡ unread_on_by call.now }
 {
-    let coid = unread_over(wait)?;
-    let connection = connections.get(coid)?;
-    Some(connection.channel)
+    let send = call.send()?;
+    if send.receipt.is_some() {
+        None
+    } else {
+        Some(send.channel)
+    }
 }
 
 /// Takes the message of a Send out of its channel's queue, where it has this key. Does nothing if the message is
 /// received already, or the call isn't a Send.
-fn take_message(
-    channels: &mut Channels<Channel>,
-    connections: &Connections,
-    call: &OpenCall,
-    key: usize,
-)
-    ensures { Lose (λ h i. is_unread_send (entry_at connections.now) h i (Some call.now)) channels.old channels.new }
+fn take_message(channels: &mut Channels<Channel>, call: &OpenCall, key: usize)
+    ensures { Lose (λ h i. is_unread_send h i (Some call.now)) channels.old channels.new }
 {
-    let Some(chid) = unread_on(connections, &call.wait) else {
+    let Some(chid) = unread_on(call) else {
         return;
     };
     let Some(channel) = channels.get_mut(chid) else {
         return;
     };
-    let _ = channel.queue.remove(call.number, key);
-}
-
-/// Returns the buffer that a cancelled call gets back.
-fn into_buffer(wait: Wait) -> Bytes
-    ensures { result ≡ buffer_of_wait wait }
-{
-    match wait {
-        Wait::Answer { reply_buffer, .. } => reply_buffer,
-        Wait::Item { buffer, .. } => buffer,
-    }
+    let _ = channel.queue.remove(call.number(), key);
 }
 
 /// Returns the completion of a thread's open call that is cancelled: it failed with the error, and gets its buffer
@@ -133,24 +96,20 @@ fn cancel_ending(call: OpenCall, thread: ThreadNo, errno: Errno) -> Completion
     ensures { result ≡ cancel_call errno thread call }
 {
     Completion {
-        call: call.number,
+        call: call.number(),
         thread,
         mark: Mark::Failed(errno),
-        buffer: into_buffer(call.wait),
+        buffer: call.into_buffer(),
     }
 }
 
 /// Takes the open call of a thread, and returns it, if it is cancelled.
-fn take_cancelled(
-    thread: &mut Thread,
-    connections: &Connections,
-    cancel: &CancelSet,
-) -> Option<OpenCall>
-    ensures had { result ≡ call_if_cancelled (is_cancelled_by (entry_at connections.now) cancel.now thread.old.member.thread) thread.old.open_call }
-    ensures after { thread.new ≡ thread_unless_cancelled (is_cancelled_by (entry_at connections.now) cancel.now thread.old.member.thread) thread.old }
+fn take_cancelled(thread: &mut Thread, cancel: &CancelSet) -> Option<OpenCall>
+    ensures had { result ≡ call_if_cancelled (is_cancelled_by cancel.now thread.old.member.thread) thread.old.open_call }
+    ensures after { thread.new ≡ thread_unless_cancelled (is_cancelled_by cancel.now thread.old.member.thread) thread.old }
 {
     match &thread.open_call {
-        Some(call) if is_cancelled(connections, cancel, thread.member.thread, &call.wait) => {
+        Some(call) if is_cancelled(cancel, thread.member.thread, call) => {
             thread.open_call.take()
         }
         _ => None,
@@ -161,15 +120,14 @@ fn take_cancelled(
 fn cancel_thread(
     thread: &mut Thread,
     channels: &mut Channels<Channel>,
-    connections: &Connections,
     cancel: &Cancel,
 ) -> Option<Completion>
-    ensures ending { result ≡ cancel_where (is_cancelled_by (entry_at connections.now) cancel.now.set thread.old.member.thread) cancel.now.errno thread.old.member.thread thread.old.open_call }
-    ensures thread { thread.new ≡ thread_unless_cancelled (is_cancelled_by (entry_at connections.now) cancel.now.set thread.old.member.thread) thread.old }
-    ensures channels { Lose (is_taken_from (entry_at connections.now) (is_cancelled_by (entry_at connections.now) cancel.now.set thread.old.member.thread) thread.old.open_call) channels.old channels.new }
+    ensures ending { result ≡ cancel_where (is_cancelled_by cancel.now.set thread.old.member.thread) cancel.now.errno thread.old.member.thread thread.old.open_call }
+    ensures thread { thread.new ≡ thread_unless_cancelled (is_cancelled_by cancel.now.set thread.old.member.thread) thread.old }
+    ensures channels { Lose (is_taken_from (is_cancelled_by cancel.now.set thread.old.member.thread) thread.old.open_call) channels.old channels.new }
 {
-    let call = take_cancelled(thread, connections, &cancel.set)?;
-    take_message(channels, connections, &call, thread.key);
+    let call = take_cancelled(thread, &cancel.set)?;
+    take_message(channels, &call, thread.key);
     Some(cancel_ending(call, thread.member.thread, cancel.errno))
 }
 
@@ -178,21 +136,20 @@ fn cancel_thread(
 fn end_thread(
     thread: &mut Thread,
     channels: &mut Channels<Channel>,
-    connections: &Connections,
     cancel: &Cancel,
     caller: ThreadNo,
     own: &mut Option<Completion>,
 ) -> Option<Completion>
     requires idle { (thread.old.member.thread == caller) ≡ true → thread.old.open_call ≡ None }
-    ensures ending { result ≡ (if thread.old.member.thread == caller then own.old else cancel_where (is_cancelled_by (entry_at connections.now) cancel.now.set thread.old.member.thread) cancel.now.errno thread.old.member.thread thread.old.open_call) }
+    ensures ending { result ≡ (if thread.old.member.thread == caller then own.old else cancel_where (is_cancelled_by cancel.now.set thread.old.member.thread) cancel.now.errno thread.old.member.thread thread.old.open_call) }
     ensures own { own.new ≡ (if thread.old.member.thread == caller then None else own.old) }
-    ensures thread { thread.new ≡ thread_unless_cancelled (is_cancelled_by (entry_at connections.now) cancel.now.set thread.old.member.thread) thread.old }
-    ensures channels { Lose (is_taken_from (entry_at connections.now) (is_cancelled_by (entry_at connections.now) cancel.now.set thread.old.member.thread) thread.old.open_call) channels.old channels.new }
+    ensures thread { thread.new ≡ thread_unless_cancelled (is_cancelled_by cancel.now.set thread.old.member.thread) thread.old }
+    ensures channels { Lose (is_taken_from (is_cancelled_by cancel.now.set thread.old.member.thread) thread.old.open_call) channels.old channels.new }
 {
     if thread.member.thread == caller {
         own.take()
     } else {
-        cancel_thread(thread, channels, connections, cancel)
+        cancel_thread(thread, channels, cancel)
     }
 }
 
@@ -210,7 +167,6 @@ fn push_ending(endings: &mut Endings, ending: Option<Completion>)
 fn cancel_each(
     threads: &mut Vec<Thread>,
     channels: &mut Channels<Channel>,
-    connections: &Connections,
     cancel: Cancel,
     own: Completion,
     endings: &mut Endings,
@@ -219,14 +175,14 @@ fn cancel_each(
     requires few { length threads.old.items ≤ 64 }
     requires idle { open_in threads.old.items own.thread ≡ None }
     requires none { endings.old.items ≡ [] }
-    ensures endings { endings.new.items ≡ filter_map (λ u. ending_for (entry_at connections.now) cancel.set cancel.errno own u (open_in threads.old.items u)) (threads_of (members_of threads.old.items)) }
-    ensures threads { threads.new.items ≡ map (thread_after_cancelled (entry_at connections.now) cancel.set) threads.old.items }
-    ensures channels { LoseCancelled (entry_at connections.now) cancel.set cancel.errno threads.old.items channels.old channels.new }
+    ensures endings { endings.new.items ≡ filter_map (λ u. ending_for cancel.set cancel.errno own u (open_in threads.old.items u)) (threads_of (members_of threads.old.items)) }
+    ensures threads { threads.new.items ≡ map (thread_after_cancelled cancel.set) threads.old.items }
+    ensures channels { LoseCancelled cancel.set cancel.errno threads.old.items channels.old channels.new }
 {
     let caller = own.thread;
     let mut left = Some(own);
     for thread in threads.iter_mut() {
-        let ending = end_thread(thread, channels, connections, &cancel, caller, &mut left);
+        let ending = end_thread(thread, channels, &cancel, caller, &mut left);
         push_ending(endings, ending);
     }
 }
@@ -237,15 +193,15 @@ impl Objects {
     pub fn cancel(&mut self, set: CancelSet, errno: Errno, own: Completion, endings: &mut Endings)
         requires idle { open_in self.old.threads own.thread ≡ None }
         requires none { endings.old.items ≡ [] }
-        ensures endings { endings.new.items ≡ filter_map (λ u. ending_for (entry_at self.old.connections) set errno own u (open_in self.old.threads u)) (threads_of (members_of self.old.threads)) }
-        ensures threads { AreCancelled (entry_at self.old.connections) set errno self.old.threads self.new.threads }
-        ensures channels { LoseCancelled (entry_at self.old.connections) set errno self.old.threads self.old.channels self.new.channels }
+        ensures endings { endings.new.items ≡ filter_map (λ u. ending_for set errno own u (open_in self.old.threads u)) (threads_of (members_of self.old.threads)) }
+        ensures threads { AreCancelled set errno self.old.threads self.new.threads }
+        ensures channels { LoseCancelled set errno self.old.threads self.old.channels self.new.channels }
         ensures connections { self.new.connections ≡ self.old.connections }
     {
         let threads = &mut self.threads;
         let records = &mut threads.records;
         let channels = &mut self.channels;
         let cancel = Cancel { set, errno };
-        cancel_each(records, channels, &self.connections, cancel, own, endings);
+        cancel_each(records, channels, cancel, own, endings);
     }
 }

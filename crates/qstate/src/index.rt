@@ -6,7 +6,7 @@ ghost use Rattle.qstate.specs.Index.{Notes, Forgets};
 
 use qbase::byte_set::ByteSet;
 use qbase::ids::ThreadNo;
-use qmodel::open_call::{OpenCall, Wait};
+use qmodel::open_call::OpenCall;
 use qtables::member::Member;
 
 /// Guesses of a thread's index in the roster: by thread number, by the number of its Send, and as the newest receiver.
@@ -63,15 +63,16 @@ impl Index {
         requires { place < 64 }
         ensures { Notes place call.now self.old self.new }
     {
-        self.rising = self.rising && self.latest < call.number;
-        self.latest = call.number;
-        match &call.wait {
-            Wait::Answer { .. } => {
-                self.senders[call.number as usize % 256] = place as u8;
+        let number = call.number();
+        self.rising = self.rising && self.latest < number;
+        self.latest = number;
+        match call {
+            OpenCall::Send(_) => {
+                self.senders[number as usize % 256] = place as u8;
             }
-            Wait::Item { .. } => {
+            OpenCall::Receive(_) => {
                 self.receivers.insert(place as u8);
-                self.newest = call.number;
+                self.newest = number;
                 self.last = place;
             }
         }

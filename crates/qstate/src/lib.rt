@@ -8,7 +8,6 @@ pub mod endings;
 pub mod held;
 pub mod index;
 pub mod objects;
-pub mod open;
 pub mod pulses;
 pub mod receiver;
 pub mod seat;

@@ -46,7 +46,7 @@ impl Objects {
         }
         let priority = channel.carried(item.priority);
         match self.threads.wake_newest(chid, &item, priority) {
-            Some(receive) => Ok(Some(receive.ending(pulse_mark(&item)))),
+            Some(receive) => Ok(Some(receive.completion(pulse_mark(&item)))),
             None => {
                 let _ = channel.enqueue(item)?;
                 Ok(None)

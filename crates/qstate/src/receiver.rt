@@ -1,19 +1,19 @@
 //! The receivers of a channel.
 
-ghost use Rattle.std.specs.Prelude.{◌≡◌, ◌+◌, ℕ, true, None, Some, drop, option_map, IfNone, IfSome};
+ghost use Rattle.std.specs.Prelude.{option_and_then, ◌≡◌, ◌+◌, ℕ, true, None, Some, drop, option_map, IfNone, IfSome};
 ghost use Rattle.qqueue.specs.declared.item.Item.{Item};
 ghost use Rattle.qtables.specs.Members.{IsRoster};
 ghost use Rattle.qstate.specs.Kept.{members_of};
-ghost use Rattle.qstate.specs.Open.{receive_in};
+ghost use Rattle.qmodel.specs.OpenCalls.{receive_in};
 ghost use Rattle.qstate.specs.Thread.{newest_in, open_in, Wakes};
 ghost use Rattle.qstate.specs.Threads.{IsSeatIn, newest_of, number_and_thread};
 
-use crate::open::OpenReceive;
 use crate::seat::Seat;
 use crate::thread::Thread;
 use crate::threads::Threads;
 use qbase::ids::ChannelId;
 use qbase::priority::Priority;
+use qmodel::open_call::OpenReceive;
 use qqueue::item::Item;
 
 /// Returns the seat of a thread that has this index.
@@ -119,7 +119,7 @@ impl Threads {
         ensures nobody { IfNone result (newest_in channel item.now self.old ≡ None) }
         ensures unchanged { IfNone result (self.new ≡ self.old) }
         ensures newest { IfSome result (λ receive. newest_in channel item.now self.old ≡ Some receive.thread) }
-        ensures had { IfSome result (λ receive. receive_in receive.thread (open_in self.old receive.thread) ≡ Some receive) }
+        ensures had { IfSome result (λ receive. option_and_then receive_in (open_in self.old receive.thread) ≡ Some receive) }
         ensures after { IfSome result (λ receive. Wakes receive.thread priority self.old self.new) }
     {
         if self.has_no_receiver() {

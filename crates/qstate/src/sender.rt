@@ -5,7 +5,7 @@ ghost use Rattle.qbase.specs.Laying.{laid_count, lay_over};
 ghost use Rattle.qqueue.specs.Best.{is_pulse};
 ghost use Rattle.qrules.specs.Private.Facts.{is_send};
 ghost use Rattle.qrules.specs.Private.Rows.{delivery_of};
-ghost use Rattle.qrules.specs.Private.Step.{held_call};
+ghost use Rattle.qrules.specs.Private.Facts.{held_call};
 ghost use Rattle.qstate.specs.Thread.{sender_in, message_from, ChangesSender, HandsOver};
 ghost use Rattle.qstate.specs.Threads.{IsSeatIn};
 

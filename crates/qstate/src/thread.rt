@@ -1,16 +1,15 @@
 //! The record of a thread.
 
-ghost use Rattle.std.specs.Prelude.{◌≡◌, false, option_map};
+ghost use Rattle.std.specs.Prelude.{◌≡◌, false, option_and_then, option_copied, option_map};
+ghost use Rattle.qmodel.specs.OpenCalls.{receive_in, send_in};
 ghost use Rattle.qbase.specs.Laying.{laid_count, lay_over};
-ghost use Rattle.qrules.specs.Private.Facts.{is_send, message_in};
+ghost use Rattle.qrules.specs.Private.Facts.{held_call, is_send, message_in, message_of};
 ghost use Rattle.qrules.specs.Private.Receivers.{wait_on};
-ghost use Rattle.qrules.specs.Private.Step.{held_call};
-ghost use Rattle.qstate.specs.Thread.{held_over_in};
 
 use qbase::bytes::Bytes;
-use qbase::ids::{ChannelId, ConnectionId};
+use qbase::ids::ChannelId;
 use qbase::priority::Priority;
-use qmodel::open_call::{OpenCall, Receipt, Wait};
+use qmodel::open_call::{OpenCall, OpenReceive, OpenSend, Receipt};
 use qqueue::item::Item;
 use qtables::member::Member;
 
@@ -27,17 +26,49 @@ pub struct Thread {
     pub key: usize,
 }
 
+/// Copies the message of a Send to the front of a buffer, records the receipt, and returns the number of bytes copied; 0
+/// if the call isn't a Send.
+fn receive_into(call: &mut OpenCall, priority: Priority, buffer: &mut Bytes) -> usize
+    ensures kept { call.new ≡ held_call (record { priority = priority; copied = result; unblocked = false }) call.old }
+    ensures buffer { buffer.new ≡ lay_over buffer.old 0 (message_of call.old) }
+    ensures count { result ≡ laid_count buffer.old 0 (message_of call.old) }
+{
+    match call {
+        OpenCall::Receive(_) => 0,
+        OpenCall::Send(send) => {
+            let copied = buffer.lay(0, send.message.as_slice());
+            send.receipt = Some(Receipt {
+                priority,
+                copied,
+                unblocked: false,
+            });
+            copied
+        }
+    }
+}
+
 impl Thread {
+    /// Returns the Send that the thread is blocked in.
+    pub fn send(&self) -> Option<&OpenSend>
+        ensures { option_copied result ≡ option_and_then send_in self.now.open_call }
+    {
+        self.open_call.as_ref()?.send()
+    }
+
+    /// Returns the receive that the thread is blocked in.
+    pub fn receive(&self) -> Option<&OpenReceive>
+        ensures { option_copied result ≡ option_and_then receive_in self.now.open_call }
+    {
+        self.open_call.as_ref()?.receive()
+    }
+
     /// Returns whether the thread's open call is the Send of this number.
     pub fn sends(&self, number: u64) -> bool
         ensures { result ≡ is_send number self.now.open_call }
     {
-        match &self.open_call {
+        match self.send() {
             None => false,
-            Some(call) => match &call.wait {
-                Wait::Answer { .. } => call.number == number,
-                Wait::Item { .. } => false,
-            },
+            Some(send) => send.number == number,
         }
     }
 
@@ -45,27 +76,11 @@ impl Thread {
     pub fn receives(&self, channel: ChannelId, item: &Item) -> Option<u64>
         ensures { result ≡ wait_on channel item.now self.now.open_call }
     {
-        let call = self.open_call.as_ref()?;
-        match &call.wait {
-            Wait::Item { chid, kind, .. } if *chid == channel && kind.may_take(item) => {
-                Some(call.number)
-            }
-            _ => None,
-        }
-    }
-
-    /// Returns the connection over which the thread sent its message, if the message is held.
-    pub fn held_over(&self) -> Option<ConnectionId>
-        ensures { result ≡ held_over_in self.now.open_call }
-    {
-        let call = self.open_call.as_ref()?;
-        match &call.wait {
-            Wait::Answer {
-                coid,
-                receipt: Some(_),
-                ..
-            } => Some(*coid),
-            _ => None,
+        let receive = self.receive()?;
+        if receive.channel == channel && receive.kind.may_take(item) {
+            Some(receive.number)
+        } else {
+            None
         }
     }
 
@@ -78,24 +93,9 @@ impl Thread {
         ensures buffer { buffer.new ≡ lay_over buffer.old 0 (message_in self.old.open_call) }
         ensures count { result ≡ laid_count buffer.old 0 (message_in self.old.open_call) }
     {
-        let Some(call) = &mut self.open_call else {
-            return 0;
-        };
-        match &mut call.wait {
-            Wait::Answer {
-                message,
-                receipt,
-                ..
-            } => {
-                let copied = buffer.lay(0, message.as_slice());
-                *receipt = Some(Receipt {
-                    priority,
-                    copied,
-                    unblocked: false,
-                });
-                copied
-            }
-            Wait::Item { .. } => 0,
+        match &mut self.open_call {
+            None => 0,
+            Some(call) => receive_into(call, priority, buffer),
         }
     }
 }

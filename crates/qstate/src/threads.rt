@@ -1,19 +1,18 @@
 //! The threads of a kernel.
 
-ghost use Rattle.std.specs.Prelude.{◌≡◌, ◌<◌, ◌≤◌, None, Some, true, is_some, length, map, IfOk, IfSome};
+ghost use Rattle.std.specs.Prelude.{option_and_then, ◌≡◌, ◌<◌, ◌≤◌, None, Some, true, is_some, length, map, IfOk, IfSome};
 ghost use Rattle.qtables.specs.Members.{member_at, IsRoster};
 ghost use Rattle.qstate.specs.Kept.{members_of, thread_priority};
-ghost use Rattle.qstate.specs.Open.{receive_in, send_in};
+ghost use Rattle.qmodel.specs.OpenCalls.{receive_in, send_in, thread_of};
 ghost use Rattle.qstate.specs.Thread.{ready_thread, open_in, seat_in, SetsOpen, SetsPriority, Wakes};
 ghost use Rattle.qstate.specs.Threads.{IsSeatIn, IsRecordOf};
 
 use crate::index::Index;
-use crate::open::{OpenReceive, OpenSend};
 use crate::seat::Seat;
 use crate::thread::Thread;
 use qbase::ids::ThreadNo;
 use qbase::priority::Priority;
-use qmodel::open_call::OpenCall;
+use qmodel::open_call::{OpenCall, OpenReceive, OpenSend};
 use qtables::member::Member;
 use qtables::roster::Roster;
 use std::alloc::{AllocError, Global};
@@ -156,6 +155,7 @@ impl Threads {
     fn take_open(&mut self, seat: &Seat) -> Option<OpenCall>
         requires { IsSeatIn self.old seat.now }
         ensures had { result ≡ open_in self.old seat.now.thread }
+        ensures own { IfSome result (λ call. thread_of call ≡ seat.now.thread) }
         ensures after { SetsOpen seat.now.thread None self.old self.new }
     {
         self.index.forget(seat.index);
@@ -163,11 +163,12 @@ impl Threads {
         mem::replace(&mut there.open_call, None)
     }
 
-    /// Blocks the thread at a seat in a call. `key` is the key of the call's message in the channel's queue, if the
+    /// Blocks the thread at a seat in a call of its own. `key` is the key of the call's message in the channel's queue, if the
     /// message waits there.
     #[inline(always)]
     pub fn block(&mut self, seat: &Seat, call: OpenCall, key: usize)
-        requires { IsSeatIn self.old seat.now }
+        requires seat { IsSeatIn self.old seat.now }
+        requires own { thread_of call ≡ seat.now.thread }
         ensures { SetsOpen seat.now.thread (Some call) self.old self.new }
     {
         self.index.note(seat.index, &call);
@@ -181,20 +182,22 @@ impl Threads {
     #[inline(always)]
     pub(crate) fn wake(&mut self, seat: &Seat, priority: Option<Priority>) -> Option<OpenReceive>
         requires { IsSeatIn self.old seat.now }
-        ensures had { result ≡ receive_in seat.now.thread (open_in self.old seat.now.thread) }
+        ensures had { result ≡ option_and_then receive_in (open_in self.old seat.now.thread) }
+        ensures own { IfSome result (λ receive. receive.thread ≡ seat.now.thread) }
         ensures after { Wakes seat.now.thread priority self.old self.new }
     {
         self.set_priority(seat, priority);
-        OpenReceive::of(seat.thread, self.take_open(seat))
+        self.take_open(seat)?.into_receive()
     }
 
     /// Ends the call that the thread at a seat is blocked in, and returns it if it is a Send.
     #[inline(always)]
     pub(crate) fn take_sent(&mut self, seat: &Seat) -> Option<OpenSend>
         requires { IsSeatIn self.old seat.now }
-        ensures had { result ≡ send_in seat.now.thread (open_in self.old seat.now.thread) }
+        ensures had { result ≡ option_and_then send_in (open_in self.old seat.now.thread) }
+        ensures own { IfSome result (λ send. send.thread ≡ seat.now.thread) }
         ensures after { SetsOpen seat.now.thread None self.old self.new }
     {
-        OpenSend::of(seat.thread, self.take_open(seat))
+        self.take_open(seat)?.into_send()
     }
 }

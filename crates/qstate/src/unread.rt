@@ -8,17 +8,16 @@ ghost use Rattle.qstate.specs.Unread.{unread_in, MovesUnread};
 use crate::objects::Objects;
 use crate::seat::Seat;
 use crate::thread::Thread;
-use qbase::ids::ConnectionId;
+use qbase::ids::ChannelId;
 use qbase::priority::Priority;
-use qmodel::open_call::Wait;
 
 /// A message that isn't received.
 #[derive(Clone, Copy, Debug, PartialEq, Eq)]
 pub struct Unread {
     /// The number of its Send.
     pub number: u64,
-    /// The connection over which it was sent.
-    pub coid: ConnectionId,
+    /// The channel to which it was sent.
+    pub channel: ChannelId,
 }
 
 impl Thread {
@@ -26,18 +25,14 @@ impl Thread {
     pub fn unread(&self) -> Option<Unread>
         ensures { result ≡ unread_in self.now.open_call }
     {
-        let call = self.open_call.as_ref()?;
-        match &call.wait {
-            Wait::Answer {
-                coid,
-                receipt: None,
-                ..
-            } => Some(Unread {
-                number: call.number,
-                coid: *coid,
-            }),
-            _ => None,
+        let send = self.send()?;
+        if send.receipt.is_some() {
+            return None;
         }
+        Some(Unread {
+            number: send.number,
+            channel: send.channel,
+        })
     }
 }
 
@@ -47,17 +42,14 @@ impl Objects {
     pub fn requeue_unread(&mut self, seat: &Seat, priority: Priority)
         requires { IsSeatIn self.old.threads seat.now }
         ensures threads { self.new.threads ≡ self.old.threads }
-        ensures channels { MovesUnread (open_in self.old.threads seat.now.thread) self.old.connections priority self.old.channels self.new.channels }
+        ensures channels { MovesUnread (open_in self.old.threads seat.now.thread) priority self.old.channels self.new.channels }
         ensures connections { self.new.connections ≡ self.old.connections }
     {
         let there = self.threads.record(seat);
         let Some(unread) = there.unread() else {
             return;
         };
-        let Some(connection) = self.connections.get(unread.coid) else {
-            return;
-        };
-        let Some(channel) = self.channels.get_mut(connection.channel) else {
+        let Some(channel) = self.channels.get_mut(unread.channel) else {
             return;
         };
         let _ = channel.queue.requeue(unread.number, priority, there.key);

@@ -5,7 +5,6 @@ use Rattle.std.specs.List.{AllByRecursion}
 use Rattle.std.proofs.lemmas.List.{append-nil}
 use Rattle.qbase.specs.declared.errno.Errno.TheVariants.{Inval, Srch}
 use Rattle.qqueue.specs.declared.item.Item.{Item}
-use Rattle.qtables.specs.Entries.{entry_at}
 use Rattle.qtables.specs.Members.{member_at}
 use Rattle.qtables.specs.declared.member.Member.{Member}
 use Rattle.qrules.specs.Private.Answer.{refusal_ending}
@@ -32,7 +31,7 @@ module _ (s : State) (t chid : ℕ) (m : Member) (known : member_at (members_of 
       let not_own : owns (facts_in s) t chid ≡ false = owned_by_member (facts_in s) t m (channel_in s.channels chid) known ∙ other in
       step_refused_alone s t (ChannelDestroy chid) Inval X (inl (rw (up, free, not_own) refl)) is
 
-  module _ (threads : List Thread) (cancel closed : List (ℕ × Channel)) (are : AreCancelled (entry_at s.connections) (On chid) Srch s.threads threads) (lose : LoseCancelled (entry_at s.connections) (On chid) Srch s.threads s.channels cancel)
+  module _ (threads : List Thread) (cancel closed : List (ℕ × Channel)) (are : AreCancelled (On chid) Srch s.threads threads) (lose : LoseCancelled (On chid) Srch s.threads s.channels cancel)
       (closes : ClosesIn chid cancel closed) where
     pub step_destroyed : (X : List Completion) → is_of m.process (channel_in s.channels chid) ≡ true → X ≡ endings_cancelled s t (On chid) Srch
         → Steps s t (ChannelDestroy chid) X (record { made = s.made + 1; down = s.down; threads = threads; channels = closed; connections = s.connections })

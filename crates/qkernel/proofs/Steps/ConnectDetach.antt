@@ -19,7 +19,7 @@ use Rattle.qtables.specs.declared.member.Member.{Member}
 use Rattle.qrules.specs.Private.Answer.{MayRefuse, ending, refusal_ending}
 use Rattle.qrules.specs.Private.Calls.ConnectDetach.{connection_between, connections_between, due_pulse}
 use Rattle.qrules.proofs.Traces.Parts.{due_pulse_over, is_own}
-use Rattle.qrules.specs.Private.Cancelling.{cancel_where, is_on, is_over}
+use Rattle.qrules.specs.Private.Cancelling.{cancel_where, is_over}
 use Rattle.qrules.specs.Private.Facts.{tells_disconnect, threads_of}
 use Rattle.qrules.specs.Private.Pulses.{refusal_if_full_for, ends_receiver, pulse_receipt}
 use Rattle.qrules.specs.Private.Rows.{Received, disconnect_item}
@@ -28,7 +28,6 @@ use Rattle.qrules.specs.Private.Step.{is_cancelled, uncut_items, unreceived_item
 use Rattle.qrules.specs.Private.Past.{made_on}
 use Rattle.qmodel.specs.declared.call.Call.TheVariants.{ConnectDetach}
 use Rattle.qmodel.specs.declared.call.Completion.{Completion}
-use Rattle.qmodel.specs.declared.open_call.OpenCall.TheVariants.{Receive, Send}
 use Rattle.qstate.specs.declared.channel.Channel.{Channel}
 use Rattle.qstate.specs.declared.cancelling.CancelSet.TheVariants.{Over}
 use Rattle.qstate.specs.declared.thread.Thread.{Thread}
@@ -153,10 +152,10 @@ module _ (s : State) (t coid : ℕ) (m : Member) (known : member_at (members_of 
 
         -- what meets the pulse isn't cancelled
         met_uncut : (u : ℕ) (y : Completion) → ends_receiver (facts_in s) o u ≡ Some y → cancel u ≡ None
-        met_uncut u y e = let k = told_waits s o u y e in rw (k.is, k.waits) refl
+        met_uncut u y e = let k = told_waits s o u y e in rw k.is refl
 
-        met_unread : (u k i : ℕ) (y : Completion) → ends_receiver (facts_in s) o u ≡ Some y → is_unread_send (entry_at s.connections) k i (open_in s.threads u) ≡ false
-        met_unread u k i y e = let w = told_waits s o u y e in rw (w.is, w.waits) (elim (eqb w.waiting.number i) as (λ b. (b && false && is_on (entry_at s.connections) k (ForItem w.chid w.kind w.buffer)) ≡ false) [ true ↦ refl | false ↦ refl ])
+        met_unread : (u k i : ℕ) (y : Completion) → ends_receiver (facts_in s) o u ≡ Some y → is_unread_send k i (open_in s.threads u) ≡ false
+        met_unread u k i y e = let w = told_waits s o u y e in rw w.is (elim (eqb w.receive.number i) as (λ b. (b && false && eqb w.receive.channel k) ≡ false) [ true ↦ refl | false ↦ refl ])
 
         cancel_mid : (u : ℕ) → cancel_where (is_over coid) Badf u (open_in mid u) ≡ cancel u
         cancel_mid u = rw (is.open_call u) (elim (ends_receiver (facts_in s) o u) as (λ x. ends_receiver (facts_in s) o u ≡ x → cancel_where (is_over coid) Badf u (unless (is_some x) (open_in s.threads u)) ≡ cancel u) [
@@ -166,7 +165,7 @@ module _ (s : State) (t coid : ℕ) (m : Member) (known : member_at (members_of 
 
         -- how the calls end in the threads that are left
         abbrev g : ℕ → Option Completion
-        g u = ending_for (entry_at s.connections) (Over coid) Badf (mine s t) u (open_in mid u)
+        g u = ending_for (Over coid) Badf (mine s t) u (open_in mid u)
 
         g_is : (u : ℕ) → g u ≡ cond (eqb u t) (Some (mine s t)) (cancel u)
         g_is u = ap (cond (eqb u t) (Some (mine s t))) (cancel_mid u)
@@ -189,7 +188,7 @@ module _ (s : State) (t coid : ℕ) (m : Member) (known : member_at (members_of 
         pub room_for_one : length s.threads ≤ 64 → is_some met ≡ true → length (filter_map g (threads_of (members_of mid))) < 64
         room_for_one few some = rw (is.members) (let fewer : length (filter_map g ts) + 1 ≤ length ts = is.few g g_none some in let as_many : length ts ≡ length s.threads = length-map (members_of s.threads) (λ m. m.thread) ∙ length-map s.threads (λ t. t.member) in omega arith)
 
-        module _ (threads : List Thread) (now : List (ℕ × Channel)) (are : AreCancelled (entry_at s.connections) (Over coid) Badf mid threads) (lose : LoseCancelled (entry_at s.connections) (Over coid) Badf mid between now) where
+        module _ (threads : List Thread) (now : List (ℕ × Channel)) (are : AreCancelled (Over coid) Badf mid threads) (lose : LoseCancelled (Over coid) Badf mid between now) where
           abbrev pub detached : State
           detached = record { made = s.made + 1; down = s.down; threads = threads; channels = now; connections = without_entry s.connections coid }
 
@@ -205,20 +204,20 @@ module _ (s : State) (t coid : ℕ) (m : Member) (known : member_at (members_of 
             | false ↦ λ other. open_is u
           ] refl
 
-          gone_is : (k i v : ℕ) → (is_unread_send (entry_at s.connections) k i (open_in mid v) && is_some (cancel_where (is_over coid) Badf v (open_in mid v)))
-              ≡ (is_unread_send (entry_at s.connections) k i (open_in s.threads v) && is_some (option_or (cancel v) (ends_receiver (facts_in s) o v)))
-          gone_is k i v = rw (cancel_mid v, is.open_call v) (elim (ends_receiver (facts_in s) o v) as (λ x. ends_receiver (facts_in s) o v ≡ x → (is_unread_send (entry_at s.connections) k i (unless (is_some x) (open_in s.threads v)) && is_some (cancel v))
-              ≡ (is_unread_send (entry_at s.connections) k i (open_in s.threads v) && is_some (option_or (cancel v) x))) [
+          gone_is : (k i v : ℕ) → (is_unread_send k i (open_in mid v) && is_some (cancel_where (is_over coid) Badf v (open_in mid v)))
+              ≡ (is_unread_send k i (open_in s.threads v) && is_some (option_or (cancel v) (ends_receiver (facts_in s) o v)))
+          gone_is k i v = rw (cancel_mid v, is.open_call v) (elim (ends_receiver (facts_in s) o v) as (λ x. ends_receiver (facts_in s) o v ≡ x → (is_unread_send k i (unless (is_some x) (open_in s.threads v)) && is_some (cancel v))
+              ≡ (is_unread_send k i (open_in s.threads v) && is_some (option_or (cancel v) x))) [
                 | None ↦ λ e. rw (or_none (cancel v)) refl
                 | Some y ↦ λ e. rw (met_unread v k i y e) refl
               ] refl)
 
-          cancel_is : (k i : ℕ) → is_cancelled_among (entry_at s.connections) (Over coid) Badf mid k i ≡ is_cancelled (facts_in s) t (ConnectDetach coid) k i
+          cancel_is : (k i : ℕ) → is_cancelled_among (Over coid) Badf mid k i ≡ is_cancelled (facts_in s) t (ConnectDetach coid) k i
           cancel_is k i = rw (is.members, due_is) (ap (λ (p : ℕ → Bool). list_any p ts) (λ j v. gone_is k i v j))
 
           pending_is : (k : ℕ) → pending_in now k ≡ unreceived_items (pulse_receipt (facts_in s) o) k (uncut_items (facts_in s) t (ConnectDetach coid) k (pending_in s.channels k ++ made_on k o))
           pending_is k = lose.pending k
-              ∙ filter_agree (λ (item : Item). not (is_cancelled_among (entry_at s.connections) (Over coid) Badf mid k item.number)) (λ item. not (is_cancelled (facts_in s) t (ConnectDetach coid) k item.number)) (λ item. ap not (cancel_is k item.number)) (pending_in between k)
+              ∙ filter_agree (λ (item : Item). not (is_cancelled_among (Over coid) Badf mid k item.number)) (λ item. not (is_cancelled (facts_in s) t (ConnectDetach coid) k item.number)) (λ item. ap not (cancel_is k item.number)) (pending_in between k)
               ∙ ap (uncut_items (facts_in s) t (ConnectDetach coid) k) (is.pending k)
               ∙ taken_filtered (λ item. not (is_cancelled (facts_in s) t (ConnectDetach coid) k item.number)) (pulse_receipt (facts_in s) o) k (pending_in s.channels k ++ made_on k o)
 

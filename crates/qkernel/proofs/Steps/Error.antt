@@ -19,7 +19,7 @@ use Rattle.qkernel.proofs.Steps.Common.{uncut}
 use Rattle.qkernel.proofs.Steps.Held.{is_held, two_ended, answered_calls}
 
 pub step_errored : (s : State) (t : ℕ) (m : Member) (i : ℕ) (sound : IsSound s) (known : member_at (members_of s.threads) t ≡ Some m) (code : ℤ) (u : ℕ) (y : Completion)
-    → s.down ≡ false → open_in s.threads t ≡ None → is_held_in s.threads s.connections s.channels m.process i ≡ true → sender_in s.threads i ≡ Some u → answer_ending (error_finish code) u (open_in s.threads u) ≡ Some y
+    → s.down ≡ false → open_in s.threads t ≡ None → is_held_in s.threads s.channels m.process i ≡ true → sender_in s.threads i ≡ Some u → answer_ending (error_finish code) u (open_in s.threads u) ≡ Some y
     → (threads : List Thread) (X : List Completion) → SetsOpen u None s.threads threads → X ≡ with_ending_in_place y (record { call = s.made + 1; thread = t; mark = mark.Ok; buffer = [] } ∷ [])
     → Steps s t (Error i code) X (record { made = s.made + 1; down = s.down; threads = threads; channels = s.channels; connections = s.connections })
 step_errored s t m i sound known code u y up free held is_sender ended threads X takes is = (

@@ -5,9 +5,7 @@ use Rattle.std.specs.List.{filter_map}
 use Rattle.std.proofs.lemmas.Bool.{eqb-true, eq-eqb}
 use Rattle.std.proofs.lemmas.Option.{same_Some, none-some}
 use Rattle.qbase.specs.declared.errno.Errno.TheVariants.{Srch}
-use Rattle.qtables.specs.Entries.{entry_at}
 use Rattle.qtables.specs.Members.{member_at}
-use Rattle.qtables.specs.declared.connection.Connection.{Connection}
 use Rattle.qtables.specs.declared.member.Member.{Member}
 use Rattle.qmodel.specs.declared.call.Call.{Call}
 use Rattle.qmodel.specs.declared.call.Completion.{Completion}
@@ -20,38 +18,34 @@ use Rattle.qrules.specs.Private.Calls.{row_of}
 use Rattle.qstate.specs.Kept.{channel_in}
 use Rattle.qstate.specs.Endings.{with_ending_in_place}
 use Rattle.qrules.specs.Private.Facts.{is_send, sender, sender_among, threads_of}
-use Rattle.qrules.specs.Private.Held.{Finish, ends_sender, answer_ending, answer_ending_of_wait, refusal}
-use Rattle.qrules.proofs.Traces.Parts.{owns_end, is_held_for}
-use Rattle.qstate.specs.Held.{leads_to_own, is_held_over, is_held_in}
+use Rattle.qrules.specs.Private.Held.{Finish, ends_sender, answer_ending, refusal}
+use Rattle.qrules.proofs.Traces.Parts.{is_held_for}
+use Rattle.qstate.specs.Held.{is_held_in}
 use Rattle.qkernel.specs.Kernel.{State, IsSound}
 use Rattle.qkernel.specs.Private.Steps.{Steps, facts_in}
 use Rattle.qrules.specs.Private.Step.{unless}
-use Rattle.qstate.specs.Thread.{open_in, held_over_in, sender_in, sent_call, SetsOpen}
+use Rattle.qstate.specs.Thread.{open_in, sender_in, sent_call, SetsOpen}
 use Rattle.qstate.specs.Kept.{members_of}
 use Rattle.qstate.proofs.Inserting.{two_endings}
 use Rattle.qbase.proofs.Lists.{is_among, cond_same}
 use Rattle.qrules.proofs.Traces.Rosters.{rises, among, filter_map_same}
 use Rattle.qkernel.proofs.Steps.Common.{counted, step_refused_alone, owned_by_member}
+use Rattle.std.specs.Option.{option_map_or}
+use Rattle.qstate.specs.Held.{is_held_of}
+use Rattle.std.specs.Prelude.{◌&&◌}
 
 module _ (s : State) (t : ℕ) (m : Member) (i : ℕ) (sound : IsSound s) (known : member_at (members_of s.threads) t ≡ Some m) where
-  is_own_end : (o : Option Connection) → owns_end (facts_in s) t o ≡ leads_to_own s.channels m.process o
-  is_own_end None = refl
-  is_own_end (Some c) = owned_by_member (facts_in s) t m (channel_in s.channels c.channel) known
-
-  held_same : (o : Option OpenCall) → is_held_for (facts_in s) t o ≡ is_held_over s.connections s.channels m.process (held_over_in o)
+  held_same : (o : Option OpenCall) → is_held_for (facts_in s) t o ≡ option_map_or (is_held_of s.channels m.process) o false
   held_same None = refl
-  held_same (Some o) = by_wait o.number o.wait where
-    by_wait : (n : ℕ) (w : Wait) → is_held_for (facts_in s) t (Some (record { number = n; wait = w })) ≡ is_held_over s.connections s.channels m.process (held_over_in (Some (record { number = n; wait = w })))
-    by_wait n (Answer coid message reply_buffer (Some receipt)) = is_own_end (entry_at s.connections coid)
-    by_wait n (Answer coid message reply_buffer None) = refl
-    by_wait n (ForItem chid kind buffer) = refl
+  held_same (Some (Receive r)) = refl
+  held_same (Some (Send x)) = ap (λ b. is_some x.receipt && b) (owned_by_member (facts_in s) t m (channel_in s.channels x.channel) known)
 
   -- what the row tests is what the kernel finds
-  pub is_held : is_held_for (facts_in s) t (sent_call s.threads i) ≡ is_held_in s.threads s.connections s.channels m.process i
+  pub is_held : is_held_for (facts_in s) t (sent_call s.threads i) ≡ is_held_in s.threads s.channels m.process i
   is_held = held_same (sent_call s.threads i)
 
   -- refused where no message is held so
-  pub step_unheld : (c : Call) (X : List Completion) → (row_of (facts_in s) t c).refusal ≡ refusal (facts_in s) t i → s.down ≡ false → open_in s.threads t ≡ None → is_held_in s.threads s.connections s.channels m.process i ≡ false
+  pub step_unheld : (c : Call) (X : List Completion) → (row_of (facts_in s) t c).refusal ≡ refusal (facts_in s) t i → s.down ≡ false → open_in s.threads t ≡ None → is_held_in s.threads s.channels m.process i ≡ false
       → X ≡ refusal_ending (facts_in s) t c Srch ∷ [] → Steps s t c X (counted s)
   step_unheld c X row up free none is = step_refused_alone s t c Srch X (inl (rw (up, free, row, is_held, none) refl)) is
 
@@ -70,10 +64,8 @@ among_senders threads i u e = found (threads_of (members_of threads)) e where
 
 finished_thread : (finish : Finish) (u : ℕ) (o : Option OpenCall) (y : Completion) → answer_ending finish u o ≡ Some y → y.thread ≡ u
 finished_thread finish u None y e = absurd (none-some y e)
-finished_thread finish u (Some o) y e = by_wait o.wait e where
-  by_wait : (w : Wait) → answer_ending_of_wait finish u o.number w ≡ Some y → y.thread ≡ u
-  by_wait (Answer coid message reply_buffer receipt) e = sym (ap (λ x. x.thread) (same_Some _ y e))
-  by_wait (ForItem chid kind buffer) e = absurd (none-some y e)
+finished_thread finish u (Some (Send s)) y e = sym (ap (λ x. x.thread) (same_Some _ y e))
+finished_thread finish u (Some (Receive r)) y e = absurd (none-some y e)
 
 module _ (s : State) (t : ℕ) (m : Member) (i : ℕ) (sound : IsSound s) (known : member_at (members_of s.threads) t ≡ Some m) (finish : Finish) (u : ℕ) (y : Completion) (up : s.down ≡ false) (free : open_in s.threads t ≡ None)
     (is_sender : sender_in s.threads i ≡ Some u) (ended : answer_ending finish u (open_in s.threads u) ≡ Some y) where

@@ -5,7 +5,6 @@ use Rattle.std.specs.List.{filter_map}
 use Rattle.std.specs.Option.{option_and_then, option_map}
 use Rattle.std.proofs.lemmas.Bool.{true≢false}
 use Rattle.qtables.specs.Members.{member_at, IsRoster}
-use Rattle.qtables.specs.declared.connection.Connection.{Connection}
 use Rattle.qtables.specs.declared.member.Member.{Member}
 use Rattle.qmodel.specs.declared.call.Call.TheVariants.{Info}
 use Rattle.qmodel.specs.declared.call.Completion.{Completion}
@@ -16,20 +15,31 @@ use Rattle.qstate.specs.declared.thread.Thread.{Thread}
 use Rattle.qmodel.specs.declared.call.Info.{Info as Told}
 use Rattle.qrules.specs.Private.Calls.Info.{info_of, info_of_open, info_ending}
 use Rattle.qrules.specs.Private.Facts.{sender, threads_of}
-use Rattle.qstate.specs.Held.{is_held_in, is_held_over}
+use Rattle.qstate.specs.Held.{is_held_in}
 use Rattle.qkernel.specs.Kernel.{State, IsSound}
 use Rattle.qkernel.specs.Private.Steps.{Steps, facts_in}
 use Rattle.qkernel.specs.Stands.{InfoAtTraces}
-use Rattle.qstate.specs.Thread.{held_over_in, open_in, sender_in}
+use Rattle.qstate.specs.Thread.{open_in, sender_in}
 use Rattle.qstate.specs.Threads.{IsRecordOf}
 use Rattle.qstate.specs.Kept.{members_of}
-use Rattle.qstate.proofs.Senders.{held_sent, sender_of_held}
+use Rattle.qstate.proofs.Senders.{held_sent}
 use Rattle.qrules.proofs.Traces.Rosters.{among, only_own, rises}
-use Rattle.qrules.specs.Rules.Held as rules
 use Rattle.qrules.proofs.Rows.Held.{info_same}
 use Rattle.qkernel.proofs.Contents.{open_among}
 use Rattle.qkernel.proofs.Steps.Common.{uncut, counted, stays_free}
 use Rattle.qkernel.proofs.Steps.Held.{is_held}
+use Rattle.std.specs.Option.{option_map_or}
+use Rattle.qstate.specs.Held.{is_held_of}
+use Rattle.qrules.proofs.Traces.Past.Waits.{some_map}
+use Rattle.std.proofs.lemmas.Bool.{and_parts}
+use Rattle.qrules.proofs.View.{IsKnown}
+use Rattle.qrules.specs.Private.Lawful.{facts_of}
+use Rattle.std.proofs.Common.{subst}
+use Rattle.qrules.specs.Private.Facts.{Facts}
+use Rattle.qstate.specs.Kept.{channel_in}
+use Rattle.qstate.specs.Channel.{is_of}
+use Rattle.qbase.proofs.Lists.{is_among}
+use Rattle.qrules.proofs.Traces.Past.Open.{open_own}
 
 -- what is told of the thread that sent it
 pub info_there : (s : State) (i u : ℕ) (t : Thread) → sender_in s.threads i ≡ Some u → IsRecordOf u s.threads t → info_of (facts_in s) (sender (facts_in s) i) ≡ info_of_open t.member t.open_call
@@ -44,25 +54,23 @@ info_nowhere s i none = ap (info_of (facts_in s)) none
 
 -- what is told by the kernel's content is told at every trace at which it stands
 pub info_at_traces : (s : State) (i : ℕ) (told : Option Told) → IsRoster (members_of s.threads) → told ≡ info_of (facts_in s) (sender (facts_in s) i) → InfoAtTraces s i told
-info_at_traces s i told rises is roster past stands = is ∙ sym (info_same (facts_in s) i (open_among s.threads)) ∙ ap (λ f. rules.info_of f i) stands
+info_at_traces s i told rises is roster past stands =
+    let known : IsKnown (facts_of roster past) = record { among = subst (λ (f : Facts). (u : ℕ) → is_some (f.open_call u) ≡ true → is_among (threads_of f.roster) u ≡ true) stands (open_among s.threads); own = open_own roster past } in
+    is ∙ ap (λ f. info_of f (sender f i)) stands ∙ sym (info_same (facts_of roster past) i known)
 
 -- what is held is told of
-told_some : (m : Member) (o : Option OpenCall) → is_some (held_over_in o) ≡ true → is_some (info_of_open m o) ≡ true
-told_some m None e = e
-told_some m (Some o) e = by_wait o.wait e where
-  by_wait : (w : Wait) → is_some (held_over_in (Some (record { number = o.number; wait = w }))) ≡ true → is_some (info_of_open m (Some (record { number = o.number; wait = w }))) ≡ true
-  by_wait (Answer coid message reply_buffer (Some receipt)) e = refl
-  by_wait (Answer coid message reply_buffer None) e = e
-  by_wait (ForItem chid kind buffer) e = e
+told_some : (channels : List (ℕ × Channel)) (p : ℕ) (m : Member) (o : Option OpenCall) → option_map_or (is_held_of channels p) o false ≡ true → is_some (info_of_open m o) ≡ true
+told_some channels p m None e = absurd (true≢false (sym e))
+told_some channels p m (Some (Receive r)) e = absurd (true≢false (sym e))
+told_some channels p m (Some (Send s)) e = some_map _ s.receipt ∙ (and_parts (is_some s.receipt) (is_of p (channel_in channels s.channel)) e).0
 
-pub told_there : (connections : List (ℕ × Connection)) (channels : List (ℕ × Channel)) (p i u : ℕ) (threads : List Thread) (t : Thread) → sender_in threads i ≡ Some u → IsRecordOf u threads t
-    → is_held_in threads connections channels p i ≡ true → info_of_open t.member t.open_call ≡ None → ⊥
-told_there connections channels p i u threads t sent is held none =
-    let over = sender_of_held connections channels p t.open_call (ap (λ o. is_held_over connections channels p (held_over_in o)) (sym is.open_call) ∙ sym (held_sent connections channels p i u threads sent) ∙ held) in
-    true≢false (sym (told_some t.member t.open_call over) ∙ ap is_some none)
+pub told_there : (channels : List (ℕ × Channel)) (p i u : ℕ) (threads : List Thread) (t : Thread) → sender_in threads i ≡ Some u → IsRecordOf u threads t → is_held_in threads channels p i ≡ true → info_of_open t.member t.open_call ≡ None → ⊥
+told_there channels p i u threads t sent is held none =
+    let here : option_map_or (is_held_of channels p) t.open_call false ≡ true = ap (λ o. option_map_or (is_held_of channels p) o false) (sym is.open_call) ∙ sym (held_sent channels p i u threads sent) ∙ held in
+    true≢false (sym (told_some channels p t.member t.open_call here) ∙ ap is_some none)
 
 module _ (s : State) (t : ℕ) (m : Member) (i : ℕ) (sound : IsSound s) (known : member_at (members_of s.threads) t ≡ Some m) (up : s.down ≡ false) (free : open_in s.threads t ≡ None)
-    (held : is_held_in s.threads s.connections s.channels m.process i ≡ true) where
+    (held : is_held_in s.threads s.channels m.process i ≡ true) where
   pub step_info : (told_so : Told) (X : List Completion) → info_of (facts_in s) (sender (facts_in s) i) ≡ Some told_so → X ≡ info_ending (s.made + 1) t told_so ∷ [] → Steps s t (Info i) X (counted s)
   step_info told_so X says is = (
     true,

@@ -8,7 +8,6 @@ use Rattle.std.specs.Option.{option_or}
 use Rattle.qbase.specs.declared.errno.Errno.TheVariants.{Srch}
 use Rattle.qqueue.specs.Best.{with_priority}
 use Rattle.qqueue.specs.declared.item.Item.{Item}
-use Rattle.qtables.specs.Entries.{entry_at}
 use Rattle.qtables.specs.Members.{member_at}
 use Rattle.qtables.specs.declared.member.Member.{Member}
 use Rattle.qrules.specs.Private.Answer.{refusal_ending}
@@ -41,7 +40,7 @@ module _ (s : State) (t thread priority : ℕ) (m : Member) (known : member_at (
   mine = record { call = s.made + 1; thread = t; mark = mark.Ok; buffer = [] }
 
   pub step_set : (threads : List Thread) (channels : List (ℕ × Channel)) (X : List Completion) → IsSound s → is_in_process m.process (member_at (members_of s.threads) thread) ≡ true
-      → MovesUnread (open_in s.threads thread) s.connections priority s.channels channels → SetsPriority thread (Some priority) s.threads threads → X ≡ mine ∷ []
+      → MovesUnread (open_in s.threads thread) priority s.channels channels → SetsPriority thread (Some priority) s.threads threads → X ≡ mine ∷ []
       → Steps s t (PrioritySet thread priority) X (record { made = s.made + 1; down = s.down; threads = threads; channels = channels; connections = s.connections })
   step_set threads channels X sound own moves sets is = (
     true,
@@ -67,7 +66,7 @@ module _ (s : State) (t thread priority : ℕ) (m : Member) (known : member_at (
   )
 
 -- the kernel is sound afterwards
-pub sound_set : (s : State) (thread priority : ℕ) (threads : List Thread) (channels : List (ℕ × Channel)) → IsSound s → MovesUnread (open_in s.threads thread) s.connections priority s.channels channels
+pub sound_set : (s : State) (thread priority : ℕ) (threads : List Thread) (channels : List (ℕ × Channel)) → IsSound s → MovesUnread (open_in s.threads thread) priority s.channels channels
     → members_of threads ≡ members_of s.threads → IsSound (record { made = s.made + 1; down = s.down; threads = threads; channels = channels; connections = s.connections })
 sound_set s thread priority threads channels sound moves members =
     let k = sound_threads s threads sound members in
@@ -79,5 +78,5 @@ sound_set s thread priority threads channels sound moves members =
       connections = k.connections;
       items = λ h. subst (AllByRecursion (λ (item : Item). item.number ≤ s.made + 1)) (sym (moves.pending h))
           (all_map (λ (item : Item). item.number ≤ s.made + 1) _ (pending_in s.channels h) (all_more (λ (item : Item). item.number ≤ s.made + 1) _ (pending_in s.channels h) (k.items h) (λ item below.
-          elim (is_unread_send (λ c. entry_at s.connections c) h item.number (open_in s.threads thread)) as (λ b. (cond b (with_priority priority item) item).number ≤ s.made + 1) [ true ↦ below | false ↦ below ])));
+          elim (is_unread_send h item.number (open_in s.threads thread)) as (λ b. (cond b (with_priority priority item) item).number ≤ s.made + 1) [ true ↦ below | false ↦ below ])));
     }

@@ -17,7 +17,7 @@ use Rattle.qkernel.proofs.Steps.Common.{uncut, counted, stays_free}
 use Rattle.qkernel.proofs.Steps.Held.{is_held}
 
 module _ (s : State) (t : ℕ) (m : Member) (i : ℕ) (sound : IsSound s) (known : member_at (members_of s.threads) t ≡ Some m) (up : s.down ≡ false) (free : open_in s.threads t ≡ None)
-    (held : is_held_in s.threads s.connections s.channels m.process i ≡ true) where
+    (held : is_held_in s.threads s.channels m.process i ≡ true) where
   pub step_read : (offset : ℕ) (buffer : List ℕ) (X : List Completion)
       → X ≡ record { call = s.made + 1; thread = t; mark = mark.Count (laid_count buffer 0 (drop offset (message_from s.threads i))); buffer = lay_over buffer 0 (drop offset (message_from s.threads i)) } ∷ []
       → Steps s t (Read i offset buffer) X (counted s)

@@ -18,7 +18,6 @@ use Rattle.qmodel.specs.declared.call.Mark.TheVariants as mark
 use Rattle.qstate.specs.declared.channel.Channel.{Channel}
 use Rattle.qmodel.specs.declared.open_call.OpenCall.{OpenCall}
 use Rattle.qmodel.specs.declared.open_call.Receipt.{Receipt}
-use Rattle.qmodel.specs.declared.open_call.OpenCall.TheVariants.{Receive as InReceive, Send as InSend}
 use Rattle.qstate.specs.declared.thread.Thread.{Thread}
 use Rattle.qrules.specs.Private.Answer.{ending}
 use Rattle.qstate.specs.Channel.{ids_of, is_of, SetsItems}
@@ -35,6 +34,7 @@ use Rattle.qbase.proofs.Lists.{all_filter, eqb_either, cond_same}
 use Rattle.qrules.proofs.Traces.Rosters.{rises, among, nothing, filter_map_same, only_own}
 use Rattle.qkernel.proofs.Steps.Common.{uncut, counted, step_refused_alone, owned_by_member, all_up_to, stays_free}
 use Rattle.qkernel.proofs.Steps.Delivering.{count_kept, sound_items}
+use Rattle.qrules.proofs.Traces.Calls.Receiving.{receiver}
 
 -- ---- refused
 
@@ -68,7 +68,7 @@ receipt_by s t chid buffer o = receipt_when_taken (facts_in s) chid (own_of s t 
 record Receives (s : State) (t chid : ℕ) (kind : Kind) (buffer : List ℕ) (o : Option Item) (X : List Completion) (threads : List Thread) (channels : List (ℕ × Channel)) : Type 0 where
   endings : X ≡ filter_map (λ u. cond (eqb u t) (own_of s t buffer o) None) (threads_of (members_of s.threads))
   roster : members_of threads ≡ members_of s.threads
-  open_call : (u : ℕ) → open_in threads u ≡ cond (eqb u t) (unless (is_some (own_of s t buffer o)) (after_receipt (receipt_by s t chid buffer o) u (Some (record { number = s.made + 1; wait = ForItem chid kind buffer }))))
+  open_call : (u : ℕ) → open_in threads u ≡ cond (eqb u t) (unless (is_some (own_of s t buffer o)) (after_receipt (receipt_by s t chid buffer o) u (Some (receiver chid kind buffer (s.made + 1) t))))
       (unless false (after_receipt (receipt_by s t chid buffer o) u (open_in s.threads u)))
   items : (k : ℕ) → pending_in channels k ≡ unreceived_items (receipt_by s t chid buffer o) k (pending_in s.channels k ++ [])
   ids : ids_of channels ≡ ids_of s.channels
@@ -131,7 +131,7 @@ module _ (s : State) (t chid : ℕ) (kind : Kind) (buffer : List ℕ) (m : Membe
   owned = owned_by_member (facts_in s) t m (channel_in s.channels chid) known ∙ own
 
   pub step_receive_waits : (threads : List Thread) (channels : List (ℕ × Channel)) (X : List Completion) → best_of kind (pending_in s.channels chid) ≡ None
-      → SetsOpen t (Some (record { number = s.made + 1; wait = ForItem chid kind buffer })) s.threads threads → SetsItems chid (pending_in s.channels chid) s.channels channels → X ≡ []
+      → SetsOpen t (Some (receiver chid kind buffer (s.made + 1) t)) s.threads threads → SetsItems chid (pending_in s.channels chid) s.channels channels → X ≡ []
       → Steps s t (receive_of kind chid buffer) X (record { made = s.made + 1; down = s.down; threads = threads; channels = channels; connections = s.connections })
   step_receive_waits threads channels X none opens sets is = step_of s t chid kind buffer m None X threads channels empty known up free owned none (record {
     endings = is ∙ sym (nothing (threads_of (members_of s.threads)) (λ u. cond (eqb u t) None None) (λ u. cond_same (eqb u t) None));

@@ -15,7 +15,7 @@ use Rattle.qmodel.specs.declared.call.Completion.{Completion}
 use Rattle.qstate.specs.declared.channel.Channel.{Channel}
 use Rattle.qmodel.specs.declared.open_call.OpenCall.{OpenCall}
 use Rattle.qmodel.specs.declared.open_call.Receipt.{Receipt}
-use Rattle.qmodel.specs.declared.open_call.OpenCall.TheVariants.{Receive as InReceive, Send as InSend}
+use Rattle.qmodel.specs.declared.open_call.OpenCall.TheVariants.{Send as InSend}
 use Rattle.qstate.specs.declared.thread.Thread.{Thread}
 use Rattle.qrules.specs.Private.Answer.{refusal_ending, ending}
 use Rattle.qstate.specs.Channel.{route_in, SetsItems}
@@ -67,7 +67,7 @@ module _ (s : State) (t coid : ℕ) (message reply_buffer : List ℕ) (m : Membe
 
   -- the sender's open call
   abbrev pub waiting : Option Receipt → OpenCall
-  waiting receipt = record { number = s.made + 1; wait = Answer coid message reply_buffer receipt }
+  waiting receipt = InSend (record { number = s.made + 1; thread = t; connection = coid; channel = h; message = message; reply_buffer = reply_buffer; receipt = receipt })
 
   pub step_send_waits : (threads : List Thread) (channels : List (ℕ × Channel)) (X : List Completion) → newest_in h item s.threads ≡ None → SetsOpen t (Some (waiting None)) s.threads threads
       → SetsItems h (pending_in s.channels h ++ item ∷ []) s.channels channels → X ≡ []
@@ -88,7 +88,7 @@ module _ (s : State) (t coid : ℕ) (message reply_buffer : List ℕ) (m : Membe
             open_channels = rw known (count_kept s.channels channels sets.ids);
             connection = λ k. rw known refl;
             live_connections = rw known (omega arith);
-            open_call = λ u. opens.open_call u ∙ rw (over_way, none) (elim (eqb u t) as (λ b. cond b (Some (waiting None)) (open_in s.threads u) ≡ cond b (Some (waiting None)) (open_in s.threads u)) [ true ↦ refl | false ↦ refl ]);
+            open_call = λ u. opens.open_call u ∙ rw (over_way, none, over_sent) (elim (eqb u t) as (λ b. cond b (Some (waiting None)) (open_in s.threads u) ≡ cond b (Some (waiting None)) (open_in s.threads u)) [ true ↦ refl | false ↦ refl ]);
             pending = λ k. uncut s t (Send coid message reply_buffer) (rw (up, free, over_way) refl) refl refl refl k (sets.pending k ∙ rw (over_way, none) (with_item s h item sound refl k ∙ ap (λ o. pending_in s.channels k ++ made_on k o) (sym over_sent)));
             priority = λ u. opens.priority u ∙ rw (over_way, none) refl;
           };
@@ -140,7 +140,7 @@ module _ (s : State) (t coid : ℕ) (message reply_buffer : List ℕ) (m : Membe
           open_channels = rw known (omega arith);
           connection = λ k. rw known refl;
           live_connections = rw known (omega arith);
-          open_call = λ u. sets_t.open_call u ∙ rw (over_way, newest_is_r, ended, is_receipt) (calls_after threads_1 takes_r u);
+          open_call = λ u. sets_t.open_call u ∙ rw (over_way, newest_is_r, ended, is_receipt, over_sent) (calls_after threads_1 takes_r u);
           pending = λ k. uncut s t (Send coid message reply_buffer) (rw (up, free, over_way) refl) refl refl refl k (rw (over_way, newest_is_r, ended, is_receipt) (items_after s h item sound refl k ∙ ap (λ o. cond (eqb h k) (without_item (s.made + 1) (pending_in s.channels k ++ made_on k o)) (pending_in s.channels k ++ made_on k o)) (sym over_sent)));
           priority = λ u. sets_t.priority u ∙ takes_r.priority u ∙ rw (over_way, newest_is_r, ended, is_receipt, ended_thread item message r (open_in s.threads r) y ended) refl;
         };

@@ -3,7 +3,6 @@ use Rattle.std.proofs.Common.{◌≡◌, ℕ, ◌+◌, List, refl, ap, sym, ◌�
 use Rattle.std.specs.Prelude.{None, Some}
 use Rattle.std.proofs.lemmas.List.{append-nil}
 use Rattle.qbase.specs.declared.errno.Errno.TheVariants.{Srch}
-use Rattle.qtables.specs.Entries.{entry_at}
 use Rattle.qtables.specs.Members.{member_at}
 use Rattle.qtables.specs.declared.member.Member.{Member}
 use Rattle.qrules.specs.Private.Step.{uncut_items}
@@ -22,7 +21,7 @@ use Rattle.qkernel.proofs.Steps.Cancelling.{endings_cancelled, open_after}
 use Rattle.qkernel.proofs.Steps.Delivering.{count_kept}
 
 pub step_shut : (s : State) (t : ℕ) (m : Member) (threads : List Thread) (channels : List (ℕ × Channel)) (X : List Completion) → member_at (members_of s.threads) t ≡ Some m → s.down ≡ false → open_in s.threads t ≡ None
-    → AreCancelled (entry_at s.connections) All Srch s.threads threads → LoseCancelled (entry_at s.connections) All Srch s.threads s.channels channels → X ≡ endings_cancelled s t All Srch
+    → AreCancelled All Srch s.threads threads → LoseCancelled All Srch s.threads s.channels channels → X ≡ endings_cancelled s t All Srch
     → Steps s t Shutdown X (record { made = s.made + 1; down = true; threads = threads; channels = channels; connections = s.connections })
 step_shut s t m threads channels X known up free are lose is = (
   true,

@@ -3,11 +3,10 @@ use Rattle.std.proofs.Common.{◌≡◌, ℕ, ◌+◌, List, [], ◌∷◌, refl
 use Rattle.std.specs.Prelude.{None, Some, is_some}
 use Rattle.std.proofs.lemmas.List.{append-nil}
 use Rattle.qbase.specs.declared.errno.Errno.TheVariants.{Srch}
-use Rattle.qtables.specs.Entries.{entry_at}
 use Rattle.qtables.specs.Members.{member_at}
 use Rattle.qtables.specs.declared.member.Member.{Member}
 use Rattle.qrules.specs.Private.Answer.{refusal_ending}
-use Rattle.qrules.specs.Private.ThreadState.{state_in}
+use Rattle.qrules.specs.Rules.Threads.{state_in}
 use Rattle.qmodel.specs.declared.call.Call.TheVariants.{State as Ask}
 use Rattle.qmodel.specs.declared.call.Completion.{Completion}
 use Rattle.qmodel.specs.declared.call.Mark.TheVariants as mark
@@ -17,6 +16,8 @@ use Rattle.qstate.specs.Thread.{open_in}
 use Rattle.qstate.specs.Kept.{thread_priority, members_of}
 use Rattle.qrules.proofs.Traces.Rosters.{among, only_own, rises}
 use Rattle.qkernel.proofs.Steps.Common.{uncut, counted, stays_free, step_refused_alone}
+use Rattle.std.specs.Option.{option_map_or}
+use Rattle.qbase.specs.declared.state.ThreadState.TheVariants.{Ready}
 
 module _ (s : State) (t target : ℕ) (m : Member) (known : member_at (members_of s.threads) t ≡ Some m) (up : s.down ≡ false) (free : open_in s.threads t ≡ None) where
   pub step_state_nobody : (X : List Completion) → is_some (member_at (members_of s.threads) target) ≡ false → X ≡ refusal_ending (facts_in s) t (Ask target) Srch ∷ [] → Steps s t (Ask target) X (counted s)
@@ -24,7 +25,7 @@ module _ (s : State) (t target : ℕ) (m : Member) (known : member_at (members_o
 
   -- how the call ends
   abbrev pub telling : Completion
-  telling = record { call = s.made + 1; thread = t; mark = mark.State (state_in (entry_at s.connections) (open_in s.threads target)) (thread_priority s.threads target); buffer = [] }
+  telling = record { call = s.made + 1; thread = t; mark = mark.State (option_map_or state_in (open_in s.threads target) Ready) (thread_priority s.threads target); buffer = [] }
 
   pub step_state : (X : List Completion) → IsSound s → is_some (member_at (members_of s.threads) target) ≡ true → X ≡ telling ∷ [] → Steps s t (Ask target) X (counted s)
   step_state X sound there is = (

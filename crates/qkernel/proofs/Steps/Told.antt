@@ -12,7 +12,7 @@ use Rattle.qqueue.specs.declared.item.Item.{Item}
 use Rattle.qrules.specs.Private.Facts.{threads_of}
 use Rattle.qrules.specs.Private.Pulses.{refusal_if_full_for, ends_receiver, pulse_receipt}
 use Rattle.qrules.specs.Private.Receivers.{newest_receiver}
-use Rattle.qrules.specs.Private.Rows.{item_in, takes, takes_into}
+use Rattle.qrules.specs.Private.Rows.{item_in, takes}
 use Rattle.qmodel.specs.Trace.{SentItem}
 use Rattle.qrules.specs.Private.Step.{after_receipt, priority_taken, unreceived_items, unless}
 use Rattle.qrules.specs.Private.Past.{made_on}
@@ -79,10 +79,8 @@ untold s t = record {
 -- a receipt of a pulse is one of its number, with no bytes
 told_mark : (item : Item) (r : ℕ) (o : Option OpenCall) (y : Completion) → is_pulse item.what ≡ true → takes item [] r o ≡ Some y → item_in y.mark ≡ Some (record { number = item.number; copied = 0 })
 told_mark item r None y pulse e = absurd (none-some y e)
-told_mark item r (Some o) y pulse e = by_wait o.wait e where
-  by_wait : (w : Wait) → takes_into item [] r o.number w ≡ Some y → item_in y.mark ≡ Some (record { number = item.number; copied = 0 })
-  by_wait (Answer coid sent reply_buffer receipt) e = absurd (none-some y e)
-  by_wait (ForItem chid kind buffer) e = sym (ap (λ x. item_in x.mark) (same_Some _ y e)) ∙ rw pulse refl
+told_mark item r (Some (Send s)) y pulse e = absurd (none-some y e)
+told_mark item r (Some (Receive x)) y pulse e = sym (ap (λ x. item_in x.mark) (same_Some _ y e)) ∙ rw pulse refl
 
 module _ (s : State) (t h : ℕ) (item : Item) (sound : IsSound s) (free : open_in s.threads t ≡ None) (number : item.number ≡ s.made + 1) (mid : List Thread) (channels : List (ℕ × Channel)) where
   abbrev sent : Option SentItem

@@ -9,13 +9,11 @@ use Rattle.std.proofs.lemmas.Option.{none-some, same_Some}
 use Rattle.std.proofs.Math.Bool.{and-false}
 use Rattle.qbase.specs.declared.errno.Errno.TheVariants.{Again, Intr, NoMemory, Srch}
 use Rattle.qqueue.specs.declared.item.Item.{Item}
-use Rattle.qtables.specs.Entries.{entry_at}
 use Rattle.qtables.specs.Members.{member_at}
-use Rattle.qtables.specs.declared.connection.Connection.{Connection}
 use Rattle.qtables.specs.declared.member.Member.{Member}
 use Rattle.qrules.specs.Private.Answer.{MayRefuse, ending, refusal_ending}
-use Rattle.qrules.specs.Private.Calls.Unblock.{due_pulse, other_ending, guard, guard_over}
-use Rattle.qrules.proofs.Traces.Parts.{due_pulse_on, due_pulse_of_open}
+use Rattle.qrules.specs.Private.Calls.Unblock.{due_pulse, other_ending}
+use Rattle.qrules.proofs.Traces.Parts.{due_pulse_of_open}
 use Rattle.qrules.specs.Private.Cancelling.{cancel_call, cancel_where}
 use Rattle.qrules.specs.Private.Facts.{is_in_process, threads_of}
 use Rattle.qrules.specs.Private.Pulses.{pulse_receipt, refusal_if_full}
@@ -33,7 +31,7 @@ use Rattle.qstate.specs.declared.held.Held.{Held}
 use Rattle.qstate.specs.declared.thread.Thread.{Thread}
 use Rattle.qstate.specs.Kept.{pending_in}
 use Rattle.qstate.specs.Cancelling.{AreCancelled, LoseCancelled}
-use Rattle.qstate.specs.Held.{guard_in, guarded_message_in, held_message_in}
+use Rattle.qstate.specs.Held.{guarded_message_in}
 use Rattle.qstate.specs.Pulses.{has_room}
 use Rattle.qrules.specs.Private.Receivers.{newest_receiver}
 use Rattle.qstate.specs.Thread.{newest_in, open_in, ChangesOpen}
@@ -48,54 +46,67 @@ use Rattle.qkernel.proofs.Steps.Telling.{AreMarked, Tells}
 use Rattle.qkernel.proofs.Steps.Told.{IsNew}
 use Rattle.qrules.proofs.Traces.Due.{unblock_same}
 use Rattle.qrules.specs.Private.Effects.{makes}
+use Rattle.qrules.specs.Private.Facts.{tells_unblock}
+use Rattle.qmodel.specs.declared.open_call.Receipt.{Receipt}
+use Rattle.qmodel.specs.declared.open_call.OpenSend.{OpenSend}
+use Rattle.qrules.specs.Private.Calls.Unblock.{guards}
+use Rattle.qstate.specs.Kept.{channel_in}
+use Rattle.std.proofs.Common.{Bool}
+use Rattle.std.proofs.Common.{option_and_then}
 
--- ---- what guards a wait, by the kernel's content
+-- ---- what guards an open call, by the kernel's content
 
--- no channel guards what the open call waits for, and no pulse is due
+-- no channel guards the open call, and no pulse is due
 record Unguarded (s : State) (o : Option OpenCall) : Type 0 where
   none_due : due_pulse_of_open (facts_in s) o ≡ None
-  unguarded : (w : OpenCall) → o ≡ Some w → guard (facts_in s) w.wait ≡ None
+  unguarded : (w : OpenCall) → o ≡ Some w → guards (facts_in s) w ≡ false
 
--- channel h guards it, and the pulse is the one for that message
-record Guarded (s : State) (o : Option OpenCall) (held : Held) (h : ℕ) : Type 0 where
-  due_is : due_pulse_of_open (facts_in s) o ≡ due_pulse_on (s.made + 1) held.rcvid held.receipt (Some h)
-  guarded : (w : OpenCall) → o ≡ Some w → guard (facts_in s) w.wait ≡ Some h
+-- the channel of the message guards it, and the pulse is the one for that message
+record Guarded (s : State) (o : Option OpenCall) (held : Held) : Type 0 where
+  due_is : due_pulse_of_open (facts_in s) o ≡ cond held.receipt.unblocked None (Some (record { item = unblock_item (s.made + 1) held.receipt.priority held.rcvid; channel = held.channel }))
+  guarded : (w : OpenCall) → o ≡ Some w → guards (facts_in s) w ≡ true
 
-guard_same : (s : State) (o : Option Connection) → guard_over (facts_in s) o ≡ guard_in s.channels o
-guard_same s None = refl
-guard_same s (Some c) = refl
+-- whether a channel guards a Send, and the pulse that is then due, by the receipt and by whether the channel tells
+abbrev guards_by : Option Receipt → Bool → Bool
+guards_by receipt tells = is_some receipt && tells
 
-none_with : (held : Held) (o : Option ℕ) → option_map {U = Held × ℕ} (λ h. (held, h)) o ≡ None → o ≡ None
-none_with held None e = refl
-none_with held (Some h) e = absurd (none-some (held, h) (sym e))
+abbrev due_by : State → OpenSend → Option Receipt → Bool → Option SentItem
+due_by s x receipt tells = option_and_then (λ r. cond (guards_by receipt tells && not r.unblocked) (Some (record { item = unblock_item (s.made + 1) r.priority x.number; channel = x.channel })) None) receipt
 
-some_with : (held : Held) (o : Option ℕ) (g : Held × ℕ) → option_map {U = Held × ℕ} (λ h. (held, h)) o ≡ Some g → (o ≡ Some g.1) × (held ≡ g.0)
-some_with held None g e = absurd (none-some g e)
-some_with held (Some h) g e = let same = same_Some (held, h) g e in (ap (λ x. Some x.1) same, ap (λ x. x.0) same)
+abbrev message_by : OpenSend → Option Receipt → Bool → Option Held
+message_by x receipt tells = option_and_then (λ r. cond tells (Some (record { rcvid = x.number; channel = x.channel; receipt = r })) None) receipt
 
-none_guards : (s : State) (o : Option OpenCall) → guarded_message_in s.connections s.channels (held_message_in o) ≡ None → Unguarded s o
+none_by : (s : State) (x : OpenSend) (receipt : Option Receipt) (tells : Bool) → message_by x receipt tells ≡ None → (due_by s x receipt tells ≡ None) × (guards_by receipt tells ≡ false)
+none_by s x None tells e = (refl, refl)
+none_by s x (Some r) true e = absurd (none-some _ (sym e))
+none_by s x (Some r) false e = (refl, refl)
+
+abbrev pulse_on : State → ℕ → ℕ → ℕ → SentItem
+pulse_on s priority i h = record { item = unblock_item (s.made + 1) priority i; channel = h }
+
+one_by : (s : State) (x : OpenSend) (receipt : Option Receipt) (tells : Bool) (g : Held) → message_by x receipt tells ≡ Some g
+    → (due_by s x receipt tells ≡ cond g.receipt.unblocked None (Some (pulse_on s g.receipt.priority g.rcvid g.channel))) × (guards_by receipt tells ≡ true)
+one_by s x None tells g e = absurd (none-some g e)
+one_by s x (Some r) false g e = absurd (none-some g e)
+one_by s x (Some r) true g e = (
+  (elim (r.unblocked) as (λ b. cond (not b) (Some (pulse_on s r.priority x.number x.channel)) None ≡ cond b None (Some (pulse_on s r.priority x.number x.channel))) [ true ↦ refl | false ↦ refl ])
+  ∙ ap (λ (h : Held). cond h.receipt.unblocked None (Some (pulse_on s h.receipt.priority h.rcvid h.channel))) (same_Some _ g e),
+  refl,
+)
+
+none_guards : (s : State) (o : Option OpenCall) → guarded_message_in s.channels o ≡ None → Unguarded s o
 none_guards s None e = record { none_due = refl; unguarded = λ w is. absurd (none-some w is) }
-none_guards s (Some o) e = by_wait o.number o.wait e where
-  by_wait : (n : ℕ) (w : Wait) → guarded_message_in s.connections s.channels (held_message_in (Some (record { number = n; wait = w }))) ≡ None → Unguarded s (Some (record { number = n; wait = w }))
-  by_wait n (Answer coid message reply_buffer None) e = record { none_due = refl; unguarded = λ v is. ap (λ (x : OpenCall). guard (facts_in s) x.wait) (sym (same_Some _ v is)) }
-  by_wait n (ForItem chid kind buffer) e = record { none_due = refl; unguarded = λ v is. ap (λ (x : OpenCall). guard (facts_in s) x.wait) (sym (same_Some _ v is)) }
-  by_wait n (Answer coid message reply_buffer (Some receipt)) e =
-      let none : guard_over (facts_in s) (entry_at s.connections coid) ≡ None = guard_same s (entry_at s.connections coid) ∙ none_with (record { rcvid = n; coid = coid; receipt = receipt }) (guard_in s.channels (entry_at s.connections coid)) e in
-      record { none_due = ap (due_pulse_on (s.made + 1) n receipt) none; unguarded = λ v is. ap (λ (x : OpenCall). guard (facts_in s) x.wait) (sym (same_Some _ v is)) ∙ none }
+none_guards s (Some (Receive r)) e = record { none_due = refl; unguarded = λ w is. ap (guards (facts_in s)) (sym (same_Some _ w is)) }
+none_guards s (Some (Send x)) e =
+    let k = none_by s x x.receipt (tells_unblock (channel_in s.channels x.channel)) e in
+    record { none_due = k.0; unguarded = λ w is. ap (guards (facts_in s)) (sym (same_Some _ w is)) ∙ k.1 }
 
-one_guards : (s : State) (o : Option OpenCall) (g : Held × ℕ) → guarded_message_in s.connections s.channels (held_message_in o) ≡ Some g → Guarded s o g.0 g.1
+one_guards : (s : State) (o : Option OpenCall) (g : Held) → guarded_message_in s.channels o ≡ Some g → Guarded s o g
 one_guards s None g e = absurd (none-some g e)
-one_guards s (Some o) g e = by_wait o.number o.wait e where
-  by_wait : (n : ℕ) (w : Wait) → guarded_message_in s.connections s.channels (held_message_in (Some (record { number = n; wait = w }))) ≡ Some g → Guarded s (Some (record { number = n; wait = w })) g.0 g.1
-  by_wait n (Answer coid message reply_buffer None) e = absurd (none-some g e)
-  by_wait n (ForItem chid kind buffer) e = absurd (none-some g e)
-  by_wait n (Answer coid message reply_buffer (Some receipt)) e =
-      let k = some_with (record { rcvid = n; coid = coid; receipt = receipt }) (guard_in s.channels (entry_at s.connections coid)) g e in
-      let some : guard_over (facts_in s) (entry_at s.connections coid) ≡ Some g.1 = guard_same s (entry_at s.connections coid) ∙ k.0 in
-      record {
-        due_is = ap (due_pulse_on (s.made + 1) n receipt) some ∙ ap (λ (x : Held). due_pulse_on (s.made + 1) x.rcvid x.receipt (Some g.1)) k.1;
-        guarded = λ v is. ap (λ (x : OpenCall). guard (facts_in s) x.wait) (sym (same_Some _ v is)) ∙ some;
-      }
+one_guards s (Some (Receive r)) g e = absurd (none-some g e)
+one_guards s (Some (Send x)) g e =
+    let k = one_by s x x.receipt (tells_unblock (channel_in s.channels x.channel)) g e in
+    record { due_is = k.0; guarded = λ w is. ap (guards (facts_in s)) (sym (same_Some _ w is)) ∙ k.1 }
 
 -- ---- the step
 
@@ -106,35 +117,35 @@ module _ (s : State) (t thread : ℕ) (m : Member) (sound : IsSound s) (known : 
 
   module _ (fellow : is_in_process m.process (member_at (members_of s.threads) thread) ≡ true) where
     -- the thread's open call is cancelled
-    module _ (none : guarded_message_in s.connections s.channels (held_message_in (open_in s.threads thread)) ≡ None) where
+    module _ (none : guarded_message_in s.channels (open_in s.threads thread) ≡ None) where
       k : Unguarded s (open_in s.threads thread)
       k = none_guards s (open_in s.threads thread) none
 
       made_none : makes (facts_in s) t (Unblock thread) ≡ None
       made_none = unblock_same (facts_in s) thread ∙ k.none_due
 
-      cancel_same : (u : ℕ) (o : Option OpenCall) → open_in s.threads u ≡ o → cancel_where (λ wait. eqb u thread && not (is_some (guard (facts_in s) wait))) Intr u o ≡ cancel_where (λ wait. eqb u thread) Intr u o
+      cancel_same : (u : ℕ) (o : Option OpenCall) → open_in s.threads u ≡ o → cancel_where (λ o. eqb u thread && not (guards (facts_in s) o)) Intr u o ≡ cancel_where (λ o. eqb u thread) Intr u o
       cancel_same u None is = refl
-      cancel_same u (Some w) is = elim (eqb u thread) as (λ b. eqb u thread ≡ b → cond (b && not (is_some (guard (facts_in s) w.wait))) (Some (cancel_call Intr u w)) None ≡ cond b (Some (cancel_call Intr u w)) None) [
+      cancel_same u (Some w) is = elim (eqb u thread) as (λ b. eqb u thread ≡ b → cond (b && not (guards (facts_in s) w)) (Some (cancel_call Intr u w)) None ≡ cond b (Some (cancel_call Intr u w)) None) [
         | true ↦ λ same. rw (k.unguarded w (ap (open_in s.threads) (sym (eqb-true u thread same)) ∙ is)) refl
         | false ↦ λ other. refl
       ] refl
 
-      ends_one : (u : ℕ) → other_ending (facts_in s) thread (due_pulse (facts_in s) thread) u ≡ cancel_where (λ wait. eqb u thread) Intr u (open_in s.threads u)
+      ends_one : (u : ℕ) → other_ending (facts_in s) thread (due_pulse (facts_in s) thread) u ≡ cancel_where (λ o. eqb u thread) Intr u (open_in s.threads u)
       ends_one u = ap (λ d. other_ending (facts_in s) thread d u) k.none_due ∙ cancel_same u (open_in s.threads u) refl
 
-      ends_same : other_ending (facts_in s) thread (due_pulse (facts_in s) thread) ≡ (λ u. cancel_where (λ wait. eqb u thread) Intr u (open_in s.threads u))
+      ends_same : other_ending (facts_in s) thread (due_pulse (facts_in s) thread) ≡ (λ u. cancel_where (λ o. eqb u thread) Intr u (open_in s.threads u))
       ends_same = λ i u. ends_one u i
 
-      pub step_unblock_cancelled : (threads : List Thread) (channels : List (ℕ × Channel)) (X : List Completion) → AreCancelled (entry_at s.connections) (Of thread) Intr s.threads threads
-          → LoseCancelled (entry_at s.connections) (Of thread) Intr s.threads s.channels channels → X ≡ endings_cancelled s t (Of thread) Intr
+      pub step_unblock_cancelled : (threads : List Thread) (channels : List (ℕ × Channel)) (X : List Completion) → AreCancelled (Of thread) Intr s.threads threads
+          → LoseCancelled (Of thread) Intr s.threads s.channels channels → X ≡ endings_cancelled s t (Of thread) Intr
           → Steps s t (Unblock thread) X (record { made = s.made + 1; down = s.down; threads = threads; channels = channels; connections = s.connections })
       step_unblock_cancelled threads channels X are lose is = (
         true,
         record {
           answer = (
             rw (up, free, known, fellow, k.none_due) refl,
-            is ∙ sym (filter_map_same (ending (facts_in s) t (Unblock thread)) (λ u. cond (eqb u t) (Some (mine s t)) (cancel_where (λ wait. eqb u thread) Intr u (open_in s.threads u))) (threads_of (members_of s.threads))
+            is ∙ sym (filter_map_same (ending (facts_in s) t (Unblock thread)) (λ u. cond (eqb u t) (Some (mine s t)) (cancel_where (λ o. eqb u thread) Intr u (open_in s.threads u))) (threads_of (members_of s.threads))
                 (λ u. ap (cond (eqb u t) (Some (mine s t))) (ends_one u))),
           );
           follows = record {
@@ -147,7 +158,7 @@ module _ (s : State) (t thread : ℕ) (m : Member) (sound : IsSound s) (known : 
             live_connections = rw known (omega arith);
             open_call = λ u. open_after s t (Of thread) Intr threads u free are ∙ rw (ends_one u, k.none_due, made_none, and-false (eqb u thread)) refl;
             pending = λ h. lose.pending h
-                ∙ ap (λ (g : ℕ → Option Completion). filter (λ item. not (list_any (λ v. is_unread_send (entry_at s.connections) h item.number (open_in s.threads v) && is_some (g v)) (threads_of (members_of s.threads)))) (pending_in s.channels h)) (sym ends_same)
+                ∙ ap (λ (g : ℕ → Option Completion). filter (λ item. not (list_any (λ v. is_unread_send h item.number (open_in s.threads v) && is_some (g v)) (threads_of (members_of s.threads)))) (pending_in s.channels h)) (sym ends_same)
                 ∙ ap (uncut_items (facts_in s) t (Unblock thread) h) (sym (append-nil (pending_in s.channels h)))
                 ∙ ap (λ o. unreceived_items (pulse_receipt (facts_in s) o) h (uncut_items (facts_in s) t (Unblock thread) h (pending_in s.channels h ++ []))) (sym k.none_due)
                 ∙ ap (λ o. unreceived_items (pulse_receipt (facts_in s) (due_pulse (facts_in s) thread)) h (uncut_items (facts_in s) t (Unblock thread) h (pending_in s.channels h ++ made_on h o))) (sym made_none);
@@ -157,21 +168,21 @@ module _ (s : State) (t thread : ℕ) (m : Member) (sound : IsSound s) (known : 
       )
 
     -- a channel guards its message
-    module _ (g : Held × ℕ) (guards : guarded_message_in s.connections s.channels (held_message_in (open_in s.threads thread)) ≡ Some g) where
-      q : Guarded s (open_in s.threads thread) g.0 g.1
-      q = one_guards s (open_in s.threads thread) g guards
+    module _ (g : Held) (guarded : guarded_message_in s.channels (open_in s.threads thread) ≡ Some g) where
+      q : Guarded s (open_in s.threads thread) g
+      q = one_guards s (open_in s.threads thread) g guarded
 
       -- which had its pulse
-      module _ (told : g.0.receipt.unblocked ≡ true) where
+      module _ (told : g.receipt.unblocked ≡ true) where
         none_due : due_pulse (facts_in s) thread ≡ None
         none_due = q.due_is ∙ rw told refl
 
         nothing_made : makes (facts_in s) t (Unblock thread) ≡ None
         nothing_made = unblock_same (facts_in s) thread ∙ none_due
 
-        uncut_where : (u : ℕ) (o : Option OpenCall) → open_in s.threads u ≡ o → cancel_where (λ wait. eqb u thread && not (is_some (guard (facts_in s) wait))) Intr u o ≡ None
+        uncut_where : (u : ℕ) (o : Option OpenCall) → open_in s.threads u ≡ o → cancel_where (λ o. eqb u thread && not (guards (facts_in s) o)) Intr u o ≡ None
         uncut_where u None is = refl
-        uncut_where u (Some w) is = elim (eqb u thread) as (λ b. eqb u thread ≡ b → cond (b && not (is_some (guard (facts_in s) w.wait))) (Some (cancel_call Intr u w)) None ≡ None) [
+        uncut_where u (Some w) is = elim (eqb u thread) as (λ b. eqb u thread ≡ b → cond (b && not (guards (facts_in s) w)) (Some (cancel_call Intr u w)) None ≡ None) [
           | true ↦ λ same. rw (q.guarded w (ap (open_in s.threads) (sym (eqb-true u thread same)) ∙ is)) refl
           | false ↦ λ other. refl
         ] refl
@@ -204,20 +215,20 @@ module _ (s : State) (t thread : ℕ) (m : Member) (sound : IsSound s) (known : 
         )
 
       -- which is told now, by this pulse
-      module _ (first : g.0.receipt.unblocked ≡ false) (pulse : Item) (is_pulse : pulse ≡ unblock_item (s.made + 1) g.0.receipt.priority g.0.rcvid) where
-        due_is : due_pulse (facts_in s) thread ≡ Some (record { item = pulse; channel = g.1 })
+      module _ (first : g.receipt.unblocked ≡ false) (pulse : Item) (is_pulse : pulse ≡ unblock_item (s.made + 1) g.receipt.priority g.rcvid) where
+        due_is : due_pulse (facts_in s) thread ≡ Some (record { item = pulse; channel = g.channel })
         due_is = q.due_is ∙ rw (first, is_pulse) refl
 
-        pub unblock_full : has_room s.channels g.1 ≡ false → MayRefuse (facts_in s) t (Unblock thread) Again
+        pub unblock_full : has_room s.channels g.channel ≡ false → MayRefuse (facts_in s) t (Unblock thread) Again
         unblock_full refusal_if_full = inl (rw (up, free, known, fellow, due_is, refusal_if_full) refl)
 
-        pub unblock_memory : has_room s.channels g.1 ≡ true → newest_in g.1 pulse s.threads ≡ None → MayRefuse (facts_in s) t (Unblock thread) NoMemory
+        pub unblock_memory : has_room s.channels g.channel ≡ true → newest_in g.channel pulse s.threads ≡ None → MayRefuse (facts_in s) t (Unblock thread) NoMemory
         unblock_memory room nobody =
-            let none : newest_receiver (facts_in s) g.1 pulse ≡ None = nobody in
+            let none : newest_receiver (facts_in s) g.channel pulse ≡ None = nobody in
             inr (rw (up, free, known, fellow, due_is, room) refl, rw (due_is, none) refl, refl)
 
-        pub tells_unblock : refusal_if_full (facts_in s) g.1 ≡ None → Tells s t (Unblock thread) (Some (record { item = pulse; channel = g.1 }))
-        tells_unblock room = record {
+        pub tells_of_it : refusal_if_full (facts_in s) g.channel ≡ None → Tells s t (Unblock thread) (Some (record { item = pulse; channel = g.channel }))
+        tells_of_it room = record {
           quiet = record { closes_none = refl; detaches_none = refl; stays_up = refl; creates_none = rw known refl; attaches_none = rw known refl; sets_none = refl; writes_none = refl };
           passed = rw (up, free, known, fellow, due_is, room) refl;
           made = unblock_same (facts_in s) thread ∙ due_is;

@@ -3,7 +3,6 @@
 ghost use Rattle.std.specs.Prelude.{◌≡◌, ◌++◌, List, Some, is_some, IfOk, OnOk};
 ghost use Rattle.qstate.specs.Thread.{open_in};
 ghost use Rattle.std.specs.Option.{option_to_list};
-ghost use Rattle.qtables.specs.Entries.{entry_at};
 ghost use Rattle.qtables.specs.declared.member.Member.{Member};
 ghost use Rattle.qrules.specs.Private.Blocked.{blocked_thread};
 ghost use Rattle.qrules.specs.Lawful.{facts_of};
@@ -12,27 +11,20 @@ ghost use Rattle.qkernel.specs.Blocked.{blocked_threads};
 
 use super::Kernel;
 use qbase::ids::ThreadNo;
-use qbase::state::ThreadState;
 use qmodel::open_call::Blocked;
 use qstate::thread::Thread;
-use qstate::thread_state::state_of_wait;
-use qtables::connections::Connections;
+use qstate::thread_state::state_of;
 use std::alloc::{AllocError, Global};
 
 /// Adds the record of a thread to the list, if the thread is blocked.
-fn push_blocked(
-    list: &mut Vec<Blocked>,
-    connections: &Connections,
-    thread: &Thread,
-) -> Result<(), AllocError>
-    ensures { OnOk result (list.new.items ≡ list.old.items ++ option_to_list (blocked_thread (entry_at connections.now) thread.now.member.thread thread.now.open_call)) }
+fn push_blocked(list: &mut Vec<Blocked>, thread: &Thread) -> Result<(), AllocError>
+    ensures { OnOk result (list.new.items ≡ list.old.items ++ option_to_list (blocked_thread thread.now.member.thread thread.now.open_call)) }
 {
     if let Some(call) = &thread.open_call {
-        let state: ThreadState = state_of_wait(connections, &call.wait);
         list.push(Blocked {
-            number: call.number,
+            number: call.number(),
             thread: thread.member.thread,
-            state,
+            state: state_of(call),
         })?;
     }
     Ok(())
@@ -58,7 +50,7 @@ impl Kernel {
     {
         let mut list = Vec::new(alloc);
         for thread in self.objects.threads.records() {
-            push_blocked(&mut list, &self.objects.connections, thread)?;
+            push_blocked(&mut list, thread)?;
         }
         Ok(list)
     }

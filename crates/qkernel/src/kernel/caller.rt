@@ -1,19 +1,15 @@
 //! The caller of a call, and the completion of its call.
 
 ghost use Rattle.std.specs.Prelude.{◌≡◌, ◌+◌, ◌<◌, ◌^◌, [], ◌∷◌, Some};
-ghost use Rattle.qstate.specs.Thread.{SetsOpen};
-ghost use Rattle.qstate.specs.Threads.{IsSeatIn};
 
 use qbase::bytes::Bytes;
 use qbase::errno::Errno;
 use qbase::ids::ProcessNo;
 use qbase::priority::Priority;
 use qmodel::call::{Completion, Mark};
-use qmodel::open_call::{OpenCall, Wait};
 use qqueue::item::{Item, What};
 use qstate::endings::Endings;
 use qstate::seat::Seat;
-use qstate::threads::Threads;
 use std::alloc::Global;
 
 /// The caller of a call.
@@ -75,19 +71,5 @@ impl Caller {
         ensures { endings.new.items ≡ record { call = self.now.made + 1; thread = self.now.seat.thread; mark = Mark.Failed errno; buffer = buffer } ∷ [] }
     {
         endings.push(self.ending_with(Mark::Failed(errno), buffer));
-    }
-
-    /// Blocks the caller in its call. `key` is the key of its message in the channel's queue, if the message waits
-    /// there.
-    #[inline(always)]
-    pub(crate) fn block(&self, threads: &mut Threads, wait: Wait, key: usize)
-        requires { IsSeatIn threads.old self.now.seat }
-        ensures { SetsOpen self.now.seat.thread (Some (record { number = self.now.made + 1; wait = wait })) threads.old threads.new }
-    {
-        let call = OpenCall {
-            number: self.number(),
-            wait,
-        };
-        threads.block(&self.seat, call, key);
     }
 }

@@ -8,7 +8,7 @@ use super::caller::Caller;
 use qbase::bytes::Bytes;
 use qbase::errno::Errno;
 use qbase::ids::ChannelId;
-use qmodel::open_call::Wait;
+use qmodel::open_call::{OpenCall, OpenReceive};
 use qqueue::item::Kind;
 use qstate::endings::{Endings, put};
 
@@ -37,8 +37,14 @@ impl Kernel {
             return caller.refuse(endings, Errno::Srch, buffer);
         }
         let Some(item) = channel.queue.take(kind) else {
-            let wait = Wait::Item { chid, kind, buffer };
-            return caller.block(&mut objects.threads, wait, 0);
+            let call = OpenCall::Receive(OpenReceive {
+                number: caller.number(),
+                thread: caller.seat.thread(),
+                channel: chid,
+                kind,
+                buffer,
+            });
+            return objects.threads.block(&caller.seat, call, 0);
         };
         let mut buffer = buffer;
         let priority = channel.carried(item.priority);

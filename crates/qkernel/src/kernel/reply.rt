@@ -9,8 +9,8 @@ use super::caller::Caller;
 use qbase::errno::Errno;
 use qbase::ids::ReceiveId;
 use qmodel::call::{Call, Completion, Mark};
+use qmodel::open_call::OpenSend;
 use qstate::endings::{Endings, put};
-use qstate::open::OpenSend;
 
 /// Returns the completion of a Send that is answered: the bytes are copied to the front of its reply buffer.
 fn reply_ending(sent: OpenSend, status: i64, bytes: &[u8]) -> Completion
@@ -18,7 +18,7 @@ fn reply_ending(sent: OpenSend, status: i64, bytes: &[u8]) -> Completion
 {
     let mut sent = sent;
     let copied = sent.reply_buffer.lay(0, bytes);
-    sent.ending(Mark::Replied { status, copied })
+    sent.completion(Mark::Replied { status, copied })
 }
 
 /// Returns the mark of the sender's call: the code 0 is a reply of status 0 with no bytes, our own profile.
@@ -68,9 +68,9 @@ impl Kernel {
         requires { MayCall self.old caller.now endings.old.items }
         ensures { MakesOrRefuses self.old caller.now (Call.Error rcvid code) result endings.new.items self.new }
     {
-        let answered = self.objects.take_held(caller.process, rcvid)?;
+        let sent = self.objects.take_held(caller.process, rcvid)?;
         put(endings, caller.ending(Mark::Ok));
-        put(endings, answered.ending(error_mark(code)));
+        put(endings, sent.completion(error_mark(code)));
         Ok(())
     }
 }

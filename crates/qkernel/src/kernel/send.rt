@@ -10,10 +10,9 @@ use qbase::bytes::Bytes;
 use qbase::errno::Errno;
 use qbase::ids::{ConnectionId, ReceiveId};
 use qmodel::call::{Call, Completion, Mark};
-use qmodel::open_call::{Receipt, Wait};
+use qmodel::open_call::{OpenCall, OpenReceive, OpenSend, Receipt};
 use qqueue::item::{Item, What};
 use qstate::endings::{Endings, put};
-use qstate::open::OpenReceive;
 
 /// Hands the message to a receive that ended. Returns the receive's completion, and the receipt for the sender's record.
 fn deliver(receive: OpenReceive, item: &Item, message: &Bytes) -> (Completion, Receipt)
@@ -30,7 +29,7 @@ fn deliver(receive: OpenReceive, item: &Item, message: &Bytes) -> (Completion, R
         copied,
         unblocked: false,
     };
-    (receive.ending(Mark::Message { rcvid, copied }), receipt)
+    (receive.completion(Mark::Message { rcvid, copied }), receipt)
 }
 
 impl Kernel {
@@ -74,12 +73,15 @@ impl Kernel {
                 Err(errno) => return caller.refuse(endings, errno, reply_buffer),
             },
         };
-        let wait = Wait::Answer {
-            coid,
+        let call = OpenCall::Send(OpenSend {
+            number: caller.number(),
+            thread: caller.seat.thread(),
+            connection: coid,
+            channel: chid,
             message,
             reply_buffer,
             receipt,
-        };
-        caller.block(&mut objects.threads, wait, key);
+        });
+        objects.threads.block(&caller.seat, call, key);
     }
 }

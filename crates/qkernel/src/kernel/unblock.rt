@@ -26,19 +26,18 @@ impl Kernel {
         ensures { MakesOrRefuses self.old caller.now (Call.Unblock target) result endings.new.items self.new }
     {
         let fellow = self.objects.fellow(caller.process, target)?;
-        let Some(guarded) = self.objects.guarded_message(&fellow) else {
+        let Some(held) = self.objects.guarded_message(&fellow) else {
             let own = caller.ending(Mark::Ok);
             self.objects
                 .cancel(CancelSet::Of(target), Errno::Intr, own, endings);
             return Ok(());
         };
-        let (held, chid) = guarded;
         if held.receipt.unblocked {
             put(endings, caller.ending(Mark::Ok));
             return Ok(());
         }
         let pulse = caller.item(held.receipt.priority, What::Unblock(held.rcvid));
-        let met = self.objects.send_pulse(chid, pulse)?;
+        let met = self.objects.send_pulse(held.channel, pulse)?;
         self.objects.threads.mark_unblocked(&fellow);
         put(endings, caller.ending(Mark::Ok));
         put_if(endings, met);

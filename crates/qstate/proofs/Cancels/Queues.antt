@@ -1,7 +1,6 @@
 -- What becomes of the queues as items leave them.
 use Rattle.std.proofs.Common.{◌≡◌, ℕ, List, [], Bool, not, ◌&&◌, ◌||◌, refl, ap, sym, subst, ◌∙◌, cond, true, false, eqb}
 use Rattle.std.specs.Prelude.{Option, None, Some, filter}
-use Rattle.std.specs.Option.{option_map}
 use Rattle.std.proofs.lemmas.Bool.{eqb-true, and_left, and_right, not_from_false}
 use Rattle.std.proofs.lemmas.Option.{none-some}
 use Rattle.std.proofs.lemmas.List.Elements.{filter_agree}
@@ -9,17 +8,16 @@ use Rattle.std.proofs.Math.Bool.{and-true}
 use Rattle.qqueue.specs.declared.item.Item.{Item}
 use Rattle.qqueue.specs.Best.{without_item}
 use Rattle.qtables.specs.Entries.{entry_at}
-use Rattle.qtables.specs.declared.connection.Connection.{Connection}
 use Rattle.qmodel.specs.declared.open_call.OpenCall.{OpenCall}
 use Rattle.qmodel.specs.declared.open_call.OpenCall.TheVariants.{Receive, Send}
-use Rattle.qrules.specs.Private.Facts.{is_for_receipt}
-use Rattle.qrules.specs.Private.Cancelling.{is_to, is_on}
 use Rattle.qrules.specs.Private.Step.{is_unread_send}
 use Rattle.qstate.specs.declared.channel.Channel.{Channel}
 use Rattle.qstate.specs.Channel.{SetsItems}
 use Rattle.qstate.specs.Kept.{pending_in, items_waiting_on}
 use Rattle.qstate.specs.Cancelling.{unread_on_by, call_if_cancelled, is_taken_from, Lose}
 use Rattle.qbase.proofs.Lists.{eqb_either, filter_twice, filter_whole}
+use Rattle.qrules.specs.Private.Facts.{number_of}
+use Rattle.std.proofs.Common.{is_some}
 
 -- without those of which one thing is so, and then without those of which another is
 pub filter_after : {A : Type 0} (p q : A → Bool) (xs : List A) → filter (λ x. not (q x)) (filter (λ x. not (p x)) xs) ≡ filter (λ x. not (p x || q x)) xs
@@ -70,20 +68,18 @@ abbrev pub waits_so : Option ℕ → ℕ → ℕ → ℕ → Bool
 waits_so None n h i = false
 waits_so (Some c) n h i = eqb n i && eqb c h
 
-pub unread_so : (connection : ℕ → Option Connection) (n : ℕ) (w : Wait) (h i : ℕ) → ((eqb n i && is_for_receipt w) && is_on connection h w) ≡ waits_so (unread_on_by connection w) n h i
-unread_so connection n (Answer coid message reply_buffer None) h i =
-    elim (connection coid) as (λ c. ((eqb n i && true) && is_to h c) ≡ waits_so (option_map (λ c. c.channel) c) n h i) [
-      | None ↦ and_right _ false refl
-      | Some c ↦ ap (λ b. b && eqb c.channel h) (and-true (eqb n i))
-    ]
-unread_so connection n (Answer coid message reply_buffer (Some receipt)) h i = and_left _ _ (and_right (eqb n i) false refl)
-unread_so connection n (ForItem chid kind buffer) h i = and_left _ _ (and_right (eqb n i) false refl)
+pub unread_so : (o : OpenCall) (h i : ℕ) → is_unread_send h i (Some o) ≡ waits_so (unread_on_by o) (number_of o) h i
+unread_so (Send s) h i = elim (is_some s.receipt) as (λ b. (eqb s.number i && not b && eqb s.channel h) ≡ waits_so (cond b None (Some s.channel)) s.number h i) [
+  | true ↦ and_left _ _ (and_right (eqb s.number i) false refl)
+  | false ↦ ap (λ b. b && eqb s.channel h) (and-true (eqb s.number i))
+]
+unread_so (Receive r) h i = and_left _ _ (and_right (eqb r.number i) false refl)
 
 -- a call that isn't cancelled takes nothing
-pub untaken : (connection : ℕ → Option Connection) (is_cancelled : Wait → Bool) (o : Option OpenCall) (h i : ℕ) → call_if_cancelled is_cancelled o ≡ None → is_taken_from connection is_cancelled o h i ≡ false
-untaken connection is_cancelled None h i none = refl
-untaken connection is_cancelled (Some o) h i none =
-    elim (is_cancelled o.wait) as (λ b. cond b (Some o) None ≡ None → (is_unread_send connection h i (Some o) && b) ≡ false) [
+pub untaken : (is_cancelled : OpenCall → Bool) (o : Option OpenCall) (h i : ℕ) → call_if_cancelled is_cancelled o ≡ None → is_taken_from is_cancelled o h i ≡ false
+untaken is_cancelled None h i none = refl
+untaken is_cancelled (Some o) h i none =
+    elim (is_cancelled o) as (λ b. cond b (Some o) None ≡ None → (is_unread_send h i (Some o) && b) ≡ false) [
       | true ↦ λ e. absurd (none-some o (sym e))
       | false ↦ λ e. and_right _ false refl
     ] none

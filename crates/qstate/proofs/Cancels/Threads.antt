@@ -7,7 +7,6 @@ use Rattle.std.proofs.lemmas.List.{append-nil, drop_more, drop_all, take_at}
 use Rattle.std.proofs.lemmas.List.Elements.{filter_agree}
 use Rattle.qbase.specs.declared.errno.Errno.{Errno}
 use Rattle.qtables.specs.Members.{IsRoster}
-use Rattle.qtables.specs.declared.connection.Connection.{Connection}
 use Rattle.qmodel.specs.declared.call.Completion.{Completion}
 use Rattle.qmodel.specs.declared.open_call.OpenCall.{OpenCall}
 use Rattle.qrules.specs.Private.Cancelling.{cancel_call, cancel_where}
@@ -54,34 +53,34 @@ swept_all f (t ∷ threads) = ap (λ ts. f t ∷ ts) (swept_all f threads)
 
 -- ---- what the records say is what the look-ups say
 
-some_cancelled : (is_cancelled : Wait → Bool) (e : Errno) (u : ℕ) (o : Option OpenCall) → is_some (cancel_where is_cancelled e u o) ≡ is_cancelled_open is_cancelled o
+some_cancelled : (is_cancelled : OpenCall → Bool) (e : Errno) (u : ℕ) (o : Option OpenCall) → is_some (cancel_where is_cancelled e u o) ≡ is_cancelled_open is_cancelled o
 some_cancelled is_cancelled e u None = refl
-some_cancelled is_cancelled e u (Some o) = elim (is_cancelled o.wait) as (λ b. is_some (cond b (Some (cancel_call e u o)) None) ≡ b) [ true ↦ refl | false ↦ refl ]
+some_cancelled is_cancelled e u (Some o) = elim (is_cancelled o) as (λ b. is_some (cond b (Some (cancel_call e u o)) None) ≡ b) [ true ↦ refl | false ↦ refl ]
 
-module _ (connection : ℕ → Option Connection) (cancel : CancelSet) (e : Errno) where
-  left_members : (threads : List Thread) → members_of (map (thread_after_cancelled connection cancel) threads) ≡ members_of threads
+module _ (cancel : CancelSet) (e : Errno) where
+  left_members : (threads : List Thread) → members_of (map (thread_after_cancelled cancel) threads) ≡ members_of threads
   left_members [] = refl
   left_members (t ∷ threads) = ap (λ ms. t.member ∷ ms) (left_members threads)
 
-  left_level : (threads : List Thread) (v : ℕ) → thread_priority (map (thread_after_cancelled connection cancel) threads) v ≡ thread_priority threads v
+  left_level : (threads : List Thread) (v : ℕ) → thread_priority (map (thread_after_cancelled cancel) threads) v ≡ thread_priority threads v
   left_level [] v = refl
   left_level (t ∷ threads) v = ap (cond (eqb t.member.thread v) t.priority) (left_level threads v)
 
-  left_calls : (threads : List Thread) (v : ℕ) → open_in (map (thread_after_cancelled connection cancel) threads) v ≡ cond (is_some (cancel_where (is_cancelled_by connection cancel v) e v (open_in threads v))) None (open_in threads v)
+  left_calls : (threads : List Thread) (v : ℕ) → open_in (map (thread_after_cancelled cancel) threads) v ≡ cond (is_some (cancel_where (is_cancelled_by cancel v) e v (open_in threads v))) None (open_in threads v)
   left_calls [] v = refl
   left_calls (t ∷ threads) v =
-      elim (eqb t.member.thread v) as (λ b. eqb t.member.thread v ≡ b → cond b (cond (is_cancelled_open (is_cancelled_by connection cancel t.member.thread) t.open_call) None t.open_call) (open_in (map (thread_after_cancelled connection cancel) threads) v)
-      ≡ cond (is_some (cancel_where (is_cancelled_by connection cancel v) e v (cond b t.open_call (open_in threads v)))) None (cond b t.open_call (open_in threads v))) [
-        | true ↦ λ same. ap (λ b. cond b None t.open_call) (ap (λ u. is_cancelled_open (is_cancelled_by connection cancel u) t.open_call) (eqb-true _ _ same) ∙ sym (some_cancelled (is_cancelled_by connection cancel v) e v t.open_call))
+      elim (eqb t.member.thread v) as (λ b. eqb t.member.thread v ≡ b → cond b (cond (is_cancelled_open (is_cancelled_by cancel t.member.thread) t.open_call) None t.open_call) (open_in (map (thread_after_cancelled cancel) threads) v)
+      ≡ cond (is_some (cancel_where (is_cancelled_by cancel v) e v (cond b t.open_call (open_in threads v)))) None (cond b t.open_call (open_in threads v))) [
+        | true ↦ λ same. ap (λ b. cond b None t.open_call) (ap (λ u. is_cancelled_open (is_cancelled_by cancel u) t.open_call) (eqb-true _ _ same) ∙ sym (some_cancelled (is_cancelled_by cancel v) e v t.open_call))
         | false ↦ λ other. left_calls threads v
       ] refl
 
 -- the threads once all are passed
-pub are_cancelled : (connection : ℕ → Option Connection) (cancel : CancelSet) (e : Errno) (threads : List Thread) → AreCancelled connection cancel e threads (map (thread_after_cancelled connection cancel) threads)
-are_cancelled connection cancel e threads = record {
-  members = left_members connection cancel e threads;
-  open_call = left_calls connection cancel e threads;
-  priority = left_level connection cancel e threads;
+pub are_cancelled : (cancel : CancelSet) (e : Errno) (threads : List Thread) → AreCancelled cancel e threads (map (thread_after_cancelled cancel) threads)
+are_cancelled cancel e threads = record {
+  members = left_members cancel e threads;
+  open_call = left_calls cancel e threads;
+  priority = left_level cancel e threads;
 }
 
 endings_by : (g : ℕ → Option OpenCall → Option Completion) (open_call : ℕ → Option OpenCall) (threads : List Thread) → AllByRecursion (λ x. open_call x.member.thread ≡ x.open_call) threads
@@ -101,8 +100,8 @@ abbrev pub is_among : ℕ → List Thread → Bool
 is_among u threads = list_any (λ t. eqb t.member.thread u) threads
 
 -- a Send of number i on channel h is cancelled, of one of these threads
-abbrev pub goes_among : (ℕ → Option Connection) → (ℕ → Wait → Bool) → List Thread → ℕ → ℕ → Bool
-goes_among connection is_cancelled threads h i = list_any (λ t. is_taken_from connection (is_cancelled t.member.thread) t.open_call h i) threads
+abbrev pub goes_among : (ℕ → OpenCall → Bool) → List Thread → ℕ → ℕ → Bool
+goes_among is_cancelled threads h i = list_any (λ t. is_taken_from (is_cancelled t.member.thread) t.open_call h i) threads
 
 later_apart : (n u : ℕ) (threads : List Thread) → eqb n u ≡ true → AllByRecursion (λ m. n < m.thread) (members_of threads) → is_among u threads ≡ false
 later_apart n u [] at h = refl
@@ -115,17 +114,17 @@ ending_joins : (endings more : List Completion) (ending : Option Completion) →
 ending_joins endings more None = refl
 ending_joins endings more (Some ending) = append_assoc endings (ending ∷ []) more
 
-module _ (connection : ℕ → Option Connection) (cancel : CancelSet) (e : Errno) (own : Completion) where
+module _ (cancel : CancelSet) (e : Errno) (own : Completion) where
   -- how the thread's call ends
   abbrev pub ending_of : Thread → Option Completion
-  ending_of t = ending_for connection cancel e own t.member.thread t.open_call
+  ending_of t = ending_for cancel e own t.member.thread t.open_call
 
   -- what the rest of the threads is yet to bring, with what was brought so far, is what all of them bring
   pub record Sweeps (all rest : List Thread) (first now : List (ℕ × Channel)) (left : Option Completion) (endings : List Completion) : Type 0 where
     pub ids : ids_of now ≡ ids_of first
     pub channel : (k : ℕ) → channel_in now k ≡ channel_in first k
-    pub pending : (k : ℕ) → filter (λ item. not (goes_among connection (is_cancelled_by connection cancel) rest k item.number)) (pending_in now k)
-        ≡ filter (λ item. not (goes_among connection (is_cancelled_by connection cancel) all k item.number)) (pending_in first k)
+    pub pending : (k : ℕ) → filter (λ item. not (goes_among (is_cancelled_by cancel) rest k item.number)) (pending_in now k)
+        ≡ filter (λ item. not (goes_among (is_cancelled_by cancel) all k item.number)) (pending_in first k)
     pub unspent : is_among own.thread rest ≡ true → left ≡ Some own
     pub brings : endings ++ filter_map ending_of rest ≡ filter_map ending_of all
     pub roster : IsRoster (members_of rest)
@@ -149,15 +148,15 @@ module _ (connection : ℕ → Option Connection) (cancel : CancelSet) (e : Errn
 
   pub sweeps_on : (all rest : List Thread) (x : Thread) (first now next : List (ℕ × Channel)) (left left-2 ending : Option Completion) (endings : List Completion)
       → Sweeps all (x ∷ rest) first now left endings
-      → Lose (is_taken_from connection (is_cancelled_by connection cancel x.member.thread) x.open_call) now next
+      → Lose (is_taken_from (is_cancelled_by cancel x.member.thread) x.open_call) now next
       → left-2 ≡ cond (eqb x.member.thread own.thread) None left
-      → ending ≡ cond (eqb x.member.thread own.thread) left (cancel_where (is_cancelled_by connection cancel x.member.thread) e x.member.thread x.open_call)
+      → ending ≡ cond (eqb x.member.thread own.thread) left (cancel_where (is_cancelled_by cancel x.member.thread) e x.member.thread x.open_call)
       → Sweeps all rest first next left-2 (with_ending endings ending)
   sweeps_on all rest x first now next left left-2 ending endings so lose l-2 ends = record {
     ids = lose.ids ∙ so.ids;
     channel = λ k. lose.channel k ∙ so.channel k;
-    pending = λ k. ap (filter (λ item. not (goes_among connection (is_cancelled_by connection cancel) rest k item.number))) (lose.pending k)
-        ∙ filter_after (λ item. is_taken_from connection (is_cancelled_by connection cancel x.member.thread) x.open_call k item.number) (λ item. goes_among connection (is_cancelled_by connection cancel) rest k item.number) (pending_in now k)
+    pending = λ k. ap (filter (λ item. not (goes_among (is_cancelled_by cancel) rest k item.number))) (lose.pending k)
+        ∙ filter_after (λ item. is_taken_from (is_cancelled_by cancel x.member.thread) x.open_call k item.number) (λ item. goes_among (is_cancelled_by cancel) rest k item.number) (pending_in now k)
         ∙ so.pending k;
     unspent = λ h. l-2 ∙ (elim (eqb x.member.thread own.thread) as (λ b. eqb x.member.thread own.thread ≡ b → ((b || is_among own.thread rest) ≡ true → left ≡ Some own) → cond b None left ≡ Some own) [
       | true ↦ λ at there. absurd (true≢false (sym h ∙ later_apart _ _ rest at so.roster.0))
@@ -165,7 +164,7 @@ module _ (connection : ℕ → Option Connection) (cancel : CancelSet) (e : Errn
     ] refl so.unspent);
     brings = ending_joins endings (filter_map ending_of rest) ending
         ∙ ap (λ o. endings ++ cons_option o (filter_map ending_of rest)) (ends ∙ (elim (eqb x.member.thread own.thread)
-        as (λ b. ((b || is_among own.thread rest) ≡ true → left ≡ Some own) → cond b left (cancel_where (is_cancelled_by connection cancel x.member.thread) e x.member.thread x.open_call) ≡ cond b (Some own) (cancel_where (is_cancelled_by connection cancel x.member.thread) e x.member.thread x.open_call)) [
+        as (λ b. ((b || is_among own.thread rest) ≡ true → left ≡ Some own) → cond b left (cancel_where (is_cancelled_by cancel x.member.thread) e x.member.thread x.open_call) ≡ cond b (Some own) (cancel_where (is_cancelled_by cancel x.member.thread) e x.member.thread x.open_call)) [
           | true ↦ λ there. there refl
           | false ↦ λ there. refl
         ] so.unspent))
@@ -176,26 +175,26 @@ module _ (connection : ℕ → Option Connection) (cancel : CancelSet) (e : Errn
 
   -- at the end all of the threads are passed
   pub swept_endings : (all : List Thread) (first now : List (ℕ × Channel)) (left : Option Completion) (endings : List Completion) → IsRoster (members_of all) → Sweeps all [] first now left endings
-      → endings ≡ filter_map (λ u. ending_for connection cancel e own u (open_in all u)) (threads_of (members_of all))
+      → endings ≡ filter_map (λ u. ending_for cancel e own u (open_in all u)) (threads_of (members_of all))
   swept_endings all first now left endings roster so =
-      sym (append-nil endings) ∙ so.brings ∙ sym (endings_by (ending_for connection cancel e own) (open_in all) all (own_open all roster))
+      sym (append-nil endings) ∙ so.brings ∙ sym (endings_by (ending_for cancel e own) (open_in all) all (own_open all roster))
 
   pub swept_channels : (all : List Thread) (first now : List (ℕ × Channel)) (left : Option Completion) (endings : List Completion) → IsRoster (members_of all) → Sweeps all [] first now left endings
-      → LoseCancelled connection cancel e all first now
+      → LoseCancelled cancel e all first now
   swept_channels all first now left endings roster so = record {
     ids = so.ids;
     channel = so.channel;
     pending = λ k. sym (filter_whole (λ item. true) (pending_in now k) (λ item. refl)) ∙ so.pending k
-        ∙ filter_agree (λ item. not (goes_among connection (is_cancelled_by connection cancel) all k item.number)) (λ item. not (is_cancelled_among connection cancel e all k item.number))
-        (λ item. ap not (sym (any_by (λ s o. is_unread_send connection k item.number o && is_some (cancel_where (is_cancelled_by connection cancel s) e s o)) (λ s o. is_taken_from connection (is_cancelled_by connection cancel s) o k item.number) (open_in all) all
-        (λ s o. ap (λ b. is_unread_send connection k item.number o && b) (some_cancelled (is_cancelled_by connection cancel s) e s o)) (own_open all roster))))
+        ∙ filter_agree (λ item. not (goes_among (is_cancelled_by cancel) all k item.number)) (λ item. not (is_cancelled_among cancel e all k item.number))
+        (λ item. ap not (sym (any_by (λ s o. is_unread_send k item.number o && is_some (cancel_where (is_cancelled_by cancel s) e s o)) (λ s o. is_taken_from (is_cancelled_by cancel s) o k item.number) (open_in all) all
+        (λ s o. ap (λ b. is_unread_send k item.number o && b) (some_cancelled (is_cancelled_by cancel s) e s o)) (own_open all roster))))
         (pending_in first k);
   }
 
   -- ---- by places
 
   abbrev pub passed : Thread → Thread
-  passed = thread_after_cancelled connection cancel
+  passed = thread_after_cancelled cancel
 
   pub passed_on : (all items : List Thread) (i : ℕ) (d y : Thread) → items ≡ swept passed i all → i < length all → y ≡ passed (get_or items i d) → set items i y ≡ swept passed (i + 1) all
   passed_on all items i d y is l now =
@@ -215,15 +214,15 @@ module _ (connection : ℕ → Option Connection) (cancel : CancelSet) (e : Errn
     idle_here at = here.idle.0 (subst (λ n. eqb (get_or items i d).member.thread n ≡ true) named at)
 
     pub sweeps_step : (next : List (ℕ × Channel)) (left-2 ending : Option Completion) (endings-2 : List Completion)
-        → Lose (is_taken_from connection (is_cancelled_by connection cancel (get_or items i d).member.thread) (get_or items i d).open_call) now next
+        → Lose (is_taken_from (is_cancelled_by cancel (get_or items i d).member.thread) (get_or items i d).open_call) now next
         → left-2 ≡ cond (eqb (get_or items i d).member.thread caller) None left
-        → ending ≡ cond (eqb (get_or items i d).member.thread caller) left (cancel_where (is_cancelled_by connection cancel (get_or items i d).member.thread) e (get_or items i d).member.thread (get_or items i d).open_call)
+        → ending ≡ cond (eqb (get_or items i d).member.thread caller) left (cancel_where (is_cancelled_by cancel (get_or items i d).member.thread) e (get_or items i d).member.thread (get_or items i d).open_call)
         → endings-2 ≡ with_ending endings ending
         → Sweeps all (drop (i + 1) all) first next left-2 endings-2
     sweeps_step next left-2 ending endings-2 lose l-2 ends put = subst (λ es. Sweeps all (drop (i + 1) all) first next left-2 es) (sym put)
         (sweeps_on all (drop (i + 1) all) (get_or items i d) first now next left left-2 ending endings here lose
         (l-2 ∙ ap (λ n. cond (eqb (get_or items i d).member.thread n) None left) named)
-        (ends ∙ ap (λ n. cond (eqb (get_or items i d).member.thread n) left (cancel_where (is_cancelled_by connection cancel (get_or items i d).member.thread) e (get_or items i d).member.thread (get_or items i d).open_call)) named))
+        (ends ∙ ap (λ n. cond (eqb (get_or items i d).member.thread n) left (cancel_where (is_cancelled_by cancel (get_or items i d).member.thread) e (get_or items i d).member.thread (get_or items i d).open_call)) named))
 
   pub at_end : (all : List Thread) (i : ℕ) (first now : List (ℕ × Channel)) (left : Option Completion) (endings : List Completion) → length all ≤ i → Sweeps all (drop i all) first now left endings → Sweeps all [] first now left endings
   at_end all i first now left endings l so = subst (λ rest. Sweeps all rest first now left endings) (drop_all i all l) so

@@ -1,5 +1,4 @@
 use Rattle.std.proofs.Common.{◌≡◌, ◌<◌, ◌≤◌, ap, arith, length, refl, ◌∙◌}
-use Rattle.qtables.specs.Entries.{entry_at}
 use Rattle.qstate.proofs.Cancels.Threads.{passed_on, idle_here, sweeps_init, sweeps_step, at_end, swept_endings, swept_threads, swept_channels, few_more}
 use Rattle.qstate.proofs.cancelling.cancel_each.Goals as goal
 
@@ -7,7 +6,7 @@ pub loop-thread-init : goal.loop-thread-init
 loop-thread-init c = record {
   threads = c.deref_mut-thread-items.ensures.value;
   few = omega (arith, ap length c.requires.none);
-  so_far = sweeps_init (entry_at c.args.connections.now) c.args.cancel.set c.args.cancel.errno c.args.own c.args.threads.now.items c.args.channels.now c.args.endings.now.items c.requires.roster c.requires.idle c.requires.none;
+  so_far = sweeps_init c.args.cancel.set c.args.cancel.errno c.args.own c.args.threads.now.items c.args.channels.now c.args.endings.now.items c.requires.roster c.requires.idle c.requires.none;
 }
 
 pub end_thread-ending-requires : goal.end_thread-ending-requires
@@ -15,7 +14,7 @@ end_thread-ending-requires c =
     let so = c.loop-thread.invariant in
     let l : c.loop-thread.thread-index < length c.args.threads.now.items = omega (arith, ap length c.deref_mut-thread-items.ensures.value) in
     record {
-      idle = idle_here (entry_at c.args.connections.now) c.args.cancel.set c.args.cancel.errno c.args.own c.args.threads.now.items c.loop-thread.thread-items c.loop-thread.thread-index c.thread-item.result c.args.channels.now c.loop-thread.channels c.loop-thread.left c.loop-thread.endings.items so.threads l so.so_far c.args.own.thread refl;
+      idle = idle_here c.args.cancel.set c.args.cancel.errno c.args.own c.args.threads.now.items c.loop-thread.thread-items c.loop-thread.thread-index c.thread-item.result c.args.channels.now c.loop-thread.channels c.loop-thread.left c.loop-thread.endings.items so.threads l so.so_far c.args.own.thread refl;
     }
 
 pub push_ending-requires : goal.push_ending-requires
@@ -26,26 +25,26 @@ loop-thread-preserved c =
     let so = c.loop-thread.invariant in
     let l : c.loop-thread.thread-index < length c.args.threads.now.items = omega (arith, ap length c.deref_mut-thread-items.ensures.value) in
     record {
-      threads = passed_on (entry_at c.args.connections.now) c.args.cancel.set c.args.cancel.errno c.args.own c.args.threads.now.items c.loop-thread.thread-items c.loop-thread.thread-index c.thread-item.result c.end_thread-ending.new.thread so.threads l c.end_thread-ending.ensures.thread;
+      threads = passed_on c.args.cancel.set c.args.cancel.errno c.args.own c.args.threads.now.items c.loop-thread.thread-items c.loop-thread.thread-index c.thread-item.result c.end_thread-ending.new.thread so.threads l c.end_thread-ending.ensures.thread;
       few = rw c.push_ending.ensures (omega (arith, few_more c.loop-thread.endings.items c.end_thread-ending.result));
-      so_far = sweeps_step (entry_at c.args.connections.now) c.args.cancel.set c.args.cancel.errno c.args.own c.args.threads.now.items c.loop-thread.thread-items c.loop-thread.thread-index c.thread-item.result c.args.channels.now c.loop-thread.channels c.loop-thread.left c.loop-thread.endings.items so.threads l so.so_far c.args.own.thread refl
+      so_far = sweeps_step c.args.cancel.set c.args.cancel.errno c.args.own c.args.threads.now.items c.loop-thread.thread-items c.loop-thread.thread-index c.thread-item.result c.args.channels.now c.loop-thread.channels c.loop-thread.left c.loop-thread.endings.items so.threads l so.so_far c.args.own.thread refl
           c.end_thread-ending.new.channels c.end_thread-ending.new.own c.end_thread-ending.result c.push_ending.new.endings.items c.end_thread-ending.ensures.channels c.end_thread-ending.ensures.own c.end_thread-ending.ensures.ending c.push_ending.ensures;
     }
 
 pub returns-clause-endings : goal.returns-clause-endings
 returns-clause-endings c =
     let l : length c.args.threads.now.items ≤ c.loop-thread.thread-index = omega (arith, ap length c.deref_mut-thread-items.ensures.value) in
-    swept_endings (entry_at c.args.connections.now) c.args.cancel.set c.args.cancel.errno c.args.own c.args.threads.now.items c.args.channels.now c.loop-thread.channels c.loop-thread.left c.loop-thread.endings.items c.requires.roster
-    (at_end (entry_at c.args.connections.now) c.args.cancel.set c.args.cancel.errno c.args.own c.args.threads.now.items c.loop-thread.thread-index c.args.channels.now c.loop-thread.channels c.loop-thread.left c.loop-thread.endings.items l c.loop-thread.invariant.so_far)
+    swept_endings c.args.cancel.set c.args.cancel.errno c.args.own c.args.threads.now.items c.args.channels.now c.loop-thread.channels c.loop-thread.left c.loop-thread.endings.items c.requires.roster
+    (at_end c.args.cancel.set c.args.cancel.errno c.args.own c.args.threads.now.items c.loop-thread.thread-index c.args.channels.now c.loop-thread.channels c.loop-thread.left c.loop-thread.endings.items l c.loop-thread.invariant.so_far)
 
 pub returns-clause-threads : goal.returns-clause-threads
 returns-clause-threads c =
     let end : c.loop-thread.thread-index ≡ length c.args.threads.now.items = omega (arith, ap length c.deref_mut-thread-items.ensures.value) in
-    swept_threads (entry_at c.args.connections.now) c.args.cancel.set c.args.cancel.errno c.args.own c.args.threads.now.items c.loop-thread.thread-items _ c.loop-thread.thread-index c.args.threads.now.len c.loop-thread.invariant.threads end
+    swept_threads c.args.cancel.set c.args.cancel.errno c.args.own c.args.threads.now.items c.loop-thread.thread-items _ c.loop-thread.thread-index c.args.threads.now.len c.loop-thread.invariant.threads end
     (c.loop-thread.auto.thread-items ∙ c.deref_mut-thread-items.ensures.len)
 
 pub returns-clause-channels : goal.returns-clause-channels
 returns-clause-channels c =
     let l : length c.args.threads.now.items ≤ c.loop-thread.thread-index = omega (arith, ap length c.deref_mut-thread-items.ensures.value) in
-    swept_channels (entry_at c.args.connections.now) c.args.cancel.set c.args.cancel.errno c.args.own c.args.threads.now.items c.args.channels.now c.loop-thread.channels c.loop-thread.left c.loop-thread.endings.items c.requires.roster
-    (at_end (entry_at c.args.connections.now) c.args.cancel.set c.args.cancel.errno c.args.own c.args.threads.now.items c.loop-thread.thread-index c.args.channels.now c.loop-thread.channels c.loop-thread.left c.loop-thread.endings.items l c.loop-thread.invariant.so_far)
+    swept_channels c.args.cancel.set c.args.cancel.errno c.args.own c.args.threads.now.items c.args.channels.now c.loop-thread.channels c.loop-thread.left c.loop-thread.endings.items c.requires.roster
+    (at_end c.args.cancel.set c.args.cancel.errno c.args.own c.args.threads.now.items c.loop-thread.thread-index c.args.channels.now c.loop-thread.channels c.loop-thread.left c.loop-thread.endings.items l c.loop-thread.invariant.so_far)

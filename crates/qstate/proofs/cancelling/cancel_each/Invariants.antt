@@ -1,12 +1,11 @@
 use Rattle.std.proofs.Common.{◌≡◌, ◌≤◌, length, drop}
-use Rattle.qtables.specs.Entries.{entry_at}
 use Rattle.qstate.specs.Cancelling.{thread_after_cancelled}
 use Rattle.qstate.proofs.Cancels.Threads.{swept, Sweeps}
 use Rattle.qstate.proofs.cancelling.cancel_each.Given as goal
 
 abbrev pub invariant-loop-thread : goal.invariant-loop-thread
 invariant-loop-thread l = record {
-  threads : l.thread-items ≡ swept (thread_after_cancelled (entry_at l.connections) l.cancel.set) l.thread-index l.fn.threads.items;
+  threads : l.thread-items ≡ swept (thread_after_cancelled l.cancel.set) l.thread-index l.fn.threads.items;
   few : length l.endings.items ≤ l.thread-index;
-  so_far : Sweeps (entry_at l.connections) l.cancel.set l.cancel.errno l.fn.own l.fn.threads.items (drop l.thread-index l.fn.threads.items) l.fn.channels l.channels l.left l.endings.items;
+  so_far : Sweeps l.cancel.set l.cancel.errno l.fn.own l.fn.threads.items (drop l.thread-index l.fn.threads.items) l.fn.channels l.channels l.left l.endings.items;
 }

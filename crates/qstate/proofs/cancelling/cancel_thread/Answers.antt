@@ -1,9 +1,8 @@
 use Rattle.std.proofs.Common.{sym}
-use Rattle.qtables.specs.Entries.{entry_at}
 use Rattle.qstate.specs.Cancelling.{is_cancelled_by}
 use Rattle.qstate.proofs.Cancels.Queues.{loses_nothing, untaken}
 use Rattle.qstate.proofs.cancelling.cancel_thread.Goals as goal
 
 pub returns-in_err-call-clause-channels : goal.returns-in_err-call-clause-channels
 returns-in_err-call-clause-channels c =
-    loses_nothing _ c.args.channels.now (λ k i. untaken (entry_at c.args.connections.now) (is_cancelled_by (entry_at c.args.connections.now) c.args.cancel.now.set c.args.thread.now.member.thread) c.args.thread.now.open_call k i (sym c.in_err-call.ensures.had))
+    loses_nothing _ c.args.channels.now (λ k i. untaken (is_cancelled_by c.args.cancel.now.set c.args.thread.now.member.thread) c.args.thread.now.open_call k i (sym c.in_err-call.ensures.had))

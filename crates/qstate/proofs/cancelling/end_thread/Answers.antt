@@ -1,9 +1,8 @@
 use Rattle.std.proofs.Common.{ap, sym}
-use Rattle.qtables.specs.Entries.{entry_at}
 use Rattle.qstate.specs.Cancelling.{is_cancelled_by, is_taken_from}
 use Rattle.qstate.proofs.Cancels.Queues.{loses_nothing}
 use Rattle.qstate.proofs.cancelling.end_thread.Goals as goal
 
 pub returns-then-eq-clause-channels : goal.returns-then-eq-clause-channels
 returns-then-eq-clause-channels c = loses_nothing _ c.args.channels.now (λ k i.
-    ap (λ o. is_taken_from (entry_at c.args.connections.now) (is_cancelled_by (entry_at c.args.connections.now) c.args.cancel.now.set c.args.thread.now.member.thread) o k i) (c.requires.idle (sym c.if-eq.ensures)))
+    ap (λ o. is_taken_from (is_cancelled_by c.args.cancel.now.set c.args.thread.now.member.thread) o k i) (c.requires.idle (sym c.if-eq.ensures)))

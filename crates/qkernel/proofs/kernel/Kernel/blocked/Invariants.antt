@@ -1,7 +1,6 @@
 use Rattle.std.proofs.Common.{◌≡◌, take}
-use Rattle.qtables.specs.Entries.{entry_at}
 use Rattle.qkernel.proofs.BlockedThreads.{blocked_by}
 use Rattle.qkernel.proofs.kernel.Kernel.blocked.Given as goal
 
 abbrev pub invariant-loop-thread : goal.invariant-loop-thread
-invariant-loop-thread l = l.list.items ≡ blocked_by (entry_at l.self-inside.objects.connections) (take l.thread-index l.self-inside.objects.threads)
+invariant-loop-thread l = l.list.items ≡ blocked_by (take l.thread-index l.thread-items)

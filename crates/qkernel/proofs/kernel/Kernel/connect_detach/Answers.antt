@@ -32,7 +32,7 @@ invariant_of-self-2 c =
     let due = due_is _ c.args.caller.now.seat.thread c.args.coid _ may.among.known may.up may.free c.in-Some.chid of c.tells_detached-last.result may.sound c.tells_detached-last.ensures ∙ ap (made_for c.in-Some.chid) (sym pulsed) in
     let new = new_pulse (c.args.caller.now.made + 1) c.priority-priority.result c.args.caller.now.process c.tells_detached-last.result d c.pulse_for-due.ensures in
     let told = is_told _ c.args.caller.now.seat.thread c.in-Some.chid d _ _ c.in_ok-met.met may.sound may.free new c.in_ok-met.ensures.ok in
-    rw (may.counted, c.remove.ensures.after, c.cancel.ensures.connections, c.in_ok-met.ensures.connections) (sound_detached _ c.args.caller.now.seat.thread c.args.coid _ may.among.known may.up may.free c.in-Some.chid of d due may.sound _ _ c.in_ok-met.met told _ _ (rw c.in_ok-met.ensures.connections at c.cancel.ensures.threads) (rw c.in_ok-met.ensures.connections at c.cancel.ensures.channels)
+    rw (may.counted, c.remove.ensures.after, c.cancel.ensures.connections, c.in_ok-met.ensures.connections) (sound_detached _ c.args.caller.now.seat.thread c.args.coid _ may.among.known may.up may.free c.in-Some.chid of d due may.sound _ _ c.in_ok-met.met told _ _ c.cancel.ensures.threads c.cancel.ensures.channels
     (sound_due _ c.in-Some.chid d _ _ c.in_ok-met.met may.sound new c.in_ok-met.ensures.ok))
 
 pub returns : goal.returns
@@ -47,7 +47,7 @@ returns c =
     let told = is_told _ c.args.caller.now.seat.thread c.in-Some.chid d _ _ c.in_ok-met.met may.sound may.free new c.in_ok-met.ensures.ok in
     let there = rw (c.cancel.ensures.connections, c.in_ok-met.ensures.connections) at c.remove.ensures.value ∙ of.is in
     let fewer = rw (there, c.cancel.ensures.connections, c.in_ok-met.ensures.connections) at c.remove.ensures.fewer in
-    rw (← c.self.view_is, may.counted, c.remove.ensures.after, c.cancel.ensures.connections, c.in_ok-met.ensures.connections) (step_detached _ c.args.caller.now.seat.thread c.args.coid _ may.among.known may.up may.free c.in-Some.chid of d due may.sound _ _ c.in_ok-met.met told _ _ (rw c.in_ok-met.ensures.connections at c.cancel.ensures.threads) (rw c.in_ok-met.ensures.connections at c.cancel.ensures.channels)
+    rw (← c.self.view_is, may.counted, c.remove.ensures.after, c.cancel.ensures.connections, c.in_ok-met.ensures.connections) (step_detached _ c.args.caller.now.seat.thread c.args.coid _ may.among.known may.up may.free c.in-Some.chid of d due may.sound _ _ c.in_ok-met.met told _ _ c.cancel.ensures.threads c.cancel.ensures.channels
     _ (rw (c.remove.ensures.after, c.cancel.ensures.connections, c.in_ok-met.ensures.connections) at fewer) (c.put_if.ensures ∙ ap (with_ending_if c.in_ok-met.met) (rw c.ending-own.ensures at c.cancel.ensures.endings)))
 
 pub returns-in_err-met : goal.returns-in_err-met

@@ -16,7 +16,7 @@ pub returns-in_err-info : goal.returns-in_err-info
 returns-in_err-info c =
     let held = c.in_ok-holder.ensures.held in
     let sent = c.in_ok-holder.ensures.sender in
-    absurd (told_there c.self.inside.objects.connections c.self.inside.objects.channels c.args.caller.now.process c.args.rcvid c.in_ok-holder.holder.thread c.self.inside.objects.threads c.record.result.now sent c.record.ensures held (sym c.info-told.ensures ∙ c.in_err-info.ensures.ok_part))
+    absurd (told_there c.self.inside.objects.channels c.args.caller.now.process c.args.rcvid c.in_ok-holder.holder.thread c.self.inside.objects.threads c.record.result.now sent c.record.ensures held (sym c.info-told.ensures ∙ c.in_err-info.ensures.ok_part))
 
 pub returns : goal.returns
 returns c =

@@ -18,7 +18,7 @@ returns-in_default-take c =
     let own = ap (λ o. is_of c.args.caller.now.process (option_map open_channel_of o)) there ∙ not-false _ (sym c.if-ne.ensures) in
     let sets = sets_queue c.self.inside.objects.channels c.args.chid c.in-Some.channel.now c.take.new.self _ there (ap (λ q. q.items) c.in_default-take.ensures.unchanged ∙ sym (ap items_waiting_on there)) in
     rw (← c.self.view_is, may.counted) (step_receive_waits _ c.args.caller.now.seat.thread c.args.chid c.args.kind c.args.buffer _ may.sound may.among.known may.up may.free own c.requires.buffer _ _ _
-    (ap (λ o. best_of c.args.kind (items_waiting_on o)) there ∙ sym c.in_default-take.ensures.best) c.block.ensures sets may.none)
+    (ap (λ o. best_of c.args.kind (items_waiting_on o)) there ∙ sym c.in_default-take.ensures.best) (rw (c.number.ensures, c.thread.ensures) at c.block.ensures) sets may.none)
 
 pub set_priority-requires : goal.set_priority-requires
 set_priority-requires c =

@@ -13,8 +13,8 @@ use Rattle.qkernel.proofs.Steps.Send.{step_send_no_memory, step_send_nowhere, st
 use Rattle.qkernel.proofs.kernel.Kernel.send.Goals as goal
 use Rattle.qkernel.proofs.kernel.Kernel.send.Goals.{in-None+in-Ok, in-Some-wake_newest}
 
-pub block-requires : goal.block-requires
-block-requires c =
+pub block-requires-clause-seat : goal.block-requires-clause-seat
+block-requires-clause-seat c =
     let may = rw (← c.self.view_is) at c.requires in
     let at = may.among.seat in
     elim c.match-wake_newest.branch [
@@ -76,13 +76,13 @@ returns c =
     elim c.match-wake_newest.branch [
       | in-None+in-Ok w ↦
           let nobody = rw (item, prio) at w.in-None.ensures.nobody in
-          let opens = rw (w.receipt-is, w.objects-is, w.in-None.ensures.unchanged) at c.block.ensures in
+          let opens = rw (w.receipt-is, w.objects-is, w.in-None.ensures.unchanged, c.number.ensures, c.thread.ensures) at c.block.ensures in
           let sets = rw (item, prio) at (sets_items c.self.inside.objects.channels c.in-Some.chid c.in-Some-get_mut.channel.now w.enqueue.new.self _ there w.enqueue.ensures.owner w.enqueue.ensures.flags
           (w.in-Ok.ensures.ok ∙ ap (λ xs. xs ++ c.item-item.result ∷ []) (sym (ap items_waiting_on there)))) in
           rw (w.objects-is, w.endings-is, ← c.self.view_is, may.counted)
           (step_send_waits _ c.args.caller.now.seat.thread c.args.coid c.args.message c.args.reply_buffer _ c.in-Some.chid may.sound may.among.known may.up may.free found _ _ _ nobody opens sets c.requires.none)
       | in-Some-wake_newest w ↦
-          let opens = rw (w.receipt-is, w.objects-is, w.deliver-ended.ensures.receipt, item) at c.block.ensures in
+          let opens = rw (w.receipt-is, w.objects-is, w.deliver-ended.ensures.receipt, item, c.number.ensures, c.thread.ensures) at c.block.ensures in
           let newest = rw (item, prio) at w.in-Some-wake_newest.ensures.newest in
           let receive = w.in-Some-wake_newest.receive in
           let receiver = receive.thread in

@@ -1,5 +1,4 @@
 use Rattle.std.proofs.Common.{refl}
-use Rattle.qtables.specs.Entries.{entry_at}
 use Rattle.qstate.proofs.Cancels.Threads.{are_cancelled}
 use Rattle.qstate.proofs.Indexing.{indexed_cancelled}
 use Rattle.qstate.proofs.objects.Objects.cancel.Goals as goal
@@ -14,13 +13,13 @@ cancel_each-requires c = record {
 
 pub invariant_of-threads : goal.invariant_of-threads
 invariant_of-threads c =
-    let cancelled = are_cancelled (entry_at c.args.self.now.connections) c.args.set c.args.errno c.threads.inside.records.items in
-    rw (c.cancel_each.ensures.threads) (indexed_cancelled (entry_at c.args.self.now.connections) c.args.set c.threads.inside.records.items c.threads.inside.index c.threads.invariant cancelled.members)
+    let cancelled = are_cancelled c.args.set c.args.errno c.threads.inside.records.items in
+    rw (c.cancel_each.ensures.threads) (indexed_cancelled c.args.set c.threads.inside.records.items c.threads.inside.index c.threads.invariant cancelled.members)
 
 pub returns : goal.returns
 returns c = rw (← c.threads.view_is) (record {
   endings = c.cancel_each.ensures.endings;
-  threads = rw (c.cancel_each.ensures.threads) (are_cancelled (entry_at c.args.self.now.connections) c.args.set c.args.errno c.threads.inside.records.items);
+  threads = rw (c.cancel_each.ensures.threads) (are_cancelled c.args.set c.args.errno c.threads.inside.records.items);
   channels = c.cancel_each.ensures.channels;
   connections = refl;
 })

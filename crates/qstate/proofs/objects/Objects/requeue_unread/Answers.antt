@@ -1,32 +1,25 @@
 use Rattle.std.proofs.Common.{ap, sym, ◌∙◌}
-use Rattle.std.specs.Prelude.{option_copied}
 use Rattle.qqueue.specs.Best.{with_item_priority}
 use Rattle.qstate.specs.Kept.{items_waiting_on}
 use Rattle.qstate.specs.Unread.{unread_in}
-use Rattle.qstate.proofs.ChannelWrites.{sets_gone, sets_queue}
+use Rattle.qstate.proofs.ChannelWrites.{sets_queue}
 use Rattle.qstate.proofs.Moving.{moves_none, moves_nowhere, moves_one}
 use Rattle.qstate.proofs.objects.Objects.requeue_unread.Goals as goal
 
 pub returns-in_default-clause-channels : goal.returns-in_default-clause-channels
 returns-in_default-clause-channels c =
     let none = ap unread_in c.record-there.ensures.open_call ∙ sym c.unread.ensures ∙ c.in_default.is in
-    moves_none _ c.args.self.now.connections c.args.priority c.args.self.now.channels none
-
-pub returns-in_default-get-clause-channels : goal.returns-in_default-get-clause-channels
-returns-in_default-get-clause-channels c =
-    let some = ap unread_in c.record-there.ensures.open_call ∙ sym c.unread.ensures ∙ c.in-Some.is in
-    moves_nowhere _ c.args.self.now.connections c.args.priority c.args.self.now.channels c.in-Some.unread some (sym c.get.ensures ∙ ap option_copied c.in_default-get.is)
+    moves_none _ c.args.priority c.args.self.now.channels none
 
 pub returns-in_default-get_mut-clause-channels : goal.returns-in_default-get_mut-clause-channels
 returns-in_default-get_mut-clause-channels c =
     let some = ap unread_in c.record-there.ensures.open_call ∙ sym c.unread.ensures ∙ c.in-Some.is in
-    moves_one _ c.args.self.now.connections c.args.priority c.args.self.now.channels _ c.in-Some.unread c.in-Some-get.connection.now some (sym c.get.ensures ∙ ap option_copied c.in-Some-get.is)
-    (sets_gone c.args.self.now.channels c.in-Some-get.connection.now.channel c.in-Some.unread.number c.args.priority (sym c.in_default-get_mut.ensures.value))
+    moves_nowhere _ c.args.priority c.args.self.now.channels c.in-Some.unread some (ap items_waiting_on (sym c.in_default-get_mut.ensures.value))
 
 pub returns-clause-channels : goal.returns-clause-channels
 returns-clause-channels c =
     let some = ap unread_in c.record-there.ensures.open_call ∙ sym c.unread.ensures ∙ c.in-Some.is in
     let there = sym c.in-Some-get_mut.ensures.value in
-    moves_one _ c.args.self.now.connections c.args.priority c.args.self.now.channels _ c.in-Some.unread c.in-Some-get.connection.now some (sym c.get.ensures ∙ ap option_copied c.in-Some-get.is)
-    (sets_queue c.args.self.now.channels c.in-Some-get.connection.now.channel c.in-Some-get_mut.channel.now c.requeue.new.self _ there
+    moves_one _ c.args.priority c.args.self.now.channels _ c.in-Some.unread some
+    (sets_queue c.args.self.now.channels c.in-Some.unread.channel c.in-Some-get_mut.channel.now c.requeue.new.self _ there
     (c.requeue.ensures.items ∙ ap (with_item_priority c.in-Some.unread.number c.args.priority) (sym (ap items_waiting_on there))))

@@ -1,10 +1,11 @@
 use Rattle.std.proofs.Common.{ap, sym, ◌∙◌}
-use Rattle.qtables.specs.Entries.{entry_at}
-use Rattle.qrules.specs.Private.ThreadState.{state_in}
+use Rattle.std.specs.Option.{option_map_or}
+use Rattle.qbase.specs.declared.state.ThreadState.TheVariants.{Ready}
+use Rattle.qrules.specs.Rules.Threads.{state_in}
 use Rattle.qstate.proofs.objects.Objects.state.Goals as goal
 
 pub returns-in-None : goal.returns-in-None
-returns-in-None c = sym (ap (state_in (entry_at c.args.self.now.connections)) (c.record.ensures.open_call ∙ c.in-None.is))
+returns-in-None c = sym (ap (λ o. option_map_or state_in o Ready) (c.record.ensures.open_call ∙ c.in-None.is))
 
 pub returns-in-Some : goal.returns-in-Some
-returns-in-Some c = c.state_of_wait.ensures ∙ sym (ap (state_in (entry_at c.args.self.now.connections)) (c.record.ensures.open_call ∙ c.in-Some.is))
+returns-in-Some c = c.state_of.ensures ∙ sym (ap (λ o. option_map_or state_in o Ready) (c.record.ensures.open_call ∙ c.in-Some.is))

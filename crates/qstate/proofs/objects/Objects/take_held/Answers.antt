@@ -1,29 +1,30 @@
 use Rattle.std.proofs.Common.{ap, ◌∙◌}
 use Rattle.std.specs.Prelude.{is_some}
-use Rattle.qstate.specs.Open.{send_in}
+use Rattle.qmodel.specs.OpenCalls.{send_in}
 use Rattle.qstate.specs.Thread.{open_in}
 use Rattle.qstate.proofs.Senders.{never_err, send_of_sender, send_taken}
 use Rattle.qstate.proofs.objects.Objects.take_held.Goals as goal
+use Rattle.std.proofs.Common.{option_and_then}
 
 pub returns-clause-held : goal.returns-clause-held
 returns-clause-held c =
     let u = c.in_ok-holder.holder.thread in
-    send_taken u (open_in c.args.self.now.threads u) _ _ _ _ c.ok_or.ensures.value c.take_sent.ensures.had (λ x own is. c.in_ok-holder.ensures.held)
+    send_taken u (open_in c.args.self.now.threads u) _ _ _ _ c.ok_or.ensures.value c.take_sent.ensures.had c.take_sent.ensures.own (λ x own is. c.in_ok-holder.ensures.held)
 
 pub returns-clause-sender : goal.returns-clause-sender
 returns-clause-sender c =
     let u = c.in_ok-holder.holder.thread in
-    send_taken u (open_in c.args.self.now.threads u) _ _ _ _ c.ok_or.ensures.value c.take_sent.ensures.had (λ x own is. rw own c.in_ok-holder.ensures.sender)
+    send_taken u (open_in c.args.self.now.threads u) _ _ _ _ c.ok_or.ensures.value c.take_sent.ensures.had c.take_sent.ensures.own (λ x own is. rw own c.in_ok-holder.ensures.sender)
 
 pub returns-clause-had : goal.returns-clause-had
 returns-clause-had c =
     let u = c.in_ok-holder.holder.thread in
-    send_taken u (open_in c.args.self.now.threads u) _ _ _ _ c.ok_or.ensures.value c.take_sent.ensures.had (λ x own is. ap (λ v. send_in v (open_in c.args.self.now.threads v)) own ∙ is)
+    send_taken u (open_in c.args.self.now.threads u) _ _ _ _ c.ok_or.ensures.value c.take_sent.ensures.had c.take_sent.ensures.own (λ x own is. ap (λ v. option_and_then send_in (open_in c.args.self.now.threads v)) own ∙ is)
 
 pub returns-clause-after : goal.returns-clause-after
 returns-clause-after c =
     let u = c.in_ok-holder.holder.thread in
-    send_taken u (open_in c.args.self.now.threads u) _ _ _ _ c.ok_or.ensures.value c.take_sent.ensures.had (λ x own is. rw own c.take_sent.ensures.after)
+    send_taken u (open_in c.args.self.now.threads u) _ _ _ _ c.ok_or.ensures.value c.take_sent.ensures.had c.take_sent.ensures.own (λ x own is. rw own c.take_sent.ensures.after)
 
 pub returns-clause-none : goal.returns-clause-none
 returns-clause-none c =

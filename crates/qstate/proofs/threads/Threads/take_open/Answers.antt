@@ -1,5 +1,5 @@
 use Rattle.std.proofs.Common.{ap, refl, sym, ◌∙◌}
-use Rattle.qstate.proofs.Indexing.{indexed_ended}
+use Rattle.qstate.proofs.Indexing.{indexed_ended, own_if}
 use Rattle.qstate.proofs.Seats.{first_open, first_at, sets_open}
 use Rattle.qstate.proofs.threads.Threads.take_open.Goals as goal
 
@@ -15,6 +15,11 @@ returns-clause-had c =
     let at = rw (← c.self.view_is) at c.requires in
     rw (← c.self.view_is) (c.replace.ensures.value ∙ ap (λ t. t.open_call) c.index_mut-there.ensures.value
     ∙ sym (first_open c.args.seat.now.thread c.self.inside.records.items c.args.seat.now.index c.index_mut-there.result.now (first_at _ _ _ at)))
+
+pub returns-clause-own : goal.returns-clause-own
+returns-clause-own c =
+    let at = rw (← c.self.view_is) at c.requires in
+    own_if c.self.inside.records.items c.args.seat.now.thread c.args.seat.now.index c.index_mut-there.result.now c.self.inside.index c.self.invariant at _ (c.replace.ensures.value ∙ ap (λ t. t.open_call) c.index_mut-there.ensures.value)
 
 pub returns-clause-after : goal.returns-clause-after
 returns-clause-after c =
