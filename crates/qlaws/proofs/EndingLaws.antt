@@ -1,5 +1,5 @@
 -- The laws of the endings of one event.
-use Rattle.std.proofs.Common.{◌<◌, inl, inr, ◌≡◌, ◌∙◌, ℕ, ◌+◌, List, [], ◌∷◌, length, refl, ap, sym, cond, eqb, ◌++◌, subst, Bool, true, false, Option, arith, not}
+use Rattle.std.proofs.Common.{◌<◌, inl, inr, ◌≡◌, ◌∙◌, ℕ, ◌+◌, List, [], ◌∷◌, length, refl, ap, sym, cond, eqb, subst, Bool, true, false, Option, arith, not}
 use Rattle.std.specs.Prelude.{None, Some, option_map, ◌&&◌, ◌||◌}
 use Rattle.std.specs.List.{AllByRecursion, cons_option, filter_map, list_any}
 use Rattle.qbase.proofs.Lists.{all_more, none_of, eqb_same}
@@ -30,6 +30,7 @@ use Rattle.std.specs.Option.{option_map, option_to_list}
 use Rattle.std.proofs.lemmas.Bool.{eq-eqb, and_from, true≢false, or_parts}
 use Rattle.std.proofs.lemmas.Option.{none-some}
 use Rattle.std.proofs.Math.Bool.{or-true}
+use Rattle.std.proofs.lemmas.List.Folds.{list_any-append}
 use Rattle.qrules.specs.Properties.{connection_of, number_received, TakesBest}
 use Rattle.qrules.proofs.Traces.Past.Items.{item_at}
 use Rattle.qrules.proofs.Traces.Properties.BestFirst.{best_first}
@@ -126,22 +127,14 @@ sent_to : (roster : List Member) (past : Trace) (i : ℕ) (m : SentItem) → ite
 sent_to roster past i m is k over = let w = item_over roster past i k m is over in ap (option_map (λ c. c.channel)) w.is ∙ ap Some (sym w.channel)
 
 -- it is among the items
-any_first : (p : SentItem → Bool) (xs ys : List SentItem) → list_any p xs ≡ true → list_any p (xs ++ ys) ≡ true
-any_first p [] ys e = absurd (true≢false (sym e))
-any_first p (x ∷ xs) ys e =
-    elim (p x) as (λ b. (b || list_any p xs) ≡ true → (b || list_any p (xs ++ ys)) ≡ true) [ true ↦ λ h. refl | false ↦ λ h. any_first p xs ys h ] e
-
-any_last : (p : SentItem → Bool) (xs : List SentItem) (y : SentItem) → p y ≡ true → list_any p (xs ++ y ∷ []) ≡ true
-any_last p [] y e = rw e refl
-any_last p (x ∷ xs) y e = rw (any_last p xs y e) (or-true (p x))
-
 among_items : (p : SentItem → Bool) (roster : List Member) (past : Trace) (i : ℕ) (m : SentItem) → item_at roster past i ≡ Some m → p m ≡ true → list_any p (items roster past) ≡ true
 among_items p roster [] i m is passes = absurd (none-some m is)
 among_items p roster (e ∷ past) i m is passes =
-    elim (eqb i (length past + 1)) as (λ b. cond b (item_of roster e past) (item_at roster past i) ≡ Some m → list_any p (items roster (e ∷ past)) ≡ true) [
-      | true ↦ λ at. rw at (any_last p (items roster past) m passes)
-      | false ↦ λ at. any_first p (items roster past) (option_to_list (item_of roster e past)) (among_items p roster past i m at passes)
-    ] is
+    list_any-append p (items roster past) (option_to_list (item_of roster e past)) ∙ (
+    elim (eqb i (length past + 1)) as (λ b. cond b (item_of roster e past) (item_at roster past i) ≡ Some m → (list_any p (items roster past) || list_any p (option_to_list (item_of roster e past))) ≡ true) [
+      | true ↦ λ at. rw (at, passes) (or-true (list_any p (items roster past)))
+      | false ↦ λ at. rw (among_items p roster past i m at passes) refl
+    ] is)
 
 was_sent : (roster : List Member) (past : Trace) (e : Event) (x : Completion) (i : ℕ) → TakesBest roster past e x i → Endings.WasSent roster (e ∷ past) x i
 was_sent roster past e x i k =

@@ -1,9 +1,9 @@
 -- No more than 1,024 pulses are pending on a channel.
-use Rattle.std.proofs.Common.{◌≡◌, ◌∙◌, ℕ, ◌+◌, ◌≤◌, ◌<◌, List, [], ◌∷◌, ◌++◌, refl, ap, sym, subst, cond, arith, eqb, Bool, true, false, inl, inr}
-use Rattle.std.specs.Prelude.{ℤ, Option, None, Some, filter, nat_lt, not}
+use Rattle.std.proofs.Common.{◌≡◌, ◌∙◌, ℕ, ◌+◌, ◌≤◌, ◌<◌, List, [], ◌∷◌, ◌++◌, refl, ap, sym, subst, cond, arith, eqb, true, false, inl, inr}
+use Rattle.std.specs.Prelude.{ℤ, Option, None, Some, nat_lt, not}
 use Rattle.std.proofs.lemmas.Bool.{eqb-true, ltb-true}
 use Rattle.std.proofs.lemmas.List.{append-nil}
-use Rattle.std.proofs.lemmas.List.Sums.{sum_by-append}
+use Rattle.std.proofs.lemmas.List.Sums.{sum_by-append, sum_by-cons}
 use Rattle.std.proofs.lemmas.Option.{none-some}
 use Rattle.qbase.specs.declared.errno.Errno.TheVariants.{Again, Badf, Inval}
 use Rattle.qqueue.specs.Best.{is_pulse, without_item}
@@ -19,6 +19,7 @@ use Rattle.qtables.specs.Members.{IsRoster}
 use Rattle.qtables.specs.declared.member.Member.{Member}
 use Rattle.qmodel.specs.Trace.{Trace, SentItem}
 use Rattle.qlaws.specs.Pending as laws
+use Rattle.qlaws.proofs.Lists.{fewer_left}
 use Rattle.qlaws.proofs.Waits.{before}
 use Rattle.qrules.specs.Private.Lawful.{facts_of, IsLawful}
 use Rattle.qrules.specs.Private.Past.{pending_items, made_on}
@@ -42,32 +43,12 @@ use Rattle.qrules.proofs.Traces.Due.{unblock_same}
 
 -- a pulse is counted, and a message isn't
 count_first : (x : Item) (items : List Item) → pulses_among (x ∷ items) ≡ cond (is_pulse x.what) 1 0 + pulses_among items
-count_first x items = sum_by-append (λ (y : Item). cond (is_pulse y.what) 1 0) (x ∷ []) items ∙ zero_first (cond (is_pulse x.what) 1 0) (pulses_among items) where
-  zero_first : (a b : ℕ) → 0 + a + b ≡ a + b
-  zero_first a b = omega arith
-
--- of what is left there are no more
-fewer_left : (p : Item → Bool) (items : List Item) → pulses_among (filter p items) ≤ pulses_among items
-fewer_left p [] = omega arith
-fewer_left p (x ∷ items) =
-    let rest : pulses_among (filter p items) ≤ pulses_among items = fewer_left p items in
-    let all : pulses_among (x ∷ items) ≡ cond (is_pulse x.what) 1 0 + pulses_among items = count_first x items in
-    let kept : pulses_among (x ∷ filter p items) ≡ cond (is_pulse x.what) 1 0 + pulses_among (filter p items) = count_first x (filter p items) in
-    elim (p x) as (λ b. pulses_among (cond b (x ∷ filter p items) (filter p items)) ≤ pulses_among (x ∷ items)) [
-      | true ↦ at_most _ _ (cond (is_pulse x.what) 1 0) (pulses_among (filter p items)) (pulses_among items) kept all rest
-      | false ↦ at_more _ (cond (is_pulse x.what) 1 0) (pulses_among (filter p items)) (pulses_among items) all rest
-    ]
-  where
-    at_most : (a b n k l : ℕ) → a ≡ n + k → b ≡ n + l → k ≤ l → a ≤ b
-    at_most a b n k l ea eb le = omega (arith, ea, eb, le)
-
-    at_more : (b n k l : ℕ) → b ≡ n + l → k ≤ l → k ≤ b
-    at_more b n k l eb le = omega (arith, eb, le)
+count_first x items = sum_by-cons (λ (y : Item). cond (is_pulse y.what) 1 0) x items
 
 fewer_out : (o : Option Received) (h : ℕ) (items : List Item) → pulses_among (unreceived_items o h items) ≤ pulses_among items
 fewer_out None h items = omega arith
 fewer_out (Some r) h items =
-    elim (eqb r.channel h) as (λ b. pulses_among (cond b (without_item r.item items) items) ≤ pulses_among items) [ true ↦ fewer_left (λ item. not (eqb item.number r.item)) items | false ↦ omega arith ]
+    elim (eqb r.channel h) as (λ b. pulses_among (cond b (without_item r.item items) items) ≤ pulses_among items) [ true ↦ fewer_left (λ y. is_pulse y.what) (λ item. not (eqb item.number r.item)) items | false ↦ omega arith ]
 
 -- a message that moves is none
 same_moved : (f : Facts) (h : ℕ) (s : Option PriorityChange) (items : List Item) → pulses_among (items_with_priority_set f h s items) ≡ pulses_among items
@@ -117,7 +98,6 @@ finds_room f code (Some h) r =
       | false ↦ λ s. (h, refl, s)
     ] r
 
--- what is left of a channel's items, with what an accepted call makes
 -- a pulse finds room that is made on a channel that isn't full
 pulse_more : (f : Facts) (h : ℕ) (items : List Item) (m : SentItem) → is_pulse m.item.what ≡ true → refusal_if_full f m.channel ≡ None → pulses_among items ≤ pulses_among (f.pending h) → pulses_among (f.pending h) ≤ 1024
     → pulses_among (items ++ made_on h (Some m)) ≤ 1024
@@ -154,7 +134,7 @@ limited_after f t c h p few =
     let M = made_on h (makes f t c) in
     let L = uncut_items f t c h (f.pending h ++ M) in
     let made : pulses_among (f.pending h ++ M) ≤ 1024 = limited f t c h p (f.pending h) (omega arith) few in
-    let less : pulses_among L ≤ pulses_among (f.pending h ++ M) = fewer_left (λ item. not (is_cancelled f t c h item.number)) (f.pending h ++ M) in
+    let less : pulses_among L ≤ pulses_among (f.pending h ++ M) = fewer_left (λ y. is_pulse y.what) (λ item. not (is_cancelled f t c h item.number)) (f.pending h ++ M) in
     let out : pulses_among (unreceived_items (row_of f t c).receipt h L) ≤ pulses_among L = fewer_out (row_of f t c).receipt h L in
     let same : pulses_among (items_with_priority_set f h (sets c) (unreceived_items (row_of f t c).receipt h L)) ≡ pulses_among (unreceived_items (row_of f t c).receipt h L) = same_moved f h (sets c) (unreceived_items (row_of f t c).receipt h L) in
     elim (names (closes c) h) as (λ b. pulses_among (cond b [] (items_with_priority_set f h (sets c) (unreceived_items (row_of f t c).receipt h L))) ≤ 1024) [ true ↦ omega arith | false ↦ omega (arith, made, less, out, same) ]

@@ -1,8 +1,9 @@
--- What is so of each element of a list.
-use Rattle.std.proofs.Common.{◌≡◌, ◌∙◌, List, [], ◌∷◌, map, refl, sym, cond, Bool, true, false}
-use Rattle.std.specs.Prelude.{filter}
+-- What is so of each element of a list, and how many there are.
+use Rattle.std.proofs.Common.{◌≡◌, ◌∙◌, List, [], ◌∷◌, map, refl, sym, cond, arith, ◌+◌, ◌≤◌, Bool, true, false}
+use Rattle.std.specs.Prelude.{count_by, filter}
 use Rattle.std.specs.List.{AllByRecursion}
 use Rattle.std.proofs.lemmas.Bool.{true≢false}
+use Rattle.std.proofs.lemmas.List.Sums.{sum_by-cons}
 
 pub all_two : {X : Type 0} (P Q R : X → Type 0) (xs : List X) → AllByRecursion P xs → AllByRecursion Q xs → ((x : X) → P x → Q x → R x) → AllByRecursion R xs
 all_two P Q R [] p q f = tt
@@ -19,3 +20,12 @@ all_unfilter P p (x ∷ xs) all =
       | true ↦ λ passes all. (λ _. all.0, all_unfilter P p xs all.1)
       | false ↦ λ fails all. (λ passes. absurd (true≢false (sym passes ∙ fails)), all_unfilter P p xs all)
     ] refl all
+
+-- of what is left there are no more
+pub fewer_left : {X : Type 0} (q p : X → Bool) (xs : List X) → count_by q (filter p xs) ≤ count_by q xs
+fewer_left q p [] = omega arith
+fewer_left q p (x ∷ xs) =
+    let rest : count_by q (filter p xs) ≤ count_by q xs = fewer_left q p xs in
+    let all : count_by q (x ∷ xs) ≡ cond (q x) 1 0 + count_by q xs = sum_by-cons (λ y. cond (q y) 1 0) x xs in
+    let kept : count_by q (x ∷ filter p xs) ≡ cond (q x) 1 0 + count_by q (filter p xs) = sum_by-cons (λ y. cond (q y) 1 0) x (filter p xs) in
+    elim (p x) as (λ b. count_by q (cond b (x ∷ filter p xs) (filter p xs)) ≤ count_by q (x ∷ xs)) [ true ↦ omega arith | false ↦ omega arith ]

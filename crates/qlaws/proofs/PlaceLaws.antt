@@ -16,7 +16,7 @@ use Rattle.qrules.proofs.Traces.Past.CurrentPriority.{now, worth_newest, worth_s
 use Rattle.qrules.proofs.Traces.Past.Items.{item_below, items_on, made_by, pending_is, standing_is, stands_all, staying, Stands}
 use Rattle.qrules.proofs.Traces.Past.Pending.{items_more, stays_gone}
 use Rattle.qlaws.specs.Pending as laws
-use Rattle.qlaws.proofs.Lists.{all_two, all_unfilter, all_unmap}
+use Rattle.qlaws.proofs.Lists.{all_two, all_unfilter, all_unmap, fewer_left}
 use Rattle.qlaws.proofs.Waits.{before}
 
 -- ---- counts
@@ -48,15 +48,6 @@ fewer p q s (y ∷ items) all =
     let of_q : count_by q (y ∷ items) ≡ one (q y) + count_by q items = sum_by-cons (λ y. one (q y)) y items in
     let of_s : count_by s (y ∷ items) ≡ one (s y) + count_by s items = sum_by-cons (λ y. one (s y)) y items in
     omega arith
-
--- of those that are gone there are no more than of all
-fewer_gone : (q g : Item → Bool) (items : List Item) → 0 + count_by q (filter g items) ≤ count_by q items
-fewer_gone q g [] = omega arith
-fewer_gone q g (y ∷ items) =
-    let rest : 0 + count_by q (filter g items) ≤ count_by q items = fewer_gone q g items in
-    let all : count_by q (y ∷ items) ≡ one (q y) + count_by q items = sum_by-cons (λ y. one (q y)) y items in
-    let kept : count_by q (y ∷ filter g items) ≡ one (q y) + count_by q (filter g items) = sum_by-cons (λ y. one (q y)) y (filter g items) in
-    elim (g y) as (λ b. 0 + count_by q (cond b (y ∷ filter g items) (filter g items)) ≤ count_by q (y ∷ items)) [ true ↦ omega arith | false ↦ omega arith ]
 
 -- an item that goes counts only before, and one that stays counts afterwards only if it did so before
 weigh : (gone gone_after after before : Bool) → (gone ≡ true → gone_after ≡ true) → (gone_after ≡ false → after ≡ true → before ≡ true)
@@ -122,7 +113,9 @@ module _ (roster : List Member) (past : Trace) (e : Event) (l : old.IsLawful ros
         | true ↦ λ closed.
             let none : pending_items roster (e ∷ past) h ≡ [] = rw closed refl in
             subst (λ items. laws.place x items + laws.place x (filter (is_gone (e ∷ past)) (pending_items roster past h)) ≤ laws.place x (pending_items roster past h)) (sym none)
-            (fewer_gone is_before (is_gone (e ∷ past)) (pending_items roster past h))
+            (let less : laws.place x (filter (is_gone (e ∷ past)) (pending_items roster past h)) ≤ laws.place x (pending_items roster past h) = fewer_left is_before (is_gone (e ∷ past)) (pending_items roster past h) in
+            let added : 0 + laws.place x (filter (is_gone (e ∷ past)) (pending_items roster past h)) ≤ laws.place x (pending_items roster past h) = omega arith in
+            added)
         | false ↦ λ going.
             let was_open : is_destroyed past h ≡ false = (or_parts _ (is_destroyed past h) going).1 in
             let was : pending_items roster past h ≡ map (now past) (staying roster past h) = pending_is roster past h ∙ ap (λ b. cond b [] (map (now past) (staying roster past h))) was_open in
