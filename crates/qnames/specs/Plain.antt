@@ -7,7 +7,6 @@ use Rattle.hex.specs.Hex.{encode_lower}
 use Rattle.qnames.specs.declared.line.Kind.{Kind}
 use Rattle.qreading.specs.declared.place.Place.{Place}
 use Rattle.qnames.specs.declared.line.Definition.{Definition}
-use Rattle.qnames.specs.declared.line.Mention.{Mention}
 use Rattle.qnames.specs.declared.line.Operand.{Operand}
 use Rattle.qnames.specs.declared.line.Operand.TheVariants as operands
 use Rattle.qnames.specs.declared.line.Line.{Line}

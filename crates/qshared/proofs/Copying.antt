@@ -1,5 +1,5 @@
 -- Endings that are copied one after another.
-use Rattle.std.proofs.Common.{◌≡◌, ℕ, ◌+◌, ◌-◌, ◌<◌, ◌≤◌, List, [], ◌∷◌, ◌++◌, length, get_or, set, drop, refl, ap, sym, subst, ◌∙◌, arith, false, eqb, inl, inr, append-nil, append_assoc, length-append, length-set, get_or-set_other}
+use Rattle.std.proofs.Common.{◌≡◌, ℕ, ◌+◌, ◌-◌, ◌<◌, ◌≤◌, List, [], ◌∷◌, ◌++◌, length, get_or, set, drop, ap, sym, subst, ◌∙◌, arith, false, eqb, inl, inr, append_assoc, length-append, length-set, get_or-set_other}
 use Rattle.std.specs.Prelude.{Some, ◌||◌}
 use Rattle.std.specs.List.{AllByRecursion}
 use Rattle.std.proofs.lemmas.Bool.{cases_Bool, eqb-false, true≢false}
@@ -24,9 +24,6 @@ one_copied ts x i rooms room at =
       rooms_len = length-set rooms i room;
     }
 
-pub none_copied : (ts : List ℕ) (rooms : List ℕ) → Copied ts [] rooms rooms
-none_copied ts rooms = record { room = λ t i is none. refl; rooms_len = refl }
-
 pub more_copied : (ts : List ℕ) (X Y : List Completion) (rooms rooms' rooms'' : List ℕ) → Copied ts X rooms rooms' → Copied ts Y rooms' rooms'' → Copied ts (X ++ Y) rooms rooms''
 more_copied ts X Y rooms rooms' rooms'' a b = record {
   room = λ t i is none.
@@ -41,9 +38,6 @@ pub record Copying (ts : List ℕ) (X : List Completion) (rooms rooms' : List �
   pub whole : done ++ left ≡ X
   pub copied : Copied ts done rooms rooms'
   pub logged : log' ≡ record log { endings = log.endings ++ done; ending_room = log.ending_room - length done }
-
-pub copying_start : (ts : List ℕ) (X : List Completion) (rooms : List ℕ) (log : Logged) → Copying ts X rooms rooms log log X
-copying_start ts X rooms log = record { done = []; whole = refl; copied = none_copied ts rooms; logged = let none : log.ending_room ≡ log.ending_room - 0 = omega arith in ap (λ ys. record log { endings = ys }) (sym (append-nil log.endings)) ∙ ap (λ n. record log { endings = log.endings ++ []; ending_room = n }) none }
 
 pub copying_next : (ts : List ℕ) (X : List Completion) (rooms rooms' : List ℕ) (log log' : Logged) (x : Completion) (left : List Completion)
     → AreApart X → AllByRecursion (MayCopy ts rooms) X → Copying ts X rooms rooms' log log' (x ∷ left) → MayCopy ts rooms' x

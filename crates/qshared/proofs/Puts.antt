@@ -22,9 +22,6 @@ use Rattle.qshared.proofs.Turns.{of_none}
 pub gets_here : (x : Completion) (t : ℕ) → eqb x.thread t ≡ true → gets (x ∷ []) t ≡ true
 gets_here x t e = rw e refl
 
-gets_else : (x : Completion) (t : ℕ) → eqb x.thread t ≡ false → gets (x ∷ []) t ≡ false
-gets_else x t e = rw e refl
-
 cond_nil : (b : Bool) → cond b [] (of_thread 0 []) ≡ of_thread 0 []
 cond_nil true = refl
 cond_nil false = refl

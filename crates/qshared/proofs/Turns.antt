@@ -93,11 +93,6 @@ pub waited_due : (waiting : Bool) (once : List (List Completion)) (later : List 
 waited_due true once later l some free e = true≢false free
 waited_due false once later l some free e = turn_some once later (omega (arith, l.0, some)) (omega (arith, l.0)) e
 
--- whose call isn't collected has waited
-pub has_waited : (once : List (List Completion)) (later : List Completion) (waiting : Bool) → AreLater waiting once later → waiting ≡ true → 0 < waits once
-has_waited once later false l is = absurd (true≢false (sym is))
-has_waited once later true l is = omega (arith, l.0)
-
 -- a call that waits is one more, and the last
 pub now_waits : (once : List (List Completion)) (later : List Completion) → AreLater false once later → AreLater true (once ++ [] ∷ []) later
 now_waits once later l = (waits_none once ∙ omega (arith, l.0), λ w. end_open once)
@@ -214,9 +209,6 @@ takes_again once before between after None s old middle new none a p b q l =
 
 pub takes_some : (before after : List Completion) (r : Option Completion) (x : Completion) → r ≡ Some x → Takes r before after → after ≡ before ++ x ∷ []
 takes_some before after r x is t = subst (λ o. Takes o before after) is t
-
-pub takes_none : (before after : List Completion) (r : Option Completion) → r ≡ None → Takes r before after → after ≡ before
-takes_none before after r is t = subst (λ o. Takes o before after) is t
 
 -- what a port took and what is left in its cell is all
 pub left_over : (once : List (List Completion)) (took left later : List Completion) (pending blocked : Bool) → AreLater pending once took → AreLater blocked once later → took ++ left ≡ later

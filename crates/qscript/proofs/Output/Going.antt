@@ -1,5 +1,5 @@
 -- The lines of one event more.
-use Rattle.std.proofs.Common.{◌≡◌, ℕ, zero, suc, ◌+◌, ◌-◌, ◌≤◌, ◌&&◌, Bool, true, false, cond, List, [], ◌∷◌, ◌++◌, length, length-append, map, take, length-take, nat_le, get_or, slice_get, Some, None, refl, sym, ap, ◌∙◌, append-nil, add-one, arith, string_bytes}
+use Rattle.std.proofs.Common.{◌≡◌, ℕ, zero, suc, ◌+◌, ◌-◌, ◌≤◌, ◌&&◌, Bool, true, false, cond, List, [], ◌∷◌, ◌++◌, length, length-append, map, take, nat_le, get_or, slice_get, Some, None, refl, sym, ap, ◌∙◌, append-nil, add-one, arith, string_bytes}
 use Rattle.std.proofs.lemmas.Bool.{leb-true, leb-false}
 use Rattle.std.proofs.lemmas.List.{length-map, map-append, get_or_past}
 use Rattle.std.specs.List.{flat_map}

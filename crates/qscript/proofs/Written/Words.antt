@@ -24,10 +24,6 @@ Prints b = (33 ≤ b) × (b ≤ 126)
 abbrev pub IsWord : List ℕ → Type 0
 IsWord w = (0 < length w) × AllByRecursion Prints w
 
-pub all_both : (xs ys : List ℕ) → AllByRecursion Prints xs → AllByRecursion Prints ys → AllByRecursion Prints (xs ++ ys)
-all_both [] ys a b = b
-all_both (x ∷ xs) ys a b = (a.0, all_both xs ys a.1 b)
-
 no_blank : (b : ℕ) → Prints b → is_blank b ≡ false
 no_blank b h =
     let space : (b == 32) ≡ false = ne_eqb b 32 (λ e. omega (arith, e, h.0)) in

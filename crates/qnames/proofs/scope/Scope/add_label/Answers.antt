@@ -1,4 +1,4 @@
-use Rattle.std.proofs.Common.{◌≡◌, Some, length, string_bytes, sym, refl, ◌∙◌, arith}
+use Rattle.std.proofs.Common.{◌≡◌, Some, length, string_bytes, refl, ◌∙◌, arith}
 use Rattle.std.proofs.lemmas.Map.Text.{hash_map_updates_text}
 use Rattle.qnames.specs.declared.label.Label.{Label}
 use Rattle.qnames.proofs.Labels.{last_more}
