@@ -1,6 +1,6 @@
 //! Writes the plain script of one with names.
 
-ghost use Rattle.std.specs.Prelude.{◌≡◌, ℕ, ◌+◌, ◌<◌, ◌≤◌, ◌^◌, [], ◌∷◌, ◌++◌, length, OnOk, IfOk, decimal, string_bytes};
+ghost use Rattle.std.specs.Prelude.{◌≡◌, ℕ, ◌+◌, ◌<◌, ◌≤◌, ◌^◌, [], ◌∷◌, ◌++◌, length, OnOk, IfOk, string_bytes};
 ghost use Rattle.qnames.specs.Names.{none, latest, with_line};
 ghost use Rattle.qnames.specs.Plain.{bytes_word, zeros_word, word_of, words_of, line_text, plain_text, error_of, operand_fault, operands_fault, definition_fault, line_fault, listed, name_faults};
 

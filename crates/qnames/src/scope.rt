@@ -1,6 +1,6 @@
 //! What the lines above a line define.
 
-ghost use Rattle.std.specs.Prelude.{◌≡◌, ℕ, ◌+◌, ◌<◌, ◌≤◌, ◌^◌, length, position, reverse, find, slice_get, true, OnOk, IfOk, IfSome};
+ghost use Rattle.std.specs.Prelude.{◌≡◌, ℕ, ◌+◌, ◌<◌, ◌≤◌, ◌^◌, length, position, find, slice_get, true, OnOk, IfOk, IfSome};
 ghost use Rattle.std.specs.List.{position_or_len, list_any};
 ghost use Rattle.std.specs.Str.{bytes_eq};
 ghost use Rattle.std.specs.Option.{option_map};

@@ -9,14 +9,12 @@ use lib.ListN.{get_elem?}
 use Rattle.qbase.proofs.Lists.{all_more}
 use Rattle.qmodel.specs.declared.call.Completion.{Completion}
 use Rattle.qmodel.specs.Trace.{Trace}
-use Rattle.qrules.proofs.Traces.Rosters.{Rises, all_at}
-use Rattle.qhandoff.specs.Words.{AreBelow, left_for}
+use Rattle.qrules.proofs.Traces.Rosters.{Rises, all_at, among_member}
+use Rattle.qhandoff.specs.Words.{AreBelow, left_for, took}
 use Rattle.qhandoff.specs.Words as cells
 use Rattle.qrules.specs.Private.Facts.{threads_of}
-use Rattle.qrules.proofs.Traces.Rosters.{among_member}
 use Rattle.qtables.specs.declared.member.Member.{Member}
 use Rattle.qhandoff.specs.declared.seats.ThreadSeat.{ThreadSeat}
-use Rattle.qhandoff.specs.Words.{took}
 use Rattle.qmodel.specs.declared.call.Call.{Call}
 use Rattle.qpast.specs.History.{Extends}
 use Rattle.qshared.specs.Asking.{IsSince, calls_of}

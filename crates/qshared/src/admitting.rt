@@ -1,5 +1,5 @@
 //! Reserving what is needed to keep a call, before it is made.
-ghost use Rattle.std.specs.Prelude.{◌≡◌, ◌<◌, ◌≤◌, ◌+◌, ◌⊎◌, length, IfOk, IfErr, OnOk, ◌^◌};
+ghost use Rattle.std.specs.Prelude.{◌≡◌, ◌<◌, ◌≤◌, ◌+◌, ◌⊎◌, length, IfOk, IfErr, ◌^◌};
 ghost use Rattle.qmodel.specs.Buffers.{buffer_of};
 ghost use Rattle.qmodel.specs.declared.call.Call.TheVariants.{Shutdown};
 ghost use Rattle.qshared.specs.Private.Rooms.{HasRoomFor};

@@ -1,7 +1,7 @@
 //! Cells with their seats, and completions.
 
 ghost use Rattle.std.specs.Prelude.{◌≡◌, ◌<◌, ◌+◌, length};
-ghost use Rattle.qhandoff.specs.Words.{cells_id, count, thread_id, thread_of, IsKernelOf, IsThreadOf, IsRow};
+ghost use Rattle.qhandoff.specs.Words.{cells_id, count, thread_of, IsKernelOf, IsThreadOf, IsRow};
 
 use qbase::bytes::Bytes;
 use qbase::ids::ThreadNo;

@@ -9,9 +9,7 @@ use Rattle.qshared.proofs.port.Port.make.Goals as goal
 
 pub invariant_of-self : goal.invariant_of-self
 invariant_of-self g c =
-    let self = c.args.self.now in
-    let e = c.in-Refused.ensures in
-    let t = self.turn.seat.thread in
+    let self = c.args.self.now in let e = c.in-Refused.ensures in let t = self.turn.seat.thread in
     let calls = ap (calls_of self.last.trace) self.turn_is.0 ∙ self.calls_are in
     let later = subst (λ u. AreLater self.turn.pending (at_once self.last.trace u) (taken self.seat)) (sym self.turn_is.0) self.later in
     let since = extends_since self.seen.trace self.last.trace self.since in
@@ -34,9 +32,7 @@ invariant_of-self g c =
 
 pub returns-in-Refused-clause-taken : goal.returns-in-Refused-clause-taken
 returns-in-Refused-clause-taken g c =
-    let self = c.args.self.now in
-    let e = c.in-Refused.ensures in
-    let t = self.turn.seat.thread in
+    let self = c.args.self.now in let e = c.in-Refused.ensures in let t = self.turn.seat.thread in
     let calls = ap (calls_of self.last.trace) self.turn_is.0 ∙ self.calls_are in
     let later = subst (λ u. AreLater self.turn.pending (at_once self.last.trace u) (taken self.seat)) (sym self.turn_is.0) self.later in
     let since = extends_since self.seen.trace self.last.trace self.since in
@@ -45,9 +41,7 @@ returns-in-Refused-clause-taken g c =
 
 pub invariant_of-self-in-Open : goal.invariant_of-self-in-Open
 invariant_of-self-in-Open g c =
-    let self = c.args.self.now in
-    let e = c.in-Open.ensures in
-    let t = self.turn.seat.thread in
+    let self = c.args.self.now in let e = c.in-Open.ensures in let t = self.turn.seat.thread in
     let calls = ap (calls_of self.last.trace) self.turn_is.0 ∙ self.calls_are in
     let later = subst (λ u. AreLater self.turn.pending (at_once self.last.trace u) (taken self.seat)) (sym self.turn_is.0) self.later in
     let since = extends_since self.seen.trace self.last.trace self.since in
@@ -70,9 +64,7 @@ invariant_of-self-in-Open g c =
 
 pub returns-in-Open-clause-taken : goal.returns-in-Open-clause-taken
 returns-in-Open-clause-taken g c =
-    let self = c.args.self.now in
-    let e = c.in-Open.ensures in
-    let t = self.turn.seat.thread in
+    let self = c.args.self.now in let e = c.in-Open.ensures in let t = self.turn.seat.thread in
     let calls = ap (calls_of self.last.trace) self.turn_is.0 ∙ self.calls_are in
     let later = subst (λ u. AreLater self.turn.pending (at_once self.last.trace u) (taken self.seat)) (sym self.turn_is.0) self.later in
     let since = extends_since self.seen.trace self.last.trace self.since in
@@ -81,9 +73,7 @@ returns-in-Open-clause-taken g c =
 
 pub invariant_of-self-in-Ended : goal.invariant_of-self-in-Ended
 invariant_of-self-in-Ended g c =
-    let self = c.args.self.now in
-    let e = c.in-Ended.ensures in
-    let t = self.turn.seat.thread in
+    let self = c.args.self.now in let e = c.in-Ended.ensures in let t = self.turn.seat.thread in
     let calls = ap (calls_of self.last.trace) self.turn_is.0 ∙ self.calls_are in
     let later = subst (λ u. AreLater self.turn.pending (at_once self.last.trace u) (taken self.seat)) (sym self.turn_is.0) self.later in
     let since = extends_since self.seen.trace self.last.trace self.since in
@@ -106,9 +96,7 @@ invariant_of-self-in-Ended g c =
 
 pub returns-in-Ended-clause-taken : goal.returns-in-Ended-clause-taken
 returns-in-Ended-clause-taken g c =
-    let self = c.args.self.now in
-    let e = c.in-Ended.ensures in
-    let t = self.turn.seat.thread in
+    let self = c.args.self.now in let e = c.in-Ended.ensures in let t = self.turn.seat.thread in
     let calls = ap (calls_of self.last.trace) self.turn_is.0 ∙ self.calls_are in
     let later = subst (λ u. AreLater self.turn.pending (at_once self.last.trace u) (taken self.seat)) (sym self.turn_is.0) self.later in
     let since = extends_since self.seen.trace self.last.trace self.since in

@@ -48,8 +48,7 @@ returns-clause-sum g c =
 
 pub returns-clause-rises : goal.returns-clause-rises
 returns-clause-rises g c =
-    let h = c.traced.invariant.2 in
-    let ts = threads_of g.K.Tie.names.roster in
+    let h = c.traced.invariant.2 in let ts = threads_of g.K.Tie.names.roster in
     let long : count c.args.self.cells ≡ length ts = ap (λ y. y.slots) c.args.self.cells_are ∙ sym h.sized ∙ sym (length-map g.K.Tie.names.roster (λ m. m.thread)) in
     let below : AreBelow (length ts) c.close-left.result.items = subst (λ n. AreBelow n c.close-left.result.items) long c.close-left.ensures.within in
     let told : (t i : ℕ) → place ts t ≡ Some i → took (get_elem? (map (λ p. p.seat) c.args.ports.items) i) ++ left_for i c.close-left.result.items ≡ later_due (g.L.Log.past c.traced.inside.log) t =
@@ -58,8 +57,7 @@ returns-clause-rises g c =
 
 pub returns-clause-known : goal.returns-clause-known
 returns-clause-known g c =
-    let h = c.traced.invariant.2 in
-    let ts = threads_of g.K.Tie.names.roster in
+    let h = c.traced.invariant.2 in let ts = threads_of g.K.Tie.names.roster in
     let long : count c.args.self.cells ≡ length ts = ap (λ y. y.slots) c.args.self.cells_are ∙ sym h.sized ∙ sym (length-map g.K.Tie.names.roster (λ m. m.thread)) in
     let below : AreBelow (length ts) c.close-left.result.items = subst (λ n. AreBelow n c.close-left.result.items) long c.close-left.ensures.within in
     let told : (t i : ℕ) → place ts t ≡ Some i → took (get_elem? (map (λ p. p.seat) c.args.ports.items) i) ++ left_for i c.close-left.result.items ≡ later_due (g.L.Log.past c.traced.inside.log) t =
@@ -68,8 +66,7 @@ returns-clause-known g c =
 
 pub returns-clause-due : goal.returns-clause-due
 returns-clause-due g c =
-    let h = c.traced.invariant.2 in
-    let past = g.L.Log.past c.traced.inside.log in
+    let h = c.traced.invariant.2 in let past = g.L.Log.past c.traced.inside.log in
     let ts = threads_of g.K.Tie.names.roster in
     let ports = c.args.ports.items in
     let long : count c.args.self.cells ≡ length ts = ap (λ y. y.slots) c.args.self.cells_are ∙ sym h.sized ∙ sym (length-map g.K.Tie.names.roster (λ m. m.thread)) in

@@ -39,8 +39,7 @@ hand_out-own-requires-clause-place g c =
 pub invariant_of-self-in-Err : goal.invariant_of-self-in-Err
 invariant_of-self-in-Err g c =
     let at : place (threads_of g.K.Tie.names.roster) c.args.turn.now.seat.thread ≡ Some c.index-place.result = c.requires.seat ∙ ap Some (sym c.index-place.ensures) in
-    let up = sym c.is_down.ensures ∙ c.if-is_down.false in
-    let opened = c.if-not-open.ensures.desk in
+    let up = sym c.is_down.ensures ∙ c.if-is_down.false in let opened = c.if-not-open.ensures.desk in
     let wide : length (desk c.self.inside.seat).lines ≡ g.K.Tie.names.cells.slots = c.self.inside.seat.knows.1 ∙ ap (λ z. z.slots) c.self.invariant.0 in
     let same = c.note.ensures.same in (
       c.cancel.ensures.cells ∙ c.open.ensures.cells ∙ c.self.invariant.0,
@@ -52,8 +51,7 @@ invariant_of-self-in-Err g c =
 pub returns-in-Err-clause-performs : goal.returns-in-Err-clause-performs
 returns-in-Err-clause-performs g c =
     let at : place (threads_of g.K.Tie.names.roster) c.args.turn.now.seat.thread ≡ Some c.index-place.result = c.requires.seat ∙ ap Some (sym c.index-place.ensures) in
-    let up = sym c.is_down.ensures ∙ c.if-is_down.false in
-    let opened = c.if-not-open.ensures.desk in
+    let up = sym c.is_down.ensures ∙ c.if-is_down.false in let opened = c.if-not-open.ensures.desk in
     let wide : length (desk c.self.inside.seat).lines ≡ g.K.Tie.names.cells.slots = c.self.inside.seat.knows.1 ∙ ap (λ z. z.slots) c.self.invariant.0 in
     let same = c.note.ensures.same in
     rw (← c.self.view_is, c.cancel.ensures.desk, opened.0, same_desk _ _ _ _ _ _ c.self.invariant.2 c.args.turn.now.seat.thread c.index-place.result at up opened.1 wide, same.0)
@@ -78,8 +76,7 @@ event-requires-clause-lawful g c =
 pub event-requires-clause-thread : goal.event-requires-clause-thread
 event-requires-clause-thread g c =
     let at : place (threads_of g.K.Tie.names.roster) c.args.turn.now.seat.thread ≡ Some c.index-place.result = c.requires.seat ∙ ap Some (sym c.index-place.ensures) in
-    let up = sym c.is_down.ensures ∙ c.if-is_down.false in
-    let opened = c.if-not-open.ensures.desk in
+    let up = sym c.is_down.ensures ∙ c.if-is_down.false in let opened = c.if-not-open.ensures.desk in
     let wide : length (desk c.self.inside.seat).lines ≡ g.K.Tie.names.cells.slots = c.self.inside.seat.knows.1 ∙ ap (λ z. z.slots) c.self.invariant.0 in
     let same = c.note.ensures.same in
     rw (same.1 ∙ c.self.invariant.1, same.0) (is_known _ _ _ _ _ _ c.self.invariant.2 c.args.turn.now.seat.thread c.index-place.result at, (free _ _ _ _ _ _ c.self.invariant.2 c.args.turn.now.seat.thread c.index-place.result at up opened.1 wide).idle)
@@ -93,8 +90,7 @@ pub hand_out-own-requires-clause-apart : goal.hand_out-own-requires-clause-apart
 hand_out-own-requires-clause-apart g c =
     let event : AnswersAtTraces c.self.inside.kernel c.args.turn.now.seat.thread c.args.call c.call_at.new.endings.items c.call_at.new.self = c.in-Ok.ensures.event in
     let at : place (threads_of g.K.Tie.names.roster) c.args.turn.now.seat.thread ≡ Some c.index-place.result = c.requires.seat ∙ ap Some (sym c.index-place.ensures) in
-    let up = sym c.is_down.ensures ∙ c.if-is_down.false in
-    let opened = c.if-not-open.ensures.desk in
+    let up = sym c.is_down.ensures ∙ c.if-is_down.false in let opened = c.if-not-open.ensures.desk in
     let wide : length (desk c.self.inside.seat).lines ≡ g.K.Tie.names.cells.slots = c.self.inside.seat.knows.1 ∙ ap (λ z. z.slots) c.self.invariant.0 in
     apart _ _ _ _ _ _ c.self.invariant.2 c.args.turn.now.seat.thread c.index-place.result at up opened.1 wide c.in_default.ensures.few c.args.call c.call_at.new.endings.items c.call_at.new.self event
 
@@ -102,8 +98,7 @@ pub hand_out-own-requires-clause-may : goal.hand_out-own-requires-clause-may
 hand_out-own-requires-clause-may g c =
     let event : AnswersAtTraces c.self.inside.kernel c.args.turn.now.seat.thread c.args.call c.call_at.new.endings.items c.call_at.new.self = c.in-Ok.ensures.event in
     let at : place (threads_of g.K.Tie.names.roster) c.args.turn.now.seat.thread ≡ Some c.index-place.result = c.requires.seat ∙ ap Some (sym c.index-place.ensures) in
-    let up = sym c.is_down.ensures ∙ c.if-is_down.false in
-    let opened = c.if-not-open.ensures.desk in
+    let up = sym c.is_down.ensures ∙ c.if-is_down.false in let opened = c.if-not-open.ensures.desk in
     let wide : length (desk c.self.inside.seat).lines ≡ g.K.Tie.names.cells.slots = c.self.inside.seat.knows.1 ∙ ap (λ z. z.slots) c.self.invariant.0 in
     rw (c.call_at.ensures.roster, opened.0) (may_put _ _ _ _ _ _ c.self.invariant.2 c.args.turn.now.seat.thread c.index-place.result at up opened.1 wide c.in_default.ensures.few c.args.call c.call_at.new.endings.items c.call_at.new.self event)
 
@@ -111,8 +106,7 @@ pub invariant_of-self-2 : goal.invariant_of-self-2
 invariant_of-self-2 g c =
     let event : AnswersAtTraces c.self.inside.kernel c.args.turn.now.seat.thread c.args.call c.call_at.new.endings.items c.call_at.new.self = c.in-Ok.ensures.event in
     let at : place (threads_of g.K.Tie.names.roster) c.args.turn.now.seat.thread ≡ Some c.index-place.result = c.requires.seat ∙ ap Some (sym c.index-place.ensures) in
-    let up = sym c.is_down.ensures ∙ c.if-is_down.false in
-    let opened = c.if-not-open.ensures.desk in
+    let up = sym c.is_down.ensures ∙ c.if-is_down.false in let opened = c.if-not-open.ensures.desk in
     let wide : length (desk c.self.inside.seat).lines ≡ g.K.Tie.names.cells.slots = c.self.inside.seat.knows.1 ∙ ap (λ z. z.slots) c.self.invariant.0 in
     let handed = rw (c.call_at.ensures.roster, opened.0) at c.hand_out-own.ensures.handed in
     let past = c.event.ensures.event ∙ ap (λ x. with_event c.args.turn.now.seat.thread (g.L.Log.noted c.note.new.self) x.items (g.L.Log.past c.note.new.self)) c.deref.ensures ∙ ap (λ k. with_event c.args.turn.now.seat.thread k c.call_at.new.endings.items (g.L.Log.past c.note.new.self)) c.in_default.ensures.noted.0 ∙ ap (λ p. with_event c.args.turn.now.seat.thread c.args.call c.call_at.new.endings.items p) c.note.ensures.same.0 in
@@ -128,8 +122,7 @@ pub returns-clause-performs : goal.returns-clause-performs
 returns-clause-performs g c =
     let event : AnswersAtTraces c.self.inside.kernel c.args.turn.now.seat.thread c.args.call c.call_at.new.endings.items c.call_at.new.self = c.in-Ok.ensures.event in
     let at : place (threads_of g.K.Tie.names.roster) c.args.turn.now.seat.thread ≡ Some c.index-place.result = c.requires.seat ∙ ap Some (sym c.index-place.ensures) in
-    let up = sym c.is_down.ensures ∙ c.if-is_down.false in
-    let opened = c.if-not-open.ensures.desk in
+    let up = sym c.is_down.ensures ∙ c.if-is_down.false in let opened = c.if-not-open.ensures.desk in
     let wide : length (desk c.self.inside.seat).lines ≡ g.K.Tie.names.cells.slots = c.self.inside.seat.knows.1 ∙ ap (λ z. z.slots) c.self.invariant.0 in
     let past = c.event.ensures.event ∙ ap (λ x. with_event c.args.turn.now.seat.thread (g.L.Log.noted c.note.new.self) x.items (g.L.Log.past c.note.new.self)) c.deref.ensures ∙ ap (λ k. with_event c.args.turn.now.seat.thread k c.call_at.new.endings.items (g.L.Log.past c.note.new.self)) c.in_default.ensures.noted.0 ∙ ap (λ p. with_event c.args.turn.now.seat.thread c.args.call c.call_at.new.endings.items p) c.note.ensures.same.0 in
     rw (← c.self.view_is, c.ended_or_open.ensures, past) (performs _ _ _ _ _ _ c.self.invariant.2 c.args.turn.now.seat.thread c.index-place.result at up opened.1 wide c.in_default.ensures.few c.args.call c.call_at.new.endings.items c.call_at.new.self event g.L.Log.refuses g.L.Log.admits _ c.in_default.ensures.admitted c.hand_out-own.result c.hand_out-own.ensures.own)
