@@ -1,5 +1,5 @@
 -- The chart of a run that began on a new kernel.
-use Rattle.std.proofs.Common.{◌≡◌, ℕ, ◌+◌, List, [], refl, arith}
+use Rattle.std.proofs.Common.{◌≡◌, ℕ, ◌+◌, List, [], refl, arith, subst, sym}
 use Rattle.std.specs.List.Sorted.{IsPermutation}
 use Rattle.qtables.specs.Members.{IsRoster}
 use Rattle.qtables.specs.declared.member.Member.{Member}
@@ -13,9 +13,13 @@ use Rattle.qkernel.specs.Kernel.{State}
 use Rattle.qkernel.proofs.Running.{headline_of}
 use Rattle.qkernel.proofs.Traces.{stands_made}
 use Rattle.qstate.specs.Kept.{members_of}
+use Rattle.qreading.specs.Reading.Meaning.{meaning, IsFaultOf, Says}
 use Rattle.qscript.specs.Enrolled.{roster_with}
 use Rattle.qchart.specs.declared.chart.Chart.{Chart}
-use Rattle.qchart.specs.Charts.{IsChartOf}
+use Rattle.qchart.specs.declared.fault.ChartFault.{ChartFault}
+use Rattle.qchart.specs.declared.fault.ChartFault.TheVariants.{Script, TooManyCalls}
+use Rattle.qchart.specs.declared.view.View.{View}
+use Rattle.qchart.specs.Charts.{IsChartFault, IsChartOf, IsUncharted}
 use Rattle.qchart.specs.Rows.{HasRows}
 
 pub charted : (roster : List Member) (calls : List (ℕ × Call)) (old new : State) (chart : Chart) → IsRoster (members_of old.threads) → StandsAt (roster_with [] roster) old []
@@ -32,3 +36,8 @@ charted roster calls old new chart rises stands has lines =
       lines = lines;
       drawn = record { threads = has.threads; arrows = has.arrows; changes = has.changes (roster_with [] roster) [] tt stands; blocked = has.blocked (roster_with [] roster) [] tt stands };
     }
+
+-- the reason why a script has no chart is one why its text has none
+pub uncharted : (view : View) (text : List ℕ) (roster : List Member) (calls : List (ℕ × Call)) (e : ChartFault) → meaning text ≡ Says roster calls → IsUncharted view calls e → IsChartFault view text e
+uncharted view text roster calls (Script fault) meant is = subst (λ f. IsFaultOf f (meaning text)) (sym is) tt
+uncharted view text roster calls (TooManyCalls count) meant is = record { roster = roster; calls = calls; meant = meant; counted = is.0; many = is.1 }
