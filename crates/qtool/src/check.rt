@@ -106,10 +106,7 @@ impl<R: Files + Print + Eprint + AllocGlobal + Clone + Drop> Check<'_, R> {
         let words = words.as_str().as_bytes();
         match self.wanted(example) {
             Ok(Some(verdict)) if verdict.as_slice() == words => self.tell_same(example),
-            Ok(verdict) => {
-                self.settle(example, words, verdict)?;
-                Ok(())
-            }
+            Ok(verdict) => self.settle(example, words, verdict).map(|_| ()),
             Err(error) => self.count_unread(example.trace.as_str(), error),
         }
     }

@@ -35,12 +35,11 @@ pub fn words_of(alloc: Global, file: &str, text: &[u8]) -> Result<Option<String>
     let Reading::Good(design) = read(alloc, text)? else {
         return Ok(None);
     };
-    let design = &design;
     let source = Source {
         alloc,
         file,
         text,
-        design,
+        design: &design,
     };
     let script = false;
     let search = Search { source, script };
@@ -142,13 +141,12 @@ impl Search<'_> {
     /// Explores all interleavings, and returns the output and the exit status.
     fn all<W: Watch>(self, most: usize, progress: &mut W) -> Result<(String, u8), AllocError> {
         let source = self.source;
-        Ok(
-            match explore(source.alloc, source.design, most, progress)? {
-                Verdict::Found(found) => (self.fault(&found, "a shortest run")?, 1),
-                Verdict::Nothing(summary) => (source.nothing_words(&summary)?, 0),
-                Verdict::GaveUp(tally) => (source.gave_up_words(tally)?, NOT_ALL),
-            },
-        )
+        let verdict = explore(source.alloc, source.design, most, progress)?;
+        Ok(match verdict {
+            Verdict::Found(found) => (self.fault(&found, "a shortest run")?, 1),
+            Verdict::Nothing(summary) => (source.nothing_words(&summary)?, 0),
+            Verdict::GaveUp(tally) => (source.gave_up_words(tally)?, NOT_ALL),
+        })
     }
 
     /// Makes random interleavings, and returns the output and the exit status.

@@ -66,11 +66,7 @@ struct Outcome {
 
 /// Runs a script with names once, and returns its outcome.
 fn outcome_of(alloc: Global, named: Named) -> Result<Outcome, AllocError> {
-    let Named {
-        script,
-        mut check,
-        ..
-    } = named;
+    let (script, mut check) = (named.script, named.check);
     let calls = check.calls.iter();
     let lines = calls.map(|call| call.place.line as usize).collect(alloc)?;
     let mut run = ReportedRun::new(alloc, &script, lines)?;

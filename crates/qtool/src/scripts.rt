@@ -64,10 +64,7 @@ fn explain_from<R: Print + Eprint + AllocGlobal, S: Read + Drop>(
         Err(fault) => Err(fault),
     };
     let source = reader.into_inner();
-    let (trace, report) = match explained {
-        Ok(explained) => explained,
-        Err(fault) => return Err(end_faulty(rt, run, fault, &source)),
-    };
+    let (trace, report) = explained.map_err(|fault| end_faulty(rt, run, fault, &source))?;
     print_text(rt, trace.as_str())?;
     if run.explain {
         let text = source.text().unwrap_or(&[]);

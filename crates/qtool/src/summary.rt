@@ -13,12 +13,8 @@ static TIMES: [(&str, &str, &str); 5] = [
 
 /// Returns the name in JSON of the line with this name, and the unit of its number.
 fn key_and_unit(name: &str) -> (&str, &'static str) {
-    for (time, key, unit) in &TIMES {
-        if *time == name {
-            return (key, unit);
-        }
-    }
-    (name, "")
+    let time = TIMES.iter().find(|time| time.0 == name);
+    time.map_or((name, ""), |time| (time.1, time.2))
 }
 
 /// Returns the lines, each `NAME NUMBER`, with the units of the times behind.

@@ -75,9 +75,7 @@ fn make(
     thread: ThreadNo,
     call: Call,
 ) -> Result<(), AllocError> {
-    if session.make(thread, call).is_err() {
-        return Err(AllocError);
-    }
+    session.make(thread, call).map_err(|_| AllocError)?;
     match session.run() {
         Some(run) => growing
             .check
