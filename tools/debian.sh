@@ -1,8 +1,16 @@
 # The Debian package: tools/package reads this file, and calls make_package.
+# shellcheck shell=bash disable=SC2154
 maintainer='Balsaeuchre maintainers <maintainers@users.noreply.balsaeuchre.example>'
 
 # The newest symbols of the C library that the programs want.
-wanted_libc() { objdump -T $(programs "$1") 2>/dev/null | grep -o 'GLIBC_[0-9.]*' | sed 's/GLIBC_//' | sort -Vu | tail -n 1; }
+wanted_libc() {
+    programs "$1" | xargs -d '\n' objdump -T | grep -o 'GLIBC_[0-9.]*' | sed 's/GLIBC_//' | sort -Vu | tail -n 1
+}
+
+# The kibibytes of all below a folder, each file rounded up.
+kibibytes() {
+    find "$1" -printf '%y %s\n' | awk '{size += $1 == "f" ? int(($2 + 1023) / 1024) : 1} END {print size}'
+}
 
 control() {
     cat <<END
@@ -10,7 +18,7 @@ Package: balsaeuchre
 Version: $revision
 Architecture: $(dpkg --print-architecture)
 Maintainer: $maintainer
-Installed-Size: $(find "$1" -printf '%y %s\n' | awk '{size += $1 == "f" ? int(($2 + 1023) / 1024) : 1} END {print size}')
+Installed-Size: $(kibibytes "$1")
 Depends: libc6 (>= $(wanted_libc "$1")), libgcc-s1 (>= 3.0)
 Suggests: libc6-dev, pkgconf, cmake
 Section: devel
@@ -76,7 +84,7 @@ END
 # Compresses the manual pages, and lets the links among them lead to the compressed ones.
 compress_pages() {
     local page
-    for page in $(find "$1" -type l); do
+    find "$1" -type l | while read -r page; do
         ln -s "$(readlink "$page").gz" "$page.gz"
         rm "$page"
     done
@@ -90,7 +98,7 @@ make_package() {
     mv "$to/usr/share/zsh/site-functions" "$to/usr/share/zsh/vendor-completions"
     compress_pages "$to/usr/share/man"
     (
-        cd "$to/usr/share/doc/balsaeuchre"
+        cd "$to/usr/share/doc/balsaeuchre" || exit
         rm LICENSE-*
         gzip -9n <CHANGELOG.md >changelog.gz
         rm CHANGELOG.md
