@@ -178,7 +178,7 @@ def add_methods(item):
         lines = block(lines_of(file), at)
         if trait:
             text = "\n".join(lines)
-            item.traits.append(text if trait in ("Model", "Flags") or "!" in trait else lines[0].removesuffix(" {"))
+            item.traits.append(text if trait == "Model" or "!" in trait else lines[0].removesuffix(" {"))
             continue
         for place in range(at, at + len(lines)):
             found = re.match(r"    pub (fn|const) (\w+)", lines_of(file)[place])
