@@ -94,7 +94,7 @@ compress_pages() {
 make_package() {
     local to=$room/package revision=$version-1${unproved:+~unproved} file
     file=balsaeuchre_${revision}_$(dpkg --print-architecture).deb
-    put "$to" /usr
+    LIBDIR=lib/$(${CC:-cc} -print-multiarch) put "$to" /usr
     mv "$to/usr/share/zsh/site-functions" "$to/usr/share/zsh/vendor-completions"
     compress_pages "$to/usr/share/man"
     (
