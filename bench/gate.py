@@ -182,6 +182,9 @@ def table(logs):
     print(f"{total / 60:.0f} processor minutes by the system, {wall / 60:.0f} minutes from start to end")
 
 
+if {"-h", "--help"} & set(sys.argv[1:2]):
+    print(__doc__)
+    sys.exit()
 if sys.argv[1:2] == ["lanes"] and len(sys.argv) > 3:
     sys.exit(lanes(int(sys.argv[2]), sys.argv[3:]))
 if sys.argv[1:2] == ["run"] and len(sys.argv) > 2:
