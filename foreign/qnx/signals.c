@@ -6,9 +6,11 @@ static _Atomic int flags_of[NSIG];
 
 static void on_signal(int signo, siginfo_t *info, void *context) {
     uintptr_t handler = atomic_load(&handlers[signo]);
+    int before = errno; /* the call that is interrupted has set its own */
     neutrino_interrupt();
     if (atomic_load(&flags_of[signo]) & SA_SIGINFO) ((void (*)(int, siginfo_t *, void *))handler)(signo, info, context);
     else ((void (*)(int))handler)(signo);
+    errno = before;
 }
 
 static bool is_handler(const struct sigaction *action) {

@@ -6,8 +6,8 @@
 #include <sys/timerfd.h>
 
 struct timer {
-    int fd; /* 0: it is free */
-    int overruns;
+    _Atomic int fd; /* 0: it is free */
+    _Atomic int overruns;
     struct sigevent event;
 };
 

@@ -51,7 +51,7 @@ static void *send_across(void *argument) {
 }
 
 /* In a child with another standard error, and with what is asked for in its environment. */
-static int in_a_child(void (*work)(void), const char *asked) {
+static int in_a_child(void (*work)(void), const char *asked, pid_t *pid) {
     int ends[2];
     check(pipe(ends) == 0);
     pid_t child = fork();
@@ -63,6 +63,7 @@ static int in_a_child(void (*work)(void), const char *asked) {
         _exit(0);
     }
     check(close(ends[1]) == 0);
+    *pid = child;
     return ends[0];
 }
 
@@ -77,11 +78,12 @@ static void close_circle(void) {
 }
 
 void circles(void) {
-    int fd = in_a_child(close_circle, "BALSAEUCHRE_CIRCLES"), status;
+    pid_t child;
+    int fd = in_a_child(close_circle, "BALSAEUCHRE_CIRCLES", &child), status;
     check(reads_to(fd, "\n"));
-    check(strstr(text, "balsaeuchre: a circle of senders: thread 2 (files) waits for thread 3 (") == text);
-    check(strstr(text, "), thread 3 (") && strstr(text, ") waits for thread 2\n"));
-    check(close(fd) == 0 && waitpid(-1, &status, 0) > 0);
+    check(strstr(text, "balsaeuchre: a circle of senders: thread 2 (files) waits for thread 3, thread 3 (") == text);
+    check(strstr(text, ") waits for thread 2\n"));
+    check(close(fd) == 0 && kill(child, SIGKILL) == 0 && waitpid(child, &status, 0) == child);
 }
 
 static void quit_blocked(void) {
@@ -92,7 +94,8 @@ static void quit_blocked(void) {
 }
 
 void quits(void) {
-    int fd = in_a_child(quit_blocked, NULL), status;
+    pid_t child;
+    int fd = in_a_child(quit_blocked, NULL, &child), status;
     check(reads_to(fd, "\n") && strstr(text, "pid tid name"));
-    check(close(fd) == 0 && waitpid(-1, &status, 0) > 0);
+    check(close(fd) == 0 && kill(child, SIGKILL) == 0 && waitpid(child, &status, 0) == child);
 }

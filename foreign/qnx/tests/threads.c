@@ -123,7 +123,7 @@ void deaths(void) {
         check(MsgReceivePulse(other, &pulse, sizeof pulse, NULL) == 0 && pulse.code == _PULSE_CODE_COIDDEATH);
         coids[at] = pulse.value.sival_int;
     }
-    check(coids[0] + coids[1] == first + second && (coids[0] == first || coids[1] == first));
+    check((coids[0] == first && coids[1] == second) || (coids[0] == second && coids[1] == first));
     check(ConnectDetach(first) == 0 && ConnectDetach(second) == 0 && ChannelDestroy(other) == 0);
     for (int at = 0; at < 1030; at++) result_of(start(do_nothing, NULL)); /* more than can wait */
     for (int at = 0; at < 1024; at++) expect_death(chid, _PULSE_CODE_THREADDEATH, -1);
