@@ -28,7 +28,8 @@
 #define SENDV_PARAMETERS (int coid, const iov_t *siov, size_t sparts, const iov_t *riov, size_t rparts)
 #define SENDSV_PARAMETERS (int coid, const void *smsg, size_t sbytes, const iov_t *riov, size_t rparts)
 #define SENDVS_PARAMETERS (int coid, const iov_t *siov, size_t sparts, void *rmsg, size_t rbytes)
-#define TIMEOUT_PARAMETERS(type) (clockid_t id, int flags, const struct sigevent *notify, const type *ntime, type *otime)
+#define TIMEOUT_PARAMETERS(type) \
+    (clockid_t id, int flags, const struct sigevent *notify, const type *ntime, type *otime)
 
 NO_POINT(MsgSend, SEND_PARAMETERS, (coid, smsg, sbytes, rmsg, rbytes))
 NO_POINT(MsgSendv, SENDV_PARAMETERS, (coid, siov, sparts, riov, rparts))

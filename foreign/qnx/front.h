@@ -56,7 +56,7 @@ static int fail(int error) {
 
 static bool is_priority(int priority) { return priority >= LOWEST && priority <= HIGHEST; }
 
-/* The layer numbers connections without the bit of side channels. An scoid has that bit, too, and at most 255 below it. */
+/* The layer numbers connections without the bit of side channels. An scoid has that bit, and at most 255 below it. */
 static int plain(int coid) { return coid & ~SIDE; }
 
 static bool is_scoid(int coid) { return coid > SIDE && coid <= SIDE + SCOIDS; }

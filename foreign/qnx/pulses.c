@@ -1,7 +1,7 @@
 /* Pulses. The kernel knows codes of 0 to 127, and values of 32 bits. Tested, not proved.
  *
- * A pulse that has more is sent with the code NOTED, and with a value that names a note of what it has. The hook puts that
- * into the pulse as it is received. A destroyed channel's notes are forgotten.
+ * A pulse that has more is sent with the code NOTED, and with a value that names a note of what it has. The hook puts
+ * that into the pulse as it is received. A destroyed channel's notes are forgotten.
  */
 enum { NOTES = 4096, NOTED = 127, TURNS = INT32_MAX / NOTES };
 
@@ -70,8 +70,8 @@ static int send_noted(int coid, int chid, int priority, int code, union sigval v
 
 /* Returns an errno for a pulse that can't be, or 0. */
 static int wrong_pulse(int priority, int code) {
-    bool is_right = (priority == SIGEV_PULSE_PRIO_INHERIT || is_priority(priority)) && code >= INT8_MIN && code <= INT8_MAX;
-    return is_right ? 0 : EINVAL;
+    bool known = priority == SIGEV_PULSE_PRIO_INHERIT || is_priority(priority);
+    return known && code >= INT8_MIN && code <= INT8_MAX ? 0 : EINVAL;
 }
 
 static int send_pulse(int coid, int priority, int code, union sigval value) {

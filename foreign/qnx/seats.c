@@ -49,8 +49,8 @@ static int reserve(int priority) {
     return 0;
 }
 
-/* Takes the seat that is reserved for the calling thread, or a free one, or one that is reserved for another thread, under
- * the lock. Returns 0 if all are taken. */
+/* Takes the seat that is reserved for the calling thread, or a free one, or one that is reserved for another thread,
+ * under the lock. Returns 0 if all are taken. */
 static int take(void) {
     bool is_mine = reserved && seats[reserved].use == RESERVED && seats[reserved].ticket == ticket;
     int priority = is_mine ? seats[reserved].priority : USUAL;

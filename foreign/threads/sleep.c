@@ -59,8 +59,8 @@ static bool look(struct place *p) {
 
 enum woken { HAS_ENDED, TIMED_OUT, WAS_INTERRUPTED };
 
-/* Waits until the call has ended or is interrupted, or until a time that is not 0. An interruption changes the word, and
- * futex compares that, so none is lost, wherever in here its handler runs. */
+/* Waits until the call has ended or is interrupted, or until a time that is not 0. An interruption changes the word,
+ * which futex compares, so none is lost, wherever in here its handler runs. */
 static enum woken sleep_until(struct place *p, uint64_t until) {
     struct timespec end = {(time_t)(until / 1000000000u), (long)(until % 1000000000u)};
     uint32_t open = OPEN;

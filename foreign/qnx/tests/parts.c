@@ -99,7 +99,8 @@ void vectors(void) {
 
 void wrong_parts(void) {
     char room[8];
-    iov_t null = {NULL, 4}, huge[2] = {{room, SIZE_MAX}, {room, 2}}, right = {room, 8}, large[2] = {{room, SSIZE_MAX}, {room, 1}};
+    iov_t null = {NULL, 4}, right = {room, 8};
+    iov_t huge[2] = {{room, SIZE_MAX}, {room, 2}}, large[2] = {{room, SSIZE_MAX}, {room, 1}};
     int own = ChannelCreate(0), coid = attach(own);
     fails(MsgSendv(coid, NULL, 1, NULL, 0), EFAULT);
     fails(MsgSendv(coid, &null, 1, NULL, 0), EFAULT);

@@ -54,7 +54,8 @@ void interrupted(void) {
         check(pthread_kill(receiver, SIGUSR1) == 0 && result_of(receiver) == -EINTR);
     }
     check(atomic_load(&handled) >= 12 && signal(SIGUSR1, SIG_DFL) == count);
-    check(ConnectDetach(coid) == 0 && ChannelDestroy(chid) == 0 && ConnectDetach(over) == 0 && ChannelDestroy(told) == 0);
+    check(ConnectDetach(coid) == 0 && ChannelDestroy(chid) == 0);
+    check(ConnectDetach(over) == 0 && ChannelDestroy(told) == 0);
 }
 
 static _Atomic int seen_signo;
@@ -199,7 +200,8 @@ void cancelled(void) {
     end_send(&client);
     set_timeout(_NTO_TIMEOUT_RECEIVE, 0);
     check(receive(chid) == -1 && errno == ETIMEDOUT); /* no message is left */
-    check(ConnectDetach(coid) == 0 && ChannelDestroy(chid) == 0 && ConnectDetach(over) == 0 && ChannelDestroy(told) == 0);
+    check(ConnectDetach(coid) == 0 && ChannelDestroy(chid) == 0);
+    check(ConnectDetach(over) == 0 && ChannelDestroy(told) == 0);
 }
 
 static void *receive_forever(void *argument) {

@@ -17,7 +17,8 @@ void priorities(void) {
     struct sched_param param = {.sched_priority = 44}, none = {.sched_priority = 0}, over = {.sched_priority = 256};
     _Atomic int go = 0;
     int policy = -1;
-    check(SchedSet(0, 0, SCHED_FIFO, &param) == 0 && SchedGet(0, 0, &param) == SCHED_FIFO && param.sched_curpriority == 44);
+    check(SchedSet(0, 0, SCHED_FIFO, &param) == 0 && SchedGet(0, 0, &param) == SCHED_FIFO);
+    check(param.sched_curpriority == 44);
     check(SchedSet(getpid(), 1, SCHED_RR, &param) == 0 && SchedGet_r(getpid(), 1, NULL) == SCHED_RR);
     check(SchedSet(0, (int)pthread_self(), SCHED_RR, &param) == 0 && getprio(0) == 44 && setprio(0, 43) == 44);
     check(result_of(start(answer_priority, NULL)) == 43); /* its creator's */
@@ -110,7 +111,8 @@ static void expect_death(int chid, int code, int value) {
 
 void deaths(void) {
     struct _pulse pulse;
-    int chid = ChannelCreate(_NTO_CHF_THREAD_DEATH | _NTO_CHF_DISCONNECT), other = ChannelCreate(_NTO_CHF_COID_DISCONNECT);
+    int chid = ChannelCreate(_NTO_CHF_THREAD_DEATH | _NTO_CHF_DISCONNECT);
+    int other = ChannelCreate(_NTO_CHF_COID_DISCONNECT);
     int gone = ChannelCreate(_NTO_CHF_COID_DISCONNECT), first = attach(gone), second = attach(gone), own = attach(chid);
     result_of(start(do_nothing, NULL));
     expect_death(chid, _PULSE_CODE_THREADDEATH, 2);
@@ -180,7 +182,8 @@ static void on_alarm(int signo) { (void)signo; }
 
 void delays(void) {
     struct timespec before, after;
-    check(clock_gettime(CLOCK_MONOTONIC, &before) == 0 && delay(20) == 0 && clock_gettime(CLOCK_MONOTONIC, &after) == 0);
+    check(clock_gettime(CLOCK_MONOTONIC, &before) == 0 && delay(20) == 0);
+    check(clock_gettime(CLOCK_MONOTONIC, &after) == 0);
     check((after.tv_sec - before.tv_sec) * 1000 + (after.tv_nsec - before.tv_nsec) / 1000000 >= 19);
     check(signal(SIGALRM, on_alarm) != SIG_ERR && alarm(1) == 0);
     unsigned left = delay(60000);

@@ -14,8 +14,8 @@
  *   ENOMEM     the allocator refused
  *   EOVERFLOW  the kernel has made all the 2^40 calls that it can number
  *   EFAULT     a buffer is null and its length is not 0
- * No call is a cancellation point, and no signal ends one, but see neutrino_interruptible. The header needs POSIX.1-2008: -std=gnu11, or
- * _POSIX_C_SOURCE.
+ * No call is a cancellation point, and no signal ends one, unless a library above asks for it (neutrino_interruptible).
+ * The header needs POSIX.1-2008: -std=gnu11, or _POSIX_C_SOURCE.
  */
 #ifndef BALSAEUCHRE_SYS_NEUTRINO_H
 #define BALSAEUCHRE_SYS_NEUTRINO_H

@@ -23,17 +23,18 @@ typedef struct _name_attach {
     int zero[2];
 } name_attach_t;
 
-/* Creates a channel that name_open finds by this name, with the flags UNBLOCK, DISCONNECT and COID_DISCONNECT. Global
- * names are local names. Returns null on an error: EINVAL (no name, or it begins with / or has ..), EEXIST, ENAMETOOLONG
- * (over 255 bytes), EBUSY (no channel can be created, or 64 names are attached), ENOTSUP (dpp is not null), ENOMEM. */
+/* Creates a channel that name_open finds by this name, with the flags _NTO_CHF_UNBLOCK, _NTO_CHF_DISCONNECT and
+ * _NTO_CHF_COID_DISCONNECT. A global name is a local one. Returns null on an error: EINVAL (no name, or it begins with /
+ * or has ..), EEXIST, ENAMETOOLONG (over 255 bytes), EBUSY (no channel can be created, or 64 names are attached),
+ * ENOTSUP (dpp is not null), ENOMEM. */
 name_attach_t *name_attach(dispatch_t *dpp, const char *path, unsigned flags);
 
 /* Takes the name back, destroys the channel and frees attach. EINVAL: attach is null, or its name is gone. */
 int name_detach(name_attach_t *attach, unsigned flags);
 
 /* Attaches to the channel of this name and sends it an _IO_CONNECT message, which the server has to answer with EOK.
- * Returns the coid, or -1: EINVAL (no name), ENOENT (nobody has attached it), the error of the server's answer, and those
- * of ConnectAttach and MsgSend. */
+ * Returns the coid, or -1: EINVAL (no name), ENOENT (nobody has attached it), the error of the server's answer, and
+ * those of ConnectAttach and MsgSend. */
 int name_open(const char *name, int flags);
 
 /* ConnectDetach. EINVAL. */

@@ -1,5 +1,5 @@
-/* The types of QNX's input and output messages, for servers that have to tell them from their own. Their layouts, and the
- * functions of resource managers, are missing. The numbers are this project's, but for their range. */
+/* The types of QNX's input and output messages, for servers that have to tell them from their own. Their layouts, and
+ * the functions of resource managers, are missing. The numbers are this project's, but for their range. */
 #pragma GCC system_header
 #ifndef BALSAEUCHRE_QNX_IOMSG_H
 #define BALSAEUCHRE_QNX_IOMSG_H

@@ -1,5 +1,5 @@
-/* The layer of threads below has some of QNX's names. Included once, this gives the layer's functions a prefix; included
- * again, it takes that back. */
+/* The layer of threads below has some of QNX's names. Included once, this gives the layer's functions a prefix;
+ * included again, it takes that back. */
 #ifndef ChannelCreate
 #define ChannelCreate layer_ChannelCreate
 #define ChannelDestroy layer_ChannelDestroy

@@ -1,10 +1,11 @@
 /* QNX Neutrino's messages, pulses, channels, connections, timeouts and events, for threads of one program on Linux.
  *
- * Programs compile as they are: cc prog.c $(pkg-config --cflags --libs balsaeuchre-qnx). The kernel below is proved; this
- * front, and the layer of threads between, are C: tested, not proved.
+ * Programs compile as they are: cc program.c $(pkg-config --cflags --libs balsaeuchre-qnx). The kernel below is proved;
+ * this front, and the layer of threads between, are C: tested, not proved.
  *
  * A program's first call opens its kernel. A thread takes one of 60 places at its first call, and gives it back when it
- * ends; a call of a 61st thread fails with EAGAIN. The main thread has tid 1 if it makes the first call.
+ * ends; a call of a 61st thread fails with EAGAIN. The main thread has tid 1, if it makes the first call or creates the
+ * first thread.
  *
  * The calls are those of QNX's Library Reference, on the pages of the same names. What differs:
  *   - The whole program is one process; a pid is 0 or getpid(), and ND_LOCAL_NODE is the only node.
@@ -14,9 +15,10 @@
  *   - Numbers of flags, pulse codes and errors are not QNX's: sources compile, object code does not link.
  *
  * A call returns -1 and sets errno on an error. Every call also fails with EAGAIN (its thread has no place), ENOMEM,
- * EOVERFLOW (2^40 calls were made), EFAULT (a buffer is null and its length is not 0), and EDEADLK (a signal handler makes
- * it, and interrupted another call of its thread; a pulse is sent all the same). The forms in _r do not touch errno: those
- * of a function that returns a number return the negative error, and the others the error or EOK.
+ * EOVERFLOW (2^40 calls were made, or parts are too long), EFAULT (a buffer is null and its length is not 0), and
+ * EDEADLK (a signal handler makes it, and has interrupted another call of its thread; but a pulse is sent, with the
+ * usual priority if it inherits one). The forms in _r leave errno as it is: those of a function that returns a number
+ * return the negative error, and the others the error or EOK.
  *
  * MsgSend and MsgReceive, with their forms, are cancellation points, but for the forms in nc. A signal handler that ran
  * while a call was blocked ends it with EINTR; a client whose message is received, on a channel with _NTO_CHF_UNBLOCK,
@@ -89,12 +91,13 @@ int ChannelDestroy_r(int chid);
 int ConnectAttach(uint32_t nd, pid_t pid, int chid, unsigned index, int flags);
 int ConnectAttach_r(uint32_t nd, pid_t pid, int chid, unsigned index, int flags);
 
-/* Detaches a connection; each MsgSend over it ends with EBADF. Does nothing for an scoid. EINVAL: no such connection. */
+/* Detaches a connection; each MsgSend over it ends with EBADF. Does nothing for an scoid. EINVAL: no such connection;
+ * EAGAIN: the disconnect pulse would be the 1,025th that waits. */
 int ConnectDetach(int coid);
 int ConnectDetach_r(int coid);
 
-/* Changes the flags of a connection that mask has to those of bits. Returns the old ones, or -1: ESRCH (another process),
- * EBADF (no such connection). */
+/* Changes the flags of a connection that mask has to those of bits. Returns the old ones, or -1: ESRCH (another
+ * process), EBADF (no such connection). */
 int ConnectFlags(pid_t pid, int coid, unsigned mask, unsigned bits);
 int ConnectFlags_r(pid_t pid, int coid, unsigned mask, unsigned bits);
 
@@ -162,9 +165,9 @@ typedef struct iovec iov_t;
 #define ERESTART 85
 #endif
 
-/* Sends a message, and waits for the answer. Returns the status of the MsgReply, or -1: the error of the MsgError; EBADF
- * (no such connection, or its channel is destroyed, or it was detached), ESRCH (the channel was destroyed meanwhile),
- * EINTR, ETIMEDOUT. The forms in v, vs and sv take parts: of both, of the message, of the answer. */
+/* Sends a message, and waits for the answer. Returns the status of the MsgReply, or -1: the error of the MsgError;
+ * EBADF (no such connection, or its channel is destroyed, or it was detached), ESRCH (the channel was destroyed
+ * meanwhile), EINTR, ETIMEDOUT. The forms in v, vs and sv take parts: of both, of the message, of the answer. */
 long MsgSend(int coid, const void *smsg, size_t sbytes, void *rmsg, size_t rbytes);
 long MsgSendv(int coid, const iov_t *siov, size_t sparts, const iov_t *riov, size_t rparts);
 long MsgSendsv(int coid, const void *smsg, size_t sbytes, const iov_t *riov, size_t rparts);
@@ -211,7 +214,7 @@ ssize_t MsgReadv_r(rcvid_t rcvid, const iov_t *riov, size_t rparts, size_t offse
 ssize_t MsgWrite_r(rcvid_t rcvid, const void *msg, size_t bytes, size_t offset);
 ssize_t MsgWritev_r(rcvid_t rcvid, const iov_t *iov, size_t parts, size_t offset);
 
-/* Fills the info of a message. Its flags have _NTO_MI_UNBLOCK_REQ if an unblock pulse was sent for it. ESRCH, EFAULT. */
+/* Fills the info of a message. Its flags have _NTO_MI_UNBLOCK_REQ if its client is to be unblocked. ESRCH, EFAULT. */
 int MsgInfo(rcvid_t rcvid, struct _msg_info *info);
 int MsgInfo_r(rcvid_t rcvid, struct _msg_info *info);
 
@@ -224,7 +227,8 @@ int MsgCurrent_r(rcvid_t rcvid);
 #define _NTO_KEYDATA_PATHSIGN 0x8000
 
 /* Calculates a key of data and of the private key, by a function that only this program has, into *key2; or verifies
- * *key2. Returns 0, or 1 if the data, or the key, was changed. -1: EINVAL (another oper), EFAULT (no key2), ESRCH. */
+ * *key2. Returns 0, or 1 if the data, or a key, was changed. -1: EINVAL (another oper), EFAULT (no key2), ESRCH. It
+ * guards against mistakes, and is no cryptography. */
 int MsgKeyData(rcvid_t rcvid, int oper, uint32_t key, uint32_t *key2, const iov_t *iov, int parts);
 int MsgKeyData_r(rcvid_t rcvid, int oper, uint32_t key, uint32_t *key2, const iov_t *iov, int parts);
 
@@ -234,9 +238,10 @@ int MsgKeyData_r(rcvid_t rcvid, int oper, uint32_t key, uint32_t *key2, const io
 #define _PULSE_CODE_COIDDEATH (-4)   /* value.sival_int: the coid */
 #define _PULSE_SUBTYPE 0
 
-/* Sends a pulse: priority 1 to 255, or SIGEV_PULSE_PRIO_INHERIT for the caller's; code -128 to 127, of which a program's own
- * are _PULSE_CODE_MINAVAIL to _PULSE_CODE_MAXAVAIL. EBADF (no such connection, or its channel is destroyed), EINVAL,
- * EAGAIN (1,024 pulses wait on the channel). Equal pulses are not merged. */
+/* Sends a pulse: priority 1 to 255, or SIGEV_PULSE_PRIO_INHERIT for the caller's; code -128 to 127, of which a program's
+ * own are _PULSE_CODE_MINAVAIL to _PULSE_CODE_MAXAVAIL. EBADF (no such connection, or its channel is destroyed),
+ * EINVAL, EAGAIN (1,024 pulses wait on the channel; or 4,096 in all that have a negative code, the code 127 or a value
+ * of more than 32 bits). Equal pulses are not merged. */
 int MsgSendPulse(int coid, int priority, int code, int value);
 int MsgSendPulsePtr(int coid, int priority, int code, void *value);
 int MsgSendPulse_r(int coid, int priority, int code, int value);
@@ -250,10 +255,10 @@ int MsgReceivePulsev_r(int chid, const iov_t *piov, size_t parts, struct _msg_in
 
 /* ---- events */
 
-/* Delivers an event that a client gave with a message, also after the answer. SIGEV_PULSE: sends its pulse; SIGEV_SIGNAL,
- * SIGEV_SIGNAL_CODE: signals the program; SIGEV_SIGNAL_THREAD, SIGEV_UNBLOCK: signals, unblocks the thread that sent the
- * message; SIGEV_NONE: does nothing. EINVAL (another event, or its numbers), EFAULT, ESRCH (rcvid is negative, or its
- * thread is gone), and the errors of MsgSendPulse. */
+/* Delivers an event that a client gave with a message, also after the answer. SIGEV_PULSE: sends its pulse;
+ * SIGEV_SIGNAL, SIGEV_SIGNAL_CODE: signals the program; SIGEV_SIGNAL_THREAD, SIGEV_UNBLOCK: signals, unblocks the thread
+ * that sent the message, which has to be held still; SIGEV_NONE: does nothing. EINVAL (another event, or its numbers),
+ * EFAULT, ESRCH (rcvid is negative, or the message is not held), and the errors of MsgSendPulse. */
 int MsgDeliverEvent(rcvid_t rcvid, const struct sigevent *event);
 int MsgDeliverEvent_r(rcvid_t rcvid, const struct sigevent *event);
 
@@ -270,18 +275,19 @@ int MsgUnregisterEvent_r(const struct sigevent *event);
 
 /* ---- timeouts and timers */
 
-/* Sets the timeout of this thread's next call, as timer_timeout of time.h does: once *ntime nanoseconds have passed and it is in one of the states of
- * flags, it ends with ETIMEDOUT; a client whose message is received on a channel with _NTO_CHF_UNBLOCK stays blocked, and
- * its server gets an unblock pulse. ntime null: it does not wait in these states. With TIMER_ABSTIME in flags *ntime is a
- * time of the clock id. flags 0 takes the timeout back. *otime gets the timeout that this one replaces, or 0. EINVAL:
- * another flag, an event but SIGEV_UNBLOCK, another clock than CLOCK_MONOTONIC and CLOCK_REALTIME. */
+/* Sets the timeout of this thread's next call, as timer_timeout of time.h does: once *ntime nanoseconds have passed and
+ * it is in one of the states of flags, it ends with ETIMEDOUT; a client whose message is received on a channel with
+ * _NTO_CHF_UNBLOCK stays blocked, and its server gets an unblock pulse. ntime null: it does not wait in these states.
+ * With TIMER_ABSTIME in flags *ntime is a time of the clock id. flags 0 takes the timeout back. *otime gets the timeout
+ * that this one replaces, or 0. EINVAL: another flag, an event but SIGEV_UNBLOCK, another clock than CLOCK_MONOTONIC and
+ * CLOCK_REALTIME. */
 int TimerTimeout(clockid_t id, int flags, const struct sigevent *notify, const uint64_t *ntime, uint64_t *otime);
 int TimerTimeout_r(clockid_t id, int flags, const struct sigevent *notify, const uint64_t *ntime, uint64_t *otime);
 
 /* ---- threads */
 
-/* Sets the priority of a thread (0: the caller), or returns its policy, which is the one last set, or SCHED_RR. A tid may
- * also be what pthread_self returned. ESRCH: another process, or no such thread has made a call; EINVAL, EFAULT. */
+/* Sets the priority of a thread (0: the caller), or gets it and returns its policy, which is the one last set, or
+ * SCHED_RR. A tid may also be what pthread_self returned. ESRCH: another process, or no such thread; EINVAL, EFAULT. */
 int SchedSet(pid_t pid, int tid, int policy, const struct sched_param *param);
 int SchedSet_r(pid_t pid, int tid, int policy, const struct sched_param *param);
 int SchedGet(pid_t pid, int tid, struct sched_param *param);

@@ -50,8 +50,9 @@
 #define SIGEV_PULSE_INIT(event, coid, priority, code, value) \
     ((void)((event)->sigev_notify = SIGEV_PULSE, (event)->sigev_coid = (coid), (event)->sigev_priority = (priority), \
             (event)->sigev_code = (code), (event)->sigev_value.sival_ptr = (void *)(intptr_t)(value)))
-#define SIGEV_PULSE_INT_INIT(event, coid, priority, code, value) SIGEV_PULSE_INIT(event, coid, priority, code, (int)(value))
-#define SIGEV_PULSE_PTR_INIT(event, coid, priority, code, value) SIGEV_PULSE_INIT(event, coid, priority, code, value)
+#define SIGEV_PULSE_INT_INIT(event, coid, priority, code, value) \
+    SIGEV_PULSE_INIT(event, coid, priority, code, (int)(value))
+#define SIGEV_PULSE_PTR_INIT SIGEV_PULSE_INIT
 #define SIGEV_SIGNAL_VALUE_INT_INIT SIGEV_SIGNAL_VALUE_INIT
 #define SIGEV_SIGNAL_VALUE_PTR_INIT SIGEV_SIGNAL_VALUE_INIT
 
