@@ -3,8 +3,8 @@
  * The hook has each call of the kernel in the order in which the kernel made it, with all that it completes. So the
  * number of a call is that of its line among the calls, and each line says how its call has to complete. In the text a
  * thread is MARK and its number; its name is put there as the text is written, and all is written again when a thread
- * gets a name. Buffers are recorded as zeros, as their bytes are in no result; so are the bytes of a message that is too
- * long for a line.
+ * gets a name. Buffers are recorded as zeros, as their bytes are in no result; so are the bytes of a message that is
+ * too long for a line.
  */
 #include <fcntl.h>
 #include <stdarg.h>

@@ -1,6 +1,8 @@
 /* Channels and connections, with each of their errors. */
 #include "tests.h"
 
+#include <grp.h>
+
 void channels(void) {
     char room[8];
     fails(ChannelCreate(0x40000000u), EINVAL);
@@ -54,7 +56,8 @@ void flags(void) {
 
 static void check_client(int scoid) {
     struct _client_info info, *made = NULL;
-    gid_t groups[64];
+    gid_t groups[64] = {0, 1, 2, 3, 4, 5, 6, 7, 8, 9, 10, 11};
+    if (geteuid() == 0) check(setgroups(12, groups) == 0);
     check(ConnectClientInfo(scoid, &info, __NGROUPS_MAX) == 0);
     check(info.pid == getpid() && info.sid == getsid(0) && info.nd == ND_LOCAL_NODE && info.cred.euid == geteuid());
     check(info.cred.ruid == getuid() && info.cred.egid == getegid() && info.cred.rgid == getgid());
@@ -101,7 +104,7 @@ void peers(void) {
 
 void limits(void) {
     static int chids[64], coids[1024];
-    for (int turn = 0; turn < 2; turn++) {
+    for (int turn = 0; turn < 3; turn++) {
         for (int at = 0; at < 64; at++) check((chids[at] = ChannelCreate(at % 2 ? _NTO_CHF_THREAD_DEATH : 0)) > 0);
         fails(ChannelCreate(0), EAGAIN);
         fails(ChannelCreate(_NTO_CHF_THREAD_DEATH), EAGAIN);
@@ -116,6 +119,8 @@ void limits(void) {
             struct _server_info info;
             check(ConnectServerInfo(0, coids[at], &info) == coids[at] && ConnectDetach(coids[at]) == 0);
         }
+        for (int at = 1; at < 64; at++) check((chids[at] = ChannelCreate(0)) > 0); /* none is left of those refused */
+        for (int at = 1; at < 64; at++) check(ChannelDestroy(chids[at]) == 0);
     }
     check(ChannelDestroy(chid) == 0);
 }

@@ -80,14 +80,14 @@ void vectors(void) {
         for (size_t at = 0; at < length; at++) sent[at] = (char)rand_r(&seed);
         memset(back, '-', sizeof back);
         long status;
-        size_t sn = cut(s, sent, length, &seed), rn = cut(r, back, length, &seed);
+        size_t sn = cut(s, sent, length, &seed), rn = cut(r, back, LONGEST, &seed);
         if (round / 8 % 2) {
             status = send_round(coid, round, s, sn, r, rn);
         } else if (round % 8 < 4) {
             SETIOV(&whole, sent, length);
             status = send_one_side(coid, round, r, rn, &whole);
         } else {
-            SETIOV(&whole, back, length);
+            SETIOV(&whole, back, LONGEST);
             status = send_one_side(coid, round, s, sn, &whole);
         }
         check(status == round);
@@ -99,12 +99,14 @@ void vectors(void) {
 
 void wrong_parts(void) {
     char room[8];
-    iov_t null = {NULL, 4}, right = {room, 8};
+    iov_t null = {NULL, 4}, right = {room, 8}, nulls[2] = {{room, 4}, {NULL, 4}};
     iov_t huge[2] = {{room, SIZE_MAX}, {room, 2}}, large[2] = {{room, SSIZE_MAX}, {room, 1}};
     int own = ChannelCreate(0), coid = attach(own);
     fails(MsgSendv(coid, NULL, 1, NULL, 0), EFAULT);
     fails(MsgSendv(coid, &null, 1, NULL, 0), EFAULT);
     fails(MsgSendv(coid, NULL, 0, &null, 1), EFAULT);
+    fails(MsgSendv(coid, nulls, 2, NULL, 0), EFAULT);
+    fails(MsgReplyv(99, 0, nulls, 2), EFAULT);
     fails(MsgSendv(coid, huge, 2, NULL, 0), EOVERFLOW);
     fails(MsgSendv(coid, NULL, 0, large, 2), ENOMEM);
     fails(MsgSendv(-1, NULL, 0, NULL, 0), EBADF);

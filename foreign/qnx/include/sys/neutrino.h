@@ -185,9 +185,9 @@ long MsgSendvnc_r(int coid, const iov_t *siov, size_t sparts, const iov_t *riov,
 long MsgSendsvnc_r(int coid, const void *smsg, size_t sbytes, const iov_t *riov, size_t rparts);
 long MsgSendvsnc_r(int coid, const iov_t *siov, size_t sparts, void *rmsg, size_t rbytes);
 
-/* Waits for a message or a pulse. Returns the rcvid of a message, or 0 for a pulse, or -1: ESRCH (no such channel, or it
- * was destroyed), EINTR, ETIMEDOUT. info, if it is not null, is filled for a message alone. Of several receivers the one
- * that waits least long is served. */
+/* Waits for a message or a pulse. Returns the rcvid of a message, or 0 for a pulse, or -1: ESRCH (no such channel, or
+ * it was destroyed), EINTR, ETIMEDOUT. info, if it is not null, is filled for a message alone. Of several receivers the
+ * one that waits least long is served. */
 rcvid_t MsgReceive(int chid, void *msg, size_t bytes, struct _msg_info *info);
 rcvid_t MsgReceivev(int chid, const iov_t *riov, size_t rparts, struct _msg_info *info);
 rcvid_t MsgReceive_r(int chid, void *msg, size_t bytes, struct _msg_info *info);
@@ -238,10 +238,10 @@ int MsgKeyData_r(rcvid_t rcvid, int oper, uint32_t key, uint32_t *key2, const io
 #define _PULSE_CODE_COIDDEATH (-4)   /* value.sival_int: the coid */
 #define _PULSE_SUBTYPE 0
 
-/* Sends a pulse: priority 1 to 255, or SIGEV_PULSE_PRIO_INHERIT for the caller's; code -128 to 127, of which a program's
- * own are _PULSE_CODE_MINAVAIL to _PULSE_CODE_MAXAVAIL. EBADF (no such connection, or its channel is destroyed),
- * EINVAL, EAGAIN (1,024 pulses wait on the channel; or 4,096 in all that have a negative code, the code 127 or a value
- * of more than 32 bits). Equal pulses are not merged. */
+/* Sends a pulse: priority 1 to 255, or SIGEV_PULSE_PRIO_INHERIT for the caller's; code -128 to 127, of which a
+ * program's own are _PULSE_CODE_MINAVAIL to _PULSE_CODE_MAXAVAIL. EBADF (no such connection, or its channel is
+ * destroyed), EINVAL, EAGAIN (1,024 pulses wait on the channel; or 4,096 in all that have a negative code, the code 127
+ * or a value of more than 32 bits). Equal pulses are not merged. */
 int MsgSendPulse(int coid, int priority, int code, int value);
 int MsgSendPulsePtr(int coid, int priority, int code, void *value);
 int MsgSendPulse_r(int coid, int priority, int code, int value);
@@ -256,9 +256,9 @@ int MsgReceivePulsev_r(int chid, const iov_t *piov, size_t parts, struct _msg_in
 /* ---- events */
 
 /* Delivers an event that a client gave with a message, also after the answer. SIGEV_PULSE: sends its pulse;
- * SIGEV_SIGNAL, SIGEV_SIGNAL_CODE: signals the program; SIGEV_SIGNAL_THREAD, SIGEV_UNBLOCK: signals, unblocks the thread
- * that sent the message, which has to be held still; SIGEV_NONE: does nothing. EINVAL (another event, or its numbers),
- * EFAULT, ESRCH (rcvid is negative, or the message is not held), and the errors of MsgSendPulse. */
+ * SIGEV_SIGNAL, SIGEV_SIGNAL_CODE: signals the program; SIGEV_SIGNAL_THREAD, SIGEV_UNBLOCK: signals, unblocks the
+ * thread that sent the message, which has to be held still; SIGEV_NONE: does nothing. EINVAL (another event, or its
+ * numbers), EFAULT, ESRCH (rcvid is negative, or the message is not held), and the errors of MsgSendPulse. */
 int MsgDeliverEvent(rcvid_t rcvid, const struct sigevent *event);
 int MsgDeliverEvent_r(rcvid_t rcvid, const struct sigevent *event);
 
@@ -279,8 +279,8 @@ int MsgUnregisterEvent_r(const struct sigevent *event);
  * it is in one of the states of flags, it ends with ETIMEDOUT; a client whose message is received on a channel with
  * _NTO_CHF_UNBLOCK stays blocked, and its server gets an unblock pulse. ntime null: it does not wait in these states.
  * With TIMER_ABSTIME in flags *ntime is a time of the clock id. flags 0 takes the timeout back. *otime gets the timeout
- * that this one replaces, or 0. EINVAL: another flag, an event but SIGEV_UNBLOCK, another clock than CLOCK_MONOTONIC and
- * CLOCK_REALTIME. */
+ * that this one replaces, or 0. EINVAL: another flag, an event but SIGEV_UNBLOCK, another clock than CLOCK_MONOTONIC
+ * and CLOCK_REALTIME. */
 int TimerTimeout(clockid_t id, int flags, const struct sigevent *notify, const uint64_t *ntime, uint64_t *otime);
 int TimerTimeout_r(clockid_t id, int flags, const struct sigevent *notify, const uint64_t *ntime, uint64_t *otime);
 
