@@ -40,6 +40,7 @@ void priorities(void) {
     check(param.sched_priority == 43 && pthread_setschedprio(pthread_self(), 10) == 0 && getprio(0) == 10);
     check(pthread_setschedparam(pthread_self(), SCHED_FIFO, &none) == EINVAL);
     pthread_t thread = start(hold_still, &go); /* which has made no call */
+    check(pthread_setschedprio(thread, 0) == EINVAL && pthread_setschedprio(thread, 256) == EINVAL);
     check(pthread_setschedprio(thread, 66) == 0 && pthread_getschedparam(thread, &policy, &param) == 0);
     check(param.sched_priority == 66);
     atomic_store(&go, 1);
