@@ -45,23 +45,3 @@ int ConnectClientInfo(int scoid, struct _client_info *info, int ngroups) {
     info->cred.ngroups = fill_groups(info->cred.grouplist, ngroups);
     return 0;
 }
-
-int ConnectClientInfoExt(int scoid, struct _client_info **info, int flags) {
-    if (!info) return fail(EFAULT);
-    struct _client_info *made = malloc(sizeof *made);
-    if (!made) return fail(ENOMEM);
-    if (ConnectClientInfo(scoid, made, flags & _NTO_CLIENTINFO_GETGROUPS ? __NGROUPS_MAX : 0)) {
-        int error = errno;
-        free(made);
-        return fail(error);
-    }
-    *info = made;
-    return 0;
-}
-
-int ConnectClientInfoExtFree(struct _client_info **info) {
-    if (!info) return fail(EFAULT);
-    free(*info);
-    *info = NULL;
-    return 0;
-}

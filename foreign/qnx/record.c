@@ -109,8 +109,12 @@ static void record_seat(int tid, pthread_t thread) {
     pthread_mutex_unlock(&recording);
 }
 
+/* The host has names of at most 15 bytes; and 0 is the calling thread. */
 int neutrino_pthread_setname_np(pthread_t thread, const char *name) {
-    int error = pthread_setname_np(thread, name), tid = error || record.fd == -1 ? 0 : tid_of(thread);
+    char cut[THREAD_NAME];
+    if (!thread) thread = pthread_self();
+    snprintf(cut, sizeof cut, "%s", name);
+    int error = pthread_setname_np(thread, cut), tid = error || record.fd == -1 ? 0 : tid_of(thread);
     if (tid && use_of(tid) == TAKEN) record_seat(tid, thread);
     return error;
 }

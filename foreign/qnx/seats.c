@@ -129,9 +129,10 @@ static int take_seat(void) {
 /* Lets the calling thread make calls. EDEADLK: it is a handler that interrupted the front. */
 static int enter(void) { return holding ? fail(EDEADLK) : seat ? 0 : take_seat(); }
 
-/* Makes work's calls as the front's thread of a process of its own. The calling thread's own seat stays taken. */
+static pthread_mutex_t systems = PTHREAD_MUTEX_INITIALIZER; /* over the front's thread of a process of its own */
+
+/* Makes work's calls as that thread. The calling thread's own seat stays taken. */
 static void as_system(void (*work)(void *argument), void *argument) {
-    static pthread_mutex_t systems = PTHREAD_MUTEX_INITIALIZER;
     int own = seat;
     sigset_t all, old;
     sigfillset(&all);

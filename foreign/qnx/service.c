@@ -101,6 +101,7 @@ static void forget_all(void) {
     memset(notes, 0, sizeof notes);
     memset(names, 0, sizeof names);
     forget_record();
+    pthread_mutex_init(&systems, NULL);
     pthread_mutex_init(&front, NULL);
     holding = 0;
 }

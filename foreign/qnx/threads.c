@@ -130,7 +130,7 @@ static int set_priority(int tid, int policy, int priority) {
     if (!is_priority(priority)) return fail(EINVAL);
     hold();
     seats[tid].priority = priority;
-    seats[tid].policy = policy;
+    if (policy != SCHED_NOCHANGE) seats[tid].policy = policy;
     release();
     return use == TAKEN ? layer_SchedSet(0, tid, policy, &param) : 0;
 }
@@ -162,12 +162,12 @@ int getprio(pid_t pid) {
 
 int setprio(pid_t pid, int priority) {
     int old = getprio(pid);
-    return old == -1 || set_priority(seat, seats[seat].policy, priority) ? -1 : old;
+    return old == -1 || set_priority(seat, SCHED_NOCHANGE, priority) ? -1 : old;
 }
 
-/* The tid of a thread of the program; the calling one takes a seat if it has none. */
+/* The tid of a thread of the program; the calling one, which 0 is, too, takes a seat if it has none. */
 static int tid_of_thread(pthread_t thread) {
-    if (pthread_equal(thread, pthread_self())) return enter() ? 0 : seat;
+    if (!thread || pthread_equal(thread, pthread_self())) return enter() ? 0 : seat;
     return tid_of(thread);
 }
 
@@ -179,9 +179,8 @@ int neutrino_pthread_setschedparam(pthread_t thread, int policy, const struct sc
 }
 
 int neutrino_pthread_setschedprio(pthread_t thread, int priority) {
-    int tid = tid_of_thread(thread);
     struct sched_param param = {.sched_priority = priority};
-    return tid ? neutrino_pthread_setschedparam(thread, seats[tid].policy, &param) : ESRCH;
+    return neutrino_pthread_setschedparam(thread, SCHED_NOCHANGE, &param);
 }
 
 int neutrino_pthread_getschedparam(pthread_t thread, int *policy, struct sched_param *param) {

@@ -116,7 +116,11 @@ int TimerTimeout(clockid_t id, int flags, const struct sigevent *notify, const u
     uint64_t left = 0;
     if (enter()) return -1;
     if (notify && SIGEV_GET_TYPE(notify) != SIGEV_UNBLOCK) return fail(EINVAL);
+    int known = _NTO_TIMEOUT_SEND | _NTO_TIMEOUT_RECEIVE | _NTO_TIMEOUT_REPLY;
+    int others = _NTO_TIMEOUT_CONDVAR | _NTO_TIMEOUT_INTR | _NTO_TIMEOUT_JOIN | _NTO_TIMEOUT_MUTEX |
+                 _NTO_TIMEOUT_NANOSLEEP | _NTO_TIMEOUT_SEM | _NTO_TIMEOUT_SIGSUSPEND | _NTO_TIMEOUT_SIGWAITINFO;
     if (ntime) left = *ntime;
+    if (flags & known) flags &= ~others;
     if (flags & TIMER_ABSTIME) {
         struct timespec now;
         if (clock_gettime(id, &now)) return -1;

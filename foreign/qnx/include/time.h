@@ -16,6 +16,18 @@
 extern "C" {
 #endif
 
+#define CLOCK_SOFTTIME CLOCK_REALTIME
+
+/* A time in nanoseconds, and back. */
+static inline void nsec2timespec(struct timespec *time, unsigned long nanoseconds) {
+    time->tv_sec = (time_t)(nanoseconds / 1000000000u);
+    time->tv_nsec = (long)(nanoseconds % 1000000000u);
+}
+
+static inline unsigned long timespec2nsec(const struct timespec *time) {
+    return (unsigned long)time->tv_sec * 1000000000u + (unsigned long)time->tv_nsec;
+}
+
 struct sigevent;
 
 /* TimerTimeout of sys/neutrino.h, with times as struct timespec. EINVAL also for a time that is none. */

@@ -55,7 +55,7 @@ void flags(void) {
 }
 
 static void check_client(int scoid) {
-    struct _client_info info, *made = NULL;
+    struct _client_info info;
     gid_t groups[64] = {0, 1, 2, 3, 4, 5, 6, 7, 8, 9, 10, 11};
     if (geteuid() == 0) check(setgroups(12, groups) == 0);
     check(ConnectClientInfo(scoid, &info, __NGROUPS_MAX) == 0);
@@ -69,11 +69,6 @@ static void check_client(int scoid) {
     fails(ConnectClientInfo(0, &info, 0), EINVAL);
     fails(ConnectClientInfo(scoid, NULL, 0), EFAULT);
     returns_r(ConnectClientInfo_r(0, &info, 0), EINVAL);
-    check(ConnectClientInfoExt(scoid, &made, _NTO_CLIENTINFO_GETGROUPS) == 0 && made->pid == getpid());
-    check(ConnectClientInfoExtFree(&made) == 0 && !made);
-    fails(ConnectClientInfoExt(0, &made, 0), EINVAL);
-    fails(ConnectClientInfoExt(scoid, NULL, 0), EFAULT);
-    fails(ConnectClientInfoExtFree(NULL), EFAULT);
 }
 
 void peers(void) {

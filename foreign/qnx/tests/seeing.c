@@ -24,12 +24,13 @@ void shown(void) {
     char line[200];
     check(pipe(ends) == 0);
     begin_send(&first, coid);
-    check(pthread_setname_np(first.thread, "a client") == 0);
+    check(pthread_setname_np(first.thread, "a client") == 0 && pthread_setname_np(0, "longer than 15 bytes") == 0);
     int rcvid = receive(chid);
     second.tid = 0;
     neutrino_show(ends[1]);
     snprintf(line, sizeof line, "%8d   2 a client          10 REPLY    chid %d, thread 1 (", getpid(), chid);
-    check(reads_to(ends[0], line) && strstr(text, "pid tid name") == text + 5 && strstr(text, " READY\n"));
+    check(reads_to(ends[0], line) && strstr(text, "pid tid name") == text + 5);
+    check(strstr(text, "   1 longer than 15    10 READY\n") && pthread_setname_np(pthread_self(), "tests") == 0);
     check(MsgReply(rcvid, 0, NULL, 0) == 0);
     end_send(&first);
     begin_send(&second, coid);

@@ -39,6 +39,10 @@ void priorities(void) {
     check(pthread_getschedparam(pthread_self(), &policy, &param) == 0 && policy == SCHED_RR);
     check(param.sched_priority == 43 && pthread_setschedprio(pthread_self(), 10) == 0 && getprio(0) == 10);
     check(pthread_setschedparam(pthread_self(), SCHED_FIFO, &none) == EINVAL);
+    param.sched_priority = 9;
+    check(SchedSet(0, 0, SCHED_FIFO, &param) == 0 && SchedSet(0, 0, SCHED_NOCHANGE, &param) == 0);
+    check(pthread_getschedparam(0, &policy, &param) == 0 && policy == SCHED_FIFO && param.sched_priority == 9);
+    check(pthread_setschedprio(0, 10) == 0 && getprio(0) == 10 && SchedGet(0, 0, NULL) == SCHED_FIFO);
     pthread_t thread = start(hold_still, &go); /* which has made no call */
     check(pthread_setschedprio(thread, 0) == EINVAL && pthread_setschedprio(thread, 256) == EINVAL);
     check(pthread_setschedprio(thread, 66) == 0 && pthread_getschedparam(thread, &policy, &param) == 0);

@@ -129,11 +129,16 @@ void timeout_errors(void) {
     fails(TimerTimeout(CLOCK_MONOTONIC, _NTO_TIMEOUT_SEND, &event, &time, NULL), EINVAL);
     SIGEV_UNBLOCK_INIT(&event);
     check(TimerTimeout(CLOCK_MONOTONIC, 0, &event, &time, NULL) == 0);
-    fails(TimerTimeout(CLOCK_MONOTONIC, 0x1000, &event, &time, NULL), EINVAL);
+    fails(TimerTimeout(CLOCK_MONOTONIC, _NTO_TIMEOUT_JOIN, &event, &time, NULL), EINVAL);
+    fails(TimerTimeout(CLOCK_MONOTONIC, _NTO_TIMEOUT_SEND | 0x40000000, &event, &time, NULL), EINVAL);
+    check(TimerTimeout(CLOCK_MONOTONIC, _NTO_TIMEOUT_SEND | _NTO_TIMEOUT_MUTEX, &event, &time, NULL) == 0);
+    check(TimerTimeout(CLOCK_MONOTONIC, 0, &event, &time, NULL) == 0);
     fails(TimerTimeout(CLOCK_PROCESS_CPUTIME_ID, _NTO_TIMEOUT_SEND, NULL, &time, NULL), EINVAL);
     fails(TimerTimeout(9999, _NTO_TIMEOUT_SEND | TIMER_ABSTIME, NULL, &time, NULL), EINVAL);
     returns_r(TimerTimeout_r(9999, _NTO_TIMEOUT_SEND, NULL, &time, NULL), EINVAL);
     fails(timer_timeout(CLOCK_MONOTONIC, _NTO_TIMEOUT_SEND, NULL, &wrong, NULL), EINVAL);
+    nsec2timespec(&wrong, 5000000001);
+    check(wrong.tv_sec == 5 && wrong.tv_nsec == 1 && timespec2nsec(&wrong) == 5000000001);
     wrong = (struct timespec){-1, 0};
     returns_r(timer_timeout_r(CLOCK_MONOTONIC, _NTO_TIMEOUT_SEND, NULL, &wrong, NULL), EINVAL);
 }

@@ -46,6 +46,22 @@
 extern "C" {
 #endif
 
+/* Flags of struct _msg_info that are never set. */
+#define _NTO_MI_ENDIAN_BIG 0x1
+#define _NTO_MI_ENDIAN_DIFF 0x2
+#define _NTO_MI_NET_CRED_DIRTY 0x200
+#define _NTO_MI_BITS_64 0
+
+/* States of calls that no timeout ends. TimerTimeout passes over them, if there is one that it knows. */
+#define _NTO_TIMEOUT_CONDVAR (1 << 10)
+#define _NTO_TIMEOUT_INTR (1 << 11)
+#define _NTO_TIMEOUT_JOIN (1 << 12)
+#define _NTO_TIMEOUT_MUTEX (1 << 13)
+#define _NTO_TIMEOUT_NANOSLEEP (1 << 14)
+#define _NTO_TIMEOUT_SEM (1 << 15)
+#define _NTO_TIMEOUT_SIGSUSPEND (1 << 16)
+#define _NTO_TIMEOUT_SIGWAITINFO (1 << 17)
+
 typedef int rcvid_t;
 typedef uint8_t _Uint8t;
 typedef uint16_t _Uint16t;
@@ -140,16 +156,9 @@ struct _client_info {
     struct _cred_info cred;
 };
 
-#define _NTO_CLIENTINFO_GETGROUPS 1
-#define _NTO_CLIENTINFO_GETTYPEID 2
-
 /* Fills the process of an scoid, with at most ngroups groups. EINVAL: no such scoid. */
 int ConnectClientInfo(int scoid, struct _client_info *info, int ngroups);
 int ConnectClientInfo_r(int scoid, struct _client_info *info, int ngroups);
-
-/* The same in memory that ConnectClientInfoExtFree frees. EINVAL, ENOMEM. */
-int ConnectClientInfoExt(int scoid, struct _client_info **info, int flags);
-int ConnectClientInfoExtFree(struct _client_info **info);
 
 /* ---- messages */
 
@@ -279,7 +288,7 @@ int MsgUnregisterEvent_r(const struct sigevent *event);
  * it is in one of the states of flags, it ends with ETIMEDOUT; a client whose message is received on a channel with
  * _NTO_CHF_UNBLOCK stays blocked, and its server gets an unblock pulse. ntime null: it does not wait in these states.
  * With TIMER_ABSTIME in flags *ntime is a time of the clock id. flags 0 takes the timeout back. *otime gets the timeout
- * that this one replaces, or 0. EINVAL: another flag, an event but SIGEV_UNBLOCK, another clock than CLOCK_MONOTONIC
+ * that this one replaces, or 0. EINVAL: no such state, an event but SIGEV_UNBLOCK, another clock than CLOCK_MONOTONIC
  * and CLOCK_REALTIME. */
 int TimerTimeout(clockid_t id, int flags, const struct sigevent *notify, const uint64_t *ntime, uint64_t *otime);
 int TimerTimeout_r(clockid_t id, int flags, const struct sigevent *notify, const uint64_t *ntime, uint64_t *otime);
