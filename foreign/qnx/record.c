@@ -115,7 +115,7 @@ int neutrino_pthread_setname_np(pthread_t thread, const char *name) {
     if (!thread) thread = pthread_self();
     snprintf(cut, sizeof cut, "%s", name);
     int error = pthread_setname_np(thread, cut), tid = error || record.fd == -1 ? 0 : tid_of(thread);
-    if (tid && use_of(tid) == TAKEN) record_seat(tid, thread);
+    if (seat_of(tid).use == TAKEN) record_seat(tid, thread);
     return error;
 }
 

@@ -98,11 +98,29 @@ static void give_back(int tid) {
     release();
 }
 
-/* Takes a seat for the calling thread. Its handlers wait meanwhile. */
-static int take_seat(void) {
-    sigset_t all, old;
+/* What would end or interrupt the calling thread waits. */
+struct quiet {
+    sigset_t signals;
+    int cancel_state;
+};
+
+static void be_quiet(struct quiet *quiet) {
+    sigset_t all;
     sigfillset(&all);
-    pthread_sigmask(SIG_SETMASK, &all, &old);
+    pthread_sigmask(SIG_SETMASK, &all, &quiet->signals);
+    pthread_setcancelstate(PTHREAD_CANCEL_DISABLE, &quiet->cancel_state);
+}
+
+static void end_quiet(const struct quiet *quiet) {
+    int ignored;
+    pthread_setcancelstate(quiet->cancel_state, &ignored);
+    pthread_sigmask(SIG_SETMASK, &quiet->signals, NULL);
+}
+
+/* Takes a seat for the calling thread. */
+static int take_seat(void) {
+    struct quiet quiet;
+    be_quiet(&quiet);
     int tid = 0, error = open_program() ? 0 : errno;
     if (!error) {
         hold();
@@ -122,7 +140,7 @@ static int take_seat(void) {
         seat = 0;
         give_back(tid);
     }
-    pthread_sigmask(SIG_SETMASK, &old, NULL);
+    end_quiet(&quiet);
     return error ? fail(error) : 0;
 }
 
@@ -134,9 +152,8 @@ static pthread_mutex_t systems = PTHREAD_MUTEX_INITIALIZER; /* over the front's 
 /* Makes work's calls as that thread. The calling thread's own seat stays taken. */
 static void as_system(void (*work)(void *argument), void *argument) {
     int own = seat;
-    sigset_t all, old;
-    sigfillset(&all);
-    pthread_sigmask(SIG_SETMASK, &all, &old);
+    struct quiet quiet;
+    be_quiet(&quiet);
     pthread_mutex_lock(&systems);
     if (own) neutrino_leave();
     if (!neutrino_join(kernel, SYSTEM)) {
@@ -146,7 +163,7 @@ static void as_system(void (*work)(void *argument), void *argument) {
     seat = 0;
     if (own) join(own);
     pthread_mutex_unlock(&systems);
-    pthread_sigmask(SIG_SETMASK, &old, NULL);
+    end_quiet(&quiet);
 }
 
 /* Returns the tid of a thread that has a seat, or 0. */
@@ -160,11 +177,12 @@ static int tid_of(pthread_t thread) {
     return found;
 }
 
-/* Whether a seat is taken by a thread that has joined, or reserved for one. */
-static enum use use_of(int tid) {
-    if (tid < 1 || tid > SEATS) return FREE;
+/* A seat as it stands, which is free if there is no such. */
+static struct seat seat_of(int tid) {
+    struct seat none = {.use = FREE};
+    if (tid < 1 || tid > SEATS) return none;
     hold();
-    enum use use = seats[tid].use;
+    struct seat s = seats[tid];
     release();
-    return use;
+    return s;
 }

@@ -62,17 +62,13 @@ static bool open_service(void) {
     return true;
 }
 
-/* Starts the thread, with all signals blocked. Without it there are no timers, and SIGQUIT is as ever. */
+/* Starts the thread, for a caller whose signals are blocked. Without it there are no timers, and SIGQUIT is as ever. */
 static void start_service(void) {
     pthread_t thread;
-    sigset_t all, old;
     struct sigaction quit;
     const char *circles = getenv("BALSAEUCHRE_CIRCLES");
     if (!open_service()) return;
-    sigfillset(&all);
-    pthread_sigmask(SIG_SETMASK, &all, &old);
     int error = pthread_create(&thread, NULL, serve, circles && *circles && strcmp(circles, "0") ? orders : NULL);
-    pthread_sigmask(SIG_SETMASK, &old, NULL);
     if (error) return;
     pthread_detach(thread);
     if (sigaction(SIGQUIT, NULL, &quit) || quit.sa_handler != SIG_DFL) return;

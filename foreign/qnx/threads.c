@@ -36,7 +36,7 @@ static void *run_thread(void *argument) {
 }
 
 static int own_priority(void) {
-    int priority = seat ? neutrino_priority(0) : reserved ? seats[reserved].priority : USUAL;
+    int priority = seat ? neutrino_priority(0) : reserved ? seat_of(reserved).priority : USUAL;
     return is_priority(priority) ? priority : USUAL;
 }
 
@@ -125,7 +125,7 @@ static int named_tid(int tid) {
 
 static int set_priority(int tid, int policy, int priority) {
     struct sched_param param = {.sched_priority = priority};
-    enum use use = use_of(tid);
+    enum use use = seat_of(tid).use;
     if (use == FREE) return fail(ESRCH);
     if (!is_priority(priority)) return fail(EINVAL);
     hold();
@@ -145,12 +145,12 @@ int SchedSet(pid_t pid, int tid, int policy, const struct sched_param *param) {
 int SchedGet(pid_t pid, int tid, struct sched_param *param) {
     if (enter()) return -1;
     tid = pid && pid != program ? 0 : named_tid(tid);
-    enum use use = use_of(tid);
-    if (use == FREE) return fail(ESRCH);
-    int priority = use == TAKEN ? neutrino_priority(tid) : seats[tid].priority;
+    struct seat s = seat_of(tid);
+    if (s.use == FREE) return fail(ESRCH);
+    int priority = s.use == TAKEN ? neutrino_priority(tid) : s.priority;
     if (priority == -1) return -1;
     if (param) param->sched_priority = priority;
-    return seats[tid].policy;
+    return s.policy;
 }
 
 int SchedYield(void) { return sched_yield(); }
