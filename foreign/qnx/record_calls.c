@@ -42,7 +42,10 @@ static void add_call(struct line *line, const struct made *made) {
     case BALSAEUCHRE_PULSE: add(line, " %d %d %d", r->priority, r->pulse_code, r->value); break;
     case BALSAEUCHRE_PRIORITY_SET:
     case BALSAEUCHRE_STATE:
-    case BALSAEUCHRE_UNBLOCK: add(line, " "), add_thread(line, r->target); break;
+    case BALSAEUCHRE_UNBLOCK:
+        add(line, " ");
+        add_thread(line, r->target);
+        break;
     default: break;
     }
     if (r->kind == BALSAEUCHRE_PRIORITY_SET) add(line, " %d", r->priority);

@@ -2,8 +2,9 @@
  *
  * A seat is a number of the kernel's threads. pthread_create reserves one, so that threads are numbered as they are
  * created; a thread joins the kernel with it at its first call. A thread for which none was free takes one then, and if
- * need be one that is only reserved.
+ * need be one that is only reserved. If all are taken, it waits for a while.
  */
+enum { PATIENCE = 2 }; /* seconds */
 enum use { FREE, RESERVED, TAKEN };
 
 struct seat {
@@ -17,6 +18,7 @@ struct seat {
 };
 
 static struct seat seats[SEATS + 1]; /* by tid; the first is not used */
+static pthread_cond_t given_back = PTHREAD_COND_INITIALIZER;
 static unsigned tickets;
 static neutrino *kernel;
 static pid_t program;
@@ -63,6 +65,18 @@ static int take(void) {
     return tid;
 }
 
+/* The same, and waits if all are taken. */
+static int take_in_time(void) {
+    struct timespec until;
+    clock_gettime(CLOCK_REALTIME, &until);
+    until.tv_sec += PATIENCE;
+    hold();
+    int tid = take();
+    while (!tid && !pthread_cond_timedwait(&given_back, &front, &until)) tid = take();
+    release();
+    return tid;
+}
+
 /* Opens the program's kernel, if it isn't yet. Returns null and sets errno on an error. */
 static neutrino *open_program(void) {
     struct neutrino_thread threads[SYSTEM];
@@ -95,6 +109,7 @@ static void give_back(int tid) {
     free(seats[tid].parts[0]);
     free(seats[tid].parts[1]);
     seats[tid] = (struct seat){.use = FREE};
+    pthread_cond_signal(&given_back);
     release();
 }
 
@@ -122,12 +137,7 @@ static int take_seat(void) {
     struct quiet quiet;
     be_quiet(&quiet);
     int tid = 0, error = open_program() ? 0 : errno;
-    if (!error) {
-        hold();
-        tid = take();
-        release();
-        if (!tid) error = EAGAIN;
-    }
+    if (!error && !(tid = take_in_time())) error = EAGAIN;
     if (!error && join(tid)) error = errno;
     if (!error && pthread_setspecific(ending, &seats[tid])) error = ENOMEM;
     if (!error) {

@@ -99,5 +99,6 @@ static void forget_all(void) {
     forget_record();
     pthread_mutex_init(&systems, NULL);
     pthread_mutex_init(&front, NULL);
+    pthread_cond_init(&given_back, NULL);
     holding = 0;
 }

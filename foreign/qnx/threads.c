@@ -82,7 +82,10 @@ int neutrino_pthread_create(pthread_t *thread, const pthread_attr_t *attributes,
     pthread_attr_t hosts;
     pthread_t created;
     pthread_once(&once, prepare);
-    if (!start || refused) return free(start), EAGAIN;
+    if (!start || refused) {
+        free(start);
+        return EAGAIN;
+    }
     *start = (struct start){.function = function, .argument = argument};
     reserve_both(start, priority_of_attributes(attributes));
     copy = *start;

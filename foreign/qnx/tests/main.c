@@ -13,7 +13,7 @@ static const struct { const char *name; void (*run)(void); } tests[] = {
     TEST(host_timers),  TEST(timer_errors),    TEST(timeouts),    TEST(timeout_errors), TEST(priorities),
     TEST(attributes),   TEST(seats),           TEST(reserved),    TEST(deaths),         TEST(forks),
     TEST(delays),       TEST(interrupted),     TEST(handlers),    TEST(in_handlers),    TEST(many_signals),
-    TEST(cancelled),    TEST(many_cancelled),  TEST(lives),       TEST(echo_1_1),       TEST(echo_40_8),
+    TEST(cancelled),    TEST(many_cancelled),  TEST(lives), TEST(crowds),       TEST(echo_1_1),       TEST(echo_40_8),
     TEST(names),        TEST(shown),           TEST(circles),     TEST(quits),
 };
 

@@ -4,8 +4,8 @@
  * this front, and the layer of threads between, are C: tested, not proved.
  *
  * A program's first call opens its kernel. A thread takes one of 60 places at its first call, and gives it back when it
- * ends; a call of a 61st thread fails with EAGAIN. The main thread has tid 1, if it makes the first call or creates the
- * first thread.
+ * ends; a call of a 61st thread waits two seconds for one, and then fails with EAGAIN. The main thread has tid 1, if it
+ * makes the first call or creates the first thread.
  *
  * The calls are those of QNX's Library Reference, on the pages of the same names. What differs:
  *   - The whole program is one process; a pid is 0 or getpid(), and ND_LOCAL_NODE is the only node.
