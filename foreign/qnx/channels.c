@@ -44,9 +44,7 @@ static void tell(unsigned flag, int code, int value) {
     if (death.count) as_system(send_deaths, &death);
 }
 
-static void tell_death(int tid) {
-    if (kernel) tell(_NTO_CHF_THREAD_DEATH, _PULSE_CODE_THREADDEATH, tid);
-}
+static void tell_death(int tid) { tell(_NTO_CHF_THREAD_DEATH, _PULSE_CODE_THREADDEATH, tid); }
 
 /* Tells of each connection to a channel that was destroyed. */
 static void tell_disconnects(int chid) {

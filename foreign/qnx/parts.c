@@ -58,12 +58,9 @@ static void scatter(const struct whole *whole, size_t length) {
 static long send_parts(int coid, struct whole sent, struct whole room) {
     long status = -1;
     if (enter_point()) return -1;
-    if (is_scoid(coid)) return fail(EBADF);
     holding++;
     if (!gather(&sent, SENT, true) && !gather(&room, ROOM, true)) {
-        do {
-            status = layer_MsgSend(plain(coid), sent.bytes, sent.length, room.bytes, room.length);
-        } while (status == -1 && errno == ERESTART);
+        status = send_message(coid, sent.bytes, sent.length, room.bytes, room.length);
         scatter(&room, room.length);
     }
     holding--;

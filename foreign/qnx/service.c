@@ -4,8 +4,8 @@ enum { ORDERS = TIMERS, EVERY = 20 }; /* EVERY: milliseconds between looks for c
 
 /* What the front's thread is told through a pipe. */
 struct order {
-    bool shows; /* or else it sends a pulse */
-    int coid, priority, code;
+    int coid; /* over which it sends a pulse; 0: it shows the threads */
+    int priority, code;
     union sigval value;
 };
 
@@ -17,20 +17,20 @@ static int give_order(const struct order *order) {
 
 /* For signal handlers. With SIGEV_PULSE_PRIO_INHERIT it has the priority of the front's thread. */
 static int defer_pulse(int coid, int priority, int code, union sigval value) {
-    return give_order(&(struct order){false, coid, priority, code, value});
+    return give_order(&(struct order){coid, priority, code, value});
 }
 
 static void on_quit(int signo) {
     int before = errno;
     (void)signo;
-    give_order(&(struct order){.shows = true});
+    give_order(&(struct order){.coid = 0});
     errno = before;
 }
 
 static void obey(void) {
     struct order order;
     if (read(orders[0], &order, sizeof order) != sizeof order) return;
-    if (order.shows) neutrino_show(STDERR_FILENO);
+    if (!order.coid) neutrino_show(STDERR_FILENO);
     else send_pulse(order.coid, order.priority, order.code, order.value);
 }
 

@@ -59,6 +59,7 @@ static void reserve_both(struct start *start, int priority) {
         reserved = reserve(USUAL);
         ticket = seats[reserved].ticket;
         seats[reserved].thread = pthread_self();
+        pthread_setspecific(ending, seats);
     }
     start->reserved = reserve(priority);
     start->ticket = seats[start->reserved].ticket;
