@@ -36,15 +36,15 @@ static void obey(void) {
 
 static void *serve(void *tells_circles) {
     struct epoll_event event;
-    neutrino_join(kernel, TICKER);
+    if (!neutrino_join(kernel, TICKER)) seat = TICKER;
     for (;;) {
         int count = epoll_wait(watched, &event, 1, tells_circles ? EVERY : -1);
+        if (count == -1 && errno != EINTR) return NULL; /* the program has closed all files */
         if (tells_circles) tell_circles();
         if (count != 1) continue;
         if (event.data.u32 == ORDERS) obey();
         else expire(&timers[event.data.u32]);
     }
-    return NULL;
 }
 
 /* Opens the pipe and the epoll. Returns whether it could. */
