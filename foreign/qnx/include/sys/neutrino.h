@@ -29,8 +29,11 @@
 #define BALSAEUCHRE_QNX_NEUTRINO_H
 
 #include <errno.h>
+#include <inttypes.h>
+#include <limits.h>
 #include <sched.h>
 #include <signal.h>
+#include <stddef.h>
 #include <stdint.h>
 #include <sys/siginfo.h>
 #include <sys/types.h>
