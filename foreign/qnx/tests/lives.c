@@ -65,7 +65,7 @@ void lives(void) {
 
 /* More threads at once than there are places: the others wait. */
 void crowds(void) {
-    enum { AT_ONCE = 200 };
+    enum { AT_ONCE = 100 };
     pthread_t servers[2], threads[AT_ONCE];
     open_servers(servers, 2);
     for (int at = 0; at < AT_ONCE; at++) threads[at] = start(ask, (void *)(intptr_t)at);
