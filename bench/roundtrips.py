@@ -11,6 +11,7 @@ with 4, and the client collects and checks them. The programs:
   calls       the same under QNX's names, by a `Caller` for each thread, with the reply and the next receive in one
   c           threads of a C program over the static library (foreign/threads), which keeps no past either
   c 64 KiB    the same with a receive buffer of 64 KiB
+  qnx         a QNX program as it is, over QNX's front for the same threads (foreign/qnx)
   rendezvous  a channel of Rust's `std` without room, with a reply channel for each client
   condvar     a mutex over a queue, with condition variables
   crossbeam   a channel of crossbeam without room, with a reply channel for each client
@@ -47,6 +48,7 @@ KERNEL = os.path.join(ROOT, "bench/out/qroundtrips")
 PEERS = os.path.join(ROOT, "bench/peers/out/peers")
 RUST = os.path.join(ROOT, "foreign/rust/target/release/examples/bench")
 C = os.path.join(ROOT, "bench/out/c_roundtrips")
+QNX = os.path.join(ROOT, "bench/out/qnx_roundtrips")
 LIBRARY = os.path.join(ROOT, "crates/balsaeuchre_c/out/libbalsaeuchre_c.a")
 
 PROGRAMS = {
@@ -55,6 +57,7 @@ PROGRAMS = {
     "calls": [KERNEL],
     "c": [C],
     "c 64 KiB": [C],
+    "qnx": [QNX],
     "rendezvous": [PEERS, "rendezvous"],
     "condvar": [PEERS, "condvar"],
     "crossbeam": [PEERS, "crossbeam"],
@@ -69,6 +72,7 @@ BUILT_BY = {
     PEERS: "bench/peers/build",
     RUST: "cargo build --offline --release --manifest-path foreign/rust/Cargo.toml --example bench",
     C: "(cd crates/balsaeuchre_c && rt lib), and then by this script",
+    QNX: "the same",
 }
 
 # Clients and servers. Each run makes as many round trips, which takes about a second at most, and stays far below the
@@ -101,12 +105,13 @@ PAIR_AIMS = (
     ("c", "condvar", None, 3),
     ("rust", "condvar", None, 3),
     ("c 64 KiB", "c", 1.3, None),
+    ("qnx", "c", 1.1, None),
     ("rust 64 KiB", "rust", 1.3, None),
 )
 
 
 def build_c():
-    """Builds the C program, where the library is."""
+    """Builds the C programs, where the library is."""
     if not os.path.exists(LIBRARY):
         return
     doc = subprocess.run(["rt", "doc"], capture_output=True, text=True, check=True).stdout.strip()
@@ -115,7 +120,15 @@ def build_c():
     sources = [os.path.join(foreign, "threads", name) for name in ("bench.c", "neutrino.c")]
     folders = [f"-I{foreign}/threads", f"-I{foreign}/include"]
     os.makedirs(os.path.dirname(C), exist_ok=True)
-    subprocess.run(["cc", "-std=gnu11", "-O2", "-pthread", *folders, "-o", C, *sources, LIBRARY, heap], check=True)
+    words = ["cc", "-std=gnu11", "-O2", "-pthread"]
+    subprocess.run([*words, *folders, "-o", C, *sources, LIBRARY, heap], check=True)
+    front, layer = (os.path.join(os.path.dirname(C), name) for name in ("qnx_front.o", "qnx_layer.o"))
+    names = ["-include", f"{foreign}/qnx/include/sys/layer_names.h"]
+    folders = [f"-I{foreign}/qnx/include", *folders]
+    subprocess.run([*words, *folders, "-c", "-o", front, f"{foreign}/qnx/qnx.c"], check=True)
+    subprocess.run([*words, *names, *folders[1:], "-c", "-o", layer, f"{foreign}/threads/neutrino.c"], check=True)
+    program = f"{foreign}/qnx/bench.c"
+    subprocess.run([*words, *folders, "-o", QNX, program, front, layer, LIBRARY, heap], check=True)
 
 
 def built(busy):

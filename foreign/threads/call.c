@@ -11,7 +11,8 @@ static void start_timeout(struct place *p, struct call *c) {
 
 /* Returns the sender's priority, for a pulse. If the kernel refuses to tell it, it refuses the pulse too. */
 static uint8_t priority_of(neutrino *k, const struct place *p) {
-    uint32_t error = balsaeuchre_thread_state(&k->library, p->tid, p->tid, &k->event);
+    struct call c = {.request = {.kind = BALSAEUCHRE_STATE, .thread = p->tid, .target = p->tid}};
+    uint32_t error = make_in_library(k, &c, 0, &k->event);
     return error || k->event.rows[0].mark != BALSAEUCHRE_THREAD_STATE ? 1 : k->event.rows[0].priority;
 }
 
@@ -19,6 +20,13 @@ static uint8_t priority_of(neutrino *k, const struct place *p) {
 static size_t visible_length(const struct call *c) {
     if (c->request.kind == BALSAEUCHRE_RECEIVE_PULSE) return 0;
     return c->request.kind == BALSAEUCHRE_RECEIVE && c->room_len > FRONT ? FRONT : c->room_len;
+}
+
+/* After an Unblock: a thread whose message is still held waits for an answer to its server's pulse. */
+static void note_unblock(neutrino *k, int tid) {
+    if (k->place_of[tid] == PLACES) return;
+    struct place *p = &k->places[k->place_of[tid]];
+    if (p->call && p->rcvid) p->asked = true;
 }
 
 /* Makes the call under the lock, and delivers the endings. Returns 0, and sets *ended to the threads whose calls
@@ -33,10 +41,12 @@ static int make_under_lock(neutrino *k, struct place *p, struct call *c, uint64_
     c->request.thread = p->tid;
     p->state = c->request.kind == BALSAEUCHRE_SEND ? STATE_SEND : STATE_RECEIVE;
     p->call = c;
-    open_word(p);
-    uint32_t error = balsaeuchre_make(&k->library, c->request, c->sent, c->sent_len, c->room, room_len, &k->event);
+    open_word(p, c->cancels && p->cancelled);
+    uint32_t error = make_in_library(k, c, room_len, &k->event);
+    if (error) p->call = NULL;
     if (error) return host_error(error);
     *ended = deliver_all(k);
+    if (c->request.kind == BALSAEUCHRE_UNBLOCK && !p->error) note_unblock(k, c->request.target);
     return 0;
 }
 
@@ -51,7 +61,7 @@ static void make(neutrino *k, struct place *p, struct call *c) {
     wake(k, asleep);
     if (error) p->error = error;
     if (error || ended & own) return;
-    while (!sleep_until(p, c->until)) c->until = time_out(k, p);
+    for (enum woken woken; (woken = sleep_until(p, c->until)) != HAS_ENDED;) c->until = end_early(k, p, woken);
 }
 
 static long call_long(struct call *c) {
@@ -61,6 +71,7 @@ static long call_long(struct call *c) {
     if ((!c->sent && c->sent_len) || (!c->room && c->room_len)) return fail(EFAULT);
     pthread_setcancelstate(PTHREAD_CANCEL_DISABLE, &cancel);
     inside++;
+    c->cancels = p->interruptible && cancel == PTHREAD_CANCEL_ENABLE;
     make(kernel, p, c);
     int error = p->error;
     long result = p->result;

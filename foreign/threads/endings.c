@@ -1,6 +1,13 @@
 /* Delivers endings from the kernel's rows to the threads that wait for them. Tested, not proved.
  * All of this is under the lock. A thread with an open call is in that call, so its struct call and its buffers live.
  */
+/* Makes a call in the library, with this much of its buffer. */
+static uint32_t make_in_library(neutrino *k, const struct call *c, size_t room_len, balsaeuchre_event *event) {
+    uint32_t error = balsaeuchre_make(&k->library, c->request, c->sent, c->sent_len, c->room, room_len, event);
+    if (!error && k->hooks.call) k->hooks.call(&c->request, c->sent, c->sent_len, c->room, room_len, event);
+    return error;
+}
+
 /* Makes an event's room for bytes at least this long. Returns false if there is no memory. */
 static bool grow(balsaeuchre_event *event, size_t length) {
     if (length <= event->bytes_len) return true;
@@ -20,8 +27,6 @@ static bool make_room(neutrino *k, struct place *p, size_t length) {
     return true;
 }
 
-static int32_t length_of_info(size_t length) { return length < INT32_MAX ? (int32_t)length : INT32_MAX; }
-
 /* Copies the facts of a held message from the row of an Info or a message. */
 static void fill_info(const struct place *sender, const balsaeuchre_ending *row, struct _msg_info *info) {
     memset(info, 0, sizeof *info);
@@ -31,10 +36,11 @@ static void fill_info(const struct place *sender, const balsaeuchre_ending *row,
     info->chid = sender->chid;
     info->scoid = SCOID | row->process;
     info->coid = sender->coid;
-    info->msglen = length_of_info(sender->msglen);
-    info->srcmsglen = length_of_info(row->srcmsglen);
-    info->dstmsglen = length_of_info(row->dstmsglen);
+    info->msglen = (ssize_t)sender->msglen;
+    info->srcmsglen = (ssize_t)row->srcmsglen;
+    info->dstmsglen = (ssize_t)row->dstmsglen;
     info->priority = row->priority;
+    info->flags = sender->asked ? _NTO_MI_UNBLOCK_REQ : 0;
 }
 
 /* Reads the rest of a message, behind the front of the buffer, by a call of the receiver. If there is no memory, msglen
@@ -42,7 +48,9 @@ static void fill_info(const struct place *sender, const balsaeuchre_ending *row,
 static void read_on(neutrino *k, struct place *p, struct place *sender, const balsaeuchre_ending *row) {
     size_t length = (row->srcmsglen < p->call->room_len ? row->srcmsglen : p->call->room_len) - FRONT;
     uint8_t *behind = (uint8_t *)p->call->room + FRONT;
-    if (balsaeuchre_read(&k->library, p->tid, row->rcvid, FRONT, behind, length, &k->side)) return;
+    struct call c = {.request = {.kind = BALSAEUCHRE_READ, .thread = p->tid, .id = row->rcvid, .offset = FRONT},
+                     .room = behind};
+    if (make_in_library(k, &c, length, &k->side)) return;
     const balsaeuchre_ending *read = &k->side.rows[0];
     if (read->mark != BALSAEUCHRE_COUNT) return;
     memcpy(behind, k->side.bytes + read->start, read->count);
@@ -55,6 +63,8 @@ static void receive_message(neutrino *k, struct place *p, const balsaeuchre_endi
     sender->chid = p->call->number;
     sender->msglen = row->count;
     sender->state = STATE_REPLY;
+    sender->asked = false;
+    sender->server = k->channels[place_in(&k->tables[CHANNELS], p->call->number)].receiver = p->tid;
     if (row->count == FRONT && p->call->room_len > FRONT && row->srcmsglen > FRONT) read_on(k, p, sender, row);
     if (p->call->info) fill_info(sender, row, p->call->info);
     p->result = sender->rcvid;
@@ -72,6 +82,8 @@ static void receive_pulse(neutrino *k, struct place *p, const balsaeuchre_ending
     } else if (row->what == BALSAEUCHRE_WHAT_DISCONNECT) {
         pulse.code = _PULSE_CODE_DISCONNECT;
         pulse.scoid = SCOID | row->process;
+    } else if (k->hooks.pulse) {
+        k->hooks.pulse(&pulse);
     }
     size_t length = p->call->room_len < sizeof pulse ? p->call->room_len : sizeof pulse;
     if (length) memcpy(p->call->room, &pulse, length);
@@ -86,8 +98,14 @@ static void answer(neutrino *k, struct place *p, const balsaeuchre_ending *row) 
     case BALSAEUCHRE_ERRORED: p->error = row->value; break;
     case BALSAEUCHRE_REPLIED: p->result = (long)row->status; break;
     case BALSAEUCHRE_COUNT: p->result = (long)row->count; break;
-    case BALSAEUCHRE_CHANNEL: p->result = new_name(k, CHANNELS, row->id, p->pid); break;
-    case BALSAEUCHRE_CONNECTION: p->result = new_name(k, CONNECTIONS, row->id, p->pid); break;
+    case BALSAEUCHRE_CHANNEL:
+        p->result = new_name(k, CHANNELS, row->id, p->pid);
+        k->channels[place_in(&k->tables[CHANNELS], (int)p->result)].receiver = p->tid;
+        break;
+    case BALSAEUCHRE_CONNECTION:
+        p->result = new_name(k, CONNECTIONS, row->id, p->pid);
+        k->connections[place_in(&k->tables[CONNECTIONS], (int)p->result)].peer = p->call->number;
+        break;
     case BALSAEUCHRE_INFORMED: fill_info(&k->places[k->place_of[row->sender]], row, p->call->info); break;
     case BALSAEUCHRE_THREAD_STATE: p->result = p->call->own_priority ? row->priority : row->state; break;
     case BALSAEUCHRE_DONE:

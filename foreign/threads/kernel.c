@@ -84,6 +84,7 @@ int neutrino_join(neutrino *k, int tid) {
     struct place *p = &k->places[k->place_of[tid]];
     lock(k);
     bool is_taken = p->joined;
+    if (!is_taken) p->cancelled = false;
     p->joined = true;
     k->joined += !is_taken;
     unlock(k);
@@ -91,6 +92,7 @@ int neutrino_join(neutrino *k, int tid) {
     kernel = k;
     self = p;
     self->states = 0;
+    self->interruptible = false;
     if (!pthread_setspecific(ending, p)) return 0;
     neutrino_leave();
     return fail(ENOMEM);
@@ -109,9 +111,10 @@ int neutrino_leave(void) {
 
 int neutrino_shutdown(neutrino *k) {
     if (refuse(k)) return -1;
+    struct call c = {.request = {.kind = BALSAEUCHRE_SHUTDOWN, .thread = k->clock_of[k->places[0].pid]}};
     uint64_t asleep = 0;
     lock(k);
-    uint32_t error = balsaeuchre_shutdown(&k->library, k->clock_of[k->places[0].pid], &k->event);
+    uint32_t error = make_in_library(k, &c, 0, &k->event);
     if (!error) asleep = tell(k, deliver_all(k));
     unlock(k);
     wake(k, asleep);

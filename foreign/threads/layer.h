@@ -24,13 +24,15 @@
 enum { PLACES = BALSAEUCHRE_ROWS, CHANNEL_BITS = 6, CONNECTION_BITS = 10, MESSAGE_BITS = 6 };
 enum { SCOID = 0x40000000 };  /* a server connection id is this and the client's process */
 enum { FRONT = 1024 };        /* bytes of a receive buffer that the kernel gets; a Read brings the rest */
-enum { OPEN, ASLEEP, ENDED }; /* a word: the call is open; its thread also sleeps; the call has ended */
+enum { OPEN, ASLEEP, INTERRUPTED, ENDED }; /* a word: the call is open; its thread also sleeps, or has to wake and end
+                                              the call; the call has ended */
 
 /* An id of the kernel, which has 40 bits, and its int: a place, and how often that was taken. */
 struct name {
     uint64_t id; /* 0: the place is free */
     uint32_t turn;
-    uint8_t owner;
+    uint8_t owner, receiver; /* receiver: of a channel, the thread that received last, or else its creator */
+    int peer;                /* of a connection: its channel */
 };
 
 struct names {
@@ -58,6 +60,8 @@ struct call {
     void *room;
     size_t room_len;
     struct _msg_info *info;
+    bool cancels;     /* a cancellation ends it */
+    bool interrupted; /* it has to be unblocked */
 };
 
 /* A thread. Everything except the word is read and written under the lock, or by the thread itself while it has no
@@ -67,8 +71,9 @@ struct place {
     int error; /* of its call: an errno, or 0 if there is a result */
     long result;
     struct call *call; /* while that is open */
-    uint8_t tid, pid;
-    bool joined;
+    uint8_t tid, pid, server; /* server: the thread that received its message */
+    bool joined, interruptible, cancelled;
+    bool asked; /* the server was told to unblock it */
     int state;
     int looks;             /* at its word before it sleeps, and one more; -1: none */
     int coid, chid, rcvid; /* of the message that it sent; rcvid is 0 until that is received */
@@ -81,6 +86,7 @@ struct place {
 struct neutrino {
     pthread_mutex_t lock;
     balsaeuchre library;
+    struct neutrino_hooks hooks;
     pid_t process; /* the host's process that opened it */
     size_t joined;
     uint8_t place_of[256]; /* PLACES: no thread has this number */

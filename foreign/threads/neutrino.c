@@ -11,3 +11,4 @@
 #include "channels.c"
 #include "threads.c"
 #include "kernel.c"
+#include "above.c"

@@ -36,14 +36,18 @@ static uint64_t now(void) {
     return (uint64_t)t.tv_sec * 1000000000u + (uint64_t)t.tv_nsec;
 }
 
-static void open_word(struct place *p) { atomic_store_explicit(&p->word, OPEN, memory_order_relaxed); }
+static void open_word(struct place *p, bool interrupted) {
+    atomic_store_explicit(&p->word, interrupted ? INTERRUPTED : OPEN, memory_order_relaxed);
+}
 
 static bool is_ended(struct place *p) { return atomic_load_explicit(&p->word, memory_order_acquire) == ENDED; }
 
 /* Looks at the word for a while. Returns whether the call has ended. */
 static bool look(struct place *p) {
     for (int looks = 0; looks <= p->looks; looks++) {
-        if (is_ended(p)) {
+        uint32_t word = atomic_load_explicit(&p->word, memory_order_acquire);
+        if (word == INTERRUPTED) return false;
+        if (word == ENDED) {
             p->looks = p->looks < WORD_LOOKS / 2 ? 2 * p->looks + 1 : WORD_LOOKS;
             return true;
         }
@@ -53,18 +57,29 @@ static bool look(struct place *p) {
     return false;
 }
 
-/* Waits until the call has ended, or until a time that is not 0. Returns whether the call has ended. */
-static bool sleep_until(struct place *p, uint64_t until) {
+enum woken { HAS_ENDED, TIMED_OUT, WAS_INTERRUPTED };
+
+/* Waits until the call has ended or is interrupted, or until a time that is not 0. An interruption changes the word,
+ * which futex compares, so none is lost, wherever in here its handler runs. */
+static enum woken sleep_until(struct place *p, uint64_t until) {
     struct timespec end = {(time_t)(until / 1000000000u), (long)(until % 1000000000u)};
     uint32_t open = OPEN;
-    if (look(p)) return true;
+    if (look(p)) return HAS_ENDED;
     atomic_compare_exchange_strong(&p->word, &open, ASLEEP);
     while (!is_ended(p)) {
+        if (atomic_load(&p->word) == INTERRUPTED) return WAS_INTERRUPTED;
         long woken = syscall(SYS_futex, &p->word, FUTEX_WAIT_BITSET_PRIVATE, ASLEEP, until ? &end : NULL, NULL,
                              FUTEX_BITSET_MATCH_ANY);
-        if (woken == -1 && errno == ETIMEDOUT) return is_ended(p);
+        if (woken == -1 && errno == ETIMEDOUT) return is_ended(p) ? HAS_ENDED : TIMED_OUT;
     }
-    return true;
+    return HAS_ENDED;
+}
+
+/* Marks an open call as interrupted. Returns whether its thread slept. */
+static bool interrupt_word(struct place *p) {
+    uint32_t open = OPEN, asleep = ASLEEP;
+    return !atomic_compare_exchange_strong(&p->word, &open, INTERRUPTED) &&
+           atomic_compare_exchange_strong(&p->word, &asleep, INTERRUPTED);
 }
 
 /* Sets the words of these threads to ENDED. Returns those that sleep. */

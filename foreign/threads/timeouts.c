@@ -1,31 +1,37 @@
-/* Timeouts: a thread that waits too long is unblocked by its process's clock, a hidden thread of the kernel that does
- * nothing else. Tested, not proved.
+/* Timeouts and interruptions: a thread that waits too long, or is interrupted, is unblocked by its process's clock, a
+ * hidden thread of the kernel that does nothing else. Tested, not proved.
  */
 
 /* Unblocks a thread whose call is open, under the lock. Returns whether the kernel did so. Adds the threads whose calls
  * ended by that; a call whose server got a pulse stays open. */
 static bool unblock(neutrino *k, struct place *p, uint64_t *ended) {
     uint8_t clock = k->clock_of[p->pid];
-    if (balsaeuchre_unblock(&k->library, clock, p->tid, &k->event)) return false;
+    struct call c = {.request = {.kind = BALSAEUCHRE_UNBLOCK, .thread = clock, .target = p->tid}};
+    if (make_in_library(k, &c, 0, &k->event)) return false;
     for (size_t at = 0; at < k->event.done.endings; at++) {
         if (k->event.rows[at].thread == clock && k->event.rows[at].mark != BALSAEUCHRE_DONE) return false;
     }
+    bool interrupted = p->call->interrupted;
     uint64_t cut = deliver_all(k);
-    if (cut & bit_of(k, p) && p->error == EINTR) p->error = ETIMEDOUT;
+    if (!(cut & bit_of(k, p))) p->asked = true;
+    else if (p->error == EINTR && !interrupted) p->error = ETIMEDOUT;
     *ended |= cut;
     return true;
 }
 
-/* Unblocks the calling thread after its timeout. Returns the time at which it has to try again, or 0: it has to if it
- * may time out in a later state, or if the kernel refused the Unblock. */
-static uint64_t time_out(neutrino *k, struct place *p) {
+/* Unblocks the calling thread after its timeout, or since it is interrupted. Returns the time at which it has to try
+ * again, or 0: it has to if it may time out in a later state, or if the kernel refused the Unblock. */
+static uint64_t end_early(neutrino *k, struct place *p, enum woken woken) {
     enum { LATER = 1000000 }; /* nanoseconds */
     uint64_t ended = 0, asleep = 0, again = 0;
     lock(k);
     if (!is_ended(p)) {
-        bool may = p->call->states >> p->state & 1;
-        bool may_later = p->state == STATE_SEND && p->call->states & _NTO_TIMEOUT_REPLY;
+        struct call *c = p->call;
+        if (woken == WAS_INTERRUPTED) c->interrupted = true, open_word(p, false);
+        bool may = c->interrupted || c->states >> p->state & 1;
+        bool may_later = p->state == STATE_SEND && c->states & _NTO_TIMEOUT_REPLY;
         if (may ? !unblock(k, p, &ended) : may_later) again = now() + LATER;
+        else c->interrupted = false;
         asleep = tell(k, ended);
     }
     unlock(k);

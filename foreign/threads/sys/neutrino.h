@@ -14,8 +14,8 @@
  *   ENOMEM     the allocator refused
  *   EOVERFLOW  the kernel has made all the 2^40 calls that it can number
  *   EFAULT     a buffer is null and its length is not 0
- * No call is a cancellation point, and no signal ends one. The header needs POSIX.1-2008: -std=gnu11, or
- * _POSIX_C_SOURCE.
+ * No call is a cancellation point, and no signal ends one, unless a library above asks for it (neutrino_interruptible).
+ * The header needs POSIX.1-2008: -std=gnu11, or _POSIX_C_SOURCE.
  */
 #ifndef BALSAEUCHRE_SYS_NEUTRINO_H
 #define BALSAEUCHRE_SYS_NEUTRINO_H
@@ -85,6 +85,47 @@ int neutrino_state(int tid);
 /* Returns its priority, 1 to 255, or -1 and ESRCH. */
 int neutrino_priority(int tid);
 
+/* ---- for a library over this layer, as foreign/qnx is */
+
+/* From now on neutrino_interrupt and neutrino_cancel end calls of the calling thread. EPERM, EDEADLK. */
+int neutrino_interruptible(void);
+
+/* Ends the call that the calling thread waits in, as neutrino_unblock does: with EINTR, or its server gets an unblock
+ * pulse. Does nothing if it waits in none. For signal handlers; does not change errno. */
+void neutrino_interrupt(void);
+
+/* Ends, in the same way, the call that this thread waits in, and each later one that has to wait, unless cancellation
+ * is disabled there. ESRCH: no such thread has joined. The caller need not have joined. */
+int neutrino_cancel(neutrino *kernel, int tid);
+
+struct balsaeuchre_request;
+struct balsaeuchre_event;
+struct _pulse;
+
+/* Functions that the layer calls under the kernel's lock, in which they may call no function of this header. Each may
+ * be null. */
+struct neutrino_hooks {
+    /* after each call of the kernel, with its buffers as they were passed */
+    void (*call)(const struct balsaeuchre_request *request, const void *sent, size_t sent_len, const void *room,
+                 size_t room_len, const struct balsaeuchre_event *event);
+    /* before a program's own pulse is copied to its receiver; may change it */
+    void (*pulse)(struct _pulse *pulse);
+};
+
+/* Sets the hooks, before a second thread uses the kernel. */
+void neutrino_set_hooks(neutrino *kernel, const struct neutrino_hooks *hooks);
+
+struct neutrino_blocked {
+    int state;  /* as neutrino_state; 0: no thread has joined with this number */
+    int chid;   /* of the channel that it is blocked on, or 0 */
+    int rcvid;  /* REPLY-blocked: of its message; else 0 */
+    int server; /* REPLY-blocked: the thread that received its message; SEND-blocked: the one that received last on the
+                   channel, or else created it; else 0 */
+};
+
+/* Fills all[0] to all[255], by tid, as they are at one time. EPERM, EDEADLK. The caller need not have joined. */
+int neutrino_look(neutrino *kernel, struct neutrino_blocked *all);
+
 /* ---- the names of the Library Reference */
 
 #ifndef EOK
@@ -106,6 +147,8 @@ int neutrino_priority(int tid);
 #define _PULSE_CODE_UNBLOCK (-1)    /* value.sival_int: the rcvid; 0 if that message has been answered since */
 #define _PULSE_CODE_DISCONNECT (-2) /* scoid: that of the messages from this process */
 
+#define _NTO_MI_UNBLOCK_REQ 0x100 /* flags of _msg_info: the sender was unblocked, and waits for an answer */
+
 struct _pulse {
     uint16_t type;
     uint16_t subtype;
@@ -115,7 +158,6 @@ struct _pulse {
     int32_t scoid;
 };
 
-/* A length above 2^31 - 1 is given as 2^31 - 1. */
 struct _msg_info {
     uint32_t nd;
     uint32_t srcnd;
@@ -124,11 +166,12 @@ struct _msg_info {
     int32_t chid;
     int32_t scoid;     /* one for each process that sends */
     int32_t coid;
-    int32_t msglen;    /* bytes that the receive copied */
-    int32_t srcmsglen; /* bytes of the message */
-    int32_t dstmsglen; /* bytes of the reply buffer */
     int16_t priority;
-    int16_t flags;
+    int16_t flags;     /* _NTO_MI_UNBLOCK_REQ or 0 */
+    ssize_t msglen;    /* bytes that the receive copied */
+    ssize_t srcmsglen; /* bytes of the message */
+    ssize_t dstmsglen; /* bytes of the reply buffer */
+    uint32_t type_id;
     uint32_t reserved;
 };
 

@@ -1,0 +1,162 @@
+/* Channels and connections, and the pulses of their ends and of threads' ends. Tested, not proved. */
+enum { DEATHS = _NTO_CHF_THREAD_DEATH | _NTO_CHF_COID_DISCONNECT };
+enum { IGNORED = _NTO_CHF_PRIVATE | _NTO_CHF_GLOBAL | _NTO_CHF_INHERIT_RUNMASK | _NTO_CHF_NOT_MERGEABLE };
+
+/* A channel that is told of ends, over a connection of the front's own process. */
+struct told {
+    int chid, coid; /* chid 0: none */
+    unsigned flags;
+};
+
+/* It stands at its coid's remainder, if that place was free. */
+struct connection {
+    _Atomic int coid; /* 0: none */
+    int chid;
+    unsigned flags;
+};
+
+static struct told told[CHANNELS];
+static struct connection connections[CONNECTIONS];
+
+static void forget_notes(int chid);
+static int send_noted(int coid, int chid, int priority, int code, union sigval value);
+
+/* A pulse for the channels that are told of something. */
+struct death {
+    int code, value, count;
+    struct told told[CHANNELS];
+};
+
+static void send_deaths(void *argument) {
+    const struct death *death = argument;
+    union sigval value = {.sival_ptr = (void *)(intptr_t)death->value};
+    for (int at = 0; at < death->count; at++)
+        send_noted(death->told[at].coid, death->told[at].chid, SIGEV_PULSE_PRIO_INHERIT, death->code, value);
+}
+
+static void tell(unsigned flag, int code, int value) {
+    struct death death = {.code = code, .value = value, .count = 0};
+    hold();
+    for (int at = 0; at < CHANNELS; at++) {
+        if (told[at].chid && told[at].flags & flag) death.told[death.count++] = told[at];
+    }
+    release();
+    if (death.count) as_system(send_deaths, &death);
+}
+
+static void tell_death(int tid) { tell(_NTO_CHF_THREAD_DEATH, _PULSE_CODE_THREADDEATH, tid); }
+
+/* Tells of each connection to a channel that was destroyed. */
+static void tell_disconnects(int chid) {
+    int coids[CONNECTIONS], count = 0;
+    hold();
+    for (int at = 0; at < CONNECTIONS; at++) {
+        if (connections[at].coid && connections[at].chid == chid) coids[count++] = connections[at].coid;
+    }
+    release();
+    for (int at = 0; at < count; at++) tell(_NTO_CHF_COID_DISCONNECT, _PULSE_CODE_COIDDEATH, coids[at]);
+}
+
+static void attach_told(void *t) {
+    ((struct told *)t)->coid = layer_ConnectAttach(ND_LOCAL_NODE, PROGRAM, ((struct told *)t)->chid, 0, 0);
+}
+
+static void detach_told(void *t) { layer_ConnectDetach(((struct told *)t)->coid); }
+
+/* A new channel is told of ends. */
+static int add_told(int chid, unsigned flags) {
+    struct told new = {.chid = chid, .coid = -1, .flags = flags};
+    as_system(attach_told, &new);
+    if (new.coid == -1) {
+        layer_ChannelDestroy(chid);
+        return fail(EAGAIN);
+    }
+    hold();
+    int at = 0;
+    while (told[at].chid) at++; /* there are no more than channels */
+    told[at] = new;
+    release();
+    return chid;
+}
+
+int ChannelCreate(unsigned flags) {
+    if (enter()) return -1;
+    unsigned layers = _NTO_CHF_FIXED_PRIORITY | _NTO_CHF_UNBLOCK | _NTO_CHF_DISCONNECT;
+    if (flags & ~(layers | DEATHS | IGNORED)) return fail(EINVAL);
+    int chid = layer_ChannelCreate(flags & layers);
+    return chid == -1 || !(flags & DEATHS) ? chid : add_told(chid, flags);
+}
+
+int ChannelDestroy(int chid) {
+    if (enter() || layer_ChannelDestroy(chid)) return -1;
+    struct told gone = {.chid = 0};
+    hold();
+    for (int at = 0; at < CHANNELS; at++) {
+        if (told[at].chid != chid) continue;
+        gone = told[at];
+        told[at].chid = 0;
+    }
+    forget_notes(chid);
+    release();
+    if (gone.chid) as_system(detach_told, &gone);
+    tell_disconnects(chid);
+    return 0;
+}
+
+/* Returns the entry of a connection, under the lock, or null. */
+static struct connection *connection_of(int coid) {
+    for (unsigned looked = 0; coid != -1 && looked < CONNECTIONS; looked++) {
+        struct connection *c = &connections[((unsigned)plain(coid) + looked) % CONNECTIONS];
+        if (c->coid && plain(c->coid) == plain(coid)) return c;
+    }
+    return NULL;
+}
+
+/* Enters a connection, under the lock. There is a place, as each is left before its connection is detached. */
+static void add_connection(int coid, int chid, unsigned flags) {
+    unsigned at = (unsigned)plain(coid) % CONNECTIONS;
+    while (connections[at].coid) at = (at + 1) % CONNECTIONS;
+    connections[at].chid = chid;
+    connections[at].flags = flags;
+    atomic_store(&connections[at].coid, coid);
+}
+
+int ConnectAttach(uint32_t nd, pid_t pid, int chid, unsigned index, int flags) {
+    if (enter()) return -1;
+    if (nd != ND_LOCAL_NODE || (pid && pid != program)) return fail(ESRCH);
+    int coid = layer_ConnectAttach(ND_LOCAL_NODE, PROGRAM, chid, 0, 0);
+    if (coid == -1) return -1;
+    coid |= (int)index & SIDE;
+    hold();
+    add_connection(coid, chid, (unsigned)flags);
+    release();
+    return coid;
+}
+
+int ConnectDetach(int coid) {
+    if (enter()) return -1;
+    if (is_scoid(coid)) return 0; /* it goes when the client's is detached */
+    hold();
+    struct connection *c = connection_of(coid);
+    int kept = c ? c->coid : 0, chid = c ? c->chid : 0;
+    unsigned flags = c ? c->flags : 0;
+    if (c) c->coid = 0;
+    release();
+    if (!layer_ConnectDetach(plain(coid))) return 0;
+    int error = errno;
+    hold();
+    if (kept) add_connection(kept, chid, flags); /* the kernel refused the disconnect pulse */
+    release();
+    return fail(error);
+}
+
+int ConnectFlags(pid_t pid, int coid, unsigned mask, unsigned bits) {
+    if (enter()) return -1;
+    if (pid && pid != program) return fail(ESRCH);
+    hold();
+    struct connection *c = connection_of(coid);
+    unsigned old = c ? c->flags : 0;
+    if (c) c->flags = (old & ~mask) | (bits & mask);
+    release();
+    return c ? (int)old : fail(EBADF);
+}

@@ -1,0 +1,71 @@
+/* Events. Tested, not proved. */
+
+/* Returns an errno for an event that can't be delivered, or 0. */
+static int wrong_event(const struct sigevent *event) {
+    if (!event) return EFAULT;
+    int signo = event->sigev_signo;
+    switch (SIGEV_GET_TYPE(event)) {
+    case SIGEV_NONE:
+    case SIGEV_UNBLOCK: return 0;
+    case SIGEV_PULSE: return wrong_pulse(event->sigev_priority, event->sigev_code);
+    case SIGEV_SIGNAL:
+    case SIGEV_SIGNAL_CODE:
+    case SIGEV_SIGNAL_THREAD: return signo < 1 || signo >= NSIG ? EINVAL : 0;
+    default: return EINVAL;
+    }
+}
+
+/* The thread that sent a held message. */
+static int sender_of(rcvid_t rcvid) {
+    struct _msg_info info;
+    return layer_MsgInfo(rcvid, &info) ? -1 : info.tid;
+}
+
+static int signal_sender(rcvid_t rcvid, int signo) {
+    int tid = sender_of(rcvid);
+    if (tid == -1) return -1;
+    hold();
+    int error = seats[tid].use == TAKEN ? pthread_kill(seats[tid].thread, signo) : ESRCH;
+    release();
+    return error ? fail(error) : 0;
+}
+
+static int send_event_pulse(const struct sigevent *event) {
+    return send_pulse(event->sigev_coid, event->sigev_priority, event->sigev_code, event->sigev_value);
+}
+
+int MsgDeliverEvent(rcvid_t rcvid, const struct sigevent *event) {
+    int error = wrong_event(event), tid;
+    if (enter()) return -1;
+    if (error || rcvid < 0) return fail(error ? error : ESRCH);
+    switch (SIGEV_GET_TYPE(event)) {
+    case SIGEV_PULSE: return send_event_pulse(event);
+    case SIGEV_SIGNAL: return kill(program, event->sigev_signo);
+    case SIGEV_SIGNAL_CODE: return sigqueue(program, event->sigev_signo, event->sigev_value);
+    case SIGEV_SIGNAL_THREAD: return signal_sender(rcvid, event->sigev_signo);
+    case SIGEV_UNBLOCK: tid = sender_of(rcvid); return tid == -1 ? -1 : neutrino_unblock(tid);
+    default: return 0;
+    }
+}
+
+static bool is_connection(int coid) {
+    hold();
+    bool known = connection_of(coid);
+    release();
+    return known;
+}
+
+int MsgVerifyEvent(rcvid_t rcvid, const struct sigevent *event) {
+    int error = wrong_event(event);
+    if (enter()) return -1;
+    if (!error && rcvid < 0) error = ESRCH;
+    if (!error && SIGEV_GET_TYPE(event) == SIGEV_PULSE && !is_connection(event->sigev_coid)) error = EBADF;
+    return error ? fail(error) : 0;
+}
+
+int MsgRegisterEvent(struct sigevent *event, int coid) {
+    if (MsgVerifyEvent(0, event)) return -1;
+    return coid == -1 || is_connection(coid) ? 0 : fail(EBADF);
+}
+
+int MsgUnregisterEvent(const struct sigevent *event) { return MsgVerifyEvent(0, event); }

@@ -1,0 +1,44 @@
+/* The host's pthread.h, whose threads have QNX's priorities, 1 to 255. They order messages; the host's scheduling stays
+ * as it is, so no call here needs a privilege. These functions are the host's but for what is said here:
+ *
+ *   pthread_create               takes a null thread. A new thread has the priority of its creator, or with
+ *                                PTHREAD_EXPLICIT_SCHED that of its attributes
+ *   pthread_attr_setschedparam   takes a priority from 1 to 255 with any policy; one over 99 counts as 99. EINVAL
+ *   pthread_setschedparam, pthread_setschedprio   change a thread's priority. EINVAL; ESRCH: it has no place in the
+ *                                kernel, or has ended
+ *   pthread_getschedparam        its priority, and the policy that was last set, or SCHED_RR. ESRCH as above
+ *   pthread_cancel               ends a call that the thread is blocked in
+ *   pthread_join                 ends with ETIMEDOUT after a TimerTimeout with _NTO_TIMEOUT_JOIN
+ *   pthread_setname_np           a thread's name in neutrino_show and in a record
+ */
+#pragma GCC system_header
+#ifndef BALSAEUCHRE_QNX_NO_WRAPPERS
+#pragma redefine_extname pthread_create neutrino_pthread_create
+#pragma redefine_extname pthread_attr_setschedparam neutrino_pthread_attr_setschedparam
+#pragma redefine_extname pthread_setschedparam neutrino_pthread_setschedparam
+#pragma redefine_extname pthread_getschedparam neutrino_pthread_getschedparam
+#pragma redefine_extname pthread_setschedprio neutrino_pthread_setschedprio
+#pragma redefine_extname pthread_cancel neutrino_pthread_cancel
+#pragma redefine_extname pthread_join neutrino_pthread_join
+#pragma redefine_extname pthread_setname_np neutrino_pthread_setname_np
+#endif
+#include <sched.h>
+#pragma push_macro("__nonnull")
+#undef __nonnull
+#define __nonnull(parameters) /* pthread_create takes a null thread */
+#include_next <pthread.h>
+#pragma pop_macro("__nonnull")
+#ifndef BALSAEUCHRE_QNX_PTHREAD_H
+#define BALSAEUCHRE_QNX_PTHREAD_H
+#ifdef __cplusplus
+extern "C" {
+#endif
+
+/* The host declares them for _GNU_SOURCE alone. */
+int pthread_setname_np(pthread_t thread, const char *name) __THROW;
+int pthread_getname_np(pthread_t thread, char *name, size_t length) __THROW;
+
+#ifdef __cplusplus
+}
+#endif
+#endif

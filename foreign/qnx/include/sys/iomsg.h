@@ -1,0 +1,42 @@
+/* The types of QNX's input and output messages, for servers that have to tell them from their own. Their layouts, and
+ * the functions of resource managers, are missing. The numbers are this project's, but for their range. */
+#pragma GCC system_header
+#ifndef BALSAEUCHRE_QNX_IOMSG_H
+#define BALSAEUCHRE_QNX_IOMSG_H
+
+#include <stdint.h>
+
+#define _IO_BASE 0x100
+#define _IO_CONNECT 0x100 /* sent by name_open */
+#define _IO_READ 0x101
+#define _IO_WRITE 0x102
+#define _IO_CLOSE 0x103
+#define _IO_STAT 0x104
+#define _IO_NOTIFY 0x105
+#define _IO_DEVCTL 0x106
+#define _IO_PATHCONF 0x108
+#define _IO_LSEEK 0x109
+#define _IO_CHMOD 0x10a
+#define _IO_CHOWN 0x10b
+#define _IO_UTIME 0x10c
+#define _IO_OPENFD 0x10d
+#define _IO_FDINFO 0x10e
+#define _IO_LOCK 0x10f
+#define _IO_SPACE 0x110
+#define _IO_SHUTDOWN 0x111
+#define _IO_MMAP 0x112
+#define _IO_MSG 0x113
+#define _IO_DUP 0x115
+#define _IO_SYNC 0x118
+#define _IO_MAX 0x1ff
+#define _IOMGR_PRIVATE_BASE 0xf000
+
+/* The head of an _IO_MSG message. */
+struct _io_msg {
+    uint16_t type;
+    uint16_t combine_len;
+    uint16_t mgrid;
+    uint16_t subtype;
+};
+
+#endif

@@ -1,0 +1,35 @@
+/* The layer of threads below has some of QNX's names. Included once, this gives the layer's functions a prefix;
+ * included again, it takes that back. */
+#ifndef ChannelCreate
+#define ChannelCreate layer_ChannelCreate
+#define ChannelDestroy layer_ChannelDestroy
+#define ConnectAttach layer_ConnectAttach
+#define ConnectDetach layer_ConnectDetach
+#define MsgSend layer_MsgSend
+#define MsgReceive layer_MsgReceive
+#define MsgReceivePulse layer_MsgReceivePulse
+#define MsgReply layer_MsgReply
+#define MsgError layer_MsgError
+#define MsgRead layer_MsgRead
+#define MsgWrite layer_MsgWrite
+#define MsgInfo layer_MsgInfo
+#define MsgSendPulse layer_MsgSendPulse
+#define SchedSet layer_SchedSet
+#define TimerTimeout layer_TimerTimeout
+#else
+#undef ChannelCreate
+#undef ChannelDestroy
+#undef ConnectAttach
+#undef ConnectDetach
+#undef MsgSend
+#undef MsgReceive
+#undef MsgReceivePulse
+#undef MsgReply
+#undef MsgError
+#undef MsgRead
+#undef MsgWrite
+#undef MsgInfo
+#undef MsgSendPulse
+#undef SchedSet
+#undef TimerTimeout
+#endif

@@ -1,0 +1,324 @@
+/* QNX Neutrino's messages, pulses, channels, connections, timeouts and events, for threads of one program on Linux.
+ *
+ * Programs compile as they are: cc program.c $(pkg-config --cflags --libs balsaeuchre-qnx). The kernel below is proved;
+ * this front, and the layer of threads between, are C: tested, not proved.
+ *
+ * A program's first call opens its kernel. A thread takes one of 60 places at its first call, and gives it back when it
+ * ends; a call of a 61st thread waits ten seconds for one, and then fails with EAGAIN. The main thread has tid 1, if it
+ * makes the first call or creates the first thread.
+ *
+ * The calls are those of QNX's Library Reference, on the pages of the same names. What differs:
+ *   - The whole program is one process; a pid is 0 or getpid(), and ND_LOCAL_NODE is the only node.
+ *   - Priorities, 1 to 255, order what waits on a channel. Nothing is scheduled, and no busy server is boosted.
+ *   - A receiver keeps the priority that it received with until its next receive.
+ *   - At most 64 channels, 1,024 connections, and 1,024 pulses that wait on a channel: EAGAIN.
+ *   - Numbers of flags, pulse codes and errors are not QNX's: sources compile, object code does not link.
+ *
+ * A call returns -1 and sets errno on an error. Every call also fails with EAGAIN (its thread has no place), ENOMEM,
+ * EOVERFLOW (2^40 calls were made, or parts are too long), EFAULT (a buffer is null and its length is not 0), and
+ * EDEADLK (a signal handler makes it, and has interrupted another call of its thread; but a pulse is sent, with the
+ * usual priority if it inherits one). The forms in _r leave errno as it is: those of a function that returns a number
+ * return the negative error, and the others the error or EOK.
+ *
+ * MsgSend and MsgReceive, with their forms, are cancellation points, but for the forms in nc. A signal handler that ran
+ * while a call was blocked ends it with EINTR; a client whose message is received, on a channel with _NTO_CHF_UNBLOCK,
+ * stays blocked, and its server gets an unblock pulse.
+ */
+#pragma GCC system_header
+#ifndef BALSAEUCHRE_QNX_NEUTRINO_H
+#define BALSAEUCHRE_QNX_NEUTRINO_H
+
+#include <errno.h>
+#include <inttypes.h>
+#include <limits.h>
+#include <sched.h>
+#include <signal.h>
+#include <stddef.h>
+#include <stdint.h>
+#include <sys/siginfo.h>
+#include <sys/types.h>
+#include <sys/uio.h>
+#include <time.h>
+#include <unistd.h>
+
+#include <sys/layer_names.h>
+#include_next <sys/neutrino.h> /* struct _pulse, struct _msg_info, and the constants that are not here */
+#include <sys/layer_names.h>
+
+#ifdef __cplusplus
+extern "C" {
+#endif
+
+/* Flags of struct _msg_info that are never set. */
+#define _NTO_MI_ENDIAN_BIG 0x1
+#define _NTO_MI_ENDIAN_DIFF 0x2
+#define _NTO_MI_NET_CRED_DIRTY 0x200
+#define _NTO_MI_BITS_64 0
+
+#define _NTO_TIMEOUT_JOIN (1 << 12) /* besides _NTO_TIMEOUT_SEND, _NTO_TIMEOUT_RECEIVE and _NTO_TIMEOUT_REPLY */
+
+/* States of calls that no timeout ends. TimerTimeout passes over them, if there is one that it knows. */
+#define _NTO_TIMEOUT_CONDVAR (1 << 10)
+#define _NTO_TIMEOUT_INTR (1 << 11)
+#define _NTO_TIMEOUT_MUTEX (1 << 13)
+#define _NTO_TIMEOUT_NANOSLEEP (1 << 14)
+#define _NTO_TIMEOUT_SEM (1 << 15)
+#define _NTO_TIMEOUT_SIGSUSPEND (1 << 16)
+#define _NTO_TIMEOUT_SIGWAITINFO (1 << 17)
+
+typedef int rcvid_t;
+typedef uint8_t _Uint8t;
+typedef uint16_t _Uint16t;
+typedef uint32_t _Uint32t;
+typedef uint64_t _Uint64t;
+typedef int8_t _Int8t;
+typedef int16_t _Int16t;
+typedef int32_t _Int32t;
+typedef int64_t _Int64t;
+
+/* ---- channels and connections */
+
+/* Besides _NTO_CHF_FIXED_PRIORITY, _NTO_CHF_UNBLOCK and _NTO_CHF_DISCONNECT; and flags that change nothing, since both
+ * lengths are always in struct _msg_info, and all channels are the program's. */
+#define _NTO_CHF_THREAD_DEATH 0x100u    /* a pulse when a thread of the program ends */
+#define _NTO_CHF_COID_DISCONNECT 0x200u /* a pulse for each connection whose channel is destroyed */
+#define _NTO_CHF_PRIVATE 0x400u
+#define _NTO_CHF_GLOBAL 0x800u
+#define _NTO_CHF_INHERIT_RUNMASK 0x1000u
+#define _NTO_CHF_NOT_MERGEABLE 0x2000u
+
+/* Creates a channel. Returns its chid, or -1: EINVAL (another flag), EAGAIN (64 are open). */
+int ChannelCreate(unsigned flags);
+int ChannelCreate_r(unsigned flags);
+
+/* Destroys a channel. MsgSend and MsgReceive on it end with ESRCH. EINVAL: no such channel. */
+int ChannelDestroy(int chid);
+int ChannelDestroy_r(int chid);
+
+#undef _NTO_SIDE_CHANNEL
+#define _NTO_SIDE_CHANNEL 0x40000000
+#define _NTO_GLOBAL_CHANNEL 0 /* QNX has channels of the whole system; here they are the program's */
+
+/* Flags of a connection. Each is kept, and changes nothing. */
+#define _NTO_COF_CLOEXEC 0x1
+#define _NTO_COF_DEAD 0x2
+#define _NTO_COF_NOSHARE 0x40
+#define _NTO_COF_NETCON 0x80
+#define _NTO_COF_NONBLOCK 0x100
+
+/* Attaches to a channel. Returns the coid, which has the bit _NTO_SIDE_CHANNEL if index has it, or -1: ESRCH (another
+ * node or process, or no such channel), EAGAIN (1,024 connections). */
+int ConnectAttach(uint32_t nd, pid_t pid, int chid, unsigned index, int flags);
+int ConnectAttach_r(uint32_t nd, pid_t pid, int chid, unsigned index, int flags);
+
+/* Detaches a connection; each MsgSend over it ends with EBADF. Does nothing for an scoid. EINVAL: no such connection;
+ * EAGAIN: the disconnect pulse would be the 1,025th that waits. */
+int ConnectDetach(int coid);
+int ConnectDetach_r(int coid);
+
+/* Changes the flags of a connection that mask has to those of bits. Returns the old ones, or -1: ESRCH (another
+ * process), EBADF (no such connection). */
+int ConnectFlags(pid_t pid, int coid, unsigned mask, unsigned bits);
+int ConnectFlags_r(pid_t pid, int coid, unsigned mask, unsigned bits);
+
+struct _server_info {
+    uint32_t nd;
+    uint32_t srcnd;
+    pid_t pid;
+    int32_t tid;
+    int32_t chid;
+    int32_t scoid;
+    int32_t coid;
+    int16_t priority;
+    int16_t flags; /* of the connection */
+    ssize_t msglen;
+    ssize_t srcmsglen;
+    ssize_t dstmsglen;
+    uint32_t type_id;
+    uint32_t reserved;
+};
+
+/* Fills nd, pid, chid, scoid, coid and flags of a connection, or of the next greater coid if there is no such. Returns
+ * its coid, or -1: ESRCH (another process), EINVAL (there is no such nor a greater one). */
+int ConnectServerInfo(pid_t pid, int coid, struct _server_info *info);
+int ConnectServerInfo_r(pid_t pid, int coid, struct _server_info *info);
+
+#define __NGROUPS_MAX 8
+
+struct _cred_info {
+    uid_t ruid, euid, suid;
+    gid_t rgid, egid, sgid;
+    uint32_t ngroups;
+    gid_t grouplist[__NGROUPS_MAX];
+};
+
+struct _client_info {
+    uint32_t nd;
+    pid_t pid;
+    pid_t sid;
+    uint32_t flags;
+    struct _cred_info cred;
+};
+
+/* Fills the process of an scoid, with at most ngroups groups. EINVAL: no such scoid. */
+int ConnectClientInfo(int scoid, struct _client_info *info, int ngroups);
+int ConnectClientInfo_r(int scoid, struct _client_info *info, int ngroups);
+
+/* ---- messages */
+
+typedef struct iovec iov_t;
+#define SETIOV(iov, base, len) \
+    ((void)((iov)->iov_base = (void *)(uintptr_t)(base), (iov)->iov_len = (size_t)(len)))
+#define SETIOV_CONST SETIOV
+#define GETIOVBASE(iov) ((iov)->iov_base)
+#define GETIOVLEN(iov) ((iov)->iov_len)
+
+/* An error with which MsgError has the client's MsgSend made again. It is the host's number. */
+#ifndef ERESTART
+#define ERESTART 85
+#endif
+
+/* Sends a message, and waits for the answer. Returns the status of the MsgReply, or -1: the error of the MsgError;
+ * EBADF (no such connection, or its channel is destroyed, or it was detached), ESRCH (the channel was destroyed
+ * meanwhile), EINTR, ETIMEDOUT. The forms in v, vs and sv take parts: of both, of the message, of the answer. */
+long MsgSend(int coid, const void *smsg, size_t sbytes, void *rmsg, size_t rbytes);
+long MsgSendv(int coid, const iov_t *siov, size_t sparts, const iov_t *riov, size_t rparts);
+long MsgSendsv(int coid, const void *smsg, size_t sbytes, const iov_t *riov, size_t rparts);
+long MsgSendvs(int coid, const iov_t *siov, size_t sparts, void *rmsg, size_t rbytes);
+long MsgSendnc(int coid, const void *smsg, size_t sbytes, void *rmsg, size_t rbytes);
+long MsgSendvnc(int coid, const iov_t *siov, size_t sparts, const iov_t *riov, size_t rparts);
+long MsgSendsvnc(int coid, const void *smsg, size_t sbytes, const iov_t *riov, size_t rparts);
+long MsgSendvsnc(int coid, const iov_t *siov, size_t sparts, void *rmsg, size_t rbytes);
+long MsgSend_r(int coid, const void *smsg, size_t sbytes, void *rmsg, size_t rbytes);
+long MsgSendv_r(int coid, const iov_t *siov, size_t sparts, const iov_t *riov, size_t rparts);
+long MsgSendsv_r(int coid, const void *smsg, size_t sbytes, const iov_t *riov, size_t rparts);
+long MsgSendvs_r(int coid, const iov_t *siov, size_t sparts, void *rmsg, size_t rbytes);
+long MsgSendnc_r(int coid, const void *smsg, size_t sbytes, void *rmsg, size_t rbytes);
+long MsgSendvnc_r(int coid, const iov_t *siov, size_t sparts, const iov_t *riov, size_t rparts);
+long MsgSendsvnc_r(int coid, const void *smsg, size_t sbytes, const iov_t *riov, size_t rparts);
+long MsgSendvsnc_r(int coid, const iov_t *siov, size_t sparts, void *rmsg, size_t rbytes);
+
+/* Waits for a message or a pulse. Returns the rcvid of a message, or 0 for a pulse, or -1: ESRCH (no such channel, or
+ * it was destroyed), EINTR, ETIMEDOUT. info, if it is not null, is filled for a message alone. Of several receivers the
+ * one that waits least long is served. */
+rcvid_t MsgReceive(int chid, void *msg, size_t bytes, struct _msg_info *info);
+rcvid_t MsgReceivev(int chid, const iov_t *riov, size_t rparts, struct _msg_info *info);
+rcvid_t MsgReceive_r(int chid, void *msg, size_t bytes, struct _msg_info *info);
+rcvid_t MsgReceivev_r(int chid, const iov_t *riov, size_t rparts, struct _msg_info *info);
+
+/* Answers a message. ESRCH: the program holds no such message. */
+int MsgReply(rcvid_t rcvid, long status, const void *msg, size_t bytes);
+int MsgReplyv(rcvid_t rcvid, long status, const iov_t *riov, size_t rparts);
+int MsgReply_r(rcvid_t rcvid, long status, const void *msg, size_t bytes);
+int MsgReplyv_r(rcvid_t rcvid, long status, const iov_t *riov, size_t rparts);
+
+/* Ends the client's MsgSend with this error; EOK is a reply of status 0, and ERESTART has it sent again. ESRCH. */
+int MsgError(rcvid_t rcvid, int error);
+int MsgError_r(rcvid_t rcvid, int error);
+
+/* Copy from a message, or into its client's answer, from an offset on. Return the bytes that were copied: 0 for an
+ * offset past the end. -1: ESRCH. */
+ssize_t MsgRead(rcvid_t rcvid, void *msg, size_t bytes, size_t offset);
+ssize_t MsgReadv(rcvid_t rcvid, const iov_t *riov, size_t rparts, size_t offset);
+ssize_t MsgWrite(rcvid_t rcvid, const void *msg, size_t bytes, size_t offset);
+ssize_t MsgWritev(rcvid_t rcvid, const iov_t *iov, size_t parts, size_t offset);
+ssize_t MsgRead_r(rcvid_t rcvid, void *msg, size_t bytes, size_t offset);
+ssize_t MsgReadv_r(rcvid_t rcvid, const iov_t *riov, size_t rparts, size_t offset);
+ssize_t MsgWrite_r(rcvid_t rcvid, const void *msg, size_t bytes, size_t offset);
+ssize_t MsgWritev_r(rcvid_t rcvid, const iov_t *iov, size_t parts, size_t offset);
+
+/* Fills the info of a message. Its flags have _NTO_MI_UNBLOCK_REQ if its client is to be unblocked. ESRCH, EFAULT. */
+int MsgInfo(rcvid_t rcvid, struct _msg_info *info);
+int MsgInfo_r(rcvid_t rcvid, struct _msg_info *info);
+
+/* Says which message this thread works on. Changes nothing, as a receiver has its client's priority already. ESRCH. */
+int MsgCurrent(rcvid_t rcvid);
+int MsgCurrent_r(rcvid_t rcvid);
+
+#define _NTO_KEYDATA_CALCULATE 0
+#define _NTO_KEYDATA_VERIFY 1
+#define _NTO_KEYDATA_PATHSIGN 0x8000
+
+/* Calculates a key of data and of the private key, by a function that only this program has, into *key2; or verifies
+ * *key2. Returns 0, or 1 if the data, or a key, was changed. -1: EINVAL (another oper), EFAULT (no key2), ESRCH. It
+ * guards against mistakes, and is no cryptography. */
+int MsgKeyData(rcvid_t rcvid, int oper, uint32_t key, uint32_t *key2, const iov_t *iov, int parts);
+int MsgKeyData_r(rcvid_t rcvid, int oper, uint32_t key, uint32_t *key2, const iov_t *iov, int parts);
+
+/* ---- pulses */
+
+#define _PULSE_CODE_THREADDEATH (-3) /* value.sival_int: the tid */
+#define _PULSE_CODE_COIDDEATH (-4)   /* value.sival_int: the coid */
+#define _PULSE_SUBTYPE 0
+
+/* Sends a pulse: priority 1 to 255, or SIGEV_PULSE_PRIO_INHERIT for the caller's; code -128 to 127, of which a
+ * program's own are _PULSE_CODE_MINAVAIL to _PULSE_CODE_MAXAVAIL. EBADF (no such connection, or its channel is
+ * destroyed), EINVAL, EAGAIN (1,024 pulses wait on the channel; or 4,096 in all that have a negative code, the code 127
+ * or a value of more than 32 bits). Equal pulses are not merged. */
+int MsgSendPulse(int coid, int priority, int code, int value);
+int MsgSendPulsePtr(int coid, int priority, int code, void *value);
+int MsgSendPulse_r(int coid, int priority, int code, int value);
+int MsgSendPulsePtr_r(int coid, int priority, int code, void *value);
+
+/* Waits for a pulse. Returns 0, or -1: ESRCH, EINTR, ETIMEDOUT. info is not written. */
+int MsgReceivePulse(int chid, void *pulse, size_t bytes, struct _msg_info *info);
+int MsgReceivePulsev(int chid, const iov_t *piov, size_t parts, struct _msg_info *info);
+int MsgReceivePulse_r(int chid, void *pulse, size_t bytes, struct _msg_info *info);
+int MsgReceivePulsev_r(int chid, const iov_t *piov, size_t parts, struct _msg_info *info);
+
+/* ---- events */
+
+/* Delivers an event that a client gave with a message, also after the answer. SIGEV_PULSE: sends its pulse;
+ * SIGEV_SIGNAL, SIGEV_SIGNAL_CODE: signals the program; SIGEV_SIGNAL_THREAD, SIGEV_UNBLOCK: signals, unblocks the
+ * thread that sent the message, which has to be held still; SIGEV_NONE: does nothing. EINVAL (another event, or its
+ * numbers), EFAULT, ESRCH (rcvid is negative, or the message is not held), and the errors of MsgSendPulse. */
+int MsgDeliverEvent(rcvid_t rcvid, const struct sigevent *event);
+int MsgDeliverEvent_r(rcvid_t rcvid, const struct sigevent *event);
+
+/* Returns 0 if MsgDeliverEvent would take the event. EINVAL, EFAULT; EBADF: no such connection. */
+int MsgVerifyEvent(rcvid_t rcvid, const struct sigevent *event);
+int MsgVerifyEvent_r(rcvid_t rcvid, const struct sigevent *event);
+
+/* Registers an event for the server of coid, or with -1 for all. Any server may deliver any event here, so it is only
+ * checked: EINVAL, EFAULT, EBADF. */
+int MsgRegisterEvent(struct sigevent *event, int coid);
+int MsgRegisterEvent_r(struct sigevent *event, int coid);
+int MsgUnregisterEvent(const struct sigevent *event);
+int MsgUnregisterEvent_r(const struct sigevent *event);
+
+/* ---- timeouts and timers */
+
+/* Sets the timeout of this thread's next call, as timer_timeout of time.h does: once *ntime nanoseconds have passed and
+ * it is in one of the states of flags, it ends with ETIMEDOUT; a client whose message is received on a channel with
+ * _NTO_CHF_UNBLOCK stays blocked, and its server gets an unblock pulse. ntime null: it does not wait in these states.
+ * _NTO_TIMEOUT_JOIN ends the next pthread_join. With TIMER_ABSTIME in flags *ntime is a time of the clock id. flags 0
+ * takes the timeout back. *otime gets the timeout that this one replaces, or 0. EINVAL: no such state, an event but
+ * SIGEV_UNBLOCK, another clock than CLOCK_MONOTONIC and CLOCK_REALTIME. */
+int TimerTimeout(clockid_t id, int flags, const struct sigevent *notify, const uint64_t *ntime, uint64_t *otime);
+int TimerTimeout_r(clockid_t id, int flags, const struct sigevent *notify, const uint64_t *ntime, uint64_t *otime);
+
+/* ---- threads */
+
+/* Sets the priority of a thread (0: the caller), or gets it and returns its policy, which is the one last set, or
+ * SCHED_RR. A tid may also be what pthread_self returned. ESRCH: another process, or no such thread; EINVAL, EFAULT. */
+int SchedSet(pid_t pid, int tid, int policy, const struct sched_param *param);
+int SchedSet_r(pid_t pid, int tid, int policy, const struct sched_param *param);
+int SchedGet(pid_t pid, int tid, struct sched_param *param);
+int SchedGet_r(pid_t pid, int tid, struct sched_param *param);
+int SchedYield(void);
+int SchedYield_r(void);
+
+/* ---- seeing a run; not QNX's
+ *
+ * SIGQUIT makes neutrino_show print to standard error, unless the program handles or ignores it. In the environment:
+ * BALSAEUCHRE_RECORD=FILE.names has the run written as a script, which qdemo script runs, chart draws and --explain
+ * explains; BALSAEUCHRE_CIRCLES=1 has a circle of threads that send to one another told on standard error. */
+
+/* Prints the threads, their states, and on whom they are blocked, like pidin. */
+void neutrino_show(int fd);
+
+#ifdef __cplusplus
+}
+#endif
+
+#endif

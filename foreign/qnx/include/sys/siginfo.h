@@ -1,0 +1,59 @@
+/* QNX's events, in the host's struct sigevent. The numbers are this project's. */
+#pragma GCC system_header
+#ifndef BALSAEUCHRE_QNX_SIGINFO_H
+#define BALSAEUCHRE_QNX_SIGINFO_H
+
+#include <signal.h>
+#include <stdint.h>
+
+/* The first shares its place with sigev_signo, as under QNX. The others lie behind what the host uses. */
+#define sigev_coid sigev_signo
+#define sigev_code _sigev_un._pad[10]
+#define sigev_priority _sigev_un._pad[11]
+
+/* Besides the host's SIGEV_NONE, SIGEV_SIGNAL and SIGEV_THREAD. */
+#define SIGEV_PULSE 0x6e70
+#define SIGEV_UNBLOCK 0x6e71
+#define SIGEV_SIGNAL_CODE 0x6e72
+#define SIGEV_SIGNAL_THREAD 0x6e73
+#define SIGEV_INTR 0x6e74 /* no call here takes it: there are no interrupts */
+
+/* The priority of an event's pulse: that of the thread that delivers it, or 10 of a timer. */
+#define SIGEV_PULSE_PRIO_INHERIT (-1)
+
+/* Added to sigev_notify. They change nothing. */
+#define SIGEV_FLAG_UPDATEABLE 0x10000
+#define SIGEV_FLAG_HANDLE 0x20000
+#define SIGEV_FLAG_CRITICAL 0x40000
+#define SIGEV_FLAG_CODE_UPDATEABLE 0x80000
+#define SIGEV_FLAG_MASK 0xf0000
+#define SIGEV_GET_TYPE(event) ((event)->sigev_notify & ~SIGEV_FLAG_MASK)
+#define SIGEV_MAKE_UPDATEABLE(event) ((void)((event)->sigev_notify |= SIGEV_FLAG_UPDATEABLE))
+#define SIGEV_MAKE_CODE_UPDATEABLE(event) ((void)((event)->sigev_notify |= SIGEV_FLAG_CODE_UPDATEABLE))
+#define SIGEV_MAKE_CRITICAL(event) ((void)((event)->sigev_notify |= SIGEV_FLAG_CRITICAL))
+#define SIGEV_CLEAR_CRITICAL(event) ((void)((event)->sigev_notify &= ~SIGEV_FLAG_CRITICAL))
+
+#define SIGEV_NONE_INIT(event) ((void)((event)->sigev_notify = SIGEV_NONE))
+#define SIGEV_INTR_INIT(event) ((void)((event)->sigev_notify = SIGEV_INTR))
+#ifndef SIGEV_UNBLOCK_INIT
+#define SIGEV_UNBLOCK_INIT(event) ((void)((event)->sigev_notify = SIGEV_UNBLOCK))
+#endif
+#define SIGEV_SIGNAL_INIT(event, signo) \
+    ((void)((event)->sigev_notify = SIGEV_SIGNAL, (event)->sigev_signo = (signo), (event)->sigev_value.sival_ptr = 0))
+#define SIGEV_SIGNAL_VALUE_INIT(event, signo, value) SIGEV_SIGNAL_CODE_INIT(event, signo, value, 0)
+#define SIGEV_SIGNAL_CODE_INIT(event, signo, value, code) \
+    ((void)((event)->sigev_notify = SIGEV_SIGNAL_CODE, (event)->sigev_signo = (signo), \
+            (event)->sigev_value.sival_ptr = (void *)(intptr_t)(value), (event)->sigev_code = (code)))
+#define SIGEV_SIGNAL_THREAD_INIT(event, signo, value, code) \
+    ((void)((event)->sigev_notify = SIGEV_SIGNAL_THREAD, (event)->sigev_signo = (signo), \
+            (event)->sigev_value.sival_ptr = (void *)(intptr_t)(value), (event)->sigev_code = (code)))
+#define SIGEV_PULSE_INIT(event, coid, priority, code, value) \
+    ((void)((event)->sigev_notify = SIGEV_PULSE, (event)->sigev_coid = (coid), (event)->sigev_priority = (priority), \
+            (event)->sigev_code = (code), (event)->sigev_value.sival_ptr = (void *)(intptr_t)(value)))
+#define SIGEV_PULSE_INT_INIT(event, coid, priority, code, value) \
+    SIGEV_PULSE_INIT(event, coid, priority, code, (int)(value))
+#define SIGEV_PULSE_PTR_INIT SIGEV_PULSE_INIT
+#define SIGEV_SIGNAL_VALUE_INT_INIT SIGEV_SIGNAL_VALUE_INIT
+#define SIGEV_SIGNAL_VALUE_PTR_INIT SIGEV_SIGNAL_VALUE_INIT
+
+#endif

@@ -1,0 +1,42 @@
+/* The host's time.h. A timer of SIGEV_PULSE sends a pulse over its connection at each expiry; timer_getoverrun counts
+ * those that the kernel refused. Of timer_create: EAGAIN (64 such timers), EINVAL (the pulse's code or priority, or a
+ * clock that has no timers), and what a first call fails with. A timer of another event is the host's. */
+#pragma GCC system_header
+#ifndef BALSAEUCHRE_QNX_NO_WRAPPERS
+#pragma redefine_extname timer_create neutrino_timer_create
+#pragma redefine_extname timer_settime neutrino_timer_settime
+#pragma redefine_extname timer_gettime neutrino_timer_gettime
+#pragma redefine_extname timer_getoverrun neutrino_timer_getoverrun
+#pragma redefine_extname timer_delete neutrino_timer_delete
+#endif
+#include_next <time.h>
+#if defined CLOCK_MONOTONIC && !defined BALSAEUCHRE_QNX_TIME_H
+#define BALSAEUCHRE_QNX_TIME_H
+#ifdef __cplusplus
+extern "C" {
+#endif
+
+#define CLOCK_SOFTTIME CLOCK_REALTIME
+
+/* A time in nanoseconds, and back. */
+static inline void nsec2timespec(struct timespec *time, unsigned long nanoseconds) {
+    time->tv_sec = (time_t)(nanoseconds / 1000000000u);
+    time->tv_nsec = (long)(nanoseconds % 1000000000u);
+}
+
+static inline unsigned long timespec2nsec(const struct timespec *time) {
+    return (unsigned long)time->tv_sec * 1000000000u + (unsigned long)time->tv_nsec;
+}
+
+struct sigevent;
+
+/* TimerTimeout of sys/neutrino.h, with times as struct timespec. EINVAL also for a time that is none. */
+int timer_timeout(clockid_t id, int flags, const struct sigevent *notify, const struct timespec *ntime,
+                  struct timespec *otime);
+int timer_timeout_r(clockid_t id, int flags, const struct sigevent *notify, const struct timespec *ntime,
+                    struct timespec *otime);
+
+#ifdef __cplusplus
+}
+#endif
+#endif

@@ -1,0 +1,97 @@
+/* Messages. Tested, not proved. */
+
+/* Ends the calling thread if it is cancelled. AddressSanitizer does not see by itself that its stack is left then. */
+#ifdef SANITIZES_ADDRESSES
+void __asan_handle_no_return(void);
+#else
+static void __asan_handle_no_return(void) {}
+#endif
+
+static void test_cancel(void) {
+    __asan_handle_no_return();
+    pthread_testcancel();
+}
+
+/* Lets the calling thread make a call that is a cancellation point. */
+static int enter_point(void) {
+    if (enter()) return -1;
+    test_cancel();
+    return 0;
+}
+
+/* Ends a thread whose call was ended by its cancellation. */
+static void leave_point(long result) {
+    if (result != -1 || errno != EINTR) return;
+    test_cancel();
+    errno = EINTR;
+}
+
+/* Sends a message, as often as its server says. */
+static long send_message(int coid, const void *smsg, size_t sbytes, void *rmsg, size_t rbytes) {
+    long status;
+    if (is_scoid(coid)) return fail(EBADF);
+    do {
+        status = layer_MsgSend(plain(coid), smsg, sbytes, rmsg, rbytes);
+    } while (status == -1 && errno == ERESTART);
+    return status;
+}
+
+long MsgSend(int coid, const void *smsg, size_t sbytes, void *rmsg, size_t rbytes) {
+    if (enter_point()) return -1;
+    long status = send_message(coid, smsg, sbytes, rmsg, rbytes);
+    leave_point(status);
+    return status;
+}
+
+/* The program's pid, and the coid as the program knows it. */
+static void complete_info(struct _msg_info *info) {
+    int known = atomic_load(&connections[(unsigned)info->coid % CONNECTIONS].coid);
+    info->pid = program;
+    if (plain(known) != info->coid) {
+        hold();
+        const struct connection *c = connection_of(info->coid);
+        known = c ? c->coid : info->coid;
+        release();
+    }
+    info->coid = known;
+}
+
+rcvid_t MsgReceive(int chid, void *msg, size_t bytes, struct _msg_info *info) {
+    if (enter_point()) return -1;
+    int rcvid = layer_MsgReceive(chid, msg, bytes, info);
+    if (rcvid > 0 && info) complete_info(info);
+    leave_point(rcvid);
+    return rcvid;
+}
+
+int MsgReceivePulse(int chid, void *pulse, size_t bytes, struct _msg_info *info) {
+    if (enter_point()) return -1;
+    int result = layer_MsgReceivePulse(chid, pulse, bytes, info);
+    leave_point(result);
+    return result;
+}
+
+int MsgReply(rcvid_t rcvid, long status, const void *msg, size_t bytes) {
+    return enter() ? -1 : layer_MsgReply(rcvid, status, msg, bytes);
+}
+
+int MsgError(rcvid_t rcvid, int error) { return enter() ? -1 : layer_MsgError(rcvid, error); }
+
+ssize_t MsgRead(rcvid_t rcvid, void *msg, size_t bytes, size_t offset) {
+    return enter() ? -1 : layer_MsgRead(rcvid, msg, bytes, offset);
+}
+
+ssize_t MsgWrite(rcvid_t rcvid, const void *msg, size_t bytes, size_t offset) {
+    return enter() ? -1 : layer_MsgWrite(rcvid, msg, bytes, offset);
+}
+
+int MsgInfo(rcvid_t rcvid, struct _msg_info *info) {
+    if (enter() || layer_MsgInfo(rcvid, info)) return -1;
+    complete_info(info);
+    return 0;
+}
+
+int MsgCurrent(rcvid_t rcvid) {
+    struct _msg_info info;
+    return MsgInfo(rcvid, &info);
+}

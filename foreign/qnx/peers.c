@@ -1,0 +1,47 @@
+/* Who is at the other end of a connection. Tested, not proved. */
+int ConnectServerInfo(pid_t pid, int coid, struct _server_info *info) {
+    if (enter()) return -1;
+    if (pid && pid != program) return fail(ESRCH);
+    if (!info) return fail(EFAULT);
+    int found = 0;
+    memset(info, 0, sizeof *info);
+    info->nd = info->srcnd = ND_LOCAL_NODE;
+    info->pid = program;
+    info->scoid = SIDE | PROGRAM;
+    hold();
+    for (int at = 0; at < CONNECTIONS; at++) {
+        const struct connection *c = &connections[at];
+        if (!c->coid || c->coid < coid || (found && c->coid > found)) continue;
+        info->coid = found = c->coid;
+        info->chid = c->chid;
+        info->flags = (int16_t)c->flags;
+    }
+    release();
+    return found ? found : fail(EINVAL);
+}
+
+/* Fills at most so many groups of the program. Returns how many. */
+static uint32_t fill_groups(gid_t *groups, int most) {
+    int count = getgroups(0, NULL);
+    gid_t *all = malloc((size_t)(count > 0 ? count : 1) * sizeof *all);
+    count = all ? getgroups(count, all) : 0;
+    if (most > __NGROUPS_MAX) most = __NGROUPS_MAX;
+    if (count > most) count = most;
+    for (int at = 0; at < count; at++) groups[at] = all[at];
+    free(all);
+    return count > 0 ? (uint32_t)count : 0;
+}
+
+int ConnectClientInfo(int scoid, struct _client_info *info, int ngroups) {
+    if (enter()) return -1;
+    if (!info) return fail(EFAULT);
+    if (scoid != (SIDE | PROGRAM)) return fail(EINVAL);
+    memset(info, 0, sizeof *info);
+    info->nd = ND_LOCAL_NODE;
+    info->pid = program;
+    info->sid = getsid(0);
+    if (getresuid(&info->cred.ruid, &info->cred.euid, &info->cred.suid)) return -1;
+    if (getresgid(&info->cred.rgid, &info->cred.egid, &info->cred.sgid)) return -1;
+    info->cred.ngroups = fill_groups(info->cred.grouplist, ngroups);
+    return 0;
+}

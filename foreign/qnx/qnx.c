@@ -1,0 +1,22 @@
+/* QNX's front as one object, from which only the names of include are seen. Tested, not proved. */
+#define _GNU_SOURCE
+#define BALSAEUCHRE_QNX_NO_WRAPPERS
+#include "front.h"
+
+#include "seats.c"
+#include "channels.c"
+#include "pulses.c"
+#include "messages.c"
+#include "parts.c"
+#include "peers.c"
+#include "keys.c"
+#include "events.c"
+#include "timers.c"
+#include "names.c"
+#include "threads.c"
+#include "signals.c"
+#include "show.c"
+#include "record.c"
+#include "record_calls.c"
+#include "service.c"
+#include "forms.c"

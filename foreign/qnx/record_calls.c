@@ -1,0 +1,180 @@
+/* The lines of a record. Tested, not proved. */
+/* A call's word, the letters of what it makes, and those of what it names first. */
+static const struct {
+    const char *word, *makes, *names;
+} kinds[] = {
+    [BALSAEUCHRE_CHANNEL_CREATE] = {"create", "ch", NULL},
+    [BALSAEUCHRE_CHANNEL_DESTROY] = {"destroy", NULL, "ch"},
+    [BALSAEUCHRE_CONNECT_ATTACH] = {"attach", "co", "ch"},
+    [BALSAEUCHRE_CONNECT_DETACH] = {"detach", "d", "co"},
+    [BALSAEUCHRE_SEND] = {"send", "m", "co"},
+    [BALSAEUCHRE_RECEIVE] = {"receive", "r", "ch"},
+    [BALSAEUCHRE_RECEIVE_PULSE] = {"receivepulse", "r", "ch"},
+    [BALSAEUCHRE_REPLY] = {"reply", NULL, "m"},
+    [BALSAEUCHRE_ERROR] = {"error", NULL, "m"},
+    [BALSAEUCHRE_READ] = {"read", NULL, "m"},
+    [BALSAEUCHRE_WRITE] = {"write", NULL, "m"},
+    [BALSAEUCHRE_INFO] = {"info", NULL, "m"},
+    [BALSAEUCHRE_PULSE] = {"pulse", "p", "co"},
+    [BALSAEUCHRE_PRIORITY_SET] = {"setprio", NULL, NULL},
+    [BALSAEUCHRE_STATE] = {"state", NULL, NULL},
+    [BALSAEUCHRE_UNBLOCK] = {"unblock", "u", NULL},
+    [BALSAEUCHRE_SHUTDOWN] = {"shutdown", NULL, NULL},
+};
+
+/* A call with its buffers, as the hook has them. */
+struct made {
+    const balsaeuchre_request *request;
+    const void *sent;
+    size_t sent_len, room_len;
+};
+
+static void add_call(struct line *line, const struct made *made) {
+    const balsaeuchre_request *r = made->request;
+    add(line, " %s", kinds[r->kind].word);
+    if (kinds[r->kind].names) add_name(line, kinds[r->kind].names, r->id);
+    switch (r->kind) {
+    case BALSAEUCHRE_CHANNEL_CREATE: add(line, " %d", r->flags); break;
+    case BALSAEUCHRE_REPLY: add(line, " %lld", (long long)r->status); break;
+    case BALSAEUCHRE_ERROR: add(line, " %d", r->code); break;
+    case BALSAEUCHRE_READ:
+    case BALSAEUCHRE_WRITE: add(line, " %zu", r->offset); break;
+    case BALSAEUCHRE_PULSE: add(line, " %d %d %d", r->priority, r->pulse_code, r->value); break;
+    case BALSAEUCHRE_PRIORITY_SET:
+    case BALSAEUCHRE_STATE:
+    case BALSAEUCHRE_UNBLOCK:
+        add(line, " ");
+        add_thread(line, r->target);
+        break;
+    default: break;
+    }
+    if (r->kind == BALSAEUCHRE_PRIORITY_SET) add(line, " %d", r->priority);
+    if (r->kind == BALSAEUCHRE_SEND || r->kind == BALSAEUCHRE_REPLY || r->kind == BALSAEUCHRE_WRITE)
+        add_bytes(line, made->sent, made->sent_len, made->sent_len > LONGEST);
+    if (r->kind == BALSAEUCHRE_SEND || r->kind == BALSAEUCHRE_RECEIVE || r->kind == BALSAEUCHRE_READ)
+        add_bytes(line, NULL, made->room_len, true);
+}
+
+static const char *process_name(int process) { return process == PROGRAM ? "program" : "system"; }
+
+static void add_pulse(struct line *line, const balsaeuchre_ending *row) {
+    const char *kind = row->what == BALSAEUCHRE_WHAT_USER ? "p" : row->what == BALSAEUCHRE_WHAT_UNBLOCK ? "u" : "d";
+    add(line, "pulse");
+    add_name(line, kind, row->id);
+    add(line, " %d", row->priority);
+    if (row->what == BALSAEUCHRE_WHAT_USER) add(line, " user %d %d", row->pulse_code, row->value);
+    if (row->what == BALSAEUCHRE_WHAT_DISCONNECT) add(line, " disconnect %s", process_name(row->process));
+    if (row->what == BALSAEUCHRE_WHAT_UNBLOCK) {
+        add(line, " unblock");
+        add_name(line, "m", row->rcvid);
+    }
+}
+
+/* How a call has completed. What is longer than what is recorded of it is left out. */
+static void add_result(struct line *line, const balsaeuchre_ending *row, const struct made *made,
+                       const uint8_t *bytes) {
+    size_t offset = made->request->offset;
+    static const char *const errors[] = {"ok", "srch", "badf", "inval", "again", "intr", "busy", "nomemory", "down"};
+    static const char *const states[] = {"", "ready", "send", "receive", "reply"};
+    switch (row->mark) {
+    case BALSAEUCHRE_DONE: add(line, "ok"); break;
+    case BALSAEUCHRE_FAILED: add(line, "fail %s", row->errno_ < 9 ? errors[row->errno_] : "*"); break;
+    case BALSAEUCHRE_CHANNEL: add(line, "channel"); add_name(line, "ch", row->id); break;
+    case BALSAEUCHRE_CONNECTION: add(line, "connection"); add_name(line, "co", row->id); break;
+    case BALSAEUCHRE_ERRORED: add(line, "error %d", row->value); break;
+    case BALSAEUCHRE_REPLIED:
+        add(line, "reply %lld", (long long)row->status);
+        if (made->sent_len <= LONGEST) add_bytes(line, bytes + row->start, row->count, false);
+        break;
+    case BALSAEUCHRE_MESSAGE:
+        add(line, "message");
+        add_name(line, "m", row->rcvid);
+        if (row->srcmsglen <= LONGEST) add_bytes(line, bytes + row->start, row->count, false);
+        break;
+    case BALSAEUCHRE_COUNT:
+        add(line, offset <= MOST && row->count <= MOST - offset ? "count %zu" : "count", row->count);
+        break;
+    case BALSAEUCHRE_INFORMED:
+        add(line, "info %s ", process_name(row->process));
+        add_thread(line, row->sender);
+        add_name(line, "co", row->id);
+        if (row->srcmsglen <= MOST && row->dstmsglen <= MOST)
+            add(line, " %zu %zu %zu %d", row->count, row->srcmsglen, row->dstmsglen, row->priority);
+        break;
+    case BALSAEUCHRE_PULSED: add_pulse(line, row); break;
+    default:
+        add(line, "state %s", states[row->state & 7]);
+        if (row->state != BALSAEUCHRE_READY) add_name(line, "ch", row->id);
+        add(line, " %d", row->priority);
+    }
+}
+
+/* Adds how the call has completed, and the calls of others that it has completed. */
+static void add_results(struct line *line, const struct made *made, const balsaeuchre_event *event) {
+    int caller = made->request->thread;
+    bool blocks = true;
+    for (size_t at = 0; at < event->done.endings; at++) blocks &= event->rows[at].thread != caller;
+    add(line, " -> %s", blocks ? "blocked" : "");
+    for (size_t at = 0; at < event->done.endings; at++) {
+        if (event->rows[at].thread == caller) add_result(line, &event->rows[at], made, event->bytes);
+    }
+    for (size_t at = 0; at < event->done.endings; at++) {
+        const balsaeuchre_ending *row = &event->rows[at];
+        if (row->thread == caller) continue;
+        add(line, "; %c%llu -> ", record.open_as[row->thread], (unsigned long long)row->call);
+        add_result(line, row, made, event->bytes);
+    }
+    add(line, "\n");
+}
+
+/* Keeps a line, or ends the record where a script would be too long. */
+static void keep_line(const struct line *line) {
+    static const char told_end[] = "balsaeuchre: the record is full at 4 MiB, and ends here\n";
+    if (record.length + line->length <= WHOLE && record.written + line->length <= WHOLE) {
+        memcpy(lines + record.length, line->text, line->length);
+        record.length += line->length;
+        write_named(line->text, line->length);
+        return;
+    }
+    if (write(STDERR_FILENO, told_end, sizeof told_end - 1) < 0) errno = 0;
+    close(record.fd);
+    record.fd = -1;
+}
+
+/* The hook: the kernel has made a call. */
+static void record_call(const balsaeuchre_request *r, const void *sent, size_t sent_len, const void *room,
+                        size_t room_len, const balsaeuchre_event *event) {
+    struct made made = {r, sent, sent_len, room_len};
+    struct line line = {.length = 0};
+    const char *letters = kinds[r->kind].makes;
+    (void)room;
+    pthread_mutex_lock(&recording);
+    if (record.fd != -1) {
+        record.open_as[r->thread] = letters ? letters[0] : 0;
+        if (letters) add(&line, "%s%llu = ", letters, (unsigned long long)event->done.call);
+        add_thread(&line, r->thread);
+        add_call(&line, &made);
+        add_results(&line, &made, event);
+        keep_line(&line);
+    }
+    pthread_mutex_unlock(&recording);
+}
+
+/* Opens the record, if there has to be one. Returns the hooks of the run. */
+static const struct neutrino_hooks *hooks_of_run(void) {
+    static struct neutrino_hooks hooks = {NULL, complete_pulse};
+    const char *file = getenv("BALSAEUCHRE_RECORD");
+    record.fd = file && *file ? open(file, O_WRONLY | O_CREAT | O_TRUNC | O_CLOEXEC, 0666) : -1;
+    if (file && *file && record.fd == -1) dprintf(STDERR_FILENO, "balsaeuchre: %s: %s\n", file, strerror(errno));
+    if (record.fd != -1) hooks.call = record_call;
+    return &hooks;
+}
+
+/* In a forked child, whose calls are not its parent's. */
+static void forget_record(void) {
+    if (record.fd != -1) close(record.fd);
+    pthread_mutex_init(&recording, NULL);
+    memset(&record, 0, sizeof record);
+    record.fd = -1;
+    unsetenv("BALSAEUCHRE_RECORD");
+}

@@ -1,0 +1,201 @@
+/* The program's kernel, which its first call opens, and the seats of its threads. Tested, not proved.
+ *
+ * A seat is a number of the kernel's threads. pthread_create reserves one, so that threads are numbered as they are
+ * created; a thread joins the kernel with it at its first call. A thread for which none was free takes one then, and if
+ * need be one that is only reserved. If all are taken, it waits for a while.
+ */
+#ifndef PATIENCE
+#define PATIENCE 10 /* seconds */
+#endif
+
+enum use { FREE, RESERVED, TAKEN };
+
+struct seat {
+    enum use use;
+    unsigned ticket; /* of the reservation */
+    pthread_t thread;
+    int priority; /* with which it joins */
+    int policy;
+    char *parts[2]; /* where parts are gathered: what it sends, and room for what it gets */
+    size_t longest[2];
+};
+
+static struct seat seats[SEATS + 1]; /* by tid; the first is not used */
+static pthread_cond_t given_back = PTHREAD_COND_INITIALIZER;
+static unsigned tickets;
+static neutrino *kernel;
+static pid_t program;
+static pthread_key_t ending; /* of a thread: its destructor gives the seat back */
+static pthread_once_t once = PTHREAD_ONCE_INIT;
+static int refused; /* the error with which the host refused the key or the handlers of forks */
+
+/* The calling thread's seat, or 0; and the seat that is reserved for it, or 0. */
+static _Thread_local int seat, reserved;
+static _Thread_local unsigned ticket;
+
+static void end_thread(void *argument);
+static void forget_all(void);
+static void start_service(void);
+static void record_seat(int tid, pthread_t thread);
+static const struct neutrino_hooks *hooks_of_run(void);
+
+static void prepare(void) {
+    refused = pthread_key_create(&ending, end_thread);
+    if (!refused) refused = pthread_atfork(hold, release, forget_all);
+}
+
+/* Reserves the first free seat for a thread that the caller creates, or for itself, under the lock. */
+static int reserve(int priority) {
+    for (int tid = 1; tid <= SEATS; tid++) {
+        if (seats[tid].use != FREE) continue;
+        seats[tid] = (struct seat){.use = RESERVED, .ticket = ++tickets, .priority = priority, .policy = SCHED_RR};
+        return tid;
+    }
+    return 0;
+}
+
+/* Takes the seat that is reserved for the calling thread, or a free one, or one that is reserved for another thread,
+ * under the lock. Returns 0 if all are taken. */
+static int take(void) {
+    bool is_mine = reserved && seats[reserved].use == RESERVED && seats[reserved].ticket == ticket;
+    int priority = is_mine ? seats[reserved].priority : USUAL;
+    int tid = is_mine ? reserved : reserve(USUAL);
+    for (int at = SEATS; !tid && at > 0; at--) {
+        if (seats[at].use == RESERVED) tid = at;
+    }
+    if (tid) seats[tid] = (struct seat){TAKEN, ++tickets, pthread_self(), priority, SCHED_RR, {NULL, NULL}, {0, 0}};
+    reserved = 0;
+    return tid;
+}
+
+/* The same, and waits if all are taken. */
+static int take_in_time(void) {
+    struct timespec until;
+    clock_gettime(CLOCK_REALTIME, &until);
+    until.tv_sec += PATIENCE;
+    hold();
+    int tid = take();
+    while (!tid && !pthread_cond_timedwait(&given_back, &front, &until)) tid = take();
+    release();
+    return tid;
+}
+
+/* Opens the program's kernel, if it isn't yet. Returns null and sets errno on an error. */
+static neutrino *open_program(void) {
+    struct neutrino_thread threads[SYSTEM];
+    for (int tid = 1; tid <= SYSTEM; tid++)
+        threads[tid - 1] = (struct neutrino_thread){(uint8_t)tid, tid == SYSTEM ? SYSTEM_PROCESS : PROGRAM, USUAL};
+    pthread_once(&once, prepare);
+    if (refused) errno = refused;
+    hold();
+    bool is_first = !kernel && !refused;
+    if (is_first) kernel = neutrino_open(threads, SYSTEM);
+    if (is_first && kernel) {
+        program = getpid();
+        neutrino_set_hooks(kernel, hooks_of_run());
+    }
+    neutrino *opened = kernel;
+    release();
+    if (is_first && opened) start_service();
+    return opened;
+}
+
+/* Joins the kernel with a seat. */
+static int join(int tid) {
+    if (neutrino_join(kernel, tid)) return -1;
+    seat = tid;
+    return neutrino_interruptible();
+}
+
+static void give_back(int tid) {
+    hold();
+    free(seats[tid].parts[0]);
+    free(seats[tid].parts[1]);
+    seats[tid] = (struct seat){.use = FREE};
+    pthread_cond_signal(&given_back);
+    release();
+}
+
+/* What would end or interrupt the calling thread waits. */
+struct quiet {
+    sigset_t signals;
+    int cancel_state;
+};
+
+static void be_quiet(struct quiet *quiet) {
+    sigset_t all;
+    sigfillset(&all);
+    pthread_sigmask(SIG_SETMASK, &all, &quiet->signals);
+    pthread_setcancelstate(PTHREAD_CANCEL_DISABLE, &quiet->cancel_state);
+}
+
+static void end_quiet(const struct quiet *quiet) {
+    int ignored;
+    pthread_setcancelstate(quiet->cancel_state, &ignored);
+    pthread_sigmask(SIG_SETMASK, &quiet->signals, NULL);
+}
+
+/* Takes a seat for the calling thread. */
+static int take_seat(void) {
+    struct quiet quiet;
+    be_quiet(&quiet);
+    int tid = 0, error = open_program() ? 0 : errno;
+    if (!error && !(tid = take_in_time())) error = EAGAIN;
+    if (!error && join(tid)) error = errno;
+    if (!error && pthread_setspecific(ending, &seats[tid])) error = ENOMEM;
+    if (!error) {
+        struct sched_param param = {.sched_priority = seats[tid].priority};
+        record_seat(tid, pthread_self());
+        if (layer_SchedSet(0, 0, SCHED_RR, &param)) error = errno;
+    }
+    if (error && tid) {
+        neutrino_leave();
+        seat = 0;
+        give_back(tid);
+    }
+    end_quiet(&quiet);
+    return error ? fail(error) : 0;
+}
+
+/* Lets the calling thread make calls. EDEADLK: it is a handler that interrupted the front. */
+static int enter(void) { return holding ? fail(EDEADLK) : seat ? 0 : take_seat(); }
+
+static pthread_mutex_t systems = PTHREAD_MUTEX_INITIALIZER; /* over the front's thread of a process of its own */
+
+/* Makes work's calls as that thread. The calling thread's own seat stays taken. */
+static void as_system(void (*work)(void *argument), void *argument) {
+    int own = seat;
+    struct quiet quiet;
+    be_quiet(&quiet);
+    pthread_mutex_lock(&systems);
+    if (own) neutrino_leave();
+    if (!neutrino_join(kernel, SYSTEM)) {
+        work(argument);
+        neutrino_leave();
+    }
+    seat = 0;
+    if (own) join(own);
+    pthread_mutex_unlock(&systems);
+    end_quiet(&quiet);
+}
+
+/* Returns the tid of a thread that has a seat, or 0. */
+static int tid_of(pthread_t thread) {
+    int found = 0;
+    hold();
+    for (int tid = 1; tid <= SEATS; tid++) {
+        if (seats[tid].use != FREE && seats[tid].thread && pthread_equal(seats[tid].thread, thread)) found = tid;
+    }
+    release();
+    return found;
+}
+
+/* A seat as it stands, which is free if there is no such. */
+static struct seat seat_of(int tid) {
+    struct seat none = {.use = FREE};
+    if (tid < 1 || tid > SEATS) return none;
+    hold();
+    struct seat s = seats[tid];
+    release();
+    return s;
+}

@@ -1,0 +1,104 @@
+/* The front's own thread. It waits for timers, for pulses that handlers could not send, and for SIGQUIT. Tested, not
+ * proved. */
+enum { ORDERS = TIMERS, EVERY = 20 }; /* EVERY: milliseconds between looks for circles */
+
+/* What the front's thread is told through a pipe. */
+struct order {
+    int coid; /* over which it sends a pulse; 0: it shows the threads */
+    int priority, code, zero; /* zero: no byte is left unwritten */
+    union sigval value;
+};
+
+static int orders[2] = {-1, -1};
+
+static int give_order(const struct order *order) {
+    return write(orders[1], order, sizeof *order) == sizeof *order ? 0 : fail(EAGAIN);
+}
+
+/* For signal handlers. With SIGEV_PULSE_PRIO_INHERIT it has the priority of the front's thread. */
+static int defer_pulse(int coid, int priority, int code, union sigval value) {
+    return give_order(&(struct order){coid, priority, code, 0, value});
+}
+
+static void on_quit(int signo) {
+    int before = errno;
+    (void)signo;
+    give_order(&(struct order){.coid = 0});
+    errno = before;
+}
+
+static void obey(void) {
+    struct order order;
+    if (read(orders[0], &order, sizeof order) != sizeof order) return;
+    if (!order.coid) neutrino_show(STDERR_FILENO);
+    else send_pulse(order.coid, order.priority, order.code, order.value);
+}
+
+static void *serve(void *tells_circles) {
+    struct epoll_event event;
+    if (!neutrino_join(kernel, TICKER)) seat = TICKER;
+    for (;;) {
+        int count = epoll_wait(watched, &event, 1, tells_circles ? EVERY : -1);
+        if (count == -1 && errno != EINTR) return NULL; /* the program has closed all files */
+        if (tells_circles) tell_circles();
+        if (count != 1) continue;
+        if (event.data.u32 == ORDERS) obey();
+        else expire(&timers[event.data.u32]);
+    }
+}
+
+/* Opens the pipe and the epoll. Returns whether it could. */
+static bool open_service(void) {
+    struct epoll_event event = {.events = EPOLLIN, .data.u32 = ORDERS};
+    int epoll = epoll_create1(EPOLL_CLOEXEC);
+    if (epoll == -1) return false;
+    if (pipe2(orders, O_CLOEXEC | O_NONBLOCK) || epoll_ctl(epoll, EPOLL_CTL_ADD, orders[0], &event)) {
+        close(epoll);
+        return false;
+    }
+    hold();
+    watched = epoll;
+    release();
+    return true;
+}
+
+/* Starts the thread, for a caller whose signals are blocked. Without it there are no timers, and SIGQUIT is as ever. */
+static void start_service(void) {
+    pthread_t thread;
+    struct sigaction quit;
+    const char *circles = getenv("BALSAEUCHRE_CIRCLES");
+    if (!open_service()) return;
+    int error = pthread_create(&thread, NULL, serve, circles && *circles && strcmp(circles, "0") ? orders : NULL);
+    if (error) return;
+    pthread_detach(thread);
+    if (sigaction(SIGQUIT, NULL, &quit) || quit.sa_handler != SIG_DFL) return;
+    memset(&quit, 0, sizeof quit);
+    quit.sa_handler = on_quit;
+    quit.sa_flags = SA_RESTART;
+    sigaction(SIGQUIT, &quit, NULL);
+}
+
+/* In a forked child, whose one thread has the front's lock, and none of its parent's kernel. */
+static void forget_all(void) {
+    for (int at = 0; at < TIMERS; at++) {
+        if (timers[at].fd) close(timers[at].fd);
+    }
+    for (int at = 0; at < 2; at++) {
+        if (orders[at] != -1) close(orders[at]);
+    }
+    if (watched != -1) close(watched);
+    watched = orders[0] = orders[1] = -1;
+    kernel = NULL;
+    seat = reserved = 0;
+    memset(timers, 0, sizeof timers);
+    memset(seats, 0, sizeof seats);
+    memset(told, 0, sizeof told);
+    memset(connections, 0, sizeof connections);
+    memset(notes, 0, sizeof notes);
+    memset(names, 0, sizeof names);
+    forget_record();
+    pthread_mutex_init(&systems, NULL);
+    pthread_mutex_init(&front, NULL);
+    pthread_cond_init(&given_back, NULL);
+    holding = 0;
+}

@@ -1,0 +1,69 @@
+/* Shows who is blocked on whom, like pidin, and tells of circles. Tested, not proved. */
+
+/* The name that a thread has by pthread_setname_np, or the program's. */
+static void name_thread(int tid, char *name) {
+    strcpy(name, "?");
+    hold();
+    if (tid >= 1 && tid <= SEATS && seats[tid].use == TAKEN) pthread_getname_np(seats[tid].thread, name, THREAD_NAME);
+    release();
+}
+
+static void show_thread(int fd, int tid, const struct neutrino_blocked *blocked) {
+    static const char *const states[] = {"", "READY", "SEND", "RECEIVE", "REPLY"};
+    char name[THREAD_NAME], server[THREAD_NAME], whom[2 * THREAD_NAME] = "";
+    name_thread(tid, name);
+    name_thread(blocked->server, server);
+    if (blocked->server) snprintf(whom, sizeof whom, ", thread %d (%s)", blocked->server, server);
+    dprintf(fd, "%8d %3d %-15s %4d ", (int)program, tid, name, neutrino_priority(tid));
+    if (blocked->state == STATE_READY) dprintf(fd, "READY\n");
+    else dprintf(fd, "%-8s chid %d%s\n", states[blocked->state], blocked->chid, whom);
+}
+
+void neutrino_show(int fd) {
+    struct neutrino_blocked all[256];
+    dprintf(fd, "%8s %3s %-15s %4s %-8s Blocked\n", "pid", "tid", "name", "prio", "STATE");
+    if (!kernel || enter() || neutrino_look(kernel, all)) return;
+    for (int tid = 1; tid <= SEATS; tid++) {
+        if (all[tid].state) show_thread(fd, tid, &all[tid]);
+    }
+}
+
+/* The threads of the circle in which a thread waits for itself, a bit for each, or 0. */
+static uint64_t circle_of(const struct neutrino_blocked *all, int tid) {
+    uint64_t circle = 0;
+    int at = tid;
+    do {
+        bool sends = all[at].state == STATE_SEND || all[at].state == STATE_REPLY;
+        at = sends ? all[at].server : 0;
+        if (at < 1 || at > SEATS || circle >> at & 1) return 0;
+        circle |= 1ull << at;
+    } while (at != tid);
+    return circle;
+}
+
+static void tell_circle(const struct neutrino_blocked *all, int tid) {
+    char text[SEATS * 60 + 60], name[THREAD_NAME], *to = text + sprintf(text, "balsaeuchre: a circle of senders:");
+    int at = tid;
+    do {
+        name_thread(at, name);
+        to += sprintf(to, " thread %d (%s) waits for thread %d%s", at, name, all[at].server,
+                      all[at].server == tid ? "\n" : ",");
+        at = all[at].server;
+    } while (at != tid);
+    if (write(STDERR_FILENO, text, (size_t)(to - text)) < 0) return;
+}
+
+/* Tells each circle once, if it stands at two looks. By the front's own thread. */
+static void tell_circles(void) {
+    static uint64_t seen[SEATS + 1], told_of[SEATS + 1]; /* by the least thread of a circle */
+    struct neutrino_blocked all[256];
+    if (neutrino_look(kernel, all)) return;
+    for (int tid = 1; tid <= SEATS; tid++) {
+        uint64_t circle = circle_of(all, tid);
+        if (circle & ((1ull << tid) - 1)) circle = 0; /* it is told at a lesser thread */
+        bool tells = circle && circle == seen[tid] && circle != told_of[tid];
+        if (tells) tell_circle(all, tid);
+        if (tells || !circle) told_of[tid] = circle;
+        seen[tid] = circle;
+    }
+}

@@ -1,0 +1,101 @@
+/* tests [--rounds N] [NAME..]: runs these tests, or all, and prints a line for each. */
+#include "tests.h"
+
+int rounds = 1000;
+
+#define TEST(name) {#name, name}
+static const struct { const char *name; void (*run)(void); } tests[] = {
+    TEST(channels), TEST(connections), TEST(flags), TEST(peers), TEST(limits), TEST(disconnects), TEST(sends),
+    TEST(receives), TEST(replies), TEST(reads), TEST(infos), TEST(restarts), TEST(keys), TEST(vectors),
+    TEST(wrong_parts), TEST(not_cancelled), TEST(codes), TEST(values), TEST(notes), TEST(pulse_errors),
+    TEST(pulses_received), TEST(events), TEST(event_errors), TEST(verified), TEST(pulse_timers), TEST(host_timers),
+    TEST(timer_errors), TEST(timeouts), TEST(join_timeouts), TEST(timeout_errors), TEST(priorities), TEST(attributes),
+    TEST(seats), TEST(reserved), TEST(deaths), TEST(forks), TEST(delays), TEST(interrupted), TEST(handlers),
+    TEST(in_handlers), TEST(many_signals), TEST(cancelled), TEST(many_cancelled), TEST(lives), TEST(crowds),
+    TEST(echo_1_1), TEST(echo_40_8), TEST(names), TEST(shown), TEST(circles), TEST(quits),
+};
+
+pthread_t start(void *(*work)(void *), void *argument) {
+    pthread_t thread;
+    check(pthread_create(&thread, NULL, work, argument) == 0);
+    return thread;
+}
+
+long result_of(pthread_t thread) {
+    void *result;
+    check(pthread_join(thread, &result) == 0);
+    return (long)result;
+}
+
+int attach(int chid) {
+    int coid = ConnectAttach(ND_LOCAL_NODE, 0, chid, _NTO_SIDE_CHANNEL, 0);
+    check(coid > 0 && coid & _NTO_SIDE_CHANNEL);
+    return coid;
+}
+
+void until_state(int tid, int state) {
+    while (neutrino_state(tid) != state) usleep(50);
+}
+
+void set_timeout(int states, uint64_t nanoseconds) {
+    check(TimerTimeout(CLOCK_MONOTONIC, states, NULL, &nanoseconds, NULL) == 0);
+}
+
+static void *send_hello(void *argument) {
+    struct client *client = argument;
+    check(getprio(0) > 0); /* takes a place */
+    client->tid = SchedGet(0, 0, NULL) == -1 ? -1 : client->tid;
+    client->status = MsgSend(client->coid, "hello", 6, client->reply, sizeof client->reply);
+    client->error = client->status == -1 ? errno : 0;
+    return NULL;
+}
+
+void begin_send(struct client *client, int coid) {
+    static const struct client none;
+    *client = none;
+    memcpy(client->reply, "...............", 16);
+    client->coid = coid;
+    client->thread = start(send_hello, client);
+    for (;;) { /* its tid is not known here, but it is the only thread that is blocked in a send */
+        for (int tid = 1; tid <= 60; tid++) {
+            int state = neutrino_state(tid);
+            if (state != STATE_SEND && state != STATE_REPLY) continue;
+            client->tid = tid;
+            return;
+        }
+        usleep(50);
+    }
+}
+
+void end_send(struct client *client) { result_of(client->thread); }
+
+int receive(int chid) {
+    char room[64];
+    return MsgReceive(chid, room, sizeof room, NULL);
+}
+
+static int is_asked_for(const char *name, int count, char **words) {
+    int named = 0;
+    for (int at = 1; at < count; at++) {
+        if (strcmp(words[at], "--rounds") == 0) at++;
+        else if (strcmp(words[at], name) == 0) return 1;
+        else named = 1;
+    }
+    return !named;
+}
+
+int main(int count, char **words) {
+    int ran = 0;
+    setvbuf(stdout, NULL, _IOLBF, 0);
+    for (int at = 1; at + 1 < count; at++) {
+        if (strcmp(words[at], "--rounds") == 0) rounds = atoi(words[at + 1]);
+    }
+    for (size_t at = 0; at < sizeof tests / sizeof *tests; at++) {
+        if (!is_asked_for(tests[at].name, count, words)) continue;
+        check(setprio(0, 10) > 0);
+        tests[at].run();
+        ran++;
+        printf("%s\n", tests[at].name);
+    }
+    return ran ? 0 : 2;
+}

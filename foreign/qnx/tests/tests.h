@@ -1,0 +1,63 @@
+/* What the tests of the front share. A test ends the program where something is not as it should be. */
+#ifndef TESTS_H
+#define TESTS_H
+
+#include <errno.h>
+#include <limits.h>
+#include <pthread.h>
+#include <stdatomic.h>
+#include <stdio.h>
+#include <stdlib.h>
+#include <string.h>
+#include <sys/dispatch.h>
+#include <sys/neutrino.h>
+#include <unistd.h>
+
+#define check(holds) \
+    do { \
+        if (!(holds)) { \
+            fprintf(stderr, "%s:%d: %s (errno %d)\n", __FILE__, __LINE__, #holds, errno); \
+            _exit(1); \
+        } \
+    } while (0)
+#define fails(call, error) check((call) == -1 && errno == (error))
+/* The form in _r of a function that returns a number, and of another one. Both leave errno as it is. */
+#define fails_r(call, error) check((errno = 77, (call) == -(error)) && errno == 77)
+#define returns_r(call, error) check((errno = 77, (call) == (error)) && errno == 77)
+
+enum { ATTACHED = _NTO_SIDE_CHANNEL };
+
+extern int rounds; /* of long loops */
+
+pthread_t start(void *(*work)(void *), void *argument);
+long result_of(pthread_t thread);
+int attach(int chid);
+void until_state(int tid, int state);
+void set_timeout(int states, uint64_t nanoseconds);
+
+/* A client that sends "hello" over coid, and what came back. */
+struct client {
+    int coid, tid;
+    long status;
+    int error;
+    char reply[16];
+    pthread_t thread;
+};
+void begin_send(struct client *client, int coid); /* returns as the client is SEND- or REPLY-blocked */
+void end_send(struct client *client);
+int receive(int chid); /* a message into a buffer of its own */
+
+/* The tests, by file. */
+void channels(void), connections(void), flags(void), peers(void), limits(void), disconnects(void);
+void sends(void), receives(void), replies(void), reads(void), infos(void), restarts(void), keys(void);
+void vectors(void), wrong_parts(void), not_cancelled(void);
+void codes(void), values(void), notes(void), pulse_errors(void), pulses_received(void);
+void events(void), event_errors(void), verified(void);
+void pulse_timers(void), host_timers(void), timer_errors(void);
+void timeouts(void), join_timeouts(void), timeout_errors(void);
+void priorities(void), attributes(void), seats(void), reserved(void), deaths(void), forks(void), delays(void);
+void interrupted(void), handlers(void), in_handlers(void), many_signals(void), cancelled(void), many_cancelled(void);
+void lives(void), crowds(void), echo_1_1(void), echo_40_8(void);
+void names(void), shown(void), circles(void), quits(void);
+
+#endif

@@ -1,0 +1,200 @@
+/* Threads: priorities, places in the kernel, ends, forks. */
+#include "tests.h"
+
+#include <sys/wait.h>
+
+static void *answer_priority(void *argument) {
+    (void)argument;
+    return (void *)(intptr_t)getprio(0);
+}
+
+static void *hold_still(void *argument) {
+    while (atomic_load((_Atomic int *)argument) == 0) usleep(100);
+    return (void *)(intptr_t)getprio(0);
+}
+
+void priorities(void) {
+    struct sched_param param = {.sched_priority = 44}, none = {.sched_priority = 0}, over = {.sched_priority = 256};
+    _Atomic int go = 0;
+    int policy = -1;
+    check(SchedSet(0, 0, SCHED_FIFO, &param) == 0 && SchedGet(0, 0, &param) == SCHED_FIFO);
+    check(param.sched_curpriority == 44);
+    check(SchedSet(getpid(), 1, SCHED_RR, &param) == 0 && SchedGet_r(getpid(), 1, NULL) == SCHED_RR);
+    check(SchedSet(0, (int)pthread_self(), SCHED_RR, &param) == 0 && getprio(0) == 44 && setprio(0, 43) == 44);
+    check(result_of(start(answer_priority, NULL)) == 43); /* its creator's */
+    fails(SchedSet(getpid() + 1, 0, SCHED_RR, &param), ESRCH);
+    fails(SchedSet(0, 55, SCHED_RR, &param), ESRCH);
+    fails(SchedSet(0, 61, SCHED_RR, &param), ESRCH);
+    fails(SchedSet(0, 0, SCHED_RR, NULL), EFAULT);
+    fails(SchedSet(0, 0, SCHED_RR, &none), EINVAL);
+    returns_r(SchedSet_r(0, 0, SCHED_RR, &over), EINVAL);
+    fails(SchedGet(getpid() + 1, 0, &param), ESRCH);
+    fails(SchedGet(0, -1, &param), ESRCH);
+    fails_r(SchedGet_r(0, 77, &param), ESRCH);
+    fails(getprio(getpid() + 1), ESRCH);
+    fails(setprio(getpid() + 1, 3), ESRCH);
+    fails(setprio(0, 0), EINVAL);
+    check(SchedYield() == 0);
+    returns_r(SchedYield_r(), EOK);
+    check(pthread_getschedparam(pthread_self(), &policy, &param) == 0 && policy == SCHED_RR);
+    check(param.sched_priority == 43 && pthread_setschedprio(pthread_self(), 10) == 0 && getprio(0) == 10);
+    check(pthread_setschedparam(pthread_self(), SCHED_FIFO, &none) == EINVAL);
+    param.sched_priority = 9;
+    check(SchedSet(0, 0, SCHED_FIFO, &param) == 0 && SchedSet(0, 0, SCHED_NOCHANGE, &param) == 0);
+    check(pthread_getschedparam(0, &policy, &param) == 0 && policy == SCHED_FIFO && param.sched_priority == 9);
+    check(pthread_setschedprio(0, 10) == 0 && getprio(0) == 10 && SchedGet(0, 0, NULL) == SCHED_FIFO);
+    pthread_t thread = start(hold_still, &go); /* which has made no call */
+    check(pthread_setschedprio(thread, 0) == EINVAL && pthread_setschedprio(thread, 256) == EINVAL);
+    check(pthread_setschedprio(thread, 66) == 0 && pthread_getschedparam(thread, &policy, &param) == 0);
+    check(param.sched_priority == 66);
+    atomic_store(&go, 1);
+    check(result_of(thread) == 66);
+    check(pthread_setschedprio(thread, 6) == ESRCH && pthread_getschedparam(thread, &policy, &param) == ESRCH);
+    check(pthread_setschedparam(thread, SCHED_RR, &param) == ESRCH);
+}
+
+void attributes(void) {
+    pthread_attr_t attributes;
+    pthread_t thread;
+    struct sched_param param = {.sched_priority = 0};
+    check(pthread_attr_init(&attributes) == 0);
+    check(pthread_attr_setschedparam(&attributes, &param) == EINVAL);
+    param.sched_priority = 256;
+    check(pthread_attr_setschedparam(&attributes, &param) == EINVAL);
+    param.sched_priority = 27;
+    check(pthread_attr_setschedparam(&attributes, &param) == 0);
+    check(pthread_create(&thread, &attributes, answer_priority, NULL) == 0 && result_of(thread) == 10); /* inherited */
+    check(pthread_attr_setinheritsched(&attributes, PTHREAD_EXPLICIT_SCHED) == 0);
+    check(pthread_attr_setschedpolicy(&attributes, SCHED_FIFO) == 0);
+    check(pthread_create(&thread, &attributes, answer_priority, NULL) == 0 && result_of(thread) == 27);
+    param.sched_priority = 200;
+    check(pthread_attr_setschedparam(&attributes, &param) == 0);
+    check(pthread_create(&thread, &attributes, answer_priority, NULL) == 0 && result_of(thread) == 99);
+    check(pthread_attr_setdetachstate(&attributes, PTHREAD_CREATE_DETACHED) == 0);
+    check(pthread_create(NULL, &attributes, answer_priority, NULL) == 0);
+    check(pthread_attr_destroy(&attributes) == 0);
+}
+
+static _Atomic int arrived;
+
+static void *hold_seat(void *argument) {
+    int priority = getprio(0), error = errno;
+    atomic_fetch_add(&arrived, 1);
+    while (atomic_load((_Atomic int *)argument) == 0) usleep(1000);
+    return (void *)(intptr_t)(priority == -1 ? -error : priority);
+}
+
+/* There are 60 places, and the 61st thread that makes a call gets none. */
+void seats(void) {
+    enum { MANY = 70 };
+    _Atomic int go = 0;
+    pthread_t threads[MANY];
+    int refused = 0;
+    atomic_store(&arrived, 0);
+    for (int at = 0; at < MANY; at++) threads[at] = start(hold_seat, &go);
+    while (atomic_load(&arrived) < MANY) usleep(1000);
+    atomic_store(&go, 1);
+    for (int at = 0; at < MANY; at++) refused += result_of(threads[at]) == -EAGAIN;
+    check(refused == MANY - 59);
+    check(result_of(start(answer_priority, NULL)) == 10);
+}
+
+/* Threads that make no call keep nobody from the kernel. */
+void reserved(void) {
+    enum { MANY = 80 };
+    _Atomic int go = 0;
+    pthread_t threads[MANY];
+    for (int at = 0; at < MANY; at++) threads[at] = start(hold_still, &go);
+    for (int at = 0; at < 70; at++) check(result_of(start(answer_priority, NULL)) == 10);
+    atomic_store(&go, 1);
+    for (int at = 0; at < MANY; at++) result_of(threads[at]);
+}
+
+static void *do_nothing(void *argument) { return argument; }
+
+static void expect_death(int chid, int code, int value) {
+    struct _pulse pulse;
+    check(MsgReceivePulse(chid, &pulse, sizeof pulse, NULL) == 0 && pulse.code == code);
+    check(value < 0 || pulse.value.sival_int == value);
+}
+
+void deaths(void) {
+    struct _pulse pulse;
+    int chid = ChannelCreate(_NTO_CHF_THREAD_DEATH | _NTO_CHF_DISCONNECT);
+    int other = ChannelCreate(_NTO_CHF_COID_DISCONNECT);
+    int gone = ChannelCreate(_NTO_CHF_COID_DISCONNECT), first = attach(gone), second = attach(gone), own = attach(chid);
+    result_of(start(do_nothing, NULL));
+    expect_death(chid, _PULSE_CODE_THREADDEATH, 2);
+    result_of(start(answer_priority, NULL));
+    expect_death(chid, _PULSE_CODE_THREADDEATH, 2);
+    check(ConnectDetach(own) == 0 && ChannelDestroy(gone) == 0);
+    check(MsgReceivePulse(chid, &pulse, sizeof pulse, NULL) == 0 && pulse.code == _PULSE_CODE_DISCONNECT);
+    int coids[2];
+    for (int at = 0; at < 2; at++) {
+        check(MsgReceivePulse(other, &pulse, sizeof pulse, NULL) == 0 && pulse.code == _PULSE_CODE_COIDDEATH);
+        coids[at] = pulse.value.sival_int;
+    }
+    check((coids[0] == first && coids[1] == second) || (coids[0] == second && coids[1] == first));
+    check(ConnectDetach(first) == 0 && ConnectDetach(second) == 0 && ChannelDestroy(other) == 0);
+    for (int at = 0; at < 1030; at++) result_of(start(do_nothing, NULL)); /* more than can wait */
+    for (int at = 0; at < 1024; at++) expect_death(chid, _PULSE_CODE_THREADDEATH, -1);
+    check(ChannelDestroy(chid) == 0);
+}
+
+static _Atomic int goes_on;
+
+static void *call_on(void *argument) {
+    while (atomic_load(&goes_on)) check(getprio(0) == 10);
+    return argument;
+}
+
+static void in_the_child(int chid, int coid) {
+    struct _pulse pulse;
+    struct sigevent event;
+    timer_t id;
+    alarm(20);
+    fails(MsgReceivePulse(chid + 64, &pulse, sizeof pulse, NULL), ESRCH);
+    fails(MsgSendPulse(coid, 1, 1, 0), EBADF);
+    int own = ChannelCreate(_NTO_CHF_THREAD_DEATH), over = attach(own);
+    check(own > 0 && MsgSendPulse(over, 1, -1, 3) == 0 && MsgReceivePulse(own, &pulse, sizeof pulse, NULL) == 0);
+    check(pulse.value.sival_int == 3);
+    SIGEV_PULSE_INIT(&event, over, 1, 5, 1);
+    struct itimerspec time = {{0, 0}, {0, 1000}};
+    check(timer_create(CLOCK_MONOTONIC, &event, &id) == 0 && timer_settime(id, 0, &time, NULL) == 0);
+    check(MsgReceivePulse(own, &pulse, sizeof pulse, NULL) == 0 && pulse.code == 5);
+    result_of(start(answer_priority, NULL));
+    expect_death(own, _PULSE_CODE_THREADDEATH, 2);
+    name_attach_t *name = name_attach(NULL, "of the child", 0);
+    check(name && name_detach(name, 0) == 0);
+    _exit(0);
+}
+
+/* A child has a kernel of its own, with nothing of its parent's. */
+void forks(void) {
+    int chid = ChannelCreate(0), coid = attach(chid);
+    name_attach_t *name = name_attach(NULL, "of the child", 0);
+    atomic_store(&goes_on, 1);
+    pthread_t other = start(call_on, NULL);
+    for (int turn = 0; turn < 10; turn++) {
+        int status;
+        pid_t child = fork();
+        if (child == 0) in_the_child(chid, coid);
+        check(waitpid(child, &status, 0) == child && WIFEXITED(status) && WEXITSTATUS(status) == 0);
+        check(getprio(0) == 10);
+    }
+    atomic_store(&goes_on, 0);
+    result_of(other);
+    check(name_detach(name, 0) == 0 && ConnectDetach(coid) == 0 && ChannelDestroy(chid) == 0);
+}
+
+static void on_alarm(int signo) { (void)signo; }
+
+void delays(void) {
+    struct timespec before, after;
+    check(clock_gettime(CLOCK_MONOTONIC, &before) == 0 && delay(20) == 0);
+    check(clock_gettime(CLOCK_MONOTONIC, &after) == 0);
+    check((after.tv_sec - before.tv_sec) * 1000 + (after.tv_nsec - before.tv_nsec) / 1000000 >= 19);
+    check(signal(SIGALRM, on_alarm) != SIG_ERR && alarm(1) == 0);
+    unsigned left = delay(60000);
+    check(left > 50000 && left < 60000 && signal(SIGALRM, SIG_DFL) == on_alarm);
+}

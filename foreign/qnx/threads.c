@@ -1,0 +1,214 @@
+/* Threads: their starts, ends, priorities and cancellation. Tested, not proved. */
+struct start {
+    void *(*function)(void *argument);
+    void *argument;
+    int reserved;
+    unsigned ticket;
+};
+
+static void tell_death(int tid);
+
+/* The destructor of a thread: it gives its seat back, and the channels that want to know are told. */
+static void end_thread(void *argument) {
+    (void)argument;
+    int tid = seat;
+    hold();
+    if (!tid && reserved && seats[reserved].use == RESERVED && seats[reserved].ticket == ticket) tid = reserved;
+    release();
+    if (seat) neutrino_leave();
+    seat = reserved = 0;
+    if (!tid) return;
+    tell_death(tid);
+    give_back(tid);
+}
+
+static void *run_thread(void *argument) {
+    struct start start = *(struct start *)argument;
+    free(argument);
+    hold();
+    reserved = start.reserved;
+    ticket = start.ticket;
+    if (reserved && seats[reserved].use == RESERVED && seats[reserved].ticket == ticket)
+        seats[reserved].thread = pthread_self();
+    release();
+    pthread_setspecific(ending, seats);
+    return start.function(start.argument);
+}
+
+static int own_priority(void) {
+    int priority = seat ? neutrino_priority(0) : reserved ? seat_of(reserved).priority : USUAL;
+    return is_priority(priority) ? priority : USUAL;
+}
+
+/* The priority that a new thread has. */
+static int priority_of_attributes(const pthread_attr_t *attributes) {
+    struct sched_param param = {.sched_priority = 0};
+    int inherits = PTHREAD_INHERIT_SCHED;
+    if (attributes) {
+        pthread_attr_getinheritsched(attributes, &inherits);
+        pthread_attr_getschedparam(attributes, &param);
+    }
+    bool is_explicit = inherits == PTHREAD_EXPLICIT_SCHED && is_priority(param.sched_priority);
+    return is_explicit ? param.sched_priority : own_priority();
+}
+
+/* Reserves seats for a new thread and, if it has none, for its creator, which comes first. */
+static void reserve_both(struct start *start, int priority) {
+    hold();
+    if (!seat && !reserved) {
+        reserved = reserve(USUAL);
+        ticket = seats[reserved].ticket;
+        seats[reserved].thread = pthread_self();
+        pthread_setspecific(ending, seats);
+    }
+    start->reserved = reserve(priority);
+    start->ticket = seats[start->reserved].ticket;
+    release();
+}
+
+/* The new thread is known, or could not be created. */
+static void note_created(const struct start *start, const pthread_t *thread) {
+    hold();
+    struct seat *s = &seats[start->reserved];
+    bool is_reserved = s->use == RESERVED && s->ticket == start->ticket;
+    if (is_reserved && thread) s->thread = *thread;
+    else if (is_reserved) s->use = FREE;
+    release();
+}
+
+/* The thread has the host's usual scheduling, whatever its attributes say. */
+int neutrino_pthread_create(pthread_t *thread, const pthread_attr_t *attributes, void *(*function)(void *),
+                            void *argument) {
+    struct start *start = malloc(sizeof *start), copy;
+    pthread_attr_t hosts;
+    pthread_t created;
+    pthread_once(&once, prepare);
+    if (!start || refused) {
+        free(start);
+        return EAGAIN;
+    }
+    *start = (struct start){.function = function, .argument = argument};
+    reserve_both(start, priority_of_attributes(attributes));
+    copy = *start;
+    if (attributes) {
+        hosts = *attributes; /* for this call alone */
+        pthread_attr_setinheritsched(&hosts, PTHREAD_INHERIT_SCHED);
+    }
+    int error = pthread_create(&created, attributes ? &hosts : NULL, run_thread, start);
+    note_created(&copy, error ? NULL : &created);
+    if (error) free(start);
+    if (!error && thread) *thread = created;
+    return error;
+}
+
+/* The host takes priorities of 1 to 99, of real-time policies. */
+int neutrino_pthread_attr_setschedparam(pthread_attr_t *attributes, const struct sched_param *param) {
+    struct sched_param cut = *param;
+    int policy;
+    if (!is_priority(param->sched_priority)) return EINVAL;
+    if (cut.sched_priority > 99) cut.sched_priority = 99;
+    pthread_attr_getschedpolicy(attributes, &policy);
+    pthread_attr_setschedpolicy(attributes, SCHED_RR);
+    int error = pthread_attr_setschedparam(attributes, &cut);
+    pthread_attr_setschedpolicy(attributes, policy);
+    return error;
+}
+
+/* A tid as SchedSet and SchedGet take it: 0, a tid, or what pthread_self returned, as an int. Returns 0 for none. */
+static int named_tid(int tid) {
+    if (tid == 0) return seat;
+    if (tid >= 1 && tid <= SEATS) return tid;
+    int found = 0;
+    hold();
+    for (int at = 1; at <= SEATS; at++) {
+        if (seats[at].use != FREE && (int)seats[at].thread == tid) found = at;
+    }
+    release();
+    return found;
+}
+
+static int set_priority(int tid, int policy, int priority) {
+    struct sched_param param = {.sched_priority = priority};
+    enum use use = seat_of(tid).use;
+    if (use == FREE) return fail(ESRCH);
+    if (!is_priority(priority)) return fail(EINVAL);
+    hold();
+    seats[tid].priority = priority;
+    if (policy != SCHED_NOCHANGE) seats[tid].policy = policy;
+    release();
+    return use == TAKEN ? layer_SchedSet(0, tid, policy, &param) : 0;
+}
+
+int SchedSet(pid_t pid, int tid, int policy, const struct sched_param *param) {
+    if (enter()) return -1;
+    if (!param) return fail(EFAULT);
+    if (pid && pid != program) return fail(ESRCH);
+    return set_priority(named_tid(tid), policy, param->sched_priority);
+}
+
+int SchedGet(pid_t pid, int tid, struct sched_param *param) {
+    if (enter()) return -1;
+    tid = pid && pid != program ? 0 : named_tid(tid);
+    struct seat s = seat_of(tid);
+    if (s.use == FREE) return fail(ESRCH);
+    int priority = s.use == TAKEN ? neutrino_priority(tid) : s.priority;
+    if (priority == -1) return -1;
+    if (param) param->sched_priority = priority;
+    return s.policy;
+}
+
+int SchedYield(void) { return sched_yield(); }
+
+int getprio(pid_t pid) {
+    struct sched_param param;
+    return SchedGet(pid, 0, &param) == -1 ? -1 : param.sched_priority;
+}
+
+int setprio(pid_t pid, int priority) {
+    int old = getprio(pid);
+    return old == -1 || set_priority(seat, SCHED_NOCHANGE, priority) ? -1 : old;
+}
+
+/* The tid of a thread of the program; the calling one, which 0 is, too, takes a seat if it has none. */
+static int tid_of_thread(pthread_t thread) {
+    if (!thread || pthread_equal(thread, pthread_self())) return enter() ? 0 : seat;
+    return tid_of(thread);
+}
+
+int neutrino_pthread_setschedparam(pthread_t thread, int policy, const struct sched_param *param) {
+    int before = errno, tid = tid_of_thread(thread);
+    int error = !tid || set_priority(tid, policy, param->sched_priority) ? (tid ? errno : ESRCH) : 0;
+    errno = before;
+    return error;
+}
+
+int neutrino_pthread_setschedprio(pthread_t thread, int priority) {
+    struct sched_param param = {.sched_priority = priority};
+    return neutrino_pthread_setschedparam(thread, SCHED_NOCHANGE, &param);
+}
+
+int neutrino_pthread_getschedparam(pthread_t thread, int *policy, struct sched_param *param) {
+    int before = errno, tid = tid_of_thread(thread), got = tid ? SchedGet(0, tid, param) : -1;
+    errno = before;
+    if (got == -1) return ESRCH;
+    *policy = got;
+    return 0;
+}
+
+/* Cancels a thread, and ends the call that it is blocked in. It ends where that call returns. */
+int neutrino_pthread_cancel(pthread_t thread) {
+    int before = errno, error = pthread_cancel(thread);
+    hold(); /* so that no seat gets another thread; one that takes its seat later finds the cancellation first */
+    for (int tid = 1; !error && tid <= SEATS; tid++) {
+        if (seats[tid].use == TAKEN && pthread_equal(seats[tid].thread, thread)) neutrino_cancel(kernel, tid);
+    }
+    release();
+    errno = before;
+    return error;
+}
+
+unsigned delay(unsigned milliseconds) {
+    struct timespec left = {0, 0}, time = {(time_t)(milliseconds / 1000), (long)(milliseconds % 1000) * 1000000};
+    if (!nanosleep(&time, &left)) return 0;
+    return (unsigned)(left.tv_sec * 1000 + left.tv_nsec / 1000000);
+}

@@ -1,0 +1,45 @@
+/* What a library over the layer uses: interruptions, hooks, and a look at all threads. Tested, not proved. */
+int neutrino_interruptible(void) {
+    if (refuse_call()) return -1;
+    self->interruptible = true;
+    return 0;
+}
+
+void neutrino_interrupt(void) {
+    if (self && self->interruptible) interrupt_word(self);
+}
+
+int neutrino_cancel(neutrino *k, int tid) {
+    if (refuse(k)) return -1;
+    if (tid < 0 || tid > UINT8_MAX || k->place_of[tid] == PLACES) return fail(ESRCH);
+    struct place *p = &k->places[k->place_of[tid]];
+    lock(k);
+    bool joined = p->joined;
+    p->cancelled = joined;
+    bool slept = p->call && p->call->cancels && interrupt_word(p);
+    unlock(k);
+    if (slept) wake(k, bit_of(k, p));
+    return joined ? 0 : fail(ESRCH);
+}
+
+void neutrino_set_hooks(neutrino *k, const struct neutrino_hooks *hooks) { k->hooks = *hooks; }
+
+/* What a thread waits for, under the lock. */
+static struct neutrino_blocked look_at(const neutrino *k, const struct place *p) {
+    if (!p->call) return (struct neutrino_blocked){STATE_READY, 0, 0, 0};
+    if (p->state == STATE_RECEIVE) return (struct neutrino_blocked){STATE_RECEIVE, p->call->number, 0, 0};
+    if (p->state == STATE_REPLY) return (struct neutrino_blocked){STATE_REPLY, p->chid, p->rcvid, p->server};
+    int chid = k->connections[place_in(&k->tables[CONNECTIONS], p->coid)].peer;
+    return (struct neutrino_blocked){STATE_SEND, chid, 0, k->channels[place_in(&k->tables[CHANNELS], chid)].receiver};
+}
+
+int neutrino_look(neutrino *k, struct neutrino_blocked *all) {
+    if (refuse(k)) return -1;
+    memset(all, 0, 256 * sizeof *all);
+    lock(k);
+    for (int at = 0; at < PLACES; at++) {
+        if (k->places[at].joined) all[k->places[at].tid] = look_at(k, &k->places[at]);
+    }
+    unlock(k);
+    return 0;
+}
