@@ -20,14 +20,14 @@ pub struct Level {
 pub fn levels_of(alloc: Global, kernel: &Kernel) -> Result<Vec<Level>, AllocError>
     ensures { IfOk result (λ levels. levels.items ≡ map level_of kernel.now.threads) }
 {
-    kernel
-        .threads()
-        .iter()
-        .map(|thread| Level {
+    let mut levels = Vec::new(alloc);
+    for thread in kernel.threads() {
+        levels.push(Level {
             thread: thread.member.thread,
             priority: thread.priority,
-        })
-        .collect(alloc)
+        })?;
+    }
+    Ok(levels)
 }
 
 /// Returns the priority of a thread; 0 if the thread isn't there.

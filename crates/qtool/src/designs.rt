@@ -98,9 +98,7 @@ pub fn run_explore<R: Files + Input + Print + Eprint + AllocGlobal>(
         Ok(Reading::Faulty(faults)) => return Err(source.end_faulty(rt, faults.as_slice())),
         Err(error) => Err(error),
     };
-    let Ok((words, status)) = told else {
-        return Err(end_failed(rt, "out of memory"));
-    };
+    let (words, status) = told.map_err(|_| end_failed(rt, "out of memory"))?;
     print_text(rt, words.as_str())?;
     Ok(ExitCode::from(status))
 }

@@ -43,9 +43,7 @@ pub fn run_named<R: Files + Input + Print + Eprint + AllocGlobal>(
         print_text(rt, named.text.as_str())?;
         return Ok(ExitCode::SUCCESS);
     }
-    let Ok(outcome) = outcome_of(rt.alloc(), named) else {
-        return Err(end_failed(rt, "out of memory"));
-    };
+    let outcome = outcome_of(rt.alloc(), named).map_err(|_| end_failed(rt, "out of memory"))?;
     print_text(rt, outcome.trace.as_str())?;
     if run.explain {
         let _ = tell_run(rt, file, &outcome.report);

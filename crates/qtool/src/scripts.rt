@@ -59,10 +59,8 @@ fn explain_from<R: Print + Eprint + AllocGlobal, S: Read + Drop>(
     input: S,
 ) -> Result<ExitCode, ExitCode> {
     let mut reader = Watched::new(Source::new(rt.alloc(), input, true));
-    let explained = match read_all(rt.alloc(), &mut reader) {
-        Ok(text) => explained(rt.alloc(), text.as_slice()),
-        Err(fault) => Err(fault),
-    };
+    let text = read_all(rt.alloc(), &mut reader);
+    let explained = text.and_then(|text| explained(rt.alloc(), text.as_slice()));
     let source = reader.into_inner();
     let (trace, report) = explained.map_err(|fault| end_faulty(rt, run, fault, &source))?;
     print_text(rt, trace.as_str())?;
