@@ -24,7 +24,6 @@ syntax match qdemodesignName1 /\v[A-Za-z_]%([0-9A-Za-z_.]|-\>@!)*/ contained nex
 syntax match qdemodesignName2 /\v[A-Za-z_]%([0-9A-Za-z_.]|-\>@!)*/ contained nextgroup=qdemodesignNumber3 skipwhite
 syntax match qdemodesignNumber3 /\v-?\d+%([0-9A-Za-z_.]|-\>@!)@!/ contained nextgroup=qdemodesignBytes,qdemodesignText,qdemodesignSize skipwhite
 syntax match qdemodesignOperator1 /\v\=/ contained nextgroup=qdemodesignCall,qdemodesignCall1,qdemodesignCall2 skipwhite
-syntax match qdemodesignDefinition /\v^\s*\zs[A-Za-z_]%([0-9A-Za-z_.]|-\>@!)*\ze\s*\=/ nextgroup=qdemodesignOperator1 skipwhite
 syntax match qdemodesignDefinition1 /\v[A-Za-z_]%([0-9A-Za-z_.]|-\>@!)*/ contained
 syntax match qdemodesignThread /\v^\s*\zsthread%([0-9A-Za-z_.]|-\>@!)@!/ nextgroup=qdemodesignDefinition1 skipwhite
 syntax match qdemodesignKeyword /\v^\s*\zs%(expect|if|else|end|repeat|loop|leave|stop|forget|push|pop|remove|check)%([0-9A-Za-z_.]|-\>@!)@!/ nextgroup=qdemodesignKeyword2 skipwhite
@@ -40,6 +39,7 @@ syntax match qdemodesignResult2 /\v[0-9A-Za-z_.-]@1<!bytes%([0-9A-Za-z_.]|-\>@!)
 syntax match qdemodesignError /\v%(srch|badf|inval|again|intr|busy|nomemory|down)%([0-9A-Za-z_.]|-\>@!)@!/ contained
 syntax match qdemodesignKeyword1 /\v[0-9A-Za-z_.-]@1<!%(not|or)%([0-9A-Za-z_.]|-\>@!)@!/ contained
 syntax region qdemodesignResults start=/\S\@=/ end=/$/ end=/[;#]/me=s-1 oneline contains=qdemodesignKeyword1,qdemodesignText,qdemodesignSize,qdemodesignNumber,qdemodesignName,qdemodesignOperator,qdemodesignResult,qdemodesignResult1,qdemodesignResult2,qdemodesignResult3,qdemodesignResult4 contained
+syntax match qdemodesignDefinition /\v^\s*\zs[A-Za-z_]%([0-9A-Za-z_.]|-\>@!)*\ze\s*\=/ nextgroup=qdemodesignOperator1 skipwhite
 highlight default link qdemodesignBytes String
 highlight default link qdemodesignCall Function
 highlight default link qdemodesignCall1 Function
