@@ -36,7 +36,7 @@ static void obey(void) {
 
 static void *serve(void *tells_circles) {
     struct epoll_event event;
-    neutrino_join(kernel, TICKER);
+    if (!neutrino_remote()) neutrino_join(kernel, TICKER);
     for (;;) {
         int count = epoll_wait(watched, &event, 1, tells_circles ? EVERY : -1);
         if (tells_circles) tell_circles();
