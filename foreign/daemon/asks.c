@@ -73,12 +73,18 @@ pid_t neutrino_remote_sender(int rcvid) {
     return (pid_t)ask_plainly(&ask);
 }
 
-int neutrino_remote_deliver(int rcvid, const struct sigevent *event, int priority, int code) {
-    struct wire_ask ask = {.op = OP_EVENT, .number = rcvid, .request = pulse_of(priority, code),
-                           .flags = priority == -1 ? WIRE_OWN_PRIORITY : 0,
+int neutrino_remote_deliver(int rcvid, const struct sigevent *event, bool delivers) {
+    int priority = event->sigev_priority;
+    struct wire_ask ask = {.op = OP_EVENT, .number = rcvid, .request = pulse_of(priority, event->sigev_code),
+                           .flags = (priority == -1 ? WIRE_OWN_PRIORITY : 0) | (delivers ? 0 : WIRE_TESTS),
                            .value = (uint64_t)(intptr_t)event->sigev_value.sival_ptr};
-    ask.request.id = (uint64_t)(uint32_t)event->sigev_signo; /* where SIGEV_PULSE has its coid */
+    ask.request.id = (uint64_t)(uint32_t)event->sigev_coid;
     return (int)ask_plainly(&ask);
+}
+
+void neutrino_remote_death(int tid) {
+    struct wire_ask ask = {.op = OP_DEATH, .number = tid};
+    ask_plainly(&ask);
 }
 
 int neutrino_remote_unblock(int rcvid) {

@@ -5,6 +5,8 @@
 #include "remote.h"
 #include "wire.h"
 
+#include "../qnx/include/sys/siginfo.h"
+
 #include "calling.c"
 #include "names.c"
 #include "sleep.c"

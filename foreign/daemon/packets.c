@@ -12,6 +12,10 @@ static bool serve(struct client *c, const struct wire_ask *a, const uint8_t *byt
     case OP_CLIENT: tell_client(c, a); break;
     case OP_SENDER: tell_sender(c, a); break;
     case OP_EVENT: deliver_event(c, a); break;
+    case OP_DEATH:
+        tell_process(c->process, THREAD_DEATH, CODE_THREADDEATH, a->number);
+        put_result(c, 0, 0);
+        break;
     case OP_UNBLOCK: unblock_sender(c, a); break;
     case OP_CANCEL: cancel_thread(c, a); break;
     case OP_SHOW: show_all(c); break;

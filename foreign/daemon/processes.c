@@ -41,12 +41,10 @@ static void join_thread(struct client *c, const struct wire_ask *a) {
 
 /* A thread whose socket has ended leaves its seat, once it has no open call. */
 static void leave_seat(struct client *c) {
-    int process = c->process, tid = c->tid;
     c->place->joined = false;
     client_of[c->place - k->places] = NULL;
     free_client(c);
     gone--;
-    if (!processes[process].ends) tell_process(process, THREAD_DEATH, CODE_THREADDEATH, tid);
 }
 
 static void leave_seats(void) {

@@ -30,8 +30,13 @@ int neutrino_remote_client(int scoid, struct wire_client *client);
 
 /* Returns the pid of the program that an rcvid is from. */
 pid_t neutrino_remote_sender(int rcvid);
-int neutrino_remote_deliver(int rcvid, const struct sigevent *event, int priority, int code);
+
+/* Delivers a pulse, or only tests whether it could be. */
+int neutrino_remote_deliver(int rcvid, const struct sigevent *event, bool delivers);
 int neutrino_remote_unblock(int rcvid);
+
+/* A thread of the program has ended. */
+void neutrino_remote_death(int tid);
 
 /* Prints what pidin prints. */
 int neutrino_remote_show(int fd);

@@ -26,11 +26,12 @@ enum wire_op {
     OP_CLIENT,      /* number is an scoid; the bytes of the answer are a wire_client */
     OP_SENDER,      /* number is an rcvid; the result is the pid of its sender's program */
     OP_EVENT,       /* a pulse to the program that an rcvid is from: number, with the request's coid */
+    OP_DEATH,       /* the thread whose tid is number has ended */
     OP_UNBLOCK,     /* unblock the sender of a held message, whose rcvid is number */
     OP_SHOW         /* the bytes of the answer are a text */
 };
 
-enum { WIRE_OWN_PRIORITY = 1, WIRE_CANCELS = 2, WIRE_SIDE = 4 };
+enum { WIRE_OWN_PRIORITY = 1, WIRE_CANCELS = 2, WIRE_SIDE = 4, WIRE_TESTS = 8 };
 
 struct wire_ask {
     uint32_t op;

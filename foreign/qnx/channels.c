@@ -24,32 +24,30 @@ static int send_noted(int coid, int chid, int priority, int code, union sigval v
 
 /* A pulse for the channels that are told of something. */
 struct death {
-    unsigned flag;
-    int code, value;
+    int code, value, count;
     struct told told[CHANNELS];
 };
 
 static void send_deaths(void *argument) {
-    struct death *death = argument;
-    for (int at = 0; at < CHANNELS; at++) {
-        const struct told *t = &death->told[at];
-        union sigval value = {.sival_ptr = (void *)(intptr_t)death->value};
-        if (t->chid && t->flags & death->flag) send_noted(t->coid, t->chid, -1, death->code, value);
-    }
+    const struct death *death = argument;
+    union sigval value = {.sival_ptr = (void *)(intptr_t)death->value};
+    for (int at = 0; at < death->count; at++)
+        send_noted(death->told[at].coid, death->told[at].chid, SIGEV_PULSE_PRIO_INHERIT, death->code, value);
 }
 
 static void tell(unsigned flag, int code, int value) {
-    struct death death = {.flag = flag, .code = code, .value = value};
-    bool any = false;
+    struct death death = {.code = code, .value = value, .count = 0};
     hold();
-    memcpy(death.told, told, sizeof told);
+    for (int at = 0; at < CHANNELS; at++) {
+        if (told[at].chid && told[at].flags & flag) death.told[death.count++] = told[at];
+    }
     release();
-    for (int at = 0; at < CHANNELS; at++) any |= death.told[at].chid && death.told[at].flags & flag;
-    if (any) as_system(send_deaths, &death);
+    if (death.count) as_system(send_deaths, &death);
 }
 
 static void tell_death(int tid) {
-    if (kernel) tell(_NTO_CHF_THREAD_DEATH, _PULSE_CODE_THREADDEATH, tid);
+    if (neutrino_remote()) neutrino_remote_death(tid);
+    else tell(_NTO_CHF_THREAD_DEATH, _PULSE_CODE_THREADDEATH, tid);
 }
 
 /* Tells of each connection to a channel that was destroyed. */

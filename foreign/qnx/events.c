@@ -39,8 +39,7 @@ static int deliver_remote(rcvid_t rcvid, const struct sigevent *event) {
     int type = SIGEV_GET_TYPE(event), signo = event->sigev_signo;
     if (type == SIGEV_NONE) return 0;
     if (type == SIGEV_UNBLOCK) return neutrino_remote_unblock(rcvid);
-    if (type == SIGEV_PULSE)
-        return neutrino_remote_deliver(rcvid, event, event->sigev_priority, event->sigev_code);
+    if (type == SIGEV_PULSE) return neutrino_remote_deliver(rcvid, event, true);
     pid_t pid = neutrino_remote_sender(rcvid);
     if (pid == -1) return -1;
     if (type == SIGEV_SIGNAL) return kill(pid, signo);
@@ -74,8 +73,9 @@ int MsgVerifyEvent(rcvid_t rcvid, const struct sigevent *event) {
     int error = wrong_event(event);
     if (enter()) return -1;
     if (!error && rcvid < 0) error = ESRCH;
-    bool is_own = !rcvid || !neutrino_remote(); /* or else it is another program's */
-    if (!error && is_own && SIGEV_GET_TYPE(event) == SIGEV_PULSE && !is_connection(event->sigev_coid)) error = EBADF;
+    bool is_pulse = !error && SIGEV_GET_TYPE(event) == SIGEV_PULSE;
+    if (is_pulse && rcvid && neutrino_remote()) return neutrino_remote_deliver(rcvid, event, false);
+    if (is_pulse && !is_connection(event->sigev_coid)) error = EBADF;
     return error ? fail(error) : 0;
 }
 

@@ -40,15 +40,21 @@ enum { CHANNELS = 64, CONNECTIONS = 1024, TIMERS = 64, NAMES = 64, NAME_LENGTH =
 
 static pthread_mutex_t front = PTHREAD_MUTEX_INITIALIZER;
 static _Thread_local volatile sig_atomic_t holding; /* the front's lock, for the thread's own signal handlers */
+static _Thread_local int cancel_state;              /* as it was before it held the lock */
 
 static void hold(void) {
+    int state;
+    pthread_setcancelstate(PTHREAD_CANCEL_DISABLE, &state);
     holding++;
     pthread_mutex_lock(&front);
+    cancel_state = state;
 }
 
 static void release(void) {
+    int state = cancel_state, ignored;
     pthread_mutex_unlock(&front);
     holding--;
+    pthread_setcancelstate(state, &ignored);
 }
 
 static int fail(int error) {

@@ -26,13 +26,19 @@ static void leave_point(long result) {
     errno = EINTR;
 }
 
-long MsgSend(int coid, const void *smsg, size_t sbytes, void *rmsg, size_t rbytes) {
-    long status = -1;
-    if (enter_point()) return -1;
+/* Sends a message, as often as its server says. */
+static long send_message(int coid, const void *smsg, size_t sbytes, void *rmsg, size_t rbytes) {
+    long status;
     if (is_scoid(coid)) return fail(EBADF);
     do {
         status = layer_MsgSend(plain(coid), smsg, sbytes, rmsg, rbytes);
     } while (status == -1 && errno == ERESTART);
+    return status;
+}
+
+long MsgSend(int coid, const void *smsg, size_t sbytes, void *rmsg, size_t rbytes) {
+    if (enter_point()) return -1;
+    long status = send_message(coid, smsg, sbytes, rmsg, rbytes);
     leave_point(status);
     return status;
 }

@@ -32,17 +32,17 @@ static int enter_name(const char *name, int chid) {
 }
 
 name_attach_t *name_attach(dispatch_t *dpp, const char *path, unsigned flags) {
-    int error = wrong_name(path);
+    name_attach_t *attach = calloc(1, sizeof *attach);
+    int chid = -1, error = attach ? wrong_name(path) : ENOMEM;
     (void)flags;
     if (!error && dpp) error = ENOTSUP;
-    name_attach_t *attach = error ? NULL : calloc(1, sizeof *attach);
-    if (!error && !attach) error = ENOMEM;
+    if (!error) chid = ChannelCreate(_NTO_CHF_UNBLOCK | _NTO_CHF_DISCONNECT | _NTO_CHF_COID_DISCONNECT);
+    if (!error) error = chid == -1 ? EBUSY : enter_name(path, chid);
     if (!error) {
-        attach->chid = ChannelCreate(_NTO_CHF_UNBLOCK | _NTO_CHF_DISCONNECT | _NTO_CHF_COID_DISCONNECT);
-        error = attach->chid == -1 ? EBUSY : enter_name(path, attach->chid);
-        if (error && attach->chid != -1) ChannelDestroy(attach->chid);
+        attach->chid = chid;
+        return attach;
     }
-    if (!error) return attach;
+    if (chid != -1) ChannelDestroy(chid);
     free(attach);
     errno = error;
     return NULL;

@@ -58,12 +58,9 @@ static void scatter(const struct whole *whole, size_t length) {
 static long send_parts(int coid, struct whole sent, struct whole room) {
     long status = -1;
     if (enter_point()) return -1;
-    if (is_scoid(coid)) return fail(EBADF);
     holding++;
     if (!gather(&sent, SENT, true) && !gather(&room, ROOM, true)) {
-        do {
-            status = layer_MsgSend(plain(coid), sent.bytes, sent.length, room.bytes, room.length);
-        } while (status == -1 && errno == ERESTART);
+        status = send_message(coid, sent.bytes, sent.length, room.bytes, room.length);
         scatter(&room, room.length);
     }
     holding--;
@@ -120,30 +117,34 @@ int MsgReceivePulsev(int chid, const iov_t *piov, size_t parts, struct _msg_info
     return result;
 }
 
-int MsgReplyv(rcvid_t rcvid, long status, const iov_t *riov, size_t rparts) {
-    struct whole sent = many(riov, rparts);
+/* Begins a call with parts that does not wait. */
+static int begin_parts(struct whole *whole, enum side side) {
     if (enter()) return -1;
     holding++;
-    int result = gather(&sent, SENT, true) ? -1 : layer_MsgReply(rcvid, status, sent.bytes, sent.length);
+    if (!gather(whole, side, side == SENT)) return 0;
+    holding--;
+    return -1;
+}
+
+static ssize_t end_parts(ssize_t result) {
     holding--;
     return result;
 }
 
+int MsgReplyv(rcvid_t rcvid, long status, const iov_t *riov, size_t rparts) {
+    struct whole sent = many(riov, rparts);
+    return begin_parts(&sent, SENT) ? -1 : (int)end_parts(layer_MsgReply(rcvid, status, sent.bytes, sent.length));
+}
+
 ssize_t MsgReadv(rcvid_t rcvid, const iov_t *riov, size_t rparts, size_t offset) {
     struct whole room = many(riov, rparts);
-    if (enter()) return -1;
-    holding++;
-    ssize_t came = gather(&room, ROOM, false) ? -1 : layer_MsgRead(rcvid, room.bytes, room.length, offset);
+    if (begin_parts(&room, ROOM)) return -1;
+    ssize_t came = layer_MsgRead(rcvid, room.bytes, room.length, offset);
     if (came > 0) scatter(&room, (size_t)came);
-    holding--;
-    return came;
+    return end_parts(came);
 }
 
 ssize_t MsgWritev(rcvid_t rcvid, const iov_t *iov, size_t parts, size_t offset) {
     struct whole sent = many(iov, parts);
-    if (enter()) return -1;
-    holding++;
-    ssize_t came = gather(&sent, SENT, true) ? -1 : layer_MsgWrite(rcvid, sent.bytes, sent.length, offset);
-    holding--;
-    return came;
+    return begin_parts(&sent, SENT) ? -1 : end_parts(layer_MsgWrite(rcvid, sent.bytes, sent.length, offset));
 }

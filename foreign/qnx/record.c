@@ -9,15 +9,14 @@
 #include <fcntl.h>
 #include <stdarg.h>
 
-enum { MARK = 1, LINE = 4000, LONGEST = 800, MOST = 4096, WHOLE = 4194304 - 8192, NAME_ROOM = 24 };
+enum { MARK = 1, LINE = 4000, LONGEST = 800, MOST = 4096, WHOLE = 4194304 - 2 * LINE, NAME_ROOM = 24 };
 
 static struct {
     int fd; /* -1: nothing is recorded */
-    char *text;
-    size_t length, size, written;
-    char names[256][NAME_ROOM];   /* of threads; empty: it has no line yet */
-    char open_as[256];            /* the letter of the name of the call that a thread is blocked in */
-    uint64_t cut[256];            /* a thread's last message, if its bytes are not recorded */
+    char text[WHOLE];
+    size_t length, written;
+    char names[256][NAME_ROOM]; /* of threads; empty: it has no line yet */
+    char open_as[256];          /* the letter of the name of the call that a thread is blocked in */
 } record = {.fd = -1};
 static pthread_mutex_t recording = PTHREAD_MUTEX_INITIALIZER; /* over the record; taken under the kernel's lock */
 
@@ -115,7 +114,7 @@ int neutrino_pthread_setname_np(pthread_t thread, const char *name) {
     if (!thread) thread = pthread_self();
     snprintf(cut, sizeof cut, "%s", name);
     int error = pthread_setname_np(thread, cut), tid = error || record.fd == -1 ? 0 : tid_of(thread);
-    if (tid && use_of(tid) == TAKEN) record_seat(tid, thread);
+    if (seat_of(tid).use == TAKEN) record_seat(tid, thread);
     return error;
 }
 

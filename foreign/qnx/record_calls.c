@@ -1,11 +1,4 @@
 /* The lines of a record. Tested, not proved. */
-static bool is_cut(const balsaeuchre_request *r) {
-    for (int tid = 0; tid < 256; tid++) {
-        if (record.cut[tid] && record.cut[tid] == r->id) return true;
-    }
-    return false;
-}
-
 /* A call's word, the letters of what it makes, and those of what it names first. */
 static const struct {
     const char *word, *makes, *names;
@@ -29,13 +22,15 @@ static const struct {
     [BALSAEUCHRE_SHUTDOWN] = {"shutdown", NULL, NULL},
 };
 
-/* A call's buffers, as the hook has them. */
-struct passed {
+/* A call with its buffers, as the hook has them. */
+struct made {
+    const balsaeuchre_request *request;
     const void *sent;
     size_t sent_len, room_len;
 };
 
-static void add_call(struct line *line, const balsaeuchre_request *r, const struct passed *b) {
+static void add_call(struct line *line, const struct made *made) {
+    const balsaeuchre_request *r = made->request;
     add(line, " %s", kinds[r->kind].word);
     if (kinds[r->kind].names) add_name(line, kinds[r->kind].names, r->id);
     switch (r->kind) {
@@ -47,14 +42,17 @@ static void add_call(struct line *line, const balsaeuchre_request *r, const stru
     case BALSAEUCHRE_PULSE: add(line, " %d %d %d", r->priority, r->pulse_code, r->value); break;
     case BALSAEUCHRE_PRIORITY_SET:
     case BALSAEUCHRE_STATE:
-    case BALSAEUCHRE_UNBLOCK: add(line, " "), add_thread(line, r->target); break;
+    case BALSAEUCHRE_UNBLOCK:
+        add(line, " ");
+        add_thread(line, r->target);
+        break;
     default: break;
     }
     if (r->kind == BALSAEUCHRE_PRIORITY_SET) add(line, " %d", r->priority);
     if (r->kind == BALSAEUCHRE_SEND || r->kind == BALSAEUCHRE_REPLY || r->kind == BALSAEUCHRE_WRITE)
-        add_bytes(line, b->sent, b->sent_len, b->sent_len > LONGEST);
+        add_bytes(line, made->sent, made->sent_len, made->sent_len > LONGEST);
     if (r->kind == BALSAEUCHRE_SEND || r->kind == BALSAEUCHRE_RECEIVE || r->kind == BALSAEUCHRE_READ)
-        add_bytes(line, NULL, b->room_len, true);
+        add_bytes(line, NULL, made->room_len, true);
 }
 
 static const char *process_name(int process) { return process == PROGRAM ? "program" : "system"; }
@@ -72,11 +70,12 @@ static void add_pulse(struct line *line, const balsaeuchre_ending *row) {
     }
 }
 
-/* What another call than the one that answers sees of it is known only if all of it is recorded. */
-static void add_result(struct line *line, const balsaeuchre_ending *row, const uint8_t *bytes, bool known) {
+/* How a call has completed. What is longer than what is recorded of it is left out. */
+static void add_result(struct line *line, const balsaeuchre_ending *row, const struct made *made,
+                       const uint8_t *bytes) {
+    size_t offset = made->request->offset;
     static const char *const errors[] = {"ok", "srch", "badf", "inval", "again", "intr", "busy", "nomemory", "down"};
     static const char *const states[] = {"", "ready", "send", "receive", "reply"};
-    bool has_bytes = known && row->count <= LONGEST;
     switch (row->mark) {
     case BALSAEUCHRE_DONE: add(line, "ok"); break;
     case BALSAEUCHRE_FAILED: add(line, "fail %s", row->errno_ < 9 ? errors[row->errno_] : "*"); break;
@@ -85,15 +84,15 @@ static void add_result(struct line *line, const balsaeuchre_ending *row, const u
     case BALSAEUCHRE_ERRORED: add(line, "error %d", row->value); break;
     case BALSAEUCHRE_REPLIED:
         add(line, "reply %lld", (long long)row->status);
-        if (has_bytes) add_bytes(line, bytes + row->start, row->count, false);
+        if (made->sent_len <= LONGEST) add_bytes(line, bytes + row->start, row->count, false);
         break;
     case BALSAEUCHRE_MESSAGE:
         add(line, "message");
         add_name(line, "m", row->rcvid);
-        if (has_bytes && row->srcmsglen <= LONGEST) add_bytes(line, bytes + row->start, row->count, false);
+        if (row->srcmsglen <= LONGEST) add_bytes(line, bytes + row->start, row->count, false);
         break;
     case BALSAEUCHRE_COUNT:
-        add(line, known ? "count %zu" : "count", row->count);
+        add(line, offset <= MOST && row->count <= MOST - offset ? "count %zu" : "count", row->count);
         break;
     case BALSAEUCHRE_INFORMED:
         add(line, "info %s ", process_name(row->process));
@@ -110,47 +109,33 @@ static void add_result(struct line *line, const balsaeuchre_ending *row, const u
     }
 }
 
-/* Notes what the results of later calls need. */
-static void note_call(const balsaeuchre_request *r, const struct passed *b, uint64_t call) {
-    record.open_as[r->thread] = kinds[r->kind].makes ? kinds[r->kind].makes[0] : 0;
-    if (r->kind == BALSAEUCHRE_SEND) record.cut[r->thread] = b->sent_len > LONGEST ? call : 0;
-}
-
 /* Adds how the call has completed, and the calls of others that it has completed. */
-static void add_results(struct line *line, const balsaeuchre_request *r, const struct passed *b,
-                        const balsaeuchre_event *event) {
-    bool is_whole = b->sent_len <= LONGEST && b->room_len <= MOST && !is_cut(r), blocks = true;
-    for (size_t at = 0; at < event->done.endings; at++) blocks &= event->rows[at].thread != r->thread;
+static void add_results(struct line *line, const struct made *made, const balsaeuchre_event *event) {
+    int caller = made->request->thread;
+    bool blocks = true;
+    for (size_t at = 0; at < event->done.endings; at++) blocks &= event->rows[at].thread != caller;
     add(line, " -> %s", blocks ? "blocked" : "");
     for (size_t at = 0; at < event->done.endings; at++) {
-        if (event->rows[at].thread == r->thread) add_result(line, &event->rows[at], event->bytes, is_whole);
+        if (event->rows[at].thread == caller) add_result(line, &event->rows[at], made, event->bytes);
     }
     for (size_t at = 0; at < event->done.endings; at++) {
         const balsaeuchre_ending *row = &event->rows[at];
-        if (row->thread == r->thread) continue;
+        if (row->thread == caller) continue;
         add(line, "; %c%llu -> ", record.open_as[row->thread], (unsigned long long)row->call);
-        add_result(line, row, event->bytes, is_whole);
+        add_result(line, row, made, event->bytes);
     }
+    add(line, "\n");
 }
 
+/* Keeps a line, or ends the record where a script would be too long. */
 static void keep_line(const struct line *line) {
-    if (record.length + line->length + 1 > record.size) {
-        size_t size = 2 * record.size + sizeof line->text;
-        char *grown = realloc(record.text, size);
-        if (!grown) return;
-        record.text = grown;
-        record.size = size;
-    }
-    memcpy(record.text + record.length, line->text, line->length);
-    record.length += line->length;
-    record.text[record.length++] = '\n';
-    write_named(line->text, line->length);
-    write_text("\n", 1);
-}
-
-/* Ends the record where a script would be too long. */
-static void end_record(void) {
     static const char told_end[] = "balsaeuchre: the record is full at 4 MiB, and ends here\n";
+    if (record.length + line->length <= WHOLE && record.written + line->length <= WHOLE) {
+        memcpy(record.text + record.length, line->text, line->length);
+        record.length += line->length;
+        write_named(line->text, line->length);
+        return;
+    }
     if (write(STDERR_FILENO, told_end, sizeof told_end - 1) < 0) errno = 0;
     close(record.fd);
     record.fd = -1;
@@ -159,19 +144,18 @@ static void end_record(void) {
 /* The hook: the kernel has made a call. */
 static void record_call(const balsaeuchre_request *r, const void *sent, size_t sent_len, const void *room,
                         size_t room_len, const balsaeuchre_event *event) {
-    struct passed passed = {sent, sent_len, room_len};
+    struct made made = {r, sent, sent_len, room_len};
     struct line line = {.length = 0};
     const char *letters = kinds[r->kind].makes;
     (void)room;
     pthread_mutex_lock(&recording);
     if (record.fd != -1) {
-        note_call(r, &passed, event->done.call);
+        record.open_as[r->thread] = letters ? letters[0] : 0;
         if (letters) add(&line, "%s%llu = ", letters, (unsigned long long)event->done.call);
         add_thread(&line, r->thread);
-        add_call(&line, r, &passed);
-        add_results(&line, r, &passed, event);
+        add_call(&line, &made);
+        add_results(&line, &made, event);
         keep_line(&line);
-        if (record.written > WHOLE) end_record();
     }
     pthread_mutex_unlock(&recording);
 }

@@ -2,8 +2,9 @@
  *
  * A seat is a number of the kernel's threads. pthread_create reserves one, so that threads are numbered as they are
  * created; a thread joins the kernel with it at its first call. A thread for which none was free takes one then, and if
- * need be one that is only reserved.
+ * need be one that is only reserved. If all are taken, it waits for a while.
  */
+enum { PATIENCE = 2 }; /* seconds */
 enum use { FREE, RESERVED, TAKEN };
 
 struct seat {
@@ -17,6 +18,7 @@ struct seat {
 };
 
 static struct seat seats[SEATS + 1]; /* by tid; the first is not used */
+static pthread_cond_t given_back = PTHREAD_COND_INITIALIZER;
 static unsigned tickets;
 static neutrino *kernel;
 static pid_t program;
@@ -63,6 +65,18 @@ static int take(void) {
     return tid;
 }
 
+/* The same, and waits if all are taken. */
+static int take_in_time(void) {
+    struct timespec until;
+    clock_gettime(CLOCK_REALTIME, &until);
+    until.tv_sec += PATIENCE;
+    hold();
+    int tid = take();
+    while (!tid && !pthread_cond_timedwait(&given_back, &front, &until)) tid = take();
+    release();
+    return tid;
+}
+
 /* Opens the program's kernel, if it isn't yet. Returns null and sets errno on an error. */
 static neutrino *open_program(void) {
     struct neutrino_thread threads[SYSTEM];
@@ -95,21 +109,35 @@ static void give_back(int tid) {
     free(seats[tid].parts[0]);
     free(seats[tid].parts[1]);
     seats[tid] = (struct seat){.use = FREE};
+    pthread_cond_signal(&given_back);
     release();
 }
 
-/* Takes a seat for the calling thread. Its handlers wait meanwhile. */
-static int take_seat(void) {
-    sigset_t all, old;
+/* What would end or interrupt the calling thread waits. */
+struct quiet {
+    sigset_t signals;
+    int cancel_state;
+};
+
+static void be_quiet(struct quiet *quiet) {
+    sigset_t all;
     sigfillset(&all);
-    pthread_sigmask(SIG_SETMASK, &all, &old);
+    pthread_sigmask(SIG_SETMASK, &all, &quiet->signals);
+    pthread_setcancelstate(PTHREAD_CANCEL_DISABLE, &quiet->cancel_state);
+}
+
+static void end_quiet(const struct quiet *quiet) {
+    int ignored;
+    pthread_setcancelstate(quiet->cancel_state, &ignored);
+    pthread_sigmask(SIG_SETMASK, &quiet->signals, NULL);
+}
+
+/* Takes a seat for the calling thread. */
+static int take_seat(void) {
+    struct quiet quiet;
+    be_quiet(&quiet);
     int tid = 0, error = open_program() ? 0 : errno;
-    if (!error) {
-        hold();
-        tid = take();
-        release();
-        if (!tid) error = EAGAIN;
-    }
+    if (!error && !(tid = take_in_time())) error = EAGAIN;
     if (!error && join(tid)) error = errno;
     if (!error && pthread_setspecific(ending, &seats[tid])) error = ENOMEM;
     if (!error) {
@@ -122,7 +150,7 @@ static int take_seat(void) {
         seat = 0;
         give_back(tid);
     }
-    pthread_sigmask(SIG_SETMASK, &old, NULL);
+    end_quiet(&quiet);
     return error ? fail(error) : 0;
 }
 
@@ -134,9 +162,8 @@ static pthread_mutex_t systems = PTHREAD_MUTEX_INITIALIZER; /* over the front's 
 /* Makes work's calls as that thread. The calling thread's own seat stays taken. */
 static void as_system(void (*work)(void *argument), void *argument) {
     int own = seat;
-    sigset_t all, old;
-    sigfillset(&all);
-    pthread_sigmask(SIG_SETMASK, &all, &old);
+    struct quiet quiet;
+    be_quiet(&quiet);
     pthread_mutex_lock(&systems);
     if (own) neutrino_leave();
     if (!neutrino_join(kernel, SYSTEM)) {
@@ -146,7 +173,7 @@ static void as_system(void (*work)(void *argument), void *argument) {
     seat = 0;
     if (own) join(own);
     pthread_mutex_unlock(&systems);
-    pthread_sigmask(SIG_SETMASK, &old, NULL);
+    end_quiet(&quiet);
 }
 
 /* Returns the tid of a thread that has a seat, or 0. */
@@ -160,11 +187,12 @@ static int tid_of(pthread_t thread) {
     return found;
 }
 
-/* Whether a seat is taken by a thread that has joined, or reserved for one. */
-static enum use use_of(int tid) {
-    if (tid < 1 || tid > SEATS) return FREE;
+/* A seat as it stands, which is free if there is no such. */
+static struct seat seat_of(int tid) {
+    struct seat none = {.use = FREE};
+    if (tid < 1 || tid > SEATS) return none;
     hold();
-    enum use use = seats[tid].use;
+    struct seat s = seats[tid];
     release();
-    return use;
+    return s;
 }

@@ -4,8 +4,8 @@ enum { ORDERS = TIMERS, EVERY = 20 }; /* EVERY: milliseconds between looks for c
 
 /* What the front's thread is told through a pipe. */
 struct order {
-    bool shows; /* or else it sends a pulse */
-    int coid, priority, code;
+    int coid; /* over which it sends a pulse; 0: it shows the threads */
+    int priority, code;
     union sigval value;
 };
 
@@ -17,34 +17,34 @@ static int give_order(const struct order *order) {
 
 /* For signal handlers. With SIGEV_PULSE_PRIO_INHERIT it has the priority of the front's thread. */
 static int defer_pulse(int coid, int priority, int code, union sigval value) {
-    return give_order(&(struct order){false, coid, priority, code, value});
+    return give_order(&(struct order){coid, priority, code, value});
 }
 
 static void on_quit(int signo) {
     int before = errno;
     (void)signo;
-    give_order(&(struct order){.shows = true});
+    give_order(&(struct order){.coid = 0});
     errno = before;
 }
 
 static void obey(void) {
     struct order order;
     if (read(orders[0], &order, sizeof order) != sizeof order) return;
-    if (order.shows) neutrino_show(STDERR_FILENO);
+    if (!order.coid) neutrino_show(STDERR_FILENO);
     else send_pulse(order.coid, order.priority, order.code, order.value);
 }
 
 static void *serve(void *tells_circles) {
     struct epoll_event event;
-    if (!neutrino_remote()) neutrino_join(kernel, TICKER);
+    if (neutrino_remote() || !neutrino_join(kernel, TICKER)) seat = TICKER;
     for (;;) {
         int count = epoll_wait(watched, &event, 1, tells_circles ? EVERY : -1);
+        if (count == -1 && errno != EINTR) return NULL; /* the program has closed all files */
         if (tells_circles) tell_circles();
         if (count != 1) continue;
         if (event.data.u32 == ORDERS) obey();
         else expire(&timers[event.data.u32]);
     }
-    return NULL;
 }
 
 /* Opens the pipe and the epoll. Returns whether it could. */
@@ -62,17 +62,13 @@ static bool open_service(void) {
     return true;
 }
 
-/* Starts the thread, with all signals blocked. Without it there are no timers, and SIGQUIT is as ever. */
+/* Starts the thread, for a caller whose signals are blocked. Without it there are no timers, and SIGQUIT is as ever. */
 static void start_service(void) {
     pthread_t thread;
-    sigset_t all, old;
     struct sigaction quit;
     const char *circles = getenv("BALSAEUCHRE_CIRCLES");
     if (!open_service()) return;
-    sigfillset(&all);
-    pthread_sigmask(SIG_SETMASK, &all, &old);
     int error = pthread_create(&thread, NULL, serve, circles && *circles && strcmp(circles, "0") ? orders : NULL);
-    pthread_sigmask(SIG_SETMASK, &old, NULL);
     if (error) return;
     pthread_detach(thread);
     if (sigaction(SIGQUIT, NULL, &quit) || quit.sa_handler != SIG_DFL) return;
@@ -103,5 +99,6 @@ static void forget_all(void) {
     forget_record();
     pthread_mutex_init(&systems, NULL);
     pthread_mutex_init(&front, NULL);
+    pthread_cond_init(&given_back, NULL);
     holding = 0;
 }

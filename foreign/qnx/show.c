@@ -26,7 +26,7 @@ void neutrino_show(int fd) {
         return;
     }
     dprintf(fd, "%8s %3s %-15s %4s %-8s Blocked\n", "pid", "tid", "name", "prio", "STATE");
-    if (holding || !kernel || neutrino_look(kernel, all)) return;
+    if (!kernel || enter() || neutrino_look(kernel, all)) return;
     for (int tid = 1; tid <= SEATS; tid++) {
         if (all[tid].state) show_thread(fd, tid, &all[tid]);
     }

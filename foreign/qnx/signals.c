@@ -54,6 +54,7 @@ void (*neutrino_signal(int signo, void (*handler)(int)))(int) {
     action.sa_handler = handler;
     action.sa_flags = SA_RESTART;
     sigemptyset(&action.sa_mask);
-    if (handler == SIG_ERR || neutrino_sigaction(signo, &action, &old)) return errno = EINVAL, SIG_ERR;
-    return old.sa_handler;
+    if (handler != SIG_ERR && !neutrino_sigaction(signo, &action, &old)) return old.sa_handler;
+    errno = EINVAL;
+    return SIG_ERR;
 }

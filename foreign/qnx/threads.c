@@ -36,7 +36,7 @@ static void *run_thread(void *argument) {
 }
 
 static int own_priority(void) {
-    int priority = seat ? neutrino_priority(0) : reserved ? seats[reserved].priority : USUAL;
+    int priority = seat ? neutrino_priority(0) : reserved ? seat_of(reserved).priority : USUAL;
     return is_priority(priority) ? priority : USUAL;
 }
 
@@ -59,6 +59,7 @@ static void reserve_both(struct start *start, int priority) {
         reserved = reserve(USUAL);
         ticket = seats[reserved].ticket;
         seats[reserved].thread = pthread_self();
+        pthread_setspecific(ending, seats);
     }
     start->reserved = reserve(priority);
     start->ticket = seats[start->reserved].ticket;
@@ -82,7 +83,10 @@ int neutrino_pthread_create(pthread_t *thread, const pthread_attr_t *attributes,
     pthread_attr_t hosts;
     pthread_t created;
     pthread_once(&once, prepare);
-    if (!start || refused) return free(start), EAGAIN;
+    if (!start || refused) {
+        free(start);
+        return EAGAIN;
+    }
     *start = (struct start){.function = function, .argument = argument};
     reserve_both(start, priority_of_attributes(attributes));
     copy = *start;
@@ -125,7 +129,7 @@ static int named_tid(int tid) {
 
 static int set_priority(int tid, int policy, int priority) {
     struct sched_param param = {.sched_priority = priority};
-    enum use use = use_of(tid);
+    enum use use = seat_of(tid).use;
     if (use == FREE) return fail(ESRCH);
     if (!is_priority(priority)) return fail(EINVAL);
     hold();
@@ -145,12 +149,12 @@ int SchedSet(pid_t pid, int tid, int policy, const struct sched_param *param) {
 int SchedGet(pid_t pid, int tid, struct sched_param *param) {
     if (enter()) return -1;
     tid = pid && pid != program ? 0 : named_tid(tid);
-    enum use use = use_of(tid);
-    if (use == FREE) return fail(ESRCH);
-    int priority = use == TAKEN ? neutrino_priority(tid) : seats[tid].priority;
+    struct seat s = seat_of(tid);
+    if (s.use == FREE) return fail(ESRCH);
+    int priority = s.use == TAKEN ? neutrino_priority(tid) : s.priority;
     if (priority == -1) return -1;
     if (param) param->sched_priority = priority;
-    return seats[tid].policy;
+    return s.policy;
 }
 
 int SchedYield(void) { return sched_yield(); }

@@ -112,13 +112,26 @@ static uint64_t nanoseconds(const struct timespec *t) {
     return (uint64_t)t->tv_sec * 1000000000u + (uint64_t)t->tv_nsec;
 }
 
+static _Thread_local uint64_t join_time; /* in which the next pthread_join has to end, and 1 more; 0: it has not to */
+
+int neutrino_pthread_join(pthread_t thread, void **value) {
+    uint64_t time = join_time;
+    struct timespec until;
+    join_time = 0;
+    if (!time) return pthread_join(thread, value);
+    clock_gettime(CLOCK_REALTIME, &until);
+    time += nanoseconds(&until) - 1;
+    until = (struct timespec){(time_t)(time / 1000000000u), (long)(time % 1000000000u)};
+    return pthread_timedjoin_np(thread, value, &until);
+}
+
 int TimerTimeout(clockid_t id, int flags, const struct sigevent *notify, const uint64_t *ntime, uint64_t *otime) {
     uint64_t left = 0;
     if (enter()) return -1;
     if (notify && SIGEV_GET_TYPE(notify) != SIGEV_UNBLOCK) return fail(EINVAL);
-    int known = _NTO_TIMEOUT_SEND | _NTO_TIMEOUT_RECEIVE | _NTO_TIMEOUT_REPLY;
-    int others = _NTO_TIMEOUT_CONDVAR | _NTO_TIMEOUT_INTR | _NTO_TIMEOUT_JOIN | _NTO_TIMEOUT_MUTEX |
-                 _NTO_TIMEOUT_NANOSLEEP | _NTO_TIMEOUT_SEM | _NTO_TIMEOUT_SIGSUSPEND | _NTO_TIMEOUT_SIGWAITINFO;
+    int known = _NTO_TIMEOUT_SEND | _NTO_TIMEOUT_RECEIVE | _NTO_TIMEOUT_REPLY | _NTO_TIMEOUT_JOIN;
+    int others = _NTO_TIMEOUT_CONDVAR | _NTO_TIMEOUT_INTR | _NTO_TIMEOUT_MUTEX | _NTO_TIMEOUT_NANOSLEEP |
+                 _NTO_TIMEOUT_SEM | _NTO_TIMEOUT_SIGSUSPEND | _NTO_TIMEOUT_SIGWAITINFO;
     if (ntime) left = *ntime;
     if (flags & known) flags &= ~others;
     if (flags & TIMER_ABSTIME) {
@@ -126,7 +139,9 @@ int TimerTimeout(clockid_t id, int flags, const struct sigevent *notify, const u
         if (clock_gettime(id, &now)) return -1;
         left = left > nanoseconds(&now) ? left - nanoseconds(&now) : 0;
     }
-    return layer_TimerTimeout(id, flags & ~TIMER_ABSTIME, NULL, ntime ? &left : NULL, otime);
+    flags &= ~TIMER_ABSTIME;
+    join_time = flags & _NTO_TIMEOUT_JOIN && left < INT64_MAX / 2 ? left + 1 : 0;
+    return layer_TimerTimeout(id, flags & ~_NTO_TIMEOUT_JOIN, NULL, ntime ? &left : NULL, otime);
 }
 
 int timer_timeout(clockid_t id, int flags, const struct sigevent *notify, const struct timespec *ntime,

@@ -73,7 +73,11 @@ int main(void)
     struct sigevent event;
     struct sigaction action;
     struct _pulse pulse;
+    sigset_t usr1;
 
+    sigemptyset(&usr1);
+    sigaddset(&usr1, SIGUSR1);
+    pthread_sigmask(SIG_BLOCK, &usr1, NULL); /* else it would end the call by which we make it happen */
     server_chid = ChannelCreate(0);
     pthread_create(&tid, NULL, server, NULL);
     int coid = ConnectAttach(0, 0, server_chid, _NTO_SIDE_CHANNEL, 0);
@@ -94,6 +98,7 @@ int main(void)
     printf("told: %ld\n", ask(coid, MSG_HAPPEN, NULL));
     MsgReceivePulse(chid, &pulse, sizeof pulse, NULL);
     printf("pulse of code %d, value %d\n", pulse.code, pulse.value.sival_int);
+    pthread_sigmask(SIG_UNBLOCK, &usr1, NULL);
     while (!signalled)
         delay(1);
     printf("and the signal\n");

@@ -8,6 +8,7 @@
  *                                kernel, or has ended
  *   pthread_getschedparam        its priority, and the policy that was last set, or SCHED_RR. ESRCH as above
  *   pthread_cancel               ends a call that the thread is blocked in
+ *   pthread_join                 ends with ETIMEDOUT after a TimerTimeout with _NTO_TIMEOUT_JOIN
  *   pthread_setname_np           a thread's name in neutrino_show and in a record
  */
 #pragma GCC system_header
@@ -18,6 +19,7 @@
 #pragma redefine_extname pthread_getschedparam neutrino_pthread_getschedparam
 #pragma redefine_extname pthread_setschedprio neutrino_pthread_setschedprio
 #pragma redefine_extname pthread_cancel neutrino_pthread_cancel
+#pragma redefine_extname pthread_join neutrino_pthread_join
 #pragma redefine_extname pthread_setname_np neutrino_pthread_setname_np
 #endif
 #include <sched.h>

@@ -53,10 +53,11 @@ void sends(void), receives(void), replies(void), reads(void), infos(void), resta
 void vectors(void), wrong_parts(void), not_cancelled(void);
 void codes(void), values(void), notes(void), pulse_errors(void), pulses_received(void);
 void events(void), event_errors(void), verified(void);
-void pulse_timers(void), host_timers(void), timer_errors(void), timeouts(void), timeout_errors(void);
+void pulse_timers(void), host_timers(void), timer_errors(void);
+void timeouts(void), join_timeouts(void), timeout_errors(void);
 void priorities(void), attributes(void), seats(void), reserved(void), deaths(void), forks(void), delays(void);
 void interrupted(void), handlers(void), in_handlers(void), many_signals(void), cancelled(void), many_cancelled(void);
-void lives(void), echo_1_1(void), echo_40_8(void);
+void lives(void), crowds(void), echo_1_1(void), echo_40_8(void);
 void names(void), shown(void), circles(void), quits(void);
 
 #endif

@@ -75,8 +75,11 @@ void attributes(void) {
     check(pthread_attr_destroy(&attributes) == 0);
 }
 
+static _Atomic int arrived;
+
 static void *hold_seat(void *argument) {
     int priority = getprio(0), error = errno;
+    atomic_fetch_add(&arrived, 1);
     while (atomic_load((_Atomic int *)argument) == 0) usleep(1000);
     return (void *)(intptr_t)(priority == -1 ? -error : priority);
 }
@@ -87,8 +90,9 @@ void seats(void) {
     _Atomic int go = 0;
     pthread_t threads[MANY];
     int refused = 0;
+    atomic_store(&arrived, 0);
     for (int at = 0; at < MANY; at++) threads[at] = start(hold_seat, &go);
-    usleep(50000);
+    while (atomic_load(&arrived) < MANY) usleep(1000);
     atomic_store(&go, 1);
     for (int at = 0; at < MANY; at++) refused += result_of(threads[at]) == -EAGAIN;
     check(refused == MANY - 59);

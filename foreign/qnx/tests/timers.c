@@ -121,6 +121,27 @@ void timeouts(void) {
     check(ConnectDetach(coid) == 0 && ChannelDestroy(chid) == 0);
 }
 
+static void *wait_for_go(void *argument) {
+    while (!atomic_load((_Atomic int *)argument)) usleep(100);
+    return (void *)5;
+}
+
+/* Of pthread_join, with its states alone or with those of messages. */
+void join_timeouts(void) {
+    _Atomic int go = 0;
+    void *value = NULL;
+    struct timespec time = {0, 1000000};
+    pthread_t thread = start(wait_for_go, &go);
+    set_timeout(_NTO_TIMEOUT_JOIN, 1000000);
+    check(pthread_join(thread, &value) == ETIMEDOUT);
+    check(timer_timeout(CLOCK_MONOTONIC, _NTO_TIMEOUT_JOIN | _NTO_TIMEOUT_SEND, NULL, &time, NULL) == 0);
+    check(pthread_join(thread, &value) == ETIMEDOUT);
+    set_timeout(_NTO_TIMEOUT_JOIN, 1000000);
+    set_timeout(0, 0);
+    atomic_store(&go, 1);
+    check(pthread_join(thread, &value) == 0 && value == (void *)5); /* however long it takes */
+}
+
 void timeout_errors(void) {
     struct sigevent event;
     uint64_t time = 1;
@@ -129,7 +150,7 @@ void timeout_errors(void) {
     fails(TimerTimeout(CLOCK_MONOTONIC, _NTO_TIMEOUT_SEND, &event, &time, NULL), EINVAL);
     SIGEV_UNBLOCK_INIT(&event);
     check(TimerTimeout(CLOCK_MONOTONIC, 0, &event, &time, NULL) == 0);
-    fails(TimerTimeout(CLOCK_MONOTONIC, _NTO_TIMEOUT_JOIN, &event, &time, NULL), EINVAL);
+    fails(TimerTimeout(CLOCK_MONOTONIC, _NTO_TIMEOUT_SEM, &event, &time, NULL), EINVAL);
     fails(TimerTimeout(CLOCK_MONOTONIC, _NTO_TIMEOUT_SEND | 0x40000000, &event, &time, NULL), EINVAL);
     check(TimerTimeout(CLOCK_MONOTONIC, _NTO_TIMEOUT_SEND | _NTO_TIMEOUT_MUTEX, &event, &time, NULL) == 0);
     check(TimerTimeout(CLOCK_MONOTONIC, 0, &event, &time, NULL) == 0);

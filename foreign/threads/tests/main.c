@@ -10,8 +10,9 @@ static const struct { const char *name; void (*run)(void); } tests[] = {
     TEST(messages),   TEST(lengths),    TEST(long_messages), TEST(pulses),        TEST(priorities),
     TEST(limits),     TEST(numbers),    TEST(unblocks),     TEST(timeouts),       TEST(timeout_states),
     TEST(detaches),   TEST(destroys),   TEST(shutdowns),    TEST(forks),          TEST(cancels),
-    TEST(exits),      TEST(signals),    TEST(memory),       TEST(echo_1_1),       TEST(echo_8_4),
-    TEST(echo_32_16), TEST(late_8_4),   TEST(late_40_8),
+    TEST(exits),      TEST(signals),    TEST(memory),       TEST(interrupts),     TEST(cancelled),
+    TEST(looks),      TEST(hooks),      TEST(echo_1_1),     TEST(echo_8_4),       TEST(echo_32_16),
+    TEST(late_8_4),   TEST(late_40_8),
 };
 
 neutrino *open_few(void) {

@@ -4,8 +4,8 @@
  * this front, and the layer of threads between, are C: tested, not proved.
  *
  * A program's first call opens its kernel. A thread takes one of 60 places at its first call, and gives it back when it
- * ends; a call of a 61st thread fails with EAGAIN. The main thread has tid 1, if it makes the first call or creates the
- * first thread.
+ * ends; a call of a 61st thread waits two seconds for one, and then fails with EAGAIN. The main thread has tid 1, if it
+ * makes the first call or creates the first thread.
  *
  * The calls are those of QNX's Library Reference, on the pages of the same names. What differs:
  *   - The whole program is one process; a pid is 0 or getpid(), and ND_LOCAL_NODE is the only node.
@@ -52,10 +52,11 @@ extern "C" {
 #define _NTO_MI_NET_CRED_DIRTY 0x200
 #define _NTO_MI_BITS_64 0
 
+#define _NTO_TIMEOUT_JOIN (1 << 12) /* besides _NTO_TIMEOUT_SEND, _NTO_TIMEOUT_RECEIVE and _NTO_TIMEOUT_REPLY */
+
 /* States of calls that no timeout ends. TimerTimeout passes over them, if there is one that it knows. */
 #define _NTO_TIMEOUT_CONDVAR (1 << 10)
 #define _NTO_TIMEOUT_INTR (1 << 11)
-#define _NTO_TIMEOUT_JOIN (1 << 12)
 #define _NTO_TIMEOUT_MUTEX (1 << 13)
 #define _NTO_TIMEOUT_NANOSLEEP (1 << 14)
 #define _NTO_TIMEOUT_SEM (1 << 15)
@@ -287,9 +288,9 @@ int MsgUnregisterEvent_r(const struct sigevent *event);
 /* Sets the timeout of this thread's next call, as timer_timeout of time.h does: once *ntime nanoseconds have passed and
  * it is in one of the states of flags, it ends with ETIMEDOUT; a client whose message is received on a channel with
  * _NTO_CHF_UNBLOCK stays blocked, and its server gets an unblock pulse. ntime null: it does not wait in these states.
- * With TIMER_ABSTIME in flags *ntime is a time of the clock id. flags 0 takes the timeout back. *otime gets the timeout
- * that this one replaces, or 0. EINVAL: no such state, an event but SIGEV_UNBLOCK, another clock than CLOCK_MONOTONIC
- * and CLOCK_REALTIME. */
+ * _NTO_TIMEOUT_JOIN ends the next pthread_join. With TIMER_ABSTIME in flags *ntime is a time of the clock id. flags 0
+ * takes the timeout back. *otime gets the timeout that this one replaces, or 0. EINVAL: no such state, an event but
+ * SIGEV_UNBLOCK, another clock than CLOCK_MONOTONIC and CLOCK_REALTIME. */
 int TimerTimeout(clockid_t id, int flags, const struct sigevent *notify, const uint64_t *ntime, uint64_t *otime);
 int TimerTimeout_r(clockid_t id, int flags, const struct sigevent *notify, const uint64_t *ntime, uint64_t *otime);
 
