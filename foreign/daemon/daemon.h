@@ -27,6 +27,7 @@ struct client {
     uint8_t process;     /* 0: it hasn't joined */
     struct place *place; /* of a thread */
     int tid;             /* of a thread, in its process */
+    pid_t host_tid;      /* of a thread, as it says */
     struct wire_ask ask; /* of the call that is open, or whose bytes come */
     struct call call;
     struct _msg_info info;

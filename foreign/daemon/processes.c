@@ -1,5 +1,14 @@
 /* Programs and their threads: how they join, and how they end. Tested, not proved. */
 
+/* Keeps the first groups of a socket's user. */
+static void read_groups(int fd, struct process *process) {
+    gid_t groups[256];
+    socklen_t length = sizeof groups;
+    if (getsockopt(fd, SOL_SOCKET, SO_PEERGROUPS, groups, &length)) length = 0;
+    for (; process->ngroups < WIRE_GROUPS && process->ngroups < length / sizeof(gid_t); process->ngroups++)
+        process->groups[process->ngroups] = groups[process->ngroups];
+}
+
 static void join_process(struct client *c, const struct wire_ask *a) {
     int process = 1;
     while (process <= limits.processes && processes[process].peer.pid) process++;
@@ -7,10 +16,8 @@ static void join_process(struct client *c, const struct wire_ask *a) {
     if (!error && process > limits.processes) error = EAGAIN;
     if (!error) {
         struct process *new = &processes[process];
-        socklen_t length = sizeof new->groups;
         *new = (struct process){.peer = c->peer};
-        if (getsockopt(c->fd, SOL_SOCKET, SO_PEERGROUPS, new->groups, &length)) length = 0;
-        new->ngroups = (uint32_t)(length / sizeof(gid_t));
+        read_groups(c->fd, new);
         c->is_process = true;
         c->process = (uint8_t)process;
     }
@@ -32,6 +39,7 @@ static void join_thread(struct client *c, const struct wire_ask *a) {
         p->cancelled = false;
         c->process = (uint8_t)process;
         c->tid = a->number;
+        c->host_tid = a->pid;
         c->place = p;
         client_of[seat] = c;
         make_hidden(request);

@@ -120,7 +120,7 @@ neutrino *neutrino_open_version(uint32_t version, const struct neutrino_thread *
 }
 
 static int join_remote(int tid) {
-    struct wire_ask ask = {.op = OP_THREAD, .number = tid, .value = 10};
+    struct wire_ask ask = {.op = OP_THREAD, .number = tid, .value = 10, .pid = (int32_t)syscall(SYS_gettid)};
     struct wire_answer answer;
     struct iovec none[2] = {{NULL, 0}, {NULL, 0}};
     if (tid < 1 || tid > UINT8_MAX) return fail(ESRCH);

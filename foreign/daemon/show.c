@@ -1,9 +1,9 @@
 /* What pidin prints. Tested, not proved. */
 
-/* The name that the host has for a program. */
-static void name_program(pid_t pid, char name[20]) {
-    char path[40];
-    snprintf(path, sizeof path, "/proc/%d/comm", (int)pid);
+/* The name that the host has for a thread. */
+static void name_thread(pid_t pid, pid_t tid, char name[20]) {
+    char path[60];
+    snprintf(path, sizeof path, "/proc/%d/task/%d/comm", (int)pid, (int)tid);
     FILE *file = fopen(path, "re");
     if (!file || !fgets(name, 20, file)) strcpy(name, "?");
     if (file) fclose(file);
@@ -18,22 +18,26 @@ static void show_blocked(FILE *to, const struct place *p) {
         chid = k->connections[place_in(&k->tables[CONNECTIONS], p->coid)].peer;
         server = k->channels[place_in(&k->tables[CHANNELS], chid)].receiver;
     }
-    fprintf(to, "chid %d", chid);
+    fprintf(to, p->state == STATE_RECEIVE ? "chid %d\n" : "chid %d", chid);
     if (p->state == STATE_RECEIVE) return;
     const struct client *whom = k->place_of[server] == PLACES ? NULL : client_of[k->place_of[server]];
     int owner = k->channels[place_in(&k->tables[CHANNELS], chid)].owner;
-    fprintf(to, ", pid %d", (int)processes[owner].peer.pid);
-    if (whom) fprintf(to, " tid %d", whom->tid);
+    char name[20];
+    if (whom) name_thread(processes[owner].peer.pid, whom->host_tid, name);
+    if (whom) fprintf(to, ", thread %d (%s) of %d\n", whom->tid, name, (int)processes[owner].peer.pid);
+    else fprintf(to, ", of %d\n", (int)processes[owner].peer.pid);
 }
 
-static void show_thread(FILE *to, const struct client *c, const char *name) {
+static void show_thread(FILE *to, const struct client *c) {
+    char name[20];
     static const char *const states[] = {"", "READY", "SEND", "RECEIVE", "REPLY"};
     const struct place *p = c->place;
+    pid_t pid = processes[c->process].peer.pid;
     int state = p->call ? p->state : STATE_READY;
-    fprintf(to, "%8d %3d %-15s %4d %-8s", (int)processes[c->process].peer.pid, c->tid, name, priority_of(k, p),
-            states[state]);
-    if (state != STATE_READY) fputc(' ', to), show_blocked(to, p);
-    fputc('\n', to);
+    name_thread(pid, c->host_tid, name);
+    fprintf(to, "%8d %3d %-15s %4d ", (int)pid, c->tid, name, priority_of(k, p));
+    if (state == STATE_READY) fprintf(to, "READY\n");
+    else fprintf(to, "%-8s ", states[state]), show_blocked(to, p);
 }
 
 static void show_channel(FILE *to, int place) {
@@ -53,14 +57,9 @@ static void show_channel(FILE *to, int place) {
 }
 
 static void show(FILE *to) {
-    char name[20];
     fprintf(to, "%8s %3s %-15s %4s %-8s Blocked\n", "pid", "tid", "name", "prio", "STATE");
-    for (int process = 1; process <= limits.processes; process++) {
-        if (!processes[process].peer.pid) continue;
-        name_program(processes[process].peer.pid, name);
-        for (int at = 0; at < PLACES; at++) {
-            if (client_of[at] && client_of[at]->process == process) show_thread(to, client_of[at], name);
-        }
+    for (int at = 0; at < PLACES; at++) {
+        if (client_of[at]) show_thread(to, client_of[at]);
     }
     fprintf(to, "\n%8s %4s %5s %5s %6s %9s Name\n", "pid", "chid", "Sent", "Held", "Pulses", "Receivers");
     for (int at = 0; at < CHANNEL_PLACES; at++) {

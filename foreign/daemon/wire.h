@@ -37,7 +37,7 @@ struct wire_ask {
     uint32_t op;
     uint32_t call; /* counts the calls of a thread */
     int32_t number;
-    int32_t pid;    /* of a ConnectAttach */
+    int32_t pid;    /* of a ConnectAttach; of OP_THREAD the host's tid */
     int32_t states; /* those that may be timed out, after time nanoseconds */
     uint32_t flags;
     uint64_t time;
