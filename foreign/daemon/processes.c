@@ -111,13 +111,15 @@ static void end_process(int process) {
     end_connections(process);
 }
 
-/* A socket has ended, or its packets are malformed. */
+/* A socket has ended, or its packets are malformed. If it is a thread's that is in a call, its program has most likely
+ * been killed, and its own socket ends in a moment. So the call is ended a little later. */
 static void hang_up(struct client *c) {
     int process = c->process;
     bool is_process = c->is_process;
     end_socket(c);
+    c->call.states = ~0;
+    c->call.until = now() + RETRY * 1000000u;
     if (!c->place) free_client(c);
-    else if (c->place->call) interrupt(c, WAS_INTERRUPTED);
     if (is_process) end_process(process);
     leave_seats();
 }

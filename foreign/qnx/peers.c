@@ -52,8 +52,8 @@ static int fill_remote(int scoid, struct _client_info *info, int most) {
 int ConnectClientInfo(int scoid, struct _client_info *info, int ngroups) {
     if (enter()) return -1;
     if (!info) return fail(EFAULT);
-    if (neutrino_remote()) return fill_remote(scoid, info, ngroups);
-    if (scoid != (SIDE | PROGRAM)) return fail(EINVAL);
+    bool is_own = scoid == (neutrino_remote() ? neutrino_remote_scoid() : SIDE | PROGRAM);
+    if (!is_own) return neutrino_remote() ? fill_remote(scoid, info, ngroups) : fail(EINVAL);
     memset(info, 0, sizeof *info);
     info->nd = ND_LOCAL_NODE;
     info->pid = program;
