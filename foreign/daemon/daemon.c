@@ -37,6 +37,8 @@ static uint64_t now(void) {
 #include "packets.c"
 
 static int listener = -1;
+static volatile sig_atomic_t stops; /* a signal has asked for the end */
+static sigset_t while_waiting;      /* signals are blocked but while it waits */
 
 /* Opens the kernel: seats and a clock for each process, and the daemon's own thread. Returns 0 or an error. */
 static uint32_t open_all(void) {
@@ -123,7 +125,7 @@ static void serve_once(void) {
     uint64_t next = end_late_calls(), time = next ? now() : 0, left = next > time ? next - time : 0;
     if (ending && (!next || left > RETRY * 1000000u)) left = RETRY * 1000000u;
     struct timespec until = {(time_t)(left / 1000000000u), (long)(left % 1000000000u)};
-    int count = epoll_pwait2(events, ready, 64, next || ending ? &until : NULL, NULL);
+    int count = epoll_pwait2(events, ready, 64, next || ending ? &until : NULL, &while_waiting);
     for (int at = 0; at < count; at++) {
         struct client *c = ready[at].data.ptr;
         if (!c) accept_client();
@@ -192,6 +194,24 @@ static bool read_options(int count, char **words) {
            limits.processes * (limits.threads + 1) < PLACES;
 }
 
+static void stop(int signo) {
+    (void)signo;
+    stops = 1;
+}
+
+static void take_signals(void) {
+    sigset_t ends;
+    struct sigaction action;
+    memset(&action, 0, sizeof action);
+    action.sa_handler = stop;
+    sigemptyset(&ends);
+    sigaddset(&ends, SIGTERM);
+    sigaddset(&ends, SIGINT);
+    sigprocmask(SIG_BLOCK, &ends, &while_waiting);
+    sigaction(SIGTERM, &action, NULL);
+    sigaction(SIGINT, &action, NULL);
+}
+
 int main(int count, char **words) {
     if (!read_options(count, words)) {
         fputs(usage, stderr);
@@ -207,5 +227,12 @@ int main(int count, char **words) {
         fputs("balsaeuchred: no memory\n", stderr);
         return 1;
     }
-    for (;;) serve_once();
+    take_signals();
+    while (!stops) serve_once();
+    if (words[optind]) unlink(words[optind]);
+    for (int at = 0; at < CLIENTS; at++) free_client(&clients[at]);
+    balsaeuchre_close(&k->library);
+    free(k->event.bytes);
+    free(k->side.bytes);
+    return 0;
 }

@@ -17,9 +17,10 @@ static void drop_out(struct client *c) {
 static void write_on(struct client *c) {
     size_t most = c->out_done ? WIRE_PART : sizeof(struct wire_answer) + WIRE_PART;
     size_t left = c->out_length - c->out_done, part = left < most ? left : most;
-    if (send(c->fd, c->out + c->out_done, part, MSG_NOSIGNAL | MSG_DONTWAIT) < 0) return; /* if it broke, its read says */
+    bool sent = send(c->fd, c->out + c->out_done, part, MSG_NOSIGNAL | MSG_DONTWAIT) >= 0;
+    if (!sent && errno == EAGAIN) return;
     c->out_done += part;
-    if (c->out_done < c->out_length) return;
+    if (sent && c->out_done < c->out_length) return; /* if it broke, its next read says so */
     drop_out(c);
     watch(c, EPOLLIN);
 }
@@ -45,7 +46,8 @@ static void put_answer(struct client *c, int error, int64_t result, const void *
     struct msghdr packet = {.msg_iov = parts, .msg_iovlen = first ? 2 : 1};
     if (c->fd == -1) return;
     bool began = sendmsg(c->fd, &packet, MSG_NOSIGNAL | MSG_DONTWAIT) >= 0;
-    if (!began || first < length) keep_answer(c, &head, bytes, began);
+    bool is_broken = !began && errno != EAGAIN; /* its next read says so */
+    if (!is_broken && (!began || first < length)) keep_answer(c, &head, bytes, began);
 }
 
 static void put_result(struct client *c, int error, int64_t result) {

@@ -38,7 +38,7 @@ static void threads(void) {
     pthread_t all[THREADS];
     int chid = ChannelCreate(0), refused = 0;
     for (int at = 0; at < THREADS; at++) check(pthread_create(&all[at], NULL, receive, (void *)(intptr_t)chid) == 0);
-    usleep(20000);
+    usleep(500000); /* until each has made its call */
     check(ChannelDestroy(chid) == 0);
     for (int at = 0; at < THREADS; at++) {
         void *error;
