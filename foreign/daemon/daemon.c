@@ -161,15 +161,14 @@ static bool open_listener(const char *path) {
 
 static const char usage[] =
     "usage: balsaeuchred [--processes N] [--threads N] [--channels N] [--connections N] [--bytes N] [--group NAME]\n"
-    "                    [--record FILE] [SOCKET]\n"
+    "                    [SOCKET]\n"
     "One kernel for the programs that run with BALSAEUCHRE_SYSTEM=SOCKET. Without SOCKET it is systemd's.\n"
     "  --processes 12      programs at a time, and\n"
     "  --threads 4         threads of each; N * (threads + 1) is at most 63\n"
     "  --channels 16       channels of each, of 64 in all\n"
     "  --connections 256   connections of each, of 1,024 in all\n"
     "  --bytes 8388608     bytes of the open calls of each\n"
-    "  --group NAME        whose members may connect, too, beside the same user\n"
-    "  --record FILE       writes the run as a script with names\n";
+    "  --group NAME        whose members may connect, too, beside the same user\n";
 
 /* Reads the options. Returns whether they are right. */
 static bool read_options(int count, char **words) {
