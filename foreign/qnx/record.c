@@ -12,12 +12,12 @@
 enum { MARK = 1, LINE = 4000, LONGEST = 800, MOST = 4096, WHOLE = 4194304 - 2 * LINE, NAME_ROOM = 24 };
 
 static struct {
-    int fd; /* -1: nothing is recorded */
-    char text[WHOLE];
-    size_t length, written;
+    int fd;                     /* -1: nothing is recorded */
+    size_t length, written;     /* of the lines below, and of the file */
     char names[256][NAME_ROOM]; /* of threads; empty: it has no line yet */
     char open_as[256];          /* the letter of the name of the call that a thread is blocked in */
 } record = {.fd = -1};
+static char lines[WHOLE];
 static pthread_mutex_t recording = PTHREAD_MUTEX_INITIALIZER; /* over the record; taken under the kernel's lock */
 
 /* A line that grows. */
@@ -68,7 +68,7 @@ static void write_all(void) {
         add(&line, "%s = thread %d %s %d\n", record.names[tid], tid, process, tid <= SYSTEM ? USUAL : LOWEST);
     }
     write_text(line.text, line.length);
-    write_named(record.text, record.length);
+    write_named(lines, record.length);
 }
 
 /* A name as scripts have them, that no other thread has and none of the calls. */

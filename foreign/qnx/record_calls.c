@@ -131,7 +131,7 @@ static void add_results(struct line *line, const struct made *made, const balsae
 static void keep_line(const struct line *line) {
     static const char told_end[] = "balsaeuchre: the record is full at 4 MiB, and ends here\n";
     if (record.length + line->length <= WHOLE && record.written + line->length <= WHOLE) {
-        memcpy(record.text + record.length, line->text, line->length);
+        memcpy(lines + record.length, line->text, line->length);
         record.length += line->length;
         write_named(line->text, line->length);
         return;

@@ -4,7 +4,10 @@
  * created; a thread joins the kernel with it at its first call. A thread for which none was free takes one then, and if
  * need be one that is only reserved. If all are taken, it waits for a while.
  */
-enum { PATIENCE = 2 }; /* seconds */
+#ifndef PATIENCE
+#define PATIENCE 10 /* seconds */
+#endif
+
 enum use { FREE, RESERVED, TAKEN };
 
 struct seat {

@@ -5,7 +5,7 @@ enum { ORDERS = TIMERS, EVERY = 20 }; /* EVERY: milliseconds between looks for c
 /* What the front's thread is told through a pipe. */
 struct order {
     int coid; /* over which it sends a pulse; 0: it shows the threads */
-    int priority, code;
+    int priority, code, zero; /* zero: no byte is left unwritten */
     union sigval value;
 };
 
@@ -17,7 +17,7 @@ static int give_order(const struct order *order) {
 
 /* For signal handlers. With SIGEV_PULSE_PRIO_INHERIT it has the priority of the front's thread. */
 static int defer_pulse(int coid, int priority, int code, union sigval value) {
-    return give_order(&(struct order){coid, priority, code, value});
+    return give_order(&(struct order){coid, priority, code, 0, value});
 }
 
 static void on_quit(int signo) {

@@ -40,7 +40,8 @@ int main(void)
     for (int at = 0; (at = ConnectServerInfo(0, at, &info)) != -1; at++)
         count += info.chid == chid && info.pid == getpid();
     printf("%d connections to it\n", count);
-    printf("flags %d, then %d\n", ConnectFlags(0, coid, ~0u, 0), ConnectFlags(0, coid, 0, 0));
+    int flags = ConnectFlags(0, coid, ~0u, 0);
+    printf("flags %d, then %d\n", flags, ConnectFlags(0, coid, 0, 0));
     ConnectDetach(second);
     if (ConnectAttach(ND_LOCAL_NODE, getpid() + 1, chid, _NTO_SIDE_CHANNEL, 0) == -1)
         perror("another process");

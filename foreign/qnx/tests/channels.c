@@ -2,6 +2,7 @@
 #include "tests.h"
 
 #include <grp.h>
+#include <sys/netmgr.h>
 
 void channels(void) {
     char room[8];
@@ -79,6 +80,7 @@ void peers(void) {
     char room[8];
     check(ConnectServerInfo(0, coid, &info) == coid && info.coid == coid && info.chid == chid);
     check(info.pid == getpid() && info.nd == ND_LOCAL_NODE && info.scoid > 0);
+    check(netmgr_remote_nd(5, ND_LOCAL_NODE) == ND_LOCAL_NODE && ND_NODE_CMP(0, 1) < 0 && ND_NODE_CMP(1, 1) == 0);
     check(ConnectServerInfo(getpid(), 0, &info) == low && info.coid == low);
     check(ConnectServerInfo(0, low + 1, &info) == (coid < second ? coid : second));
     fails(ConnectServerInfo(0, (coid > second ? coid : second) + 1, &info), EINVAL);

@@ -65,13 +65,13 @@ void lives(void) {
 
 /* More threads at once than there are places: the others wait. */
 void crowds(void) {
-    enum { AT_ONCE = 200 };
-    pthread_t servers[2], threads[AT_ONCE];
-    open_servers(servers, 2);
+    enum { AT_ONCE = 80 };
+    pthread_t servers[8], threads[AT_ONCE];
+    open_servers(servers, 8);
     for (int at = 0; at < AT_ONCE; at++) threads[at] = start(ask, (void *)(intptr_t)at);
     for (int at = 0; at < AT_ONCE; at++) result_of(threads[at]);
     check(atomic_load(&answered) == AT_ONCE);
-    stop(servers, 2);
+    stop(servers, 8);
 }
 
 static void echo(int clients, int count, int each) {

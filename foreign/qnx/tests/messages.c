@@ -48,6 +48,8 @@ void receives(void) {
     fails(MsgReceive(chid, NULL, 8, NULL), EFAULT);
     fails_r(MsgReceive_r(chid + 1, room, 8, NULL), ESRCH);
     begin_send(&client, coid);
+    set_timeout(_NTO_TIMEOUT_RECEIVE, 0);
+    fails(MsgReceivePulse(chid, room, 8, NULL), ETIMEDOUT); /* it takes no message */
     int rcvid = MsgReceive(chid, room, 3, &info);
     check(rcvid > 0 && memcmp(room, "hel...", 6) == 0);
     check(info.pid == getpid() && info.coid == coid && info.chid == chid && info.tid == client.tid);

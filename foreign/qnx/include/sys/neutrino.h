@@ -4,7 +4,7 @@
  * this front, and the layer of threads between, are C: tested, not proved.
  *
  * A program's first call opens its kernel. A thread takes one of 60 places at its first call, and gives it back when it
- * ends; a call of a 61st thread waits two seconds for one, and then fails with EAGAIN. The main thread has tid 1, if it
+ * ends; a call of a 61st thread waits ten seconds for one, and then fails with EAGAIN. The main thread has tid 1, if it
  * makes the first call or creates the first thread.
  *
  * The calls are those of QNX's Library Reference, on the pages of the same names. What differs:
@@ -29,8 +29,11 @@
 #define BALSAEUCHRE_QNX_NEUTRINO_H
 
 #include <errno.h>
+#include <inttypes.h>
+#include <limits.h>
 #include <sched.h>
 #include <signal.h>
+#include <stddef.h>
 #include <stdint.h>
 #include <sys/siginfo.h>
 #include <sys/types.h>
