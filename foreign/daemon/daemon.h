@@ -1,7 +1,7 @@
 /* The parts of the daemon share these. Tested, not proved.
  *
- * One thread makes all calls, in the library's memory of this process alone. It waits for nothing but epoll: a socket is
- * read and written without waiting, a packet at a time. The kernel's threads are seats, some for each process, and
+ * One thread makes all calls, in the library's memory of this process alone. It waits for nothing but epoll: a socket
+ * is read and written without waiting, a packet at a time. The kernel's threads are seats, some for each process, and
  * besides a clock for each process, which is never blocked and acts for it, and one thread of the daemon's own.
  */
 #ifndef BALSAEUCHRE_DAEMON_H

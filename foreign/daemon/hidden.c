@@ -124,7 +124,8 @@ static void end_channel(int chid) {
     int place = place_in(&k->tables[CHANNELS], chid);
     *names[place] = 0;
     end_notes(chid);
-    if (told[place].flags) make_hidden(balsaeuchre_request_of(BALSAEUCHRE_CONNECT_DETACH, SYSTEM, told[place].connection));
+    balsaeuchre_request detach = balsaeuchre_request_of(BALSAEUCHRE_CONNECT_DETACH, SYSTEM, told[place].connection);
+    if (told[place].flags) make_hidden(detach);
     told[place].flags = 0;
     for (int at = 0; at < CONNECTION_PLACES; at++) {
         const struct name *name = &k->connections[at];

@@ -1,7 +1,7 @@
 /* pidin: prints the programs of a daemon. Tested, not proved.
  *
- * For each thread its priority, its state and on whom it is blocked; and for each channel the messages that were sent to
- * it and not received, those that are held, the pulses and the threads that wait there, and its name. */
+ * For each thread its priority, its state and on whom it is blocked; and for each channel the messages that were sent
+ * to it and not received, those that are held, the pulses and the threads that wait there, and its name. */
 #define _GNU_SOURCE
 #include "wire.h"
 

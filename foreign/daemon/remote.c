@@ -18,7 +18,8 @@ static long ask_daemon(struct wire_ask *ask, struct iovec bytes, struct wire_ans
     pthread_setcancelstate(PTHREAD_CANCEL_DISABLE, &cancel);
     inside++;
     if (!joined) pthread_mutex_lock(&asking);
-    long result = exchange(joined ? own_socket : program_socket, ask, (struct iovec[2]){bytes, {NULL, 0}}, answer, room);
+    struct iovec sent[2] = {bytes, {NULL, 0}};
+    long result = exchange(joined ? own_socket : program_socket, ask, sent, answer, room);
     if (!joined) pthread_mutex_unlock(&asking);
     inside--;
     pthread_setcancelstate(cancel, &ignored);

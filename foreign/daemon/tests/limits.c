@@ -1,5 +1,5 @@
-/* limits [NAME..]: what a process may have, clients that are stopped, long messages, and users that may not connect. For
- * a daemon with its usual limits. */
+/* limits [NAME..]: what a process may have, clients that are stopped, long messages, and users that may not connect.
+ * For a daemon with its usual limits. */
 #define _GNU_SOURCE
 #include "tests.h"
 
