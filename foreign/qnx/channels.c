@@ -13,6 +13,7 @@ struct connection {
     _Atomic int coid; /* 0: none */
     int chid;
     unsigned flags;
+    pid_t pid; /* of the channel's program */
 };
 
 static struct told told[CHANNELS];
@@ -44,7 +45,10 @@ static void tell(unsigned flag, int code, int value) {
     if (death.count) as_system(send_deaths, &death);
 }
 
-static void tell_death(int tid) { tell(_NTO_CHF_THREAD_DEATH, _PULSE_CODE_THREADDEATH, tid); }
+static void tell_death(int tid) {
+    if (neutrino_remote()) neutrino_remote_death(tid);
+    else tell(_NTO_CHF_THREAD_DEATH, _PULSE_CODE_THREADDEATH, tid);
+}
 
 /* Tells of each connection to a channel that was destroyed. */
 static void tell_disconnects(int chid) {
@@ -83,6 +87,7 @@ int ChannelCreate(unsigned flags) {
     if (enter()) return -1;
     unsigned layers = _NTO_CHF_FIXED_PRIORITY | _NTO_CHF_UNBLOCK | _NTO_CHF_DISCONNECT;
     if (flags & ~(layers | DEATHS | IGNORED)) return fail(EINVAL);
+    if (neutrino_remote()) return neutrino_remote_channel(flags & (layers | DEATHS));
     int chid = layer_ChannelCreate(flags & layers);
     return chid == -1 || !(flags & DEATHS) ? chid : add_told(chid, flags);
 }
@@ -113,22 +118,26 @@ static struct connection *connection_of(int coid) {
 }
 
 /* Enters a connection, under the lock. There is a place, as each is left before its connection is detached. */
-static void add_connection(int coid, int chid, unsigned flags) {
+static void add_connection(int coid, int chid, unsigned flags, pid_t pid) {
     unsigned at = (unsigned)plain(coid) % CONNECTIONS;
     while (connections[at].coid) at = (at + 1) % CONNECTIONS;
     connections[at].chid = chid;
     connections[at].flags = flags;
+    connections[at].pid = pid;
     atomic_store(&connections[at].coid, coid);
 }
 
 int ConnectAttach(uint32_t nd, pid_t pid, int chid, unsigned index, int flags) {
     if (enter()) return -1;
-    if (nd != ND_LOCAL_NODE || (pid && pid != program)) return fail(ESRCH);
-    int coid = layer_ConnectAttach(ND_LOCAL_NODE, PROGRAM, chid, 0, 0);
+    bool is_remote = neutrino_remote();
+    if (!pid) pid = program;
+    if (nd != ND_LOCAL_NODE || (pid != program && !is_remote)) return fail(ESRCH);
+    int coid = is_remote ? neutrino_remote_attach(pid, chid, (int)index & SIDE)
+                         : layer_ConnectAttach(ND_LOCAL_NODE, PROGRAM, chid, 0, 0);
     if (coid == -1) return -1;
     coid |= (int)index & SIDE;
     hold();
-    add_connection(coid, chid, (unsigned)flags);
+    add_connection(coid, chid, (unsigned)flags, pid);
     release();
     return coid;
 }
@@ -140,12 +149,13 @@ int ConnectDetach(int coid) {
     struct connection *c = connection_of(coid);
     int kept = c ? c->coid : 0, chid = c ? c->chid : 0;
     unsigned flags = c ? c->flags : 0;
+    pid_t pid = c ? c->pid : 0;
     if (c) c->coid = 0;
     release();
     if (!layer_ConnectDetach(plain(coid))) return 0;
     int error = errno;
     hold();
-    if (kept) add_connection(kept, chid, flags); /* the kernel refused the disconnect pulse */
+    if (kept) add_connection(kept, chid, flags, pid); /* the kernel refused the disconnect pulse */
     release();
     return fail(error);
 }

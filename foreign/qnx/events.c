@@ -34,10 +34,24 @@ static int send_event_pulse(const struct sigevent *event) {
     return send_pulse(event->sigev_coid, event->sigev_priority, event->sigev_code, event->sigev_value);
 }
 
+/* To the program that an rcvid is from, whichever that is. */
+static int deliver_remote(rcvid_t rcvid, const struct sigevent *event) {
+    int type = SIGEV_GET_TYPE(event), signo = event->sigev_signo;
+    if (type == SIGEV_NONE) return 0;
+    if (type == SIGEV_UNBLOCK) return neutrino_remote_unblock(rcvid);
+    if (type == SIGEV_PULSE) return neutrino_remote_deliver(rcvid, event, true);
+    pid_t pid = neutrino_remote_sender(rcvid);
+    if (pid == -1) return -1;
+    if (type == SIGEV_SIGNAL) return kill(pid, signo);
+    if (type == SIGEV_SIGNAL_CODE) return sigqueue(pid, signo, event->sigev_value);
+    return pid == program ? signal_sender(rcvid, signo) : fail(ENOTSUP);
+}
+
 int MsgDeliverEvent(rcvid_t rcvid, const struct sigevent *event) {
     int error = wrong_event(event), tid;
     if (enter()) return -1;
     if (error || rcvid < 0) return fail(error ? error : ESRCH);
+    if (neutrino_remote()) return deliver_remote(rcvid, event);
     switch (SIGEV_GET_TYPE(event)) {
     case SIGEV_PULSE: return send_event_pulse(event);
     case SIGEV_SIGNAL: return kill(program, event->sigev_signo);
@@ -59,7 +73,9 @@ int MsgVerifyEvent(rcvid_t rcvid, const struct sigevent *event) {
     int error = wrong_event(event);
     if (enter()) return -1;
     if (!error && rcvid < 0) error = ESRCH;
-    if (!error && SIGEV_GET_TYPE(event) == SIGEV_PULSE && !is_connection(event->sigev_coid)) error = EBADF;
+    bool is_pulse = !error && SIGEV_GET_TYPE(event) == SIGEV_PULSE;
+    if (is_pulse && rcvid && neutrino_remote()) return neutrino_remote_deliver(rcvid, event, false);
+    if (is_pulse && !is_connection(event->sigev_coid)) error = EBADF;
     return error ? fail(error) : 0;
 }
 

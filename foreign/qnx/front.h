@@ -6,6 +6,8 @@
 #ifndef FRONT_H
 #define FRONT_H
 
+#include "../daemon/remote.h"
+#include "../daemon/wire.h"
 #include "balsaeuchre.h"
 
 #include <errno.h>

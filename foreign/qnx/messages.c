@@ -45,6 +45,7 @@ long MsgSend(int coid, const void *smsg, size_t sbytes, void *rmsg, size_t rbyte
 
 /* The program's pid, and the coid as the program knows it. */
 static void complete_info(struct _msg_info *info) {
+    if (neutrino_remote()) return; /* the daemon has done so */
     int known = atomic_load(&connections[(unsigned)info->coid % CONNECTIONS].coid);
     info->pid = program;
     if (plain(known) != info->coid) {

@@ -1,4 +1,4 @@
-/* Names of servers, in the program. Tested, not proved. */
+/* Names of servers, in the program or in the daemon. Tested, not proved. */
 static struct {
     char name[NAME_LENGTH]; /* empty: none */
     int chid;
@@ -20,6 +20,7 @@ static int wrong_name(const char *name) {
 
 /* Enters a name. Returns 0 or an errno. */
 static int enter_name(const char *name, int chid) {
+    if (neutrino_remote()) return neutrino_remote_name(name, chid) ? errno : 0;
     hold();
     int place = place_of_name(""), error = place_of_name(name) != -1 ? EEXIST : place == -1 ? EBUSY : 0;
     if (!error) {
@@ -51,6 +52,7 @@ int name_detach(name_attach_t *attach, unsigned flags) {
     bool found = false;
     (void)flags;
     if (!attach) return fail(EINVAL);
+    if (neutrino_remote()) found = !neutrino_remote_unname(attach->chid);
     hold();
     for (int at = 0; at < NAMES; at++) {
         if (!*names[at].name || names[at].chid != attach->chid) continue;
@@ -64,16 +66,24 @@ int name_detach(name_attach_t *attach, unsigned flags) {
     return 0;
 }
 
+/* Returns the chid of a name, and sets the pid if that is known. */
+static int find_name(const char *name, pid_t *pid) {
+    if (neutrino_remote()) return neutrino_remote_find(name, pid);
+    hold();
+    int place = place_of_name(name), chid = place == -1 ? 0 : names[place].chid;
+    release();
+    return place == -1 ? fail(ENOENT) : chid;
+}
+
 int name_open(const char *name, int flags) {
     struct { uint16_t type, subtype; uint8_t rest[60]; } connect = {_IO_CONNECT, 0, {0}};
     (void)flags;
     if (enter()) return -1;
     if (!name || !*name) return fail(EINVAL);
-    hold();
-    int place = place_of_name(name), chid = place == -1 ? 0 : names[place].chid;
-    release();
-    if (place == -1) return fail(ENOENT);
-    int coid = ConnectAttach(ND_LOCAL_NODE, 0, chid, 0, 0);
+    pid_t pid = 0;
+    int chid = find_name(name, &pid);
+    if (chid == -1) return -1;
+    int coid = ConnectAttach(ND_LOCAL_NODE, pid, chid, 0, 0);
     if (coid == -1 || MsgSendnc(coid, &connect, sizeof connect, NULL, 0) != -1) return coid;
     int error = errno;
     ConnectDetach(coid);

@@ -6,14 +6,14 @@ int ConnectServerInfo(pid_t pid, int coid, struct _server_info *info) {
     int found = 0;
     memset(info, 0, sizeof *info);
     info->nd = info->srcnd = ND_LOCAL_NODE;
-    info->pid = program;
-    info->scoid = SIDE | PROGRAM;
+    info->scoid = neutrino_remote() ? neutrino_remote_scoid() : SIDE | PROGRAM;
     hold();
     for (int at = 0; at < CONNECTIONS; at++) {
         const struct connection *c = &connections[at];
         if (!c->coid || c->coid < coid || (found && c->coid > found)) continue;
         info->coid = found = c->coid;
         info->chid = c->chid;
+        info->pid = c->pid;
         info->flags = (int16_t)c->flags;
     }
     release();
@@ -32,10 +32,28 @@ static uint32_t fill_groups(gid_t *groups, int most) {
     return count > 0 ? (uint32_t)count : 0;
 }
 
+/* Fills a client of the daemon, of whom the host tells one user and group. */
+static int fill_remote(int scoid, struct _client_info *info, int most) {
+    struct wire_client client;
+    if (neutrino_remote_client(scoid, &client)) return -1;
+    memset(info, 0, sizeof *info);
+    info->nd = ND_LOCAL_NODE;
+    info->pid = client.pid;
+    info->sid = getsid(client.pid);
+    info->cred.ruid = info->cred.euid = info->cred.suid = client.uid;
+    info->cred.rgid = info->cred.egid = info->cred.sgid = client.gid;
+    while (info->cred.ngroups < client.ngroups && (int)info->cred.ngroups < most) {
+        info->cred.grouplist[info->cred.ngroups] = client.groups[info->cred.ngroups];
+        info->cred.ngroups++;
+    }
+    return 0;
+}
+
 int ConnectClientInfo(int scoid, struct _client_info *info, int ngroups) {
     if (enter()) return -1;
     if (!info) return fail(EFAULT);
-    if (scoid != (SIDE | PROGRAM)) return fail(EINVAL);
+    bool is_own = scoid == (neutrino_remote() ? neutrino_remote_scoid() : SIDE | PROGRAM);
+    if (!is_own) return neutrino_remote() ? fill_remote(scoid, info, ngroups) : fail(EINVAL);
     memset(info, 0, sizeof *info);
     info->nd = ND_LOCAL_NODE;
     info->pid = program;

@@ -75,6 +75,7 @@ static int wrong_pulse(int priority, int code) {
 }
 
 static int send_pulse(int coid, int priority, int code, union sigval value) {
+    if (neutrino_remote()) return neutrino_remote_pulse(plain(coid), priority, code, value);
     bool fits = code >= 0 && code != NOTED && (intptr_t)value.sival_ptr == value.sival_int;
     if (fits) return layer_MsgSendPulse(plain(coid), priority, code, value.sival_int);
     hold();

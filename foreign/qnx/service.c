@@ -36,7 +36,7 @@ static void obey(void) {
 
 static void *serve(void *tells_circles) {
     struct epoll_event event;
-    if (!neutrino_join(kernel, TICKER)) seat = TICKER;
+    if (neutrino_remote() || !neutrino_join(kernel, TICKER)) seat = TICKER;
     for (;;) {
         int count = epoll_wait(watched, &event, 1, tells_circles ? EVERY : -1);
         if (count == -1 && errno != EINTR) return NULL; /* the program has closed all files */

@@ -21,6 +21,10 @@ static void show_thread(int fd, int tid, const struct neutrino_blocked *blocked)
 
 void neutrino_show(int fd) {
     struct neutrino_blocked all[256];
+    if (!holding && kernel && neutrino_remote()) {
+        neutrino_remote_show(fd);
+        return;
+    }
     dprintf(fd, "%8s %3s %-15s %4s %-8s Blocked\n", "pid", "tid", "name", "prio", "STATE");
     if (!kernel || enter() || neutrino_look(kernel, all)) return;
     for (int tid = 1; tid <= SEATS; tid++) {

@@ -97,12 +97,6 @@ struct neutrino {
     struct place places[PLACES];
 };
 
-/* The kernel and the place of the calling thread. self is null if it has not joined. inside counts the calls and
- * locks that it is in, for its own signal handlers. */
-static _Thread_local neutrino *kernel;
-static _Thread_local struct place *self;
-static _Thread_local volatile sig_atomic_t inside;
-
 static uint64_t bit_of(const neutrino *k, const struct place *p) { return 1ull << (p - k->places); }
 
 static int host_error(uint32_t error) {
@@ -110,13 +104,5 @@ static int host_error(uint32_t error) {
                                       ENOMEM, ESHUTDOWN, EOVERFLOW, EOVERFLOW, ESRCH,  EPERM, EBUSY};
     return host_errors[error];
 }
-
-static int fail(int error) {
-    errno = error;
-    return -1;
-}
-
-/* Fails if the calling thread may not make a call. */
-static int refuse_call(void) { return !self ? fail(EPERM) : inside ? fail(EDEADLK) : 0; }
 
 #endif

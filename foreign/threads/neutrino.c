@@ -2,10 +2,12 @@
 #define _GNU_SOURCE
 #include "layer.h"
 
+#include "calling.c"
 #include "names.c"
 #include "sleep.c"
 #include "endings.c"
 #include "timeouts.c"
+#include "under_lock.c"
 #include "call.c"
 #include "messages.c"
 #include "channels.c"

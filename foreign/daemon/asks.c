@@ -1,0 +1,105 @@
+/* What the front asks of the daemon beside the layer's calls. Tested, not proved. */
+
+bool neutrino_remote(void) { return is_remote; }
+
+int neutrino_remote_scoid(void) { return program_scoid; }
+
+/* Makes a call of which the layer does not know all. */
+static long call_with(struct call *c, uint64_t value, pid_t pid, unsigned flags) {
+    int cancel;
+    if (refuse_call()) return -1;
+    pthread_setcancelstate(PTHREAD_CANCEL_DISABLE, &cancel);
+    struct wire_ask ask = ask_of(c, self, false);
+    ask.value = value;
+    ask.pid = pid;
+    ask.flags |= flags;
+    return make_remote(c, &ask, cancel);
+}
+
+int neutrino_remote_channel(unsigned flags) {
+    return (int)call_with(&(struct call){.request = {.kind = BALSAEUCHRE_CHANNEL_CREATE}}, flags, 0, 0);
+}
+
+int neutrino_remote_attach(pid_t pid, int chid, bool is_side) {
+    struct call c = {.request = {.kind = BALSAEUCHRE_CONNECT_ATTACH}, .number = chid};
+    return (int)call_with(&c, 0, pid, is_side ? WIRE_SIDE : 0);
+}
+
+static balsaeuchre_request pulse_of(int priority, int code) {
+    return (balsaeuchre_request){.kind = BALSAEUCHRE_PULSE, .priority = (uint8_t)priority, .pulse_code = (int8_t)code};
+}
+
+/* The front's own thread has no seat: the program's clock sends its pulses. */
+int neutrino_remote_pulse(int coid, int priority, int code, union sigval value) {
+    struct call c = {.request = pulse_of(priority, code), .number = coid, .own_priority = priority == -1};
+    uint64_t bits = (uint64_t)(intptr_t)value.sival_ptr;
+    if (self) return (int)call_with(&c, bits, 0, 0);
+    struct place none = {.word = ENDED};
+    struct wire_ask ask = ask_of(&c, &none, false);
+    ask.value = bits;
+    return (int)ask_plainly(&ask);
+}
+
+static long ask_by_name(struct wire_ask ask, const char *name, struct wire_answer *answer) {
+    struct iovec bytes = {(void *)(uintptr_t)name, strlen(name)};
+    return bytes.iov_len < WIRE_NAME ? ask_daemon(&ask, bytes, answer, (struct iovec){NULL, 0}) : fail(ENOENT);
+}
+
+int neutrino_remote_name(const char *name, int chid) {
+    struct wire_answer answer;
+    return (int)ask_by_name((struct wire_ask){.op = OP_NAME, .number = chid}, name, &answer);
+}
+
+int neutrino_remote_unname(int chid) {
+    struct wire_ask ask = {.op = OP_UNNAME, .number = chid};
+    return (int)ask_plainly(&ask);
+}
+
+int neutrino_remote_find(const char *name, pid_t *pid) {
+    struct wire_answer answer = {.error = 0};
+    int chid = (int)ask_by_name((struct wire_ask){.op = OP_FIND}, name, &answer);
+    *pid = answer.info.pid;
+    return chid;
+}
+
+int neutrino_remote_client(int scoid, struct wire_client *client) {
+    struct wire_ask ask = {.op = OP_CLIENT, .number = scoid};
+    struct wire_answer answer;
+    return (int)ask_daemon(&ask, (struct iovec){NULL, 0}, &answer, (struct iovec){client, sizeof *client});
+}
+
+pid_t neutrino_remote_sender(int rcvid) {
+    struct wire_ask ask = {.op = OP_SENDER, .number = rcvid};
+    return (pid_t)ask_plainly(&ask);
+}
+
+int neutrino_remote_deliver(int rcvid, const struct sigevent *event, bool delivers) {
+    int priority = event->sigev_priority;
+    struct wire_ask ask = {.op = OP_EVENT, .number = rcvid, .request = pulse_of(priority, event->sigev_code),
+                           .flags = (priority == -1 ? WIRE_OWN_PRIORITY : 0) | (delivers ? 0 : WIRE_TESTS),
+                           .value = (uint64_t)(intptr_t)event->sigev_value.sival_ptr};
+    ask.request.id = (uint64_t)(uint32_t)event->sigev_coid;
+    return (int)ask_plainly(&ask);
+}
+
+void neutrino_remote_death(int tid) {
+    struct wire_ask ask = {.op = OP_DEATH, .number = tid};
+    ask_plainly(&ask);
+}
+
+int neutrino_remote_unblock(int rcvid) {
+    struct wire_ask ask = {.op = OP_UNBLOCK, .number = rcvid};
+    return (int)ask_plainly(&ask);
+}
+
+int neutrino_remote_show(int fd) {
+    static const size_t most = 65536;
+    struct wire_ask ask = {.op = OP_SHOW};
+    struct wire_answer answer;
+    char *text = malloc(most);
+    if (!text) return -1;
+    long result = ask_daemon(&ask, (struct iovec){NULL, 0}, &answer, (struct iovec){text, most});
+    if (!result && write(fd, text, answer.length) < 0) result = -1;
+    free(text);
+    return (int)result;
+}

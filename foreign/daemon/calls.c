@@ -1,0 +1,245 @@
+/* The calls of programs' threads. Tested, not proved. */
+
+/* The table that the number of a call is of; or TABLES for a call that no program makes. */
+static enum table table_of(uint8_t kind) {
+    switch (kind) {
+    case BALSAEUCHRE_CHANNEL_CREATE:
+    case BALSAEUCHRE_PRIORITY_SET:
+    case BALSAEUCHRE_STATE:
+    case BALSAEUCHRE_UNBLOCK: return NO_TABLE;
+    case BALSAEUCHRE_CONNECT_ATTACH:
+    case BALSAEUCHRE_RECEIVE:
+    case BALSAEUCHRE_RECEIVE_PULSE:
+    case BALSAEUCHRE_CHANNEL_DESTROY: return CHANNELS;
+    case BALSAEUCHRE_SEND:
+    case BALSAEUCHRE_PULSE:
+    case BALSAEUCHRE_CONNECT_DETACH: return CONNECTIONS;
+    case BALSAEUCHRE_REPLY:
+    case BALSAEUCHRE_ERROR:
+    case BALSAEUCHRE_READ:
+    case BALSAEUCHRE_WRITE:
+    case BALSAEUCHRE_INFO: return MESSAGES;
+    default: return TABLES;
+    }
+}
+
+/* A receive id has its sender's process below the layer's number. So it leads there after the answer, too. */
+static int rcvid_of(int number, int process) { return number ? number << SLOT_BITS | process : 0; }
+
+static int number_of_rcvid(int rcvid) { return rcvid > 0 ? rcvid >> SLOT_BITS : 0; }
+
+/* The thread whose message is held under this number, or null. */
+static struct place *sender_of(int number) {
+    for (int at = 0; number && at < PLACES; at++) {
+        if (k->places[at].rcvid == number) return &k->places[at];
+    }
+    return NULL;
+}
+
+/* The process of a host's pid, or 0. */
+static int process_of(pid_t pid) {
+    for (int at = 1; at <= limits.processes; at++) {
+        if (pid && processes[at].peer.pid == pid && !processes[at].ends) return at;
+    }
+    return 0;
+}
+
+/* The client of a thread of a process, or null. */
+static struct client *thread_of(int process, int tid) {
+    for (int at = 0; at < PLACES; at++) {
+        if (client_of[at] && client_of[at]->process == process && client_of[at]->tid == tid) return client_of[at];
+    }
+    return NULL;
+}
+
+/* ---- answers */
+
+/* The bytes of its room that a call which has ended answers with. */
+static size_t length_of_answer(const struct client *c) {
+    const struct place *p = c->place;
+    size_t room = c->call.room_len, count = 0;
+    switch (c->call.request.kind) {
+    case BALSAEUCHRE_SEND:
+        for (size_t at = 0; at < k->event.done.endings; at++) {
+            const balsaeuchre_ending *row = &k->event.rows[at];
+            if (row->thread == p->tid && row->mark == BALSAEUCHRE_REPLIED) count = row->count;
+        }
+        return c->wrote ? room : count;
+    case BALSAEUCHRE_RECEIVE: count = p->result ? (size_t)c->info.msglen : sizeof(struct _pulse); break;
+    case BALSAEUCHRE_RECEIVE_PULSE: count = sizeof(struct _pulse); break;
+    case BALSAEUCHRE_READ: count = (size_t)p->result; break;
+    default: break;
+    }
+    if (p->error) return 0;
+    return count < room ? count : room;
+}
+
+/* Puts the host's numbers where the layer has the kernel's. */
+static void complete_info(struct _msg_info *info) {
+    const struct client *sender = info->tid ? client_of[k->place_of[info->tid]] : NULL;
+    info->pid = processes[info->pid].peer.pid;
+    info->tid = sender ? sender->tid : 0;
+    if (info->coid) info->coid = coid_at(place_in(&k->tables[CONNECTIONS], info->coid));
+}
+
+/* The pulse that a receive got: one that asks to unblock names a message. */
+static void complete_unblock(struct client *c) {
+    struct _pulse pulse;
+    if (c->call.room_len < sizeof pulse) return;
+    memcpy(&pulse, c->call.room, sizeof pulse);
+    const struct place *sender = sender_of(pulse.value.sival_int);
+    if (pulse.code != _PULSE_CODE_UNBLOCK || pulse.scoid) return;
+    pulse.value.sival_int = sender ? rcvid_of(sender->rcvid, sender->pid) : 0;
+    pulse.scoid = sender ? SCOID | sender->pid : 0;
+    memcpy(c->call.room, &pulse, sizeof pulse);
+}
+
+/* A call has ended: its thread gets the result. */
+static void end_call(struct client *c) {
+    struct place *p = c->place;
+    int kind = c->call.request.kind;
+    long result = p->result;
+    size_t length = length_of_answer(c);
+    if (!p->error && length && !result && (kind == BALSAEUCHRE_RECEIVE || kind == BALSAEUCHRE_RECEIVE_PULSE))
+        complete_unblock(c);
+    if (!p->error && kind == BALSAEUCHRE_RECEIVE && result) result = rcvid_of((int)result, c->info.pid);
+    if (c->info.pid) complete_info(&c->info);
+    put_answer(c, p->error, p->error ? -1 : result, c->call.room, length);
+    drop_bytes(c);
+    c->wrote = c->gives_up = false;
+}
+
+/* The layer tells of the threads whose calls have ended. */
+static uint64_t tell(neutrino *of, uint64_t ended) {
+    (void)of;
+    for (; ended; ended &= ended - 1) {
+        struct client *c = client_of[__builtin_ctzll(ended)];
+        if (c) end_call(c);
+    }
+    return 0;
+}
+
+/* ---- calls */
+
+/* Unblocks a thread that is in a call. */
+static void interrupt(struct client *c, enum woken woken) {
+    uint64_t again = end_early(k, c->place, woken);
+    if (c->place->call) c->call.until = again;
+}
+
+/* Takes the note of a pulse, and looks whether the process may have one channel or connection more. */
+static int prepare_call(struct client *c) {
+    const struct process *process = &processes[c->process];
+    struct call *call = &c->call;
+    int kind = call->request.kind;
+    if (kind == BALSAEUCHRE_CHANNEL_CREATE && process->channels >= limits.channels) return EAGAIN;
+    if (kind == BALSAEUCHRE_CONNECT_ATTACH && process->connections >= limits.connections) return EAGAIN;
+    if (kind == BALSAEUCHRE_CHANNEL_CREATE) call->request.flags = (uint8_t)c->ask.value;
+    if (kind == BALSAEUCHRE_CONNECT_ATTACH && !(call->owner = (uint8_t)process_of(c->ask.pid))) return ESRCH;
+    if (call->table == CONNECTIONS) call->number &= ~SIDE;
+    if (call->table == MESSAGES) call->number = number_of_rcvid(call->number);
+    if (kind == BALSAEUCHRE_PRIORITY_SET || kind == BALSAEUCHRE_STATE || kind == BALSAEUCHRE_UNBLOCK) {
+        const struct client *target = thread_of(c->process, call->request.target);
+        if (!target) return ESRCH;
+        call->request.target = target->place->tid;
+    }
+    if (kind != BALSAEUCHRE_PULSE) return 0;
+    const struct name *connection = &k->connections[place_in(&k->tables[CONNECTIONS], call->number)];
+    int note = new_note(connection->peer, SCOID | c->process, call->request.pulse_code, (int64_t)c->ask.value);
+    call->request.pulse_code = NOTED;
+    call->request.value = note;
+    return note == -1 ? EAGAIN : 0;
+}
+
+/* What the daemon does itself, after the kernel has made a call and before its answer. */
+static void finish_call(struct client *c) {
+    struct process *process = &processes[c->process];
+    struct place *p = c->place;
+    int kind = c->call.request.kind;
+    if (p->error && kind == BALSAEUCHRE_PULSE) end_note(c->call.request.value);
+    if (p->error || p->call) return;
+    process->channels += (kind == BALSAEUCHRE_CHANNEL_CREATE) - (kind == BALSAEUCHRE_CHANNEL_DESTROY);
+    process->connections += (kind == BALSAEUCHRE_CONNECT_ATTACH) - (kind == BALSAEUCHRE_CONNECT_DETACH);
+    if (kind == BALSAEUCHRE_CONNECT_ATTACH) {
+        is_side[place_in(&k->tables[CONNECTIONS], (int)p->result)] = c->ask.flags & WIRE_SIDE;
+        if (c->ask.flags & WIRE_SIDE) p->result |= SIDE;
+    }
+    const struct place *sender = kind == BALSAEUCHRE_WRITE ? sender_of(c->call.number) : NULL;
+    if (sender && client_of[sender - k->places]) client_of[sender - k->places]->wrote = true;
+}
+
+/* A new channel that can't be told of ends is destroyed. */
+static void finish_channel(struct client *c) {
+    struct place *p = c->place;
+    int chid = (int)p->result;
+    if (p->error || !(c->ask.value & DEATHS)) return;
+    p->error = tell_of_ends(chid, (unsigned)c->ask.value);
+    if (!p->error) return;
+    make_hidden(balsaeuchre_request_of(BALSAEUCHRE_CHANNEL_DESTROY, clock_of(c->process),
+                                       id_of(k, CHANNELS, chid, c->process)));
+    end_name(k, CHANNELS, chid);
+    processes[c->process].channels--;
+}
+
+/* Ends a call that is open still where that is wanted already. */
+static void end_at_once(struct client *c) {
+    struct place *p = c->place;
+    bool gives_up = c->gives_up && c->given_up == c->ask.call;
+    if (p->call && (gives_up || p->word == INTERRUPTED)) interrupt(c, WAS_INTERRUPTED);
+    if (p->call && p->call->until && p->call->until <= now()) interrupt(c, TIMED_OUT);
+}
+
+static void make_call(struct client *c) {
+    const struct wire_ask *a = &c->ask;
+    uint64_t ended = 0, until = now() + a->time;
+    c->info = (struct _msg_info){.pid = 0};
+    c->wrote = false;
+    c->call = (struct call){.request = a->request, .table = table_of(a->request.kind), .number = a->number,
+                            .own_priority = a->flags & WIRE_OWN_PRIORITY, .states = a->states,
+                            .until = !a->states ? 0 : until < a->time ? UINT64_MAX : until,
+                            .sent = c->bytes, .sent_len = a->sent_len, .room = c->bytes + a->sent_len,
+                            .room_len = a->room_len, .info = &c->info, .cancels = a->flags & WIRE_CANCELS};
+    int error = c->bytes ? prepare_call(c) : ENOMEM, kind = a->request.kind;
+    if (!error) {
+        error = make_under_lock(k, c->place, &c->call, &ended);
+        if (error && kind == BALSAEUCHRE_PULSE) end_note(c->call.request.value);
+    }
+    if (error) {
+        drop_bytes(c);
+        put_result(c, error, -1);
+        return;
+    }
+    finish_call(c);
+    if (kind == BALSAEUCHRE_CHANNEL_CREATE) finish_channel(c);
+    bool destroyed = kind == BALSAEUCHRE_CHANNEL_DESTROY && !c->place->error;
+    tell(k, ended);
+    if (destroyed) end_channel(a->number);
+    end_at_once(c);
+}
+
+/* Begins a call, of which these bytes came with the ask. Returns false if it is malformed. */
+static bool begin_call(struct client *c, const struct wire_ask *a, const uint8_t *bytes, size_t length) {
+    size_t whole = a->sent_len;
+    if (a->request.kind == BALSAEUCHRE_SEND) whole += a->room_len;
+    if (a->sent_len > WIRE_MOST || a->room_len > WIRE_MOST || length > whole) return false;
+    if (table_of(a->request.kind) == TABLES || (length < whole && length != WIRE_PART)) return false;
+    c->ask = *a;
+    c->came = length;
+    take_bytes(c, (size_t)a->sent_len + a->room_len);
+    if (c->bytes && length) memcpy(c->bytes, bytes, length);
+    c->gathers = length < whole;
+    if (!c->gathers) make_call(c);
+    return true;
+}
+
+/* Takes further bytes of a call. Returns false if there are too many, or none. */
+static bool go_on(struct client *c, const uint8_t *bytes, size_t length) {
+    size_t whole = (size_t)c->ask.sent_len + c->ask.room_len;
+    if (c->ask.request.kind != BALSAEUCHRE_SEND) whole = c->ask.sent_len;
+    if (!length || length > whole - c->came) return false;
+    if (c->bytes) memcpy(c->bytes + c->came, bytes, length);
+    c->came += length;
+    c->gathers = c->came < whole;
+    if (!c->gathers) make_call(c);
+    return true;
+}

@@ -1,0 +1,70 @@
+/* The parts of the daemon share these. Tested, not proved.
+ *
+ * One thread makes all calls, in the library's memory of this process alone. It waits for nothing but epoll: a socket
+ * is read and written without waiting, a packet at a time. The kernel's threads are seats, some for each process, and
+ * besides a clock for each process, which is never blocked and acts for it, and one thread of the daemon's own.
+ */
+#ifndef BALSAEUCHRE_DAEMON_H
+#define BALSAEUCHRE_DAEMON_H
+
+#include "layer.h"
+#include "wire.h"
+
+#include <stdio.h>
+#include <sys/epoll.h>
+#include <sys/socket.h>
+#include <sys/un.h>
+
+enum { CLIENTS = 256, PROCESSES = 32, CLOCKS = 100, SYSTEM = 200, RETRY = 10 }; /* RETRY: milliseconds */
+enum { USUAL = 10, SIDE = SCOID };
+enum { CHANNEL_PLACES = 1 << CHANNEL_BITS, CONNECTION_PLACES = 1 << CONNECTION_BITS, SLOT_BITS = 6 };
+
+/* A socket. */
+struct client {
+    bool is_used, is_process;
+    int fd; /* -1: it has ended, while the thread's call is still open */
+    struct ucred peer;
+    uint8_t process;     /* 0: it hasn't joined */
+    struct place *place; /* of a thread */
+    int tid;             /* of a thread, in its process */
+    pid_t host_tid;      /* of a thread, as it says */
+    struct wire_ask ask; /* of the call that is open, or whose bytes come */
+    struct call call;
+    struct _msg_info info;
+    uint8_t *bytes; /* of the call: sent, then room; null if they are too many */
+    size_t came, size;
+    bool gathers; /* bytes of the call have yet to come */
+    bool wrote;   /* a Write has changed the reply buffer */
+    bool gives_up;
+    uint32_t given_up; /* the number of the call, if gives_up */
+    uint8_t *out;      /* what the socket has not taken yet */
+    size_t out_length, out_done;
+    uint64_t came_as; /* the number of its accept */
+};
+
+/* A process of the kernel: a program of the host. */
+struct process {
+    struct ucred peer; /* pid 0: it is free */
+    bool ends;
+    size_t bytes;
+    int channels, connections;
+    uint32_t ngroups;
+    gid_t groups[WIRE_GROUPS];
+};
+
+static struct {
+    int processes, threads, channels, connections;
+    size_t bytes;
+    gid_t group; /* which may connect, too, if has_group */
+    bool has_group;
+} limits = {12, 4, 16, 256, 8 << 20, 0, false};
+
+static neutrino kernel_of_all, *const k = &kernel_of_all;
+static struct client clients[CLIENTS];
+static struct client *client_of[PLACES]; /* by place */
+static struct process processes[PROCESSES];
+static int gone, ending; /* clients whose socket has ended; processes that end */
+
+static uint8_t clock_of(int process) { return (uint8_t)(CLOCKS + process); }
+
+#endif

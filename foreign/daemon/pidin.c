@@ -1,0 +1,39 @@
+/* pidin: prints the programs of a daemon. Tested, not proved.
+ *
+ * For each thread its priority, its state and on whom it is blocked; and for each channel the messages that were sent
+ * to it and not received, those that are held, the pulses and the threads that wait there, and its name. */
+#define _GNU_SOURCE
+#include "wire.h"
+
+#include <errno.h>
+#include <stdbool.h>
+#include <stdio.h>
+#include <stdlib.h>
+#include <string.h>
+#include <unistd.h>
+
+static int fail(int error) {
+    errno = error;
+    return -1;
+}
+
+#include "link.c"
+
+int main(int count, char **words) {
+    static char text[65536];
+    struct wire_ask ask = {.op = OP_SHOW};
+    struct wire_answer answer;
+    const struct iovec none[2] = {{NULL, 0}, {NULL, 0}};
+    const char *path = count > 1 ? words[1] : getenv("BALSAEUCHRE_SYSTEM");
+    if (count > 2 || !path || *path == '-') {
+        fputs("usage: pidin [SOCKET]\nPrints the programs of the balsaeuchred whose socket it is, or else "
+              "BALSAEUCHRE_SYSTEM.\n", stderr);
+        return 2;
+    }
+    int fd = connect_to(path);
+    if (fd == -1 || exchange(fd, &ask, none, &answer, (struct iovec){text, sizeof text}) == -1) {
+        fprintf(stderr, "pidin: %s: %s\n", path, strerror(errno));
+        return 1;
+    }
+    return fwrite(text, 1, answer.length, stdout) != answer.length || fflush(stdout);
+}

@@ -1,0 +1,44 @@
+/* What the front of foreign/qnx asks of the daemon beside the layer's calls. Tested, not proved.
+ *
+ * Where the environment has BALSAEUCHRE_SYSTEM, the kernel is that of the daemon whose socket it names. All functions
+ * return -1 and set errno on an error. */
+#ifndef BALSAEUCHRE_REMOTE_H
+#define BALSAEUCHRE_REMOTE_H
+
+#include <signal.h>
+#include <stdbool.h>
+#include <sys/types.h>
+
+struct wire_client;
+
+/* Whether the program's kernel is the daemon's. */
+bool neutrino_remote(void);
+
+/* The program's scoid. */
+int neutrino_remote_scoid(void);
+
+int neutrino_remote_channel(unsigned flags);
+int neutrino_remote_attach(pid_t pid, int chid, bool is_side);
+int neutrino_remote_pulse(int coid, int priority, int code, union sigval value);
+
+/* Names. neutrino_remote_find returns the chid, and writes the pid. */
+int neutrino_remote_name(const char *name, int chid);
+int neutrino_remote_unname(int chid);
+int neutrino_remote_find(const char *name, pid_t *pid);
+
+int neutrino_remote_client(int scoid, struct wire_client *client);
+
+/* Returns the pid of the program that an rcvid is from. */
+pid_t neutrino_remote_sender(int rcvid);
+
+/* Delivers a pulse, or only tests whether it could be. */
+int neutrino_remote_deliver(int rcvid, const struct sigevent *event, bool delivers);
+int neutrino_remote_unblock(int rcvid);
+
+/* A thread of the program has ended. */
+void neutrino_remote_death(int tid);
+
+/* Prints what pidin prints. */
+int neutrino_remote_show(int fd);
+
+#endif

@@ -1,0 +1,102 @@
+/* What programs ask of the daemon beside calls: names, clients, events. Tested, not proved. */
+
+/* Reads a name that an ask brings. Returns an errno or 0. */
+static int read_name(const uint8_t *bytes, size_t length, char *name) {
+    if (!length || length >= WIRE_NAME || memchr(bytes, 0, length)) return EINVAL;
+    memcpy(name, bytes, length);
+    name[length] = 0;
+    return 0;
+}
+
+/* The place of a name's channel, or -1. */
+static int find_name(const char *name) {
+    for (int at = 0; at < CHANNEL_PLACES; at++) {
+        if (*names[at] && !strcmp(names[at], name)) return at;
+    }
+    return -1;
+}
+
+static void attach_name(struct client *c, const struct wire_ask *a, const uint8_t *bytes, size_t length) {
+    char name[WIRE_NAME];
+    int error = read_name(bytes, length, name), place = place_in(&k->tables[CHANNELS], a->number);
+    if (!error && find_name(name) != -1) error = EEXIST;
+    if (!error && (!id_of(k, CHANNELS, a->number, c->process) || *names[place])) error = EINVAL;
+    if (!error) strcpy(names[place], name);
+    put_result(c, error, 0);
+}
+
+static void detach_name(struct client *c, const struct wire_ask *a) {
+    int place = place_in(&k->tables[CHANNELS], a->number);
+    bool known = id_of(k, CHANNELS, a->number, c->process) && *names[place];
+    if (known) *names[place] = 0;
+    put_result(c, known ? 0 : EINVAL, 0);
+}
+
+static void look_up_name(struct client *c, const uint8_t *bytes, size_t length) {
+    char name[WIRE_NAME];
+    int error = read_name(bytes, length, name), place = error ? -1 : find_name(name);
+    if (!error && place == -1) error = ENOENT;
+    c->info = (struct _msg_info){.pid = 0};
+    if (place != -1) c->info.pid = processes[k->channels[place].owner].peer.pid;
+    put_result(c, error, error ? -1 : (int)(k->channels[place].turn << CHANNEL_BITS) | place);
+}
+
+static void tell_client(struct client *c, const struct wire_ask *a) {
+    int process = a->number & ~SCOID;
+    bool known = a->number > SCOID && process <= limits.processes && processes[process].peer.pid;
+    const struct process *of = &processes[known ? process : 0];
+    struct wire_client told_client = {of->peer.pid, of->peer.uid, of->peer.gid, of->ngroups, {0}};
+    for (uint32_t at = 0; at < of->ngroups; at++) told_client.groups[at] = of->groups[at];
+    put_answer(c, known ? 0 : EINVAL, 0, &told_client, known ? sizeof told_client : 0);
+}
+
+/* Whether a process is connected to a channel of another one, which it is a client of, then. */
+static bool is_client(int process, int server) {
+    for (int at = 0; at < CONNECTION_PLACES; at++) {
+        const struct name *name = &k->connections[at];
+        if (!name->id || name->owner != process) continue;
+        const struct name *channel = &k->channels[place_in(&k->tables[CHANNELS], name->peer)];
+        if (id_of(k, CHANNELS, name->peer, (uint8_t)server) && channel->owner == server) return true;
+    }
+    return false;
+}
+
+/* The process that an rcvid of this program is from: the program itself for 0. 0: there is none. */
+static int process_of_rcvid(const struct client *c, int rcvid) {
+    int process = rcvid ? rcvid & ((1 << SLOT_BITS) - 1) : c->process;
+    if (rcvid < 0 || process < 1 || process > limits.processes || !processes[process].peer.pid) return 0;
+    return process == c->process || is_client(process, c->process) ? process : 0;
+}
+
+static void tell_sender(struct client *c, const struct wire_ask *a) {
+    int process = process_of_rcvid(c, a->number);
+    put_result(c, process ? 0 : ESRCH, processes[process].peer.pid);
+}
+
+static void deliver_event(struct client *c, const struct wire_ask *a) {
+    int process = process_of_rcvid(c, a->number), coid = (int)a->request.id & ~SIDE;
+    uint64_t id = process ? id_of(k, CONNECTIONS, coid, (uint8_t)process) : 0;
+    int chid = k->connections[place_in(&k->tables[CONNECTIONS], coid)].peer;
+    balsaeuchre_request request = balsaeuchre_request_of(BALSAEUCHRE_PULSE, clock_of(process), id);
+    request.priority = a->request.priority;
+    if (a->flags & WIRE_OWN_PRIORITY) request.priority = c->place ? priority_of(k, c->place) : USUAL;
+    struct note content = {0, chid, SCOID | c->process, a->request.pulse_code, (int64_t)a->value};
+    int error = !process ? ESRCH : !id ? EBADF : !request.priority ? EINVAL : 0;
+    if (!error && !(a->flags & WIRE_TESTS)) error = send_pulse(request, &content);
+    put_result(c, error, 0);
+}
+
+static void unblock_sender(struct client *c, const struct wire_ask *a) {
+    int number = number_of_rcvid(a->number);
+    struct place *p = id_of(k, MESSAGES, number, c->process) ? sender_of(number) : NULL;
+    if (p && client_of[p - k->places]) interrupt(client_of[p - k->places], WAS_INTERRUPTED);
+    put_result(c, p ? 0 : ESRCH, 0);
+}
+
+/* A thread of the program is cancelled: its call ends, and each later one that has to wait. */
+static void cancel_thread(struct client *c, const struct wire_ask *a) {
+    struct client *target = thread_of(c->process, a->number);
+    if (target) target->place->cancelled = true;
+    if (target && target->place->call && target->call.cancels) interrupt(target, WAS_INTERRUPTED);
+    put_result(c, target ? 0 : ESRCH, 0);
+}

@@ -1,0 +1,237 @@
+/* ends [NAME..]: clients and servers as processes of their own, and what is left as one of them ends. */
+#define _GNU_SOURCE
+#include "tests.h"
+
+#include <fcntl.h>
+#include <sys/mman.h>
+
+static struct shared {
+    volatile int errors[8];
+    volatile int seen, sent, received;
+    volatile pid_t pid;
+} *shared;
+
+static void until_seen(int count) {
+    while (shared->seen < count) usleep(200);
+}
+
+/* Sends "hello" over a connection to "server" twice; the errors are kept. */
+static void send_twice(void *unused) {
+    char reply[16] = "";
+    int coid = open_name("server");
+    (void)unused;
+    int at = __sync_fetch_and_add(&shared->sent, 1);
+    shared->seen = 1;
+    shared->errors[2 * at] = MsgSend(coid, "hello", 6, reply, sizeof reply) == -1 ? errno : 0;
+    shared->errors[2 * at + 1] = MsgSend(coid, "hello", 6, reply, sizeof reply) == -1 ? errno : 0;
+}
+
+/* A client dies while it is REPLY-blocked: its server gets the pulse, and its message is gone. */
+static void client_dies(void) {
+    char room[64];
+    struct _msg_info info;
+    struct _client_info client;
+    name_attach_t *name = name_attach(NULL, "server", 0);
+    check(name);
+    pid_t child = spawn(send_twice, NULL);
+    rcvid_t rcvid = receive_answering_opens(name->chid, room, sizeof room, &info);
+    check(rcvid > 0 && info.pid == child && info.tid == 1 && strcmp(room, "hello") == 0 && info.msglen == 6);
+    check(ConnectClientInfo(info.scoid, &client, 8) == 0 && client.pid == child && client.cred.euid == geteuid());
+    kill_child(child);
+    set_timeout(5000);
+    check(MsgReceive(name->chid, room, sizeof room, NULL) == 0);
+    const struct _pulse *pulse = (const void *)room;
+    check(pulse->code == _PULSE_CODE_DISCONNECT && pulse->scoid == info.scoid);
+    fails(MsgReply(rcvid, 0, NULL, 0), ESRCH);
+    fails(ConnectClientInfo(info.scoid, &client, 0), EINVAL);
+    set_timeout(20);
+    fails(MsgReceive(name->chid, room, sizeof room, NULL), ETIMEDOUT);
+    check(name_detach(name, 0) == 0);
+}
+
+/* A client dies before its message is received. */
+static void sender_dies(void) {
+    char room[64];
+    name_attach_t *name = name_attach(NULL, "server", 0);
+    pid_t child = spawn(send_twice, NULL);
+    rcvid_t rcvid = MsgReceive(name->chid, room, sizeof room, NULL);
+    check(rcvid > 0 && MsgReply(rcvid, EOK, NULL, 0) == 0);
+    until_seen(1);
+    usleep(20000);
+    kill_child(child);
+    set_timeout(5000);
+    check(MsgReceivePulse(name->chid, room, sizeof room, NULL) == 0);
+    set_timeout(20);
+    fails(MsgReceive(name->chid, room, sizeof room, NULL), ETIMEDOUT);
+    check(name_detach(name, 0) == 0);
+}
+
+static void hold_all(void *unused) {
+    char room[64];
+    (void)unused;
+    name_attach_t *name = name_attach(NULL, "server", 0);
+    check(name && receive_answering_opens(name->chid, room, sizeof room, NULL) > 0);
+    shared->received++;
+    for (;;) {
+        uint16_t type;
+        rcvid_t rcvid = MsgReceive(name->chid, room, sizeof room, NULL);
+        memcpy(&type, room, sizeof type);
+        if (rcvid > 0 && type == _IO_CONNECT) MsgReply(rcvid, EOK, NULL, 0);
+        else if (rcvid > 0) shared->received++;
+    }
+}
+
+/* A server dies: ESRCH for who waits, EBADF afterwards, and its name is free. */
+static void server_dies(void) {
+    pid_t server = spawn(hold_all, NULL), client[3];
+    for (int at = 0; at < 3; at++) client[at] = spawn(send_twice, NULL);
+    while (shared->received < 3) usleep(200);
+    fails(name_open("nobody", 0), ENOENT);
+    int coid = name_open("server", 0);
+    check(coid != -1);
+    kill_child(server);
+    for (int at = 0; at < 3; at++) expect_end(client[at]);
+    for (int at = 0; at < 6; at++) check(shared->errors[at] == (at % 2 ? EBADF : ESRCH));
+    fails(MsgSend(coid, NULL, 0, NULL, 0), EBADF);
+    fails(MsgSendPulse(coid, 10, 1, 1), EBADF);
+    fails(name_open("server", 0), ENOENT);
+    name_attach_t *name = name_attach(NULL, "server", 0);
+    check(name && ConnectDetach(coid) == 0 && name_detach(name, 0) == 0);
+}
+
+static void *wait_on(void *chid) {
+    char room[64];
+    MsgReceive((int)(intptr_t)chid, room, sizeof room, NULL);
+    return NULL;
+}
+
+/* A connection's server dies: a pulse tells so where that was asked for. */
+static void connection_dies(void) {
+    struct _pulse pulse;
+    int chid = ChannelCreate(_NTO_CHF_COID_DISCONNECT);
+    pid_t server = spawn(hold_all, NULL);
+    int coid = open_name("server");
+    kill_child(server);
+    set_timeout(5000);
+    check(MsgReceivePulse(chid, &pulse, sizeof pulse, NULL) == 0);
+    check(pulse.code == _PULSE_CODE_COIDDEATH && pulse.value.sival_int == coid);
+    check(ConnectDetach(coid) == 0 && ChannelDestroy(chid) == 0);
+}
+
+static void fill(void *unused) {
+    int coid = open_name("server"), sent = 0;
+    (void)unused;
+    while (MsgSendPulse(coid, 10, 1, sent) == 0) sent++;
+    check(errno == EAGAIN && sent == 1024);
+    shared->seen = 1;
+    pause();
+}
+
+/* The disconnect pulse of a client that dies would be the 1,025th: it comes once there is room, and nobody waits. */
+static void full_channel(void) {
+    struct _pulse pulse;
+    char room[64];
+    name_attach_t *name = name_attach(NULL, "server", 0);
+    pid_t child = spawn(fill, NULL);
+    rcvid_t rcvid = MsgReceive(name->chid, room, sizeof room, NULL);
+    check(rcvid > 0 && MsgReply(rcvid, EOK, NULL, 0) == 0);
+    until_seen(1);
+    kill_child(child);
+    for (int turn = 0; turn < 100; turn++) { /* all others go on */
+        int chid = ChannelCreate(0), coid = ConnectAttach(0, 0, chid, _NTO_SIDE_CHANNEL, 0);
+        check(chid > 0 && MsgSendPulse(coid, 10, 1, 1) == 0 && MsgReceivePulse(chid, &pulse, sizeof pulse, NULL) == 0);
+        check(ConnectDetach(coid) == 0 && ChannelDestroy(chid) == 0);
+    }
+    for (int at = 0; at < 1024; at++) {
+        check(MsgReceivePulse(name->chid, &pulse, sizeof pulse, NULL) == 0);
+        check(pulse.code == 1 && pulse.value.sival_int == at);
+        if (at == 0) usleep(50000);
+    }
+    set_timeout(5000);
+    check(MsgReceivePulse(name->chid, &pulse, sizeof pulse, NULL) == 0 && pulse.code == _PULSE_CODE_DISCONNECT);
+    check(name_detach(name, 0) == 0);
+}
+
+static void *send_and_stay(void *coid) {
+    char room[64];
+    MsgSend((int)(intptr_t)coid, "thread", 7, room, sizeof room);
+    return NULL;
+}
+
+/* A thread that is cancelled while its message is held: its server is asked to unblock it. */
+static void thread_ends(void) {
+    char room[64];
+    struct _msg_info info;
+    pthread_t thread;
+    int chid = ChannelCreate(_NTO_CHF_UNBLOCK), coid = ConnectAttach(0, 0, chid, _NTO_SIDE_CHANNEL, 0);
+    check(pthread_create(&thread, NULL, send_and_stay, (void *)(intptr_t)coid) == 0);
+    rcvid_t rcvid = MsgReceive(chid, room, sizeof room, &info);
+    check(rcvid > 0 && pthread_cancel(thread) == 0);
+    set_timeout(5000);
+    check(MsgReceive(chid, room, sizeof room, NULL) == 0);
+    const struct _pulse *pulse = (const void *)room;
+    check(pulse->code == _PULSE_CODE_UNBLOCK && pulse->value.sival_int == rcvid);
+    check(MsgInfo(rcvid, &info) == 0 && info.flags & _NTO_MI_UNBLOCK_REQ && MsgError(rcvid, EINTR) == 0);
+    check(pthread_join(thread, NULL) == 0);
+    check(pthread_create(&thread, NULL, wait_on, (void *)(intptr_t)chid) == 0);
+    usleep(10000);
+    check(pthread_cancel(thread) == 0 && pthread_join(thread, NULL) == 0);
+    check(ConnectDetach(coid) == 0 && ChannelDestroy(chid) == 0);
+}
+
+static void exec_self(void *unused) {
+    (void)unused;
+    check(name_attach(NULL, "server", 0));
+    shared->seen = 1;
+    execl("/bin/sleep", "sleep", "60", (char *)NULL);
+}
+
+/* A process that executes another program has ended for the kernel; a forked child is another process. */
+static void fork_and_exec(void) {
+    char room[64];
+    pid_t child = spawn(exec_self, NULL);
+    until_seen(1);
+    name_attach_t *name = NULL;
+    for (int turn = 0; turn < 1000 && !name; turn++) {
+        name = name_attach(NULL, "server", 0);
+        if (!name) usleep(1000);
+    }
+    check(name);
+    kill_child(child);
+    child = spawn(send_twice, NULL);
+    rcvid_t rcvid = receive_answering_opens(name->chid, room, sizeof room, NULL);
+    check(rcvid > 0);
+    pid_t other = fork();
+    if (other == 0) {
+        fails(MsgReply(rcvid, 0, NULL, 0), ESRCH);
+        fails(MsgReceive(name->chid, room, sizeof room, NULL), ESRCH);
+        _exit(ChannelDestroy(name->chid) == -1 && errno == EINVAL ? 0 : 1);
+    }
+    expect_end(other);
+    check(MsgReply(rcvid, 0, NULL, 0) == 0);
+    kill_child(child);
+    check(name_detach(name, 0) == 0);
+}
+
+#define TEST(name) {#name, name}
+static const struct { const char *name; void (*run)(void); } tests[] = {
+    TEST(client_dies), TEST(sender_dies), TEST(server_dies), TEST(connection_dies), TEST(full_channel),
+    TEST(thread_ends), TEST(fork_and_exec),
+};
+
+static void run(void *at) { tests[(intptr_t)at].run(); }
+
+int main(int count, char **words) {
+    setvbuf(stdout, NULL, _IOLBF, 0);
+    shared = mmap(NULL, sizeof *shared, PROT_READ | PROT_WRITE, MAP_SHARED | MAP_ANONYMOUS, -1, 0);
+    check(shared != MAP_FAILED);
+    for (size_t at = 0; at < sizeof tests / sizeof *tests; at++) {
+        bool asked = count == 1;
+        for (int word = 1; word < count; word++) asked |= strcmp(words[word], tests[at].name) == 0;
+        if (!asked) continue;
+        memset((void *)shared, 0, sizeof *shared);
+        expect_end(spawn(run, (void *)at));
+        printf("%s\n", tests[at].name);
+    }
+    return 0;
+}

@@ -1,0 +1,92 @@
+/* A libFuzzer harness over the packet reader: the input is packets for the sockets of one program, in one kernel that
+ * stays. Built over daemon.c, whose main has another name then. */
+#define main balsaeuchred_main
+#include "../daemon.c"
+#undef main
+
+enum { SOCKETS = 4 };
+
+static int far[SOCKETS];        /* the clients' ends */
+static int results[2 * SOCKETS]; /* of the last answers, which later packets may name */
+
+static struct client *open_socket(int at) {
+    int ends[2];
+    struct wire_ask ask = {.op = at ? OP_THREAD : OP_PROCESS, .number = at ? at : WIRE_VERSION, .value = USUAL};
+    if (socketpair(AF_UNIX, SOCK_SEQPACKET | SOCK_NONBLOCK, 0, ends)) abort();
+    struct client *c = new_client();
+    *c = (struct client){.is_used = true, .fd = ends[0], .peer = {getpid(), 0, 0}};
+    struct epoll_event event = {.events = EPOLLIN, .data.ptr = c};
+    if (epoll_ctl(events, EPOLL_CTL_ADD, c->fd, &event)) abort();
+    far[at] = ends[1];
+    if (!take_packet(c, (const uint8_t *)&ask, sizeof ask)) abort();
+    return c;
+}
+
+/* Eight bytes of the input as an ask with the most usual fields. */
+static struct wire_ask ask_from(const uint8_t *data) {
+    struct wire_ask ask = {.op = data[1] % 32 ? OP_CALL : (uint32_t)data[1] / 16, .call = data[2] & 3, .pid = getpid()};
+    ask.number = data[3] < 240 ? results[data[3] % (2 * SOCKETS)] : data[3];
+    ask.request = balsaeuchre_request_of(data[2] >> 2, 0, data[3]);
+    ask.request.priority = data[4];
+    ask.request.target = data[4] % 8;
+    ask.value = data[4];
+    ask.states = data[5] & 15 ? 0 : -1;
+    ask.flags = data[5] >> 4;
+    ask.sent_len = (uint32_t)data[6] << (data[6] % 16 == 1 ? 12 : 0);
+    ask.room_len = (uint32_t)data[7] << (data[7] % 16 == 1 ? 12 : 0);
+    return ask;
+}
+
+static void read_answers(void) {
+    static int next;
+    struct wire_answer answer;
+    for (int at = 0; at < SOCKETS; at++) {
+        while (recv(far[at], &answer, sizeof answer, MSG_DONTWAIT) == sizeof answer) {
+            if (answer.result > 0) results[next++ % (2 * SOCKETS)] = (int)answer.result;
+        }
+    }
+}
+
+/* Sends one packet of the input. Returns how much of that it is. */
+static size_t take_one(struct client *c, const uint8_t *data, size_t size) {
+    static uint8_t packet[sizeof(struct wire_ask) + WIRE_PART];
+    bool is_raw = data[0] & 64;
+    struct wire_ask ask = ask_from(data);
+    size_t behind = ask.request.kind == BALSAEUCHRE_SEND ? ask.sent_len + ask.room_len : ask.sent_len;
+    if (ask.op != OP_CALL || is_raw) behind = data[7];
+    if (behind > WIRE_PART) behind = WIRE_PART;
+    size_t from = 8 + (behind < size - 8 ? behind : size - 8);
+    memset(packet, 1, sizeof packet);
+    memcpy(packet, &ask, sizeof ask);
+    memcpy(packet + (is_raw ? 0 : sizeof ask), data + 8, from - 8);
+    if (!take_packet(c, packet, is_raw ? behind : sizeof ask + behind)) hang_up(c);
+    return from;
+}
+
+/* Each packet: a byte that says whose it is, seven of an ask, and what is behind that. */
+int LLVMFuzzerTestOneInput(const uint8_t *data, size_t size) {
+    struct client *all[SOCKETS];
+    static bool opened;
+    if (!opened) {
+        events = epoll_create1(0);
+        if (open_all()) abort();
+        opened = true;
+    }
+    for (int at = 0; at < SOCKETS; at++) all[at] = open_socket(at);
+    while (size >= 8 && all[0]->fd != -1) {
+        struct client *c = all[data[0] % SOCKETS];
+        size_t taken = c->fd != -1 ? take_one(c, data, size) : 8;
+        end_late_calls();
+        read_answers();
+        data += taken;
+        size -= taken;
+    }
+    if (all[0]->fd != -1) hang_up(all[0]);
+    for (int at = 0; at < SOCKETS; at++) close(far[at]);
+    leave_seats();
+    if (ending || gone) abort(); /* nobody holds pulses back, so all is gone */
+    for (int at = 0; at < CONNECTION_PLACES; at++) {
+        if (k->connections[at].id) abort();
+    }
+    return 0;
+}
