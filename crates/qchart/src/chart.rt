@@ -4,8 +4,9 @@ use crate::row::Row;
 use qbase::ids::ThreadNo;
 use qexplain::waiting::{Deadlock, Wait};
 use qkernel::open_call::Blocked;
+use qnames::wording::Context;
 use qtables::member::Member;
-use std::alloc::{AllocError, Global};
+use std::alloc::AllocError;
 
 /// The chart of a run: a line for each thread, and a row for each call.
 #[derive(Drop)]
@@ -45,18 +46,18 @@ impl Chart {
     }
 
     /// Returns the bytes of the longest head.
-    pub fn longest_head(&self, alloc: Global) -> Result<usize, AllocError> {
+    pub fn longest_head(&self, names: Context<'_>) -> Result<usize, AllocError> {
         let mut most = 0usize;
         for member in &self.lifelines {
-            most = most.max(head(alloc, member)?.len());
+            most = most.max(head(names, member)?.len());
         }
         Ok(most)
     }
 }
 
 /// Returns `thread THREAD (process PROCESS)`.
-pub fn head(alloc: Global, member: &Member) -> Result<String, AllocError> {
-    let thread = member.thread.0;
-    let process = member.process.0;
-    format!(in alloc; "thread {thread} (process {process})")
+pub fn head(names: Context<'_>, member: &Member) -> Result<String, AllocError> {
+    let thread = names.thread(member.thread);
+    let process = names.process(member.process);
+    format!(in names.alloc; "thread {thread} (process {process})")
 }

@@ -14,6 +14,8 @@ use crate::text::text_of;
 use crate::view::{Style, View};
 use qexplain::history::History;
 use qexplain::waiting::{deadlocks, waits};
+use qnames::scope::Scope;
+use qnames::wording::Context;
 use qscript::run::Run;
 use qscript::script::roster_with_all;
 use qscript::{Script, parse};
@@ -30,19 +32,21 @@ pub fn drawing(alloc: Global, text: &[u8], view: &View) -> Result<String, ChartF
     ensures { IfErr result (IsChartFault view.now text.now) }
 {
     let script = parse(alloc, text)?;
-    let drawn = drawing_of(alloc, script, view)?;
+    let scope = Scope::new(alloc);
+    let drawn = drawing_of(Context::plain(alloc, &scope), script, view)?;
     Ok(drawn)
 }
 
-/// Runs a script on a new kernel, and returns the drawing of the run; an error if more than 400 calls would be drawn.
-pub fn drawing_of(alloc: Global, script: Script, view: &View) -> Result<String, ChartFault>
+/// Runs a script with these names on a new kernel, and returns the drawing of the run; an error if more than 400 calls
+/// would be drawn.
+pub fn drawing_of(names: Context<'_>, script: Script, view: &View) -> Result<String, ChartFault>
     ensures { IfErr result (IsUncharted view.now script.calls.items) }
 {
-    let whole = chart_of(alloc, script, view)?;
-    let part = part_of(alloc, whole, view)?;
+    let whole = chart_of(names, script, view)?;
+    let part = part_of(names.alloc, whole, view)?;
     let drawn = match view.style {
-        Style::Svg => svg_of(alloc, &part)?,
-        Style::Text => text_of(alloc, &part)?,
+        Style::Svg => svg_of(names, &part)?,
+        Style::Text => text_of(names, &part)?,
     };
     Ok(drawn)
 }
@@ -55,17 +59,19 @@ pub fn chart(alloc: Global, text: &[u8], view: &View) -> Result<Chart, ChartFaul
     ensures err { IfErr result (IsChartFault view.now text.now) }
 {
     let script = parse(alloc, text)?;
-    let chart = chart_of(alloc, script, view)?;
+    let scope = Scope::new(alloc);
+    let chart = chart_of(Context::plain(alloc, &scope), script, view)?;
     Ok(chart)
 }
 
-/// Runs a script on a new kernel, and returns the chart of the run with all its rows; an error if more than 400 of them
-/// would be drawn.
-pub fn chart_of(alloc: Global, script: Script, view: &View) -> Result<Chart, ChartFault>
+/// Runs a script with these names on a new kernel, and returns the chart of the run with all its rows; an error if more
+/// than 400 of them would be drawn.
+pub fn chart_of(names: Context<'_>, script: Script, view: &View) -> Result<Chart, ChartFault>
     ensures few { IfOk result (λ _. drawn_count view.now (length script.calls.items) ≤ 400) }
     ensures chart { CanRun script.roster.items script.calls.items → IfOk result (IsChartOf script.roster.items script.calls.items) }
     ensures err { IfErr result (IsUncharted view.now script.calls.items) }
 {
+    let alloc = names.alloc;
     let calls = script.calls.len();
     if view.span(calls) > MOST_CALLS {
         return Err(ChartFault::TooManyCalls(calls));
@@ -73,7 +79,7 @@ pub fn chart_of(alloc: Global, script: Script, view: &View) -> Result<Chart, Cha
     let roster = roster_with_all(alloc, script.roster.as_slice());
     let mut run = Run::new(alloc, &roster, calls)?;
     let mut history = History::new(alloc);
-    let rows = rows_of(alloc, &mut run, &mut history, script.calls, view.bytes)?;
+    let rows = rows_of(names, &mut run, &mut history, script.calls, view.bytes)?;
     let waits = waits(alloc, run.kernel(), &history)?;
     let deadlocks = deadlocks(alloc, run.kernel(), waits.as_slice())?;
     let lifelines = by_process(script.roster)?;

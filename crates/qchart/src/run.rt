@@ -19,12 +19,14 @@ use qexplain::history::{History, Past};
 use qkernel::call::{Call, Completion, Mark};
 use qkernel::kernel::Kernel;
 use qkernel::open_call::Blocked;
+use qnames::wording::Context;
 use qscript::run::Run;
 use std::alloc::{AllocError, Global};
 
 /// The facts about the calls so far that later rows need.
 #[derive(Drop)]
-struct Course {
+struct Course<'a> {
+    names: Context<'a>,
     callers: Vec<ThreadNo>,
     bytes: bool,
 }
@@ -52,7 +54,7 @@ impl Standing {
 /// Makes the calls in order, adds them to the history, and returns a row for each; its words have the bytes if `bytes`
 /// is set.
 pub fn rows_of(
-    alloc: Global,
+    names: Context<'_>,
     run: &mut Run,
     history: &mut History,
     calls: Vec<(ThreadNo, Call)>,
@@ -61,28 +63,23 @@ pub fn rows_of(
     ensures { IfOk result (λ rows. HasRows run.old.kernel calls.items run.new.kernel rows.items) }
 {
     let mut course = Course {
-        callers: Vec::new(alloc),
+        names,
+        callers: Vec::new(names.alloc),
         bytes,
     };
-    let mut rows = Vec::new(alloc);
+    let mut rows = Vec::new(names.alloc);
     'calls: for (thread, call) in calls {
         let past = Past::of(thread, &call);
-        let row = course.next_row(alloc, run, thread, call)?;
+        let row = course.next_row(run, thread, call)?;
         history.add(past, run.endings())?;
         rows.push(row)?;
     }
     Ok(rows)
 }
 
-impl Course {
+impl Course<'_> {
     /// Makes a call, and returns its row.
-    fn next_row(
-        &mut self,
-        alloc: Global,
-        run: &mut Run,
-        thread: ThreadNo,
-        call: Call,
-    ) -> Result<Row, AllocError>
+    fn next_row(&mut self, run: &mut Run, thread: ThreadNo, call: Call) -> Result<Row, AllocError>
         ensures event { OnOk result (AnswersAtTraces run.old.kernel thread call run.new.endings.items run.new.kernel) }
         ensures thread { IfOk result (λ row. row.thread ≡ thread) }
         ensures arrows { IfOk result (λ row. row.arrows.items ≡ filter_map (arrow_of (self.old.callers.items ++ thread ∷ []) thread) run.new.endings.items) }
@@ -92,8 +89,10 @@ impl Course {
         ensures known { OnOk result (is_some (member_at (members_of run.old.kernel.threads) thread) ≡ true) }
         ensures roster { OnOk result (members_of run.new.kernel.threads ≡ members_of run.old.kernel.threads) }
     {
+        let names = self.names;
+        let alloc = names.alloc;
         let number = run.kernel().made().saturating_add(1);
-        let mut words = call_words(alloc, number, &call, self.bytes)?;
+        let mut words = call_words(names, number, &call, self.bytes)?;
         let before = Standing::of(alloc, run.kernel())?;
         self.callers.push(thread)?;
         if run.make(thread, call).is_err() {
@@ -101,14 +100,14 @@ impl Course {
         }
         let after = Standing::of(alloc, run.kernel())?;
         let endings = run.endings();
-        push_result(&mut words, number, endings)?;
+        push_result(names, &mut words, number, endings)?;
         let callers = self.callers.as_slice();
         Ok(Row {
             number,
             thread,
             words,
             arrows: arrows_of(alloc, callers, thread, endings)?,
-            labels: arrow_labels(alloc, callers, thread, endings, self.bytes)?,
+            labels: arrow_labels(names, callers, thread, endings, self.bytes)?,
             cuts: cuts_of(alloc, number, endings)?,
             changes: changes_since(alloc, before.levels.as_slice(), after.levels.as_slice())?,
             blocked: after.blocked,

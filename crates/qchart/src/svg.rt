@@ -12,18 +12,19 @@ use fixed::{LEGEND, START};
 use qbase::ids::ThreadNo;
 use qbase::state::ThreadState;
 use qexplain::waiting::Wait;
+use qnames::wording::Context;
 use qreading::states::{state_among, state_word};
 use qtables::member::Member;
 use sheet::{BAR_HALF, LINE, Sheet};
-use std::alloc::{AllocError, Global};
+use std::alloc::AllocError;
 
 /// The coordinates of a place, x and y.
 type Place = (usize, usize);
 
 /// Returns a chart as SVG, which a browser shows alone or within a page.
-pub fn svg_of(alloc: Global, chart: &Chart) -> Result<String, AllocError> {
-    let sheet = Sheet::of(alloc, chart)?;
-    let mut out = String::new(alloc);
+pub fn svg_of(names: Context<'_>, chart: &Chart) -> Result<String, AllocError> {
+    let sheet = Sheet::of(names, chart)?;
+    let mut out = String::new(names.alloc);
     sheet.push_start(&mut out)?;
     sheet.push_processes(&mut out)?;
     sheet.push_guides(&mut out)?;
@@ -79,7 +80,7 @@ impl Sheet<'_> {
             let y = self.y(row.number);
             push_line(out, "guide", (40, y), right)?;
             let call = row.number;
-            let words = format!(in self.alloc; "{call}")?;
+            let words = format!(in self.names.alloc; "{call}")?;
             push_text(out, "number", (32, y.saturating_add(4)), words.as_str())?;
         }
         Ok(())
@@ -100,9 +101,9 @@ impl Sheet<'_> {
         let width = self.head_half.saturating_mul(2);
         write!(out, "<rect class=\"head\" x=\"{left}\" y=\"14\"")?;
         write!(out, " width=\"{width}\" height=\"38\" rx=\"4\"/>")?;
-        let name = head(self.alloc, member)?;
+        let name = head(self.names, member)?;
         write!(out, "<text class=\"name\" x=\"{x}\" y=\"30\">{name}</text>")?;
-        let words = priority_words(self.alloc, member.priority)?;
+        let words = priority_words(self.names.alloc, member.priority)?;
         push_text(out, "first", (x, 45), words.as_str())
     }
 
@@ -132,12 +133,12 @@ impl Sheet<'_> {
         for cut in &row.cuts {
             let x = self.x_of(cut.thread);
             push_cross(out, x, y)?;
-            let words = cut_words(self.alloc, cut)?;
+            let words = cut_words(self.names, cut)?;
             push_text(out, "cut", (x.saturating_add(14), base), words.as_str())?;
         }
         for change in &row.changes {
             let x = self.x_of(change.thread).saturating_add(14);
-            let words = priority_words(self.alloc, change.priority)?;
+            let words = priority_words(self.names.alloc, change.priority)?;
             push_text(out, "change", (x, base), words.as_str())?;
         }
         Ok(())
@@ -182,7 +183,7 @@ impl Sheet<'_> {
     fn push_deadlocks(&self, out: &mut String) -> Result<(), AllocError> {
         let mut y = self.foot().saturating_add(20);
         for deadlock in &self.chart.deadlocks {
-            let words = format!(in self.alloc; "{deadlock}")?;
+            let words = deadlock.words(self.names)?;
             push_text(out, "cut", (40, y), words.as_str())?;
             y = y.saturating_add(LINE);
         }

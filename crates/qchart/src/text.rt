@@ -11,8 +11,9 @@ use line::Line;
 use qbase::ids::ThreadNo;
 use qbase::state::ThreadState;
 use qexplain::waiting::Wait;
+use qnames::wording::Context;
 use qreading::states::state_among;
-use std::alloc::{AllocError, Global};
+use std::alloc::AllocError;
 
 /// The place of the first thread's line in a line of text.
 const MARGIN: usize = 6;
@@ -30,24 +31,25 @@ P  REPLY-blocked    o      sent or made before
 /// A chart, and the distance between the lines of its threads.
 #[derive(Drop)]
 struct Page<'a> {
-    alloc: Global,
+    names: Context<'a>,
     chart: &'a Chart,
     gap: usize,
 }
 
 /// Returns a chart in columns of text.
-pub fn text_of(alloc: Global, chart: &Chart) -> Result<String, AllocError> {
+pub fn text_of(names: Context<'_>, chart: &Chart) -> Result<String, AllocError> {
     let words = chart.longest_words().saturating_add(6);
-    let heads = chart.longest_head(alloc)?.saturating_add(2);
+    let heads = chart.longest_head(names)?.saturating_add(2);
     let gap = LEAST_GAP.max(words).max(heads);
-    let page = Page { alloc, chart, gap };
-    let mut out = String::new(alloc);
+    let page = Page { names, chart, gap };
+    let mut out = String::new(names.alloc);
     page.push_heads(&mut out)?;
     for row in &chart.rows {
         page.push_row(&mut out, row)?;
     }
     for deadlock in &chart.deadlocks {
-        write!(out, "{deadlock}\n")?;
+        let words = deadlock.words(names)?;
+        write!(out, "{words}\n")?;
     }
     out.push_str(LEGEND)?;
     Ok(out)
@@ -67,13 +69,16 @@ impl Page<'_> {
 
     /// Adds two lines for the heads of the threads.
     fn push_heads(&self, out: &mut String) -> Result<(), AllocError> {
-        let mut names = Line::new(self.alloc);
-        let mut levels = Line::new(self.alloc);
+        let mut names = Line::new(self.names.alloc);
+        let mut levels = Line::new(self.names.alloc);
         names.put(0, "call")?;
         for member in &self.chart.lifelines {
             let place = self.place_of(member.thread);
-            names.put(place, head(self.alloc, member)?.as_str())?;
-            levels.put(place, priority_words(self.alloc, member.priority)?.as_str())?;
+            names.put(place, head(self.names, member)?.as_str())?;
+            levels.put(
+                place,
+                priority_words(self.names.alloc, member.priority)?.as_str(),
+            )?;
         }
         names.end(out)?;
         levels.end(out)
@@ -91,9 +96,9 @@ impl Page<'_> {
 
     /// Adds the lines of a row: its call, the arrows that aren't the call's own, and the priorities that changed.
     fn push_row(&self, out: &mut String, row: &Row) -> Result<(), AllocError> {
-        let mut first = Line::new(self.alloc);
+        let mut first = Line::new(self.names.alloc);
         let number = row.number;
-        first.put(0, format!(in self.alloc; "{number:>4}")?.as_str())?;
+        first.put(0, format!(in self.names.alloc; "{number:>4}")?.as_str())?;
         match row.arrows.first() {
             Some(arrow) if is_sent(row, arrow) => {
                 self.put_arrow(&mut first, arrow, row.words.as_str(), false)?;
@@ -101,7 +106,7 @@ impl Page<'_> {
             _ => self.put_call(&mut first, row)?,
         }
         for cut in &row.cuts {
-            self.put_beside(&mut first, cut.thread, cut_words(self.alloc, cut)?.as_str())?;
+            self.put_beside(&mut first, cut.thread, cut_words(self.names, cut)?.as_str())?;
         }
         self.end_line(out, first, row)?;
         self.push_arrows(out, row)?;
@@ -141,7 +146,7 @@ impl Page<'_> {
     fn push_arrows(&self, out: &mut String, row: &Row) -> Result<(), AllocError> {
         for (arrow, words) in row.arrows.iter().zip(row.labels.iter()) {
             if !is_sent(row, arrow) {
-                let mut line = Line::new(self.alloc);
+                let mut line = Line::new(self.names.alloc);
                 self.put_arrow(&mut line, arrow, words.as_str(), true)?;
                 self.end_line(out, line, row)?;
             }
@@ -153,9 +158,9 @@ impl Page<'_> {
         if row.changes.is_empty() {
             return Ok(());
         }
-        let mut line = Line::new(self.alloc);
+        let mut line = Line::new(self.names.alloc);
         for change in &row.changes {
-            let words = priority_words(self.alloc, change.priority)?;
+            let words = priority_words(self.names.alloc, change.priority)?;
             self.put_beside(&mut line, change.thread, words.as_str())?;
         }
         self.end_line(out, line, row)

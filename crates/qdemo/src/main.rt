@@ -8,7 +8,7 @@ use clap::Error;
 use clap::error::ErrorKind;
 use qtool::charts::run_chart;
 use qtool::check::run_check;
-use qtool::command::{Action, ChartRun, ExploreRun, ScriptRun, action_of};
+use qtool::command::{Action, ChartRun, ExploreRun, PlayRun, ScriptRun, action_of};
 use qtool::designs::run_explore;
 use qtool::ending::{end_failed, end_unwritten, end_with};
 use qtool::play::run_play;
@@ -30,10 +30,21 @@ fn main(rt: HostRuntime) -> ExitCode {
     let done = match action_of(rt.alloc(), words.as_slice()) {
         Ok(Action::Script(run)) => {
             let terminal = rt.stderr().is_terminal();
-            run_script(&rt, &ScriptRun { terminal, ..run })
+            let names = run.names || rt.stdout().is_terminal();
+            run_script(
+                &rt,
+                &ScriptRun {
+                    terminal,
+                    names,
+                    ..run
+                },
+            )
         }
         Ok(Action::Check(run)) => run_check(&rt, &run),
-        Ok(Action::Play(run)) => run_play(&rt, &run, rt.stdin().is_terminal()),
+        Ok(Action::Play(run)) => {
+            let names = run.names || rt.stdout().is_terminal();
+            run_play(&rt, &PlayRun { names, ..run }, rt.stdin().is_terminal())
+        }
         Ok(Action::Chart(run)) => {
             let terminal = rt.stdout().is_terminal();
             run_chart(&rt, &ChartRun { terminal, ..run })

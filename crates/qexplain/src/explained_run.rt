@@ -1,11 +1,12 @@
 //! Unproved: words and layout. A run whose failures and waits are explained.
 
 use crate::history::{History, Past};
-use crate::waiting::{Deadlock, Wait, deadlocks, waits};
+use crate::waiting::wait_words;
 use crate::why::{Refusal, refusals};
 use qbase::errno::Errno;
 use qbase::ids::ThreadNo;
 use qmodel::call::Call;
+use qnames::wording::Context;
 use qscript::run::Run;
 use qscript::script::roster_with_all;
 use qtables::member::Member;
@@ -55,18 +56,12 @@ impl ExplainedRun {
     }
 
     /// Returns the failures in the event of the latest call, with their reasons.
-    pub fn refusals(&self, alloc: Global) -> Result<Vec<Refusal>, AllocError> {
-        let endings = self.run.endings();
-        refusals(alloc, self.run.kernel(), &self.history, endings)
+    pub fn refusals(&self, names: Context<'_>) -> Result<Vec<Refusal>, AllocError> {
+        refusals(names, self.run.kernel(), &self.history, self.run.endings())
     }
 
-    /// Returns the threads whose messages aren't answered now, in rising number.
-    pub fn waits(&self, alloc: Global) -> Result<Vec<Wait>, AllocError> {
-        waits(alloc, self.run.kernel(), &self.history)
-    }
-
-    /// Returns the circles among these waits.
-    pub fn deadlocks(&self, alloc: Global, waits: &[Wait]) -> Result<Vec<Deadlock>, AllocError> {
-        deadlocks(alloc, self.run.kernel(), waits)
+    /// Returns who waits for whom now, a line for each thread, and then the circles in words.
+    pub fn wait_words(&self, names: Context<'_>) -> Result<Vec<String>, AllocError> {
+        wait_words(names, self.run.kernel(), &self.history)
     }
 }

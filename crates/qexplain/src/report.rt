@@ -1,10 +1,11 @@
 //! Unproved: words and layout. Reports what the trace of a run doesn't say.
 
 use crate::explained_run::ExplainedRun;
-use crate::waiting::{Deadlock, Wait};
 use crate::why::Refusal;
 use qbase::ids::ThreadNo;
 use qmodel::call::{Call, Mark};
+use qnames::scope::Scope;
+use qnames::wording::Context;
 use qreading::parts::call_lines;
 use qscript::fault::ScriptFault;
 use qscript::run::Run;
@@ -21,21 +22,21 @@ pub struct Report {
     pub refusals: Vec<(usize, Refusal)>,
     /// The number of calls that failed.
     pub failures: usize,
-    /// The threads whose messages aren't answered at the end.
-    pub waits: Vec<Wait>,
-    /// The circles among these threads.
-    pub deadlocks: Vec<Deadlock>,
+    /// Who waits for whom at the end, and in which circles.
+    pub waits: Vec<String>,
 }
 
 /// Returns what a script prints, and the report of the same run.
 pub fn explained(alloc: Global, text: &[u8]) -> Result<(String, Report), ScriptFault> {
     let script = parse(alloc, text)?;
     let lines = call_lines(alloc, text)?;
+    let scope = Scope::new(alloc);
+    let names = Context::plain(alloc, &scope);
     let mut run = ReportedRun::new(alloc, &script, lines)?;
     for (thread, call) in script.calls {
-        run.make(thread, call)?;
+        run.make(names, thread, call)?;
     }
-    Ok(run.finish()?)
+    Ok(run.finish(names)?)
 }
 
 /// A run that goes on call by call, and its report so far.
@@ -63,7 +64,6 @@ impl ReportedRun {
                 refusals: Vec::new(alloc),
                 failures: 0,
                 waits: Vec::new(alloc),
-                deadlocks: Vec::new(alloc),
             },
         })
     }
@@ -74,7 +74,12 @@ impl ReportedRun {
     }
 
     /// Makes the next call, counts the failures in its event, and notes them up to `MOST_REFUSALS`.
-    pub fn make(&mut self, thread: ThreadNo, call: Call) -> Result<(), AllocError> {
+    pub fn make(
+        &mut self,
+        names: Context<'_>,
+        thread: ThreadNo,
+        call: Call,
+    ) -> Result<(), AllocError> {
         if self.run.make(thread, call).is_err() {
             return Err(AllocError);
         }
@@ -85,7 +90,7 @@ impl ReportedRun {
         if count == 0 || self.report.refusals.len() >= MOST_REFUSALS {
             return Ok(());
         }
-        for refusal in self.run.refusals(self.alloc)? {
+        for refusal in self.run.refusals(names)? {
             let place = refusal.number.saturating_sub(1) as usize;
             let line = self.lines.get(place).copied().unwrap_or(0);
             if self.report.refusals.len() < MOST_REFUSALS {
@@ -96,15 +101,14 @@ impl ReportedRun {
     }
 
     /// Returns what the run prints, and its report with who is blocked on whom at its end.
-    pub fn finish(self) -> Result<(String, Report), AllocError> {
+    pub fn finish(self, names: Context<'_>) -> Result<(String, Report), AllocError> {
         let ReportedRun {
             alloc,
             run,
             mut report,
             ..
         } = self;
-        report.waits = run.waits(alloc)?;
-        report.deadlocks = run.deadlocks(alloc, report.waits.as_slice())?;
+        report.waits = run.wait_words(names)?;
         Ok((run.into_run().finish(alloc)?, report))
     }
 }

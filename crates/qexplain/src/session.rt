@@ -6,6 +6,7 @@ use crate::states::states_of;
 use qbase::errno::Errno;
 use qbase::ids::ThreadNo;
 use qmodel::call::Call;
+use qnames::wording::Context;
 use qreading::fault::ParseError;
 use qreading::parts::Lines;
 pub use qreading::parts::last_line;
@@ -145,24 +146,29 @@ impl Session {
     }
 
     /// Returns the lines of the threads that are blocked now.
-    pub fn blocked(&self) -> Result<Vec<u8>, AllocError> {
+    pub fn blocked(&self, names: Context<'_>) -> Result<Vec<u8>, AllocError> {
         let mut lines = String::new(self.alloc);
         if let Some(run) = &self.run {
-            for blocked in &run.run().kernel().blocked(self.alloc)? {
-                push_open(&mut lines, *blocked)?;
+            let blocked = run.run().kernel().blocked(self.alloc)?;
+            if !names.is_plain() {
+                names.push_blocked(&mut lines, blocked.as_slice())?;
+            } else {
+                for blocked in &blocked {
+                    push_open(&mut lines, *blocked)?;
+                }
             }
         }
         Vec::from_slice(self.alloc, lines.as_bytes())
     }
 
     /// Returns a line for each thread, in the order of their lines, with its state now and its priority.
-    pub fn states(&self, alloc: Global) -> Result<String, AllocError> {
+    pub fn states(&self, names: Context<'_>) -> Result<String, AllocError> {
         let members = self.roster.as_slice();
         match &self.run {
-            Some(run) => states_of(alloc, run.run().kernel(), members),
+            Some(run) => states_of(names, run.run().kernel(), members),
             None => {
-                let run = ExplainedRun::new(alloc, members, 0)?;
-                states_of(alloc, run.run().kernel(), members)
+                let run = ExplainedRun::new(names.alloc, members, 0)?;
+                states_of(names, run.run().kernel(), members)
             }
         }
     }

@@ -5,8 +5,8 @@ use qbase::ids::{ProcessNo, ThreadNo};
 use qbase::state::ThreadState;
 use qkernel::kernel::Kernel;
 use qkernel::open_call::Blocked;
+use qnames::wording::Context;
 use std::alloc::{AllocError, Global};
-use std::fmt;
 
 /// A thread whose message isn't answered.
 #[derive(Clone, Copy, PartialEq, Eq)]
@@ -24,21 +24,18 @@ pub struct Wait {
     pub has_others: bool,
 }
 
-/// `THREAD waits for THREAD: message MESSAGE isn't received`
-impl fmt::Display for Wait {
-    fn fmt<W: fmt::Write>(&self, f: &mut fmt::Formatter<W>) -> fmt::Result {
-        let thread = self.thread.0;
-        let on = self.on.0;
-        let message = self.message;
+impl Wait {
+    /// Returns `THREAD waits for THREAD: message MESSAGE isn't received`.
+    fn words(&self, names: Context<'_>) -> Result<String, AllocError> {
+        let thread = names.thread(self.thread);
+        let on = names.thread(self.on);
+        let message = names.id(self.message);
         let (others, lack) = match (self.is_held, self.has_others) {
             (true, _) => ("", "answered"),
             (false, true) => (" or another thread of its process", "received"),
             (false, false) => ("", "received"),
         };
-        write!(
-            f,
-            "{thread} waits for {on}{others}: message {message} isn't {lack}"
-        )
+        format!(in names.alloc; "{thread} waits for {on}{others}: message {message} isn't {lack}")
     }
 }
 
@@ -49,25 +46,42 @@ pub struct Deadlock {
     waits: Vec<Wait>,
 }
 
-/// `deadlock: THREAD waits for THREAD, ..`
-impl fmt::Display for Deadlock {
-    fn fmt<W: fmt::Write>(&self, f: &mut fmt::Formatter<W>) -> fmt::Result {
+impl Deadlock {
+    /// Returns `deadlock: THREAD waits for THREAD, ..`.
+    pub fn words(&self, names: Context<'_>) -> Result<String, AllocError> {
+        let mut words = String::new(names.alloc);
         let mut between = "deadlock: ";
         for wait in &self.waits {
-            let thread = wait.thread.0;
-            let on = wait.on.0;
-            write!(f, "{between}{thread} waits for {on}")?;
+            let thread = names.thread(wait.thread);
+            let on = names.thread(wait.on);
+            write!(words, "{between}{thread} waits for {on}")?;
             between = ", ";
         }
-        Ok(())
+        Ok(words)
     }
-}
 
-impl Deadlock {
     /// Returns the threads of the circle, each with the thread that it waits for.
     pub fn waits(&self) -> &[Wait] {
         self.waits.as_slice()
     }
+}
+
+/// Returns who waits for whom, a line for each thread, and then the circles in words. The kernel and the history are those
+/// after the same calls.
+pub fn wait_words(
+    names: Context<'_>,
+    kernel: &Kernel,
+    history: &History,
+) -> Result<Vec<String>, AllocError> {
+    let waits = waits(names.alloc, kernel, history)?;
+    let mut words = Vec::new(names.alloc);
+    for wait in &waits {
+        words.push(wait.words(names)?)?;
+    }
+    for deadlock in &deadlocks(names.alloc, kernel, waits.as_slice())? {
+        words.push(deadlock.words(names)?)?;
+    }
+    Ok(words)
 }
 
 /// Returns the threads whose messages aren't answered, in rising number. The kernel and the history are those after the

@@ -4,11 +4,14 @@ mod rules;
 
 use crate::history::{History, Past};
 use qbase::errno::{Errno, word};
+use qbase::ids::ThreadNo;
 use qkernel::kernel::Kernel;
 use qmodel::call::{Completion, Mark};
 use qmodel::kind::CallKind;
+use qnames::shown::Shown;
+use qnames::wording::Context;
 use rules::rule_words;
-use std::alloc::{AllocError, Global};
+use std::alloc::AllocError;
 use std::fmt;
 
 /// A call that failed, with its error and the reason in words.
@@ -30,11 +33,12 @@ impl fmt::Display for Refusal {
 /// Returns the failures among the endings of the latest call, each with its reason, in the order of the endings. The
 /// kernel and the history are those after the call.
 pub fn refusals(
-    alloc: Global,
+    names: Context<'_>,
     kernel: &Kernel,
     history: &History,
     endings: &[Completion],
 ) -> Result<Vec<Refusal>, AllocError> {
+    let alloc = names.alloc;
     let mut refusals = Vec::new(alloc);
     let made = history.made();
     let Some(latest) = history.call(made) else {
@@ -45,11 +49,11 @@ pub fn refusals(
         if let Mark::Failed(errno) = ending.mark
             && let Some(past) = history.call(number)
         {
-            let head = head_words(alloc, number, &past, errno)?;
+            let head = head_words(names, number, &past, errno)?;
             let why = if number == made {
-                rule_words(alloc, kernel, history, latest, errno)?
+                rule_words(names, kernel, history, latest, errno)?
             } else {
-                cut_words(alloc, made, &latest)?
+                cut_words(names, made, &latest)?
             };
             let text = format!(in alloc; "{head}: {why}")?;
             refusals.push(Refusal { number, text })?;
@@ -58,30 +62,47 @@ pub fn refusals(
     Ok(refusals)
 }
 
-/// `NUMBER CALL OPERAND: fail ERROR`
-fn head_words(alloc: Global, number: u64, past: &Past, errno: Errno) -> Result<String, AllocError> {
+/// Returns what stands for the first operand of a call of this kind: a thread, an id or flags.
+pub fn operand_shown(names: Context<'_>, kind: CallKind, operand: u64) -> Shown<'_> {
+    match (kind, u8::try_from(operand)) {
+        (CallKind::ChannelCreate, _) => Shown::Number(operand),
+        (CallKind::PrioritySet | CallKind::State | CallKind::Unblock, Ok(thread)) => {
+            names.thread(ThreadNo(thread))
+        }
+        _ => names.id(operand),
+    }
+}
+
+/// `NUMBER CALL OPERAND: fail ERROR`, or `THREAD CALL OPERAND: fail ERROR` with names.
+fn head_words(
+    names: Context<'_>,
+    number: u64,
+    past: &Past,
+    errno: Errno,
+) -> Result<String, AllocError> {
     let name = past.kind.word();
     let error = word(errno);
-    let operand = past.operand;
+    let first = if names.is_plain() {
+        Shown::Number(number)
+    } else {
+        names.thread(past.thread)
+    };
     if past.kind == CallKind::Shutdown {
-        return format!(in alloc; "{number} {name}: fail {error}");
+        return format!(in names.alloc; "{first} {name}: fail {error}");
     }
-    format!(in alloc; "{number} {name} {operand}: fail {error}")
+    let operand = operand_shown(names, past.kind, past.operand);
+    format!(in names.alloc; "{first} {name} {operand}: fail {error}")
 }
 
 /// Returns which call ended another by force, and how.
-fn cut_words(alloc: Global, number: u64, past: &Past) -> Result<String, AllocError> {
-    let operand = past.operand;
-    match past.kind {
-        CallKind::ChannelDestroy => format!(in alloc;
-            "cut by call {number}, which destroyed channel {operand}"
-        ),
-        CallKind::ConnectDetach => {
-            format!(in alloc; "cut by call {number}, which detached connection {operand}")
-        }
-        CallKind::Unblock => format!(in alloc;
-            "cut by call {number}, which unblocked thread {operand}"
-        ),
-        _ => format!(in alloc; "cut by call {number}, which shut the kernel down"),
-    }
+fn cut_words(names: Context<'_>, number: u64, past: &Past) -> Result<String, AllocError> {
+    let call = names.call(number);
+    let operand = operand_shown(names, past.kind, past.operand);
+    let did = match past.kind {
+        CallKind::ChannelDestroy => "destroyed channel",
+        CallKind::ConnectDetach => "detached connection",
+        CallKind::Unblock => "unblocked thread",
+        _ => return format!(in names.alloc; "cut by {call}, which shut the kernel down"),
+    };
+    format!(in names.alloc; "cut by {call}, which {did} {operand}")
 }

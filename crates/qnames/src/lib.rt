@@ -11,6 +11,7 @@ pub mod named;
 pub mod plain;
 pub mod reading;
 pub mod scope;
+pub mod shown;
 pub mod translation;
 pub mod wording;
 

@@ -6,6 +6,7 @@ use crate::names::{is_named, named_of};
 use crate::remarks::Source;
 use qchart::drawing::{drawing, drawing_of};
 use qchart::view::{Style, View};
+use qnames::Named;
 use std::fs;
 use std::process::ExitCode;
 use std::rt::Files;
@@ -27,8 +28,8 @@ pub fn run_chart<R: Files + Input + Print + Eprint + AllocGlobal>(
     let view = view_of(run);
     let drawn = if file.is_some_and(is_named) {
         let shows = false;
-        let named = named_of(rt, Source { file, text, shows })?;
-        drawing_of(rt.alloc(), named.script, &view)
+        let Named { script, check, .. } = named_of(rt, Source { file, text, shows })?;
+        drawing_of(check.context(), script, &view)
     } else {
         drawing(rt.alloc(), text, &view)
     };

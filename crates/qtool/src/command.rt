@@ -13,6 +13,8 @@ pub struct ScriptRun {
     pub file: Option<String>,
     /// Whether faults and failures are explained.
     pub explain: bool,
+    /// Whether the trace of a script with names has the names in place of numbers.
+    pub names: bool,
     /// Whether the plain script of one with names is printed instead of run.
     pub plain: bool,
     /// Whether a call that fails makes the exit status 1.
@@ -37,6 +39,8 @@ pub struct CheckRun {
 pub struct PlayRun {
     /// The file of the script to begin with, if there is one.
     pub file: Option<String>,
+    /// Whether answers have names in place of numbers, once the lines have names.
+    pub names: bool,
 }
 
 /// A script whose run is drawn.
@@ -142,6 +146,7 @@ fn script_of(alloc: Global, matches: &ArgMatches<'_>) -> Result<ScriptRun, Alloc
     Ok(ScriptRun {
         file: file_of(alloc, matches, "file")?,
         explain: matches.get_flag("explain"),
+        names: matches.get_flag("names"),
         plain: matches.get_flag("plain"),
         strict: matches.get_flag("strict"),
         terminal: false,
@@ -209,6 +214,7 @@ pub fn action_of(alloc: Global, words: &[String]) -> Result<Action, Error> {
         Some(("check", check)) => Action::Check(check_of(alloc, check)?),
         Some(("play", play)) => Action::Play(PlayRun {
             file: file_of(alloc, play, "file")?,
+            names: play.get_flag("names"),
         }),
         Some(("chart", chart)) => Action::Chart(chart_of(alloc, chart)?),
         Some(("explore", explore)) => Action::Explore(explore_of(alloc, explore)?),

@@ -43,7 +43,8 @@ pub fn run_named<R: Files + Input + Print + Eprint + AllocGlobal>(
         print_text(rt, named.text.as_str())?;
         return Ok(ExitCode::SUCCESS);
     }
-    let outcome = outcome_of(rt.alloc(), named).map_err(|_| end_failed(rt, "out of memory"))?;
+    let outcome = outcome_of(rt.alloc(), named, run.names);
+    let outcome = outcome.map_err(|_| end_failed(rt, "out of memory"))?;
     print_text(rt, outcome.trace.as_str())?;
     if run.explain {
         let _ = tell_run(rt, file, &outcome.report);
@@ -62,22 +63,28 @@ struct Outcome {
     faults: Vec<Fault>,
 }
 
-/// Runs a script with names once, and returns its outcome.
-fn outcome_of(alloc: Global, named: Named) -> Result<Outcome, AllocError> {
+/// Runs a script with names once, and returns its outcome; the trace has the names if `in_names` is set.
+fn outcome_of(alloc: Global, named: Named, in_names: bool) -> Result<Outcome, AllocError> {
     let (script, mut check) = (named.script, named.check);
     let calls = check.calls.iter();
     let lines = calls.map(|call| call.place.line as usize).collect(alloc)?;
     let mut run = ReportedRun::new(alloc, &script, lines)?;
     check.compare_states(Some(run.run().kernel()))?;
+    let mut told = String::new(alloc);
     for (thread, call) in script.calls {
-        run.make(thread, call)?;
+        run.make(check.context(), thread, call)?;
         check.follow(run.run().kernel(), run.run().endings())?;
+        if in_names {
+            check.push_trace(&mut told, run.run().endings())?;
+        }
     }
     check.finish(run.run().kernel())?;
-    let (trace, report) = run.finish()?;
+    let blocked = run.run().kernel().blocked(alloc)?;
+    check.context().push_blocked(&mut told, blocked.as_slice())?;
+    let (trace, report) = run.finish(check.context())?;
     let faults = check.take_faults()?;
     Ok(Outcome {
-        trace,
+        trace: if in_names { told } else { trace },
         report,
         faults,
     })
@@ -86,7 +93,7 @@ fn outcome_of(alloc: Global, named: Named) -> Result<Outcome, AllocError> {
 /// Returns the faults of a script with names, or else what differs from its expectations in its run.
 pub fn faults_of(alloc: Global, text: &[u8]) -> Result<Vec<Fault>, AllocError> {
     match read(alloc, text)? {
-        Reading::Good(named) => Ok(outcome_of(alloc, named)?.faults),
+        Reading::Good(named) => Ok(outcome_of(alloc, named, false)?.faults),
         Reading::Faulty(faults) => Ok(faults),
     }
 }

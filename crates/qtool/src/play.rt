@@ -58,7 +58,7 @@ pub fn run_play<R: Files + Input + Print + Eprint + AllocGlobal>(
 ) -> Result<ExitCode, ExitCode> {
     let mut play = Play {
         rt,
-        sheet: Sheet::new(rt.alloc()),
+        sheet: Sheet::new(rt.alloc(), run.names),
         terminal,
         lines: 0,
         faulty: false,
@@ -148,7 +148,7 @@ impl<R: Files + Input + Print + Eprint + AllocGlobal> Play<'_, R> {
             Order::Quit => return Ok(false),
             Order::Help => self.print(HELP.as_bytes())?,
             Order::State => {
-                let states = self.sheet.session().states(self.rt.alloc())?;
+                let states = self.sheet.session().states(self.sheet.shown())?;
                 self.print(states.as_str().as_bytes())?;
             }
             Order::Undo => self.undo()?,
@@ -248,19 +248,15 @@ impl<R: Files + Input + Print + Eprint + AllocGlobal> Play<'_, R> {
 
     /// Prints why calls failed, who is blocked now, and which threads wait in a circle.
     fn tell_more(&self) -> io::Result<()> {
-        let alloc = self.rt.alloc();
+        let names = self.sheet.shown();
         let Some(run) = self.sheet.session().run() else {
             return Ok(());
         };
-        for failure in &run.refusals(alloc)? {
+        for failure in &run.refusals(names)? {
             println!(self.rt; "  {failure}")?;
         }
-        let waits = run.waits(alloc)?;
-        for wait in &waits {
+        for wait in &run.wait_words(names)? {
             println!(self.rt; "  {wait}")?;
-        }
-        for deadlock in &run.deadlocks(alloc, waits.as_slice())? {
-            println!(self.rt; "  {deadlock}")?;
         }
         Ok(())
     }
@@ -269,7 +265,7 @@ impl<R: Files + Input + Print + Eprint + AllocGlobal> Play<'_, R> {
     /// then.
     fn finish(&mut self) -> io::Result<()> {
         if !self.terminal {
-            let blocked = self.sheet.session().blocked()?;
+            let blocked = self.sheet.session().blocked(self.sheet.shown())?;
             self.print(blocked.as_slice())?;
         }
         let faults = self.sheet.finish()?;

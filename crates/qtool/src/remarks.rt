@@ -120,8 +120,5 @@ pub fn tell_run<R: Eprint>(rt: &R, file: Option<&str>, report: &Report) -> io::R
     for wait in &report.waits {
         eprintln!(rt; "{wait}")?;
     }
-    for deadlock in &report.deadlocks {
-        eprintln!(rt; "{deadlock}")?;
-    }
     Ok(())
 }

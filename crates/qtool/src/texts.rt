@@ -144,7 +144,14 @@ say how its call has to end, and a line of its own in which state a thread is:
 
 It runs as its plain script, in which each name is replaced by its number; --plain
 prints that. All faults, and all that isn't as expected in the run, are told on
-standard error, as 'qdemo: FILE:4:27: expected ..'. docs/SCRIPTS.md has all forms.",
+standard error, as 'qdemo: FILE:4:27: expected ..'. docs/SCRIPTS.md has all forms.
+
+With --names, and on a terminal, its output has names too: the line of the call that
+ended it, the call and its result; and at the end the state of each thread that is
+blocked, with the line of its call. Explanations and charts always have the names:
+
+  9: m = client send -> reply 0 \"seven\"
+  client is SEND-blocked on ch  # line 12",
     "Example:
   input            output
   thread 1 1 10
@@ -204,7 +211,8 @@ Lines of a script with names are answered too, beside plain ones: from the first
 line on that only such a script has, as 'ch = 1 create 0', the lines are a script
 with names, and with a file NAME.names they are one from the start. It is to be
 saved as NAME.names. A call that isn't as expected is told; what is expected of a
-call that hasn't ended is looked at when it ends, or at the end of the input.
+call that hasn't ended is looked at when it ends, or at the end of the input. With
+--names, and on a terminal, answers, states and reasons then have the names.
 
 A faulty line is told on standard error, and left out. With a FILE its script is
 run first. On a terminal there is a prompt, and it is also told why a call failed,
@@ -227,7 +235,7 @@ some thousand lines, or some hundred with names, not for more.",
   > state
   1 state ready 10
   > co = 1 attach 1
-  2 2 1 connection 2
+  3: co = 1 attach -> connection co
   > m = 1 send co \"hi\" [8]
 
 Status: 0; 1 for a faulty FILE, or for a faulty line or a call that isn't as

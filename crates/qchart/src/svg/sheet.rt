@@ -3,7 +3,8 @@
 use crate::chart::Chart;
 use crate::plan::{Side, words_side};
 use qbase::ids::ThreadNo;
-use std::alloc::{AllocError, Global};
+use qnames::wording::Context;
+use std::alloc::AllocError;
 
 /// Half the width of a thread's head, if its numbers have one digit each.
 const HEAD_HALF: usize = 68;
@@ -35,7 +36,7 @@ const LEAST_WIDTH: usize = 620;
 /// A chart and the measures of its drawing.
 #[derive(Drop)]
 pub struct Sheet<'a> {
-    pub alloc: Global,
+    pub names: Context<'a>,
     pub chart: &'a Chart,
     /// Half the width of a thread's head.
     pub head_half: usize,
@@ -47,12 +48,12 @@ pub struct Sheet<'a> {
 
 impl Sheet<'_> {
     /// Returns the measures that a chart needs.
-    pub fn of<'a>(alloc: Global, chart: &'a Chart) -> Result<Sheet<'a>, AllocError> {
+    pub fn of<'a>(names: Context<'a>, chart: &'a Chart) -> Result<Sheet<'a>, AllocError> {
         let last = chart.lifelines.len().saturating_sub(1);
-        let head_half = head_half_for(chart.longest_head(alloc)?);
+        let head_half = head_half_for(chart.longest_head(names)?);
         let heads = head_half.saturating_mul(2).saturating_add(24);
         Ok(Sheet {
-            alloc,
+            names,
             chart,
             head_half,
             gap: room_for(chart.longest_words()).max(LEAST_GAP).max(heads),

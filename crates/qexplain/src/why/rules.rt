@@ -2,18 +2,21 @@
 //! `docs/MODEL.md`, and says it in words.
 
 use crate::history::{End, History, Past};
+use crate::why::operand_shown;
 use qbase::errno::Errno;
 use qbase::ids::{ChannelId, ConnectionId, ProcessNo};
 use qbase::state::ThreadState;
 use qkernel::kernel::Kernel;
 use qkernel::open_call::Blocked;
 use qmodel::kind::CallKind;
+use qnames::wording::Context;
 use std::alloc::{AllocError, Global};
 
 /// A call that was refused: the past calls, of which it is the last, and the kernel, which it left as it was.
 #[derive(Drop)]
 struct Refused<'a> {
     alloc: Global,
+    names: Context<'a>,
     kernel: &'a Kernel,
     blocked: Vec<Blocked>,
     history: &'a History,
@@ -24,16 +27,17 @@ struct Refused<'a> {
 
 /// Returns the rule that refused the latest call with this error, with what the call may have meant.
 pub fn rule_words(
-    alloc: Global,
+    names: Context<'_>,
     kernel: &Kernel,
     history: &History,
     call: Past,
     errno: Errno,
 ) -> Result<String, AllocError> {
     let refused = Refused {
-        alloc,
+        alloc: names.alloc,
+        names,
         kernel,
-        blocked: kernel.blocked(alloc)?,
+        blocked: kernel.blocked(names.alloc)?,
         history,
         call,
         named: call.operand,
@@ -95,7 +99,8 @@ impl Refused<'_> {
     /// Returns which call shut the kernel down.
     fn down(&self) -> Result<String, AllocError> {
         let by = self.history.accepted(CallKind::Shutdown, 0).unwrap_or(0);
-        format!(in self.alloc; "call {by} shut the kernel down")
+        let by = self.names.call(by);
+        format!(in self.alloc; "{by} shut the kernel down")
     }
 
     /// Returns what its thread is blocked in.
@@ -104,21 +109,19 @@ impl Refused<'_> {
         let Some(blocked) = all.find(|blocked| blocked.thread == self.call.thread) else {
             return self.plain("its thread is blocked");
         };
-        let thread = blocked.thread.0;
-        let number = blocked.number;
+        let thread = self.names.thread(blocked.thread);
+        let call = self.names.call(blocked.number);
         let lack = match blocked.state {
             ThreadState::ReceiveBlocked(chid) => {
-                let channel = chid.0;
+                let channel = self.names.id(chid.0);
                 return format!(in self.alloc;
-                    "thread {thread} is blocked in call {number}, and waits to receive on channel {channel}"
+                    "thread {thread} is blocked in {call}, and waits to receive on channel {channel}"
                 );
             }
             ThreadState::ReplyBlocked(_) => "answered",
             _ => "received",
         };
-        format!(in self.alloc;
-            "thread {thread} is blocked in call {number} until its message is {lack}"
-        )
+        format!(in self.alloc; "thread {thread} is blocked in {call} until its message is {lack}")
     }
 
     /// Returns what is wrong with its flags.
@@ -136,7 +139,10 @@ impl Refused<'_> {
             return self.of_others("channel", open.owner);
         }
         match self.history.accepted(CallKind::ChannelDestroy, channel) {
-            Some(by) => format!(in self.alloc; "call {by} destroyed channel {channel}"),
+            Some(by) => {
+                let (by, channel) = (self.names.call(by), self.names.id(channel));
+                format!(in self.alloc; "{by} destroyed channel {channel}")
+            }
             None => self.missing("channel", self.likely_channel()?),
         }
     }
@@ -146,7 +152,10 @@ impl Refused<'_> {
         let number = self.named;
         let Some(live) = self.kernel.connections().get(ConnectionId(number)) else {
             return match self.history.accepted(CallKind::ConnectDetach, number) {
-                Some(by) => format!(in self.alloc; "call {by} detached connection {number}"),
+                Some(by) => {
+                    let (by, connection) = (self.names.call(by), self.names.id(number));
+                    format!(in self.alloc; "{by} detached connection {connection}")
+                }
                 None => self.missing("connection", self.likely_connection()?),
             };
         };
@@ -155,9 +164,10 @@ impl Refused<'_> {
         }
         let channel = live.channel.0;
         match self.history.accepted(CallKind::ChannelDestroy, channel) {
-            Some(by) => format!(in self.alloc;
-                "it leads to channel {channel}, which call {by} destroyed"
-            ),
+            Some(by) => {
+                let (by, channel) = (self.names.call(by), self.names.id(channel));
+                format!(in self.alloc; "it leads to channel {channel}, which {by} destroyed")
+            }
             None => self.unknown(),
         }
     }
@@ -181,30 +191,30 @@ impl Refused<'_> {
             Some(send) if send.kind == CallKind::Send && send.end != End::Refused => send,
             _ => return self.missing("message", self.likely_message()?),
         };
-        let by = send.ended_by;
+        let (by, message) = (self.names.call(send.ended_by), self.names.id(message));
         match send.end {
             End::Open => format!(in self.alloc; "message {message} isn't received yet"),
-            End::Cut => format!(in self.alloc; "call {by} ended the send of message {message}"),
-            _ => format!(in self.alloc; "call {by} answered message {message}"),
+            End::Cut => format!(in self.alloc; "{by} ended the send of message {message}"),
+            _ => format!(in self.alloc; "{by} answered message {message}"),
         }
     }
 
     /// Returns the words for a call that names a thing of this process, another than that of its thread.
     fn of_others(&self, thing: &str, owner: ProcessNo) -> Result<String, AllocError> {
-        let number = self.named;
-        let owner = owner.0;
-        let thread = self.call.thread.0;
-        let process = self.process().0;
+        let named = operand_shown(self.names, self.call.kind, self.named);
+        let owner = self.names.process(owner);
+        let thread = self.names.thread(self.call.thread);
+        let process = self.names.process(self.process());
         format!(in self.alloc;
-            "{thing} {number} is of process {owner}, and thread {thread} of process {process}"
+            "{thing} {named} is of process {owner}, and thread {thread} of process {process}"
         )
     }
 
     /// Returns the words for a number that never named such a thing, with the one that may have been meant.
     fn missing(&self, thing: &str, other: String) -> Result<String, AllocError> {
-        let number = self.named;
-        let found = self.call_words(number)?;
-        format!(in self.alloc; "{number} is no {thing}: {found}; {other}")
+        let named = self.names.id(self.named);
+        let found = self.call_words(self.named)?;
+        format!(in self.alloc; "{named} is no {thing}: {found}; {other}")
     }
 
     /// Returns what the call with this number did.
@@ -213,24 +223,32 @@ impl Refused<'_> {
         if number == 0 {
             return self.plain("calls are numbered from 1");
         }
+        let call = self.names.call(number);
         if number == self.history.made() {
-            return format!(in alloc; "call {number} is this one");
+            return format!(in alloc; "{call} is this one");
         }
         let Some(past) = self.history.call(number) else {
             return format!(in alloc; "call {number} isn't made yet");
         };
         let word = past.kind.word();
         match past.end {
-            End::Refused => format!(in alloc; "call {number} was refused"),
-            End::Channel => format!(in alloc; "call {number} made a channel"),
-            End::Connection => format!(in alloc; "call {number} made a connection"),
-            End::Message(message) => format!(in alloc; "call {number} received message {message}"),
-            End::Pulse(item) => format!(in alloc; "call {number} received pulse {item}"),
-            _ if past.kind == CallKind::Send => format!(in alloc;
-                "call {number} sent message {number}"
-            ),
-            _ if past.kind == CallKind::Pulse => format!(in alloc; "call {number} sent a pulse"),
-            _ => format!(in alloc; "call {number} is the call '{word}'"),
+            End::Refused => format!(in alloc; "{call} was refused"),
+            End::Channel => format!(in alloc; "{call} made a channel"),
+            End::Connection => format!(in alloc; "{call} made a connection"),
+            End::Message(message) => {
+                let message = self.names.id(message);
+                format!(in alloc; "{call} received message {message}")
+            }
+            End::Pulse(item) => {
+                let item = self.names.id(item);
+                format!(in alloc; "{call} received pulse {item}")
+            }
+            _ if past.kind == CallKind::Send => {
+                let message = self.names.id(number);
+                format!(in alloc; "{call} sent message {message}")
+            }
+            _ if past.kind == CallKind::Pulse => format!(in alloc; "{call} sent a pulse"),
+            _ => format!(in alloc; "{call} is the call '{word}'"),
         }
     }
 
@@ -242,7 +260,7 @@ impl Refused<'_> {
             && past.end == End::Connection
             && channels.get(ChannelId(past.operand)).is_some()
         {
-            let leads = past.operand;
+            let leads = self.names.id(past.operand);
             return format!(in self.alloc; "it leads to channel {leads}");
         }
         let count = channels.len();
@@ -250,7 +268,8 @@ impl Refused<'_> {
             return self.plain("no channel is open");
         }
         let channel = channels.id_at(count - 1).0;
-        format!(in self.alloc; "call {channel} made channel {channel}")
+        let (call, channel) = (self.names.call(channel), self.names.id(channel));
+        format!(in self.alloc; "{call} made channel {channel}")
     }
 
     /// Returns the connection that may have been meant: the first of its process to a channel of this number, or else
@@ -268,9 +287,12 @@ impl Refused<'_> {
                 }
             }
         }
-        let process = process.0;
+        let process = self.names.process(process);
         match likely {
-            Some(number) => format!(in self.alloc; "call {number} made connection {number}"),
+            Some(number) => {
+                let (call, connection) = (self.names.call(number), self.names.id(number));
+                format!(in self.alloc; "{call} made connection {connection}")
+            }
             None => format!(in self.alloc; "process {process} has no connection"),
         }
     }
@@ -289,9 +311,12 @@ impl Refused<'_> {
                 received_by = past.ended_by;
             }
         }
-        let process = process.0;
+        let process = self.names.process(process);
         match likely {
-            Some(message) => format!(in self.alloc; "message {message} is held"),
+            Some(message) => {
+                let message = self.names.id(message);
+                format!(in self.alloc; "message {message} is held")
+            }
             None => format!(in self.alloc; "process {process} holds no message"),
         }
     }

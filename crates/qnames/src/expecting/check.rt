@@ -305,7 +305,7 @@ impl Check {
         if is_state(state_name(now), check.state) && wanted == channel {
             return Ok(None);
         }
-        let is = self.state_words(&now)?;
+        let is = self.context().state(&now)?;
         let wanted = &check.text;
         difference_at(
             check.place,
@@ -313,16 +313,24 @@ impl Check {
         )
     }
 
-    fn state_words(&self, state: &ThreadState) -> Result<String, AllocError> {
-        let name = state_name(*state);
-        let Some(channel) = state_channel(*state) else {
-            return String::from_str(self.alloc, name);
-        };
-        let number = channel.0;
-        match self.scope.name_of(false, number) {
-            Some(channel) => format!(in self.alloc; "{name} on {channel}"),
-            None => format!(in self.alloc; "{name} on {number}"),
+    /// Adds a line for each of these endings, which came in the latest call: the line of that call, the call that ended,
+    /// and how, with names in place of numbers.
+    pub fn push_trace(&self, out: &mut String, endings: &[Completion]) -> Result<(), AllocError> {
+        let line = self.line_of(self.ends.len() as u64);
+        for ending in endings {
+            let (Some(check), Some(end)) = (self.at(ending.call), self.end_of(ending.call)) else {
+                continue;
+            };
+            let thread = self.context().thread(ending.thread);
+            let verb = check.kind.word();
+            let told = end.told(self.alloc, &self.scope)?;
+            write!(out, "{line}: ")?;
+            if let Some(name) = self.scope.name_of(false, ending.call) {
+                write!(out, "{name} = ")?;
+            }
+            write!(out, "{thread} {verb} -> {told}\n")?;
         }
+        Ok(())
     }
 
     /// Compares what is left at the end of the run: calls that are expected to end, and haven't.

@@ -11,6 +11,12 @@ const EXPLAIN: (&str, &str) = (
     "Explain faulty lines, and of script also calls that fail and threads that wait",
 );
 
+/// The option that prints names: its name and its help.
+const NAMES: (&str, &str) = (
+    "names",
+    "Print names in place of numbers, as is done on a terminal",
+);
+
 /// Returns a subcommand with these texts, without arguments.
 fn subcommand<'a>(alloc: Global, name: &'a str, texts: &'static Texts) -> Command<'a> {
     Command::new(alloc, name)
@@ -82,6 +88,7 @@ fn serve_command<'a>(alloc: Global) -> Result<Command<'a>, AllocError> {
 fn script_command<'a>(alloc: Global) -> Result<Command<'a>, AllocError> {
     let flags = [
         EXPLAIN,
+        NAMES,
         (
             "plain",
             "Print the plain script of one with names, and don't run it",
@@ -153,6 +160,7 @@ fn explore_command<'a>(alloc: Global) -> Result<Command<'a>, AllocError> {
 /// Returns the whole command line, with its six subcommands.
 pub(super) fn command<'a>(alloc: Global) -> Result<Command<'a>, AllocError> {
     let play = subcommand(alloc, "play", &PLAY).arg(file(alloc, "A script to begin with"))?;
+    let play = with_flags(alloc, play, &[NAMES])?;
     Command::new(alloc, "qdemo")
         .version(VERSION)
         .about(ABOUT)

@@ -6,9 +6,11 @@ use qexplain::session::Session;
 use qkernel::kernel::Kernel;
 use qmodel::call::Call;
 use qnames::growing::{Growing, Step};
+use qnames::scope::Scope;
+use qnames::wording::Context;
 use qnames::{Named, Reading, read_so_far};
 use qreading::MOST_TEXT;
-use qreading::parts::last_line;
+use qreading::parts::{Lines, last_line};
 use qreading::place::Fault;
 use qscript::fault::{LineFault, ScriptFault};
 use std::alloc::{AllocError, Global};
@@ -30,6 +32,8 @@ pub enum Taken {
 struct Names {
     text: Vec<u8>,
     growing: Growing,
+    /// The trace with names.
+    trace: String,
 }
 
 /// The lines so far, and their run.
@@ -38,6 +42,9 @@ pub struct Sheet {
     alloc: Global,
     session: Session,
     names: Option<Names>,
+    /// Whether names are printed, once the lines have them.
+    in_names: bool,
+    no_names: Scope,
 }
 
 /// Returns whether a line has a sign that plain lines have only in comments: `=`, `->`, `;`, quotes or brackets.
@@ -68,34 +75,37 @@ fn kernel_of(session: &Session) -> Option<&Kernel> {
     Some(session.run()?.run().kernel())
 }
 
-/// Makes a call, and compares what ends by it with what the lines expect.
-fn make(
-    session: &mut Session,
-    growing: &mut Growing,
-    thread: ThreadNo,
-    call: Call,
-) -> Result<(), AllocError> {
-    session.make(thread, call).map_err(|_| AllocError)?;
-    match session.run() {
-        Some(run) => growing
-            .check
-            .follow(run.run().kernel(), run.run().endings()),
-        None => Ok(()),
-    }
-}
-
 /// Runs a script with names from its first line on.
-fn run(alloc: Global, named: Named) -> Result<(Session, Growing), AllocError> {
-    let (mut growing, calls) = Growing::of(alloc, named)?;
+fn run(alloc: Global, text: Vec<u8>, named: Named) -> Result<(Session, Names), AllocError> {
+    let (growing, calls) = Growing::of(alloc, named)?;
     let mut session = Session::new(alloc);
     for member in growing.roster() {
         session.add_member(*member)?;
     }
-    growing.check.compare_states(None)?;
+    let mut names = Names {
+        text,
+        growing,
+        trace: String::new(alloc),
+    };
+    names.growing.check.compare_states(None)?;
     for (thread, call) in calls {
-        make(&mut session, &mut growing, thread, call)?;
+        names.make(&mut session, thread, call)?;
     }
-    Ok((session, growing))
+    Ok((session, names))
+}
+
+/// Returns the number of lines of a text, each with its end.
+fn line_count(text: &[u8]) -> usize {
+    text.iter().filter(|byte| **byte == b'\n').count()
+}
+
+/// Returns the lines of a text behind the first `count` ones.
+fn lines_behind(text: &[u8], count: usize) -> &[u8] {
+    let mut lines = Lines(text);
+    for _ in 0..count {
+        lines.next();
+    }
+    lines.0
 }
 
 /// Returns the last line of a text that is neither empty nor a comment, and the text in front of it.
@@ -110,12 +120,29 @@ fn without_last(alloc: Global, text: &[u8]) -> Result<Option<(Vec<u8>, Vec<u8>)>
 }
 
 impl Names {
+    /// Makes a call, and compares what ends by it with what the lines expect.
+    fn make(
+        &mut self,
+        session: &mut Session,
+        thread: ThreadNo,
+        call: Call,
+    ) -> Result<(), AllocError> {
+        session.make(thread, call).map_err(|_| AllocError)?;
+        let Some(run) = session.run() else {
+            return Ok(());
+        };
+        let endings = run.run().endings();
+        let check = &mut self.growing.check;
+        check.follow(run.run().kernel(), endings)?;
+        check.push_trace(&mut self.trace, endings)
+    }
+
     /// Adds a line, and what it says to the run, unless it is faulty.
     fn add(&mut self, session: &mut Session, line: &[u8]) -> Result<Vec<Fault>, AllocError> {
         match self.growing.add(line)? {
             Step::Faulty(faults) => return Ok(faults),
             Step::Member(member) => session.add_member(member)?,
-            Step::Call(thread, call) => make(session, &mut self.growing, thread, call)?,
+            Step::Call(thread, call) => self.make(session, thread, call)?,
             Step::Nothing => self.growing.check.compare_states(kernel_of(session))?,
         }
         push_lines(&mut self.text, line)?;
@@ -125,11 +152,29 @@ impl Names {
 
 impl Sheet {
     /// Returns a sheet without lines.
-    pub fn new(alloc: Global) -> Sheet {
+    pub fn new(alloc: Global, in_names: bool) -> Sheet {
         Sheet {
             alloc,
             session: Session::new(alloc),
             names: None,
+            in_names,
+            no_names: Scope::new(alloc),
+        }
+    }
+
+    /// Returns the names that are printed: those of the lines so far, or none.
+    pub fn shown(&self) -> Context<'_> {
+        match &self.names {
+            Some(names) if self.in_names => names.growing.check.context(),
+            _ => Context::plain(self.alloc, &self.no_names),
+        }
+    }
+
+    /// Returns the trace of the lines so far.
+    fn trace(&self) -> &[u8] {
+        match &self.names {
+            Some(names) if self.in_names => names.trace.as_bytes(),
+            _ => self.session.trace().as_bytes(),
         }
     }
 
@@ -177,7 +222,7 @@ impl Sheet {
 
     /// Adds a line to a script with names.
     fn add_named_line(&mut self, line: &[u8]) -> Result<Taken, AllocError> {
-        let shown = self.session.trace().len();
+        let shown = line_count(self.trace());
         match &mut self.names {
             Some(names) if names.text.len().saturating_add(line.len()) < MOST_TEXT => {
                 let faults = names.add(&mut self.session, line)?;
@@ -191,9 +236,9 @@ impl Sheet {
         }
     }
 
-    /// Returns the outcome of lines that were added when so many bytes of the trace were shown.
+    /// Returns the outcome of lines that were added when so many lines of the trace were shown.
     fn added(&self, shown: usize, faults: Vec<Fault>) -> Result<Taken, AllocError> {
-        let new = self.session.trace().as_bytes().get(shown..).unwrap_or(&[]);
+        let new = lines_behind(self.trace(), shown);
         Ok(Taken::Added(Vec::from_slice(self.alloc, new)?, faults))
     }
 
@@ -206,15 +251,15 @@ impl Sheet {
 
     /// Runs a script with names in place of the lines so far. If it is faulty, nothing changes.
     fn run_again(&mut self, text: Vec<u8>) -> Result<Taken, AllocError> {
-        let shown = self.session.trace().len();
+        let shown = line_count(self.trace());
         let named = match read_so_far(self.alloc, text.as_slice())? {
             Reading::Good(named) => named,
             Reading::Faulty(faults) => return Ok(Taken::Named(faults)),
         };
-        let (session, mut growing) = run(self.alloc, named)?;
-        let faults = growing.check.take_faults()?;
+        let (session, mut names) = run(self.alloc, text, named)?;
+        let faults = names.growing.check.take_faults()?;
         self.session = session;
-        self.names = Some(Names { text, growing });
+        self.names = Some(names);
         self.added(shown, faults)
     }
 
