@@ -1,7 +1,7 @@
 //! Unproved: words and layout. Finds all faults of a text, and its oddities.
 
 use crate::explanation::{Explanation, explain_line, explanation_of, form_of};
-use crate::hints::{buffer_hint, is_utf_16};
+use qnames::hints::{buffer_hint, is_utf_16};
 use qreading::fault::{LineFault, ParseError};
 use qreading::grammar::Operand;
 use qreading::parts::{Lines, Word, words};

@@ -5,7 +5,6 @@ pub mod excerpt;
 pub mod explained_run;
 pub mod explanation;
 pub mod faults;
-pub mod hints;
 pub mod history;
 pub mod report;
 pub mod session;

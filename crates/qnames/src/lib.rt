@@ -4,6 +4,7 @@
 pub mod expectation;
 pub mod expecting;
 pub mod growing;
+pub mod hints;
 pub mod label;
 pub mod laws;
 pub mod line;

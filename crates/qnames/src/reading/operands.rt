@@ -1,5 +1,6 @@
 //! Reads the operands of a call.
 
+use crate::hints::text_hint;
 use crate::line::{Kind, Mention, Operand};
 use qreading::grammar::{FLAGS, Operand as Slot};
 use qreading::lexing::name::is_name;
@@ -25,11 +26,13 @@ fn bytes(alloc: Global, slot: Slot, token: &Token<'_>) -> Result<Operand, ReadEr
         Sort::Word if slot.fault_of(alloc, token.bytes)?.is_none() => {
             Ok(Operand::Plain(word_of(alloc, token.bytes)?))
         }
-        _ => Err(wanted(
-            alloc,
-            token,
-            "bytes are a text in quotes, [N] for N zeros, pairs of hexadecimal digits (0aff), up to 4,096 equal ones (16x00), or - for none",
-        )),
+        _ => {
+            let hint = text_hint(token.bytes);
+            let what = format!(in alloc;
+                "bytes are a text in quotes, [N] for N zeros, pairs of hexadecimal digits (0aff), up to 4,096 equal ones (16x00), or - for none{hint}"
+            )?;
+            Err(wanted(alloc, token, what.as_str()))
+        }
     }
 }
 

@@ -2,6 +2,9 @@
 //! what to write in its place.
 
 use qreading::grammar::{CALLS, FLAGS, Form, Operand};
+use qreading::lexing::token::{Sort, Token};
+use qreading::near::{quotation, unknown_call};
+use qreading::place::{Fault, ReadError, fault_in_words};
 use qreading::reading::call::is;
 use std::alloc::{AllocError, Global};
 use std::str;
@@ -19,6 +22,49 @@ pub fn form_meant(alloc: Global, word: &[u8]) -> Result<Option<Form>, AllocError
         let mut names = form.qnx_names.iter();
         is(word, form.word) || names.any(|name| is(plain.as_slice(), name))
     }))
+}
+
+/// Returns the words for a word that names no call: the call that it names in QNX, or that it is near to.
+pub fn unknown_word(alloc: Global, bytes: &[u8]) -> Result<String, AllocError> {
+    let word = quotation(bytes);
+    match form_meant(alloc, bytes)? {
+        Some(form) => {
+            let name = form.word;
+            format!(in alloc; "'{word}' names no call; write '{name}' for it")
+        }
+        None => unknown_call(alloc, word),
+    }
+}
+
+/// Returns an error if a line begins as a comment does in other languages.
+pub fn refuse_comment(alloc: Global, tokens: &[Token<'_>]) -> Result<(), ReadError> {
+    match tokens {
+        [first, ..] if first.sort == Sort::Semicolon || is_comment(first.bytes) => Err(
+            fault_in_words(alloc, first.place, "a comment begins with #"),
+        ),
+        _ => Ok(()),
+    }
+}
+
+/// Returns a fault of a line, with the hint for the byte at its place if that may stand in no line.
+pub fn with_byte_hint(line: &[u8], mut fault: Fault) -> Result<Fault, AllocError> {
+    let at = fault.place.column.saturating_sub(1) as usize;
+    let byte = line.get(at).copied().unwrap_or(b' ');
+    if byte != b'\t' && (byte < 0x20 || byte > 0x7e) {
+        fault.what.push_str(byte_hint(line, at))?;
+    }
+    Ok(fault)
+}
+
+/// Returns the hint for a word in place of bytes, where a text may stand in quotes; empty if there is none.
+pub fn text_hint(word: &[u8]) -> &'static str {
+    match word {
+        [b'0', b'x' | b'X', ..] => "; they have no 0x before them",
+        [b'\'', ..] => "; a text has double quotes",
+        _ if word.iter().all(|byte| byte.is_ascii_hexdigit()) => "",
+        [first, ..] if first.is_ascii_alphabetic() => "; a text has quotes",
+        _ => "",
+    }
 }
 
 /// Returns whether a word begins a comment in other languages.
