@@ -8,8 +8,8 @@ _qdemo() {
     case "$command" in
         "") options="script check play chart explore serve help -h --help -V --version" ;;
         help) [ "$COMP_CWORD" -eq 2 ] && options="script check play chart explore serve" ;;
-        script) options="--explain --names --plain --strict -h --help" ;;
-        check) options="--update --explain -h --help" ;;
+        script) options="--explain --json --names --plain --strict -h --help" ;;
+        check) options="--update --explain --json -h --help" ;;
         play) options="--names -h --help" ;;
         chart) options="-o --output --text --bytes --from --to -h --help" ;;
         explore) options="--script --most --random --seed -h --help" ;;

@@ -11,6 +11,7 @@ complete -c qdemo -n __fish_use_subcommand -a serve -d 'Runs a server and its cl
 complete -c qdemo -n __fish_use_subcommand -a help -d 'Print the help of a command'
 complete -c qdemo -n '__fish_seen_subcommand_from help; and not __fish_seen_subcommand_from script check play chart explore serve' -a 'script check play chart explore serve'
 complete -c qdemo -n 'not __fish_seen_subcommand_from help; and __fish_seen_subcommand_from script' -l explain -d 'Explain faulty lines, and of script also calls that fail and threads that wait'
+complete -c qdemo -n 'not __fish_seen_subcommand_from help; and __fish_seen_subcommand_from script' -l json -d 'Print an object of JSON in place of each line'
 complete -c qdemo -n 'not __fish_seen_subcommand_from help; and __fish_seen_subcommand_from script' -l names -d 'Print names in place of numbers, as is done on a terminal'
 complete -c qdemo -n 'not __fish_seen_subcommand_from help; and __fish_seen_subcommand_from script' -l plain -d 'Print the plain script of one with names, and don\'t run it'
 complete -c qdemo -n 'not __fish_seen_subcommand_from help; and __fish_seen_subcommand_from script' -l strict -d 'End with status 1 if a call failed'
@@ -18,6 +19,7 @@ complete -c qdemo -n 'not __fish_seen_subcommand_from help; and __fish_seen_subc
 complete -c qdemo -n 'not __fish_seen_subcommand_from help; and __fish_seen_subcommand_from script' -F
 complete -c qdemo -n 'not __fish_seen_subcommand_from help; and __fish_seen_subcommand_from check' -l update -d 'Write the traces that are missing or differ'
 complete -c qdemo -n 'not __fish_seen_subcommand_from help; and __fish_seen_subcommand_from check' -l explain -d 'Explain faulty lines, and of script also calls that fail and threads that wait'
+complete -c qdemo -n 'not __fish_seen_subcommand_from help; and __fish_seen_subcommand_from check' -l json -d 'Print an object of JSON in place of each line'
 complete -c qdemo -n 'not __fish_seen_subcommand_from help; and __fish_seen_subcommand_from check' -s h -l help -d 'Print help (see more with \'--help\')'
 complete -c qdemo -n 'not __fish_seen_subcommand_from help; and __fish_seen_subcommand_from check' -F
 complete -c qdemo -n 'not __fish_seen_subcommand_from help; and __fish_seen_subcommand_from play' -l names -d 'Print names in place of numbers, as is done on a terminal'

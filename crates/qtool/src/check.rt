@@ -8,12 +8,14 @@ use crate::designs::{is_design, words_of};
 use crate::difference::{Difference, difference_of};
 use crate::ending::{end_unwritten, tell_unread};
 use crate::example::{Outcome, outcome_of, printed};
+use crate::json::quoted;
 use crate::lines::without_returns;
 use crate::names::{faults_of, is_named};
 use places::Example;
 use qexplain::explain;
 use qreading::parts::{Lines, call_lines};
 use qscript::fault::ScriptFault;
+use std::fmt::Display;
 use std::path::Path;
 use std::process::ExitCode;
 use std::rt::Files;
@@ -60,7 +62,7 @@ impl<R: Files + Print + Eprint + AllocGlobal + Clone + Drop> Check<'_, R> {
             }
         }
         let tally = self.tally;
-        if tally.has_some() {
+        if tally.has_some() && !self.run.json {
             println!(self.rt; "{tally}")?;
         }
         Ok(())
@@ -84,12 +86,12 @@ impl<R: Files + Print + Eprint + AllocGlobal + Clone + Drop> Check<'_, R> {
         let Example { name, script, .. } = example;
         if faults.is_empty() {
             self.tally.same = self.tally.same.saturating_add(1);
-            return println!(self.rt; "{name}: as it expects");
+            return self.tell(name, "same", "as it expects");
         }
         self.tally.differ = self.tally.differ.saturating_add(1);
-        println!(self.rt; "{name}: not as it expects")?;
+        self.tell(name, "differs", "not as it expects")?;
         for fault in &faults {
-            println!(self.rt; "  {script}:{fault}")?;
+            self.tell_more(format_args!("  {script}:{fault}"))?;
         }
         Ok(())
     }
@@ -101,7 +103,7 @@ impl<R: Files + Print + Eprint + AllocGlobal + Clone + Drop> Check<'_, R> {
         let file = Path::new(name).file_name().unwrap_or(name);
         let Some(words) = words_of(self.rt.alloc(), file, text)? else {
             self.tally.faulty = self.tally.faulty.saturating_add(1);
-            return println!(self.rt; "{name}: faulty");
+            return self.tell(name, "faulty", "faulty");
         };
         let words = words.as_str().as_bytes();
         match self.wanted(example) {
@@ -148,7 +150,29 @@ impl<R: Files + Print + Eprint + AllocGlobal + Clone + Drop> Check<'_, R> {
     fn tell_same(&mut self, example: &Example) -> io::Result<()> {
         self.tally.same = self.tally.same.saturating_add(1);
         let Example { name, what, .. } = example;
-        println!(self.rt; "{name}: as its {what} says")
+        self.tell(name.as_str(), "same", format_args!("as its {what} says"))
+    }
+
+    /// Prints the outcome of an example, in words or as an object of JSON with a word for it.
+    fn tell<D: Display + Drop>(&self, name: &str, outcome: &str, words: D) -> io::Result<()> {
+        if !self.run.json {
+            return println!(self.rt; "{name}: {words}");
+        }
+        let alloc = self.rt.alloc();
+        let name = quoted(alloc, name)?;
+        let words = format!(in alloc; "{words}")?;
+        let words = quoted(alloc, words.as_str())?;
+        println!(self.rt; "{{\"name\": {name}, \"outcome\": \"{outcome}\", \"words\": {words}}}")
+    }
+
+    /// Prints lines about the outcome of an example; with JSON one object with them.
+    fn tell_more<D: Display + Drop>(&self, words: D) -> io::Result<()> {
+        if !self.run.json {
+            return println!(self.rt; "{words}");
+        }
+        let words = format!(in self.rt.alloc(); "{words}")?;
+        let words = quoted(self.rt.alloc(), words.as_str().trim())?;
+        println!(self.rt; "{{\"more\": {words}}}")
     }
 
     /// Writes what an example printed in place of what was wanted, if that is asked for; else tells and returns the
@@ -166,13 +190,15 @@ impl<R: Files + Print + Eprint + AllocGlobal + Clone + Drop> Check<'_, R> {
         }
         let Some(wanted) = wanted else {
             self.tally.without = self.tally.without.saturating_add(1);
-            println!(self.rt; "{name}: no {what}")?;
+            self.tell(name.as_str(), "without", format_args!("no {what}"))?;
             return Ok(None);
         };
         let difference = difference_of(self.rt.alloc(), found, wanted.as_slice())?;
         let line = difference.line;
         self.tally.differ = self.tally.differ.saturating_add(1);
-        println!(self.rt; "{name}: differs from its {what} at line {line}\n{difference}")?;
+        let words = format_args!("differs from its {what} at line {line}");
+        self.tell(name.as_str(), "differs", words)?;
+        self.tell_more(format_args!("{difference}"))?;
         Ok(Some(difference))
     }
 
@@ -183,7 +209,7 @@ impl<R: Files + Print + Eprint + AllocGlobal + Clone + Drop> Check<'_, R> {
         }
         let Example { name, what, .. } = example;
         self.tally.written = self.tally.written.saturating_add(1);
-        println!(self.rt; "{name}: {what} written")
+        self.tell(name.as_str(), "written", format_args!("{what} written"))
     }
 
     /// Prints the line of a script from which a difference comes, if it is about a call.
@@ -204,7 +230,7 @@ impl<R: Files + Print + Eprint + AllocGlobal + Clone + Drop> Check<'_, R> {
             }
         }
         let dots = if line.len() > MOST_SHOWN { ".." } else { "" };
-        println!(self.rt; "  script: line {number}: {shown}{dots}")
+        self.tell_more(format_args!("  script: line {number}: {shown}{dots}"))
     }
 
     /// Prints why a script has no run, and explains it if explanations are asked for.
@@ -214,12 +240,12 @@ impl<R: Files + Print + Eprint + AllocGlobal + Clone + Drop> Check<'_, R> {
         }
         self.tally.faulty = self.tally.faulty.saturating_add(1);
         let name = example.name.as_str();
-        println!(self.rt; "{name}: {fault}")?;
+        self.tell(name, "faulty", format_args!("{fault}"))?;
         if let ScriptFault::Line { number, fault } = fault
             && self.run.explain
             && let Some(explanation) = explain(self.rt.alloc(), text, number, fault)?
         {
-            println!(self.rt; "{explanation}")?;
+            self.tell_more(format_args!("{explanation}"))?;
         }
         Ok(())
     }

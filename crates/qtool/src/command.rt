@@ -15,6 +15,8 @@ pub struct ScriptRun {
     pub explain: bool,
     /// Whether the trace of a script with names has the names in place of numbers.
     pub names: bool,
+    /// Whether the trace is printed as objects of JSON.
+    pub json: bool,
     /// Whether the plain script of one with names is printed instead of run.
     pub plain: bool,
     /// Whether a call that fails makes the exit status 1.
@@ -32,6 +34,8 @@ pub struct CheckRun {
     pub update: bool,
     /// Whether faults are explained.
     pub explain: bool,
+    /// Whether the outcomes are printed as objects of JSON.
+    pub json: bool,
 }
 
 /// A kernel to play with.
@@ -147,6 +151,7 @@ fn script_of(alloc: Global, matches: &ArgMatches<'_>) -> Result<ScriptRun, Alloc
         file: file_of(alloc, matches, "file")?,
         explain: matches.get_flag("explain"),
         names: matches.get_flag("names"),
+        json: matches.get_flag("json"),
         plain: matches.get_flag("plain"),
         strict: matches.get_flag("strict"),
         terminal: false,
@@ -163,6 +168,7 @@ fn check_of(alloc: Global, matches: &ArgMatches<'_>) -> Result<CheckRun, AllocEr
         paths,
         update: matches.get_flag("update"),
         explain: matches.get_flag("explain"),
+        json: matches.get_flag("json"),
     })
 }
 

@@ -9,6 +9,7 @@ pub mod designs;
 pub mod difference;
 pub mod ending;
 pub mod example;
+pub mod json;
 pub mod lines;
 pub mod names;
 pub mod play;

@@ -3,6 +3,7 @@
 use crate::command::ScriptRun;
 use crate::ending::{end_failed, print_text, text_of};
 use crate::remarks::{Source, tell_run};
+use crate::scripts::print_trace;
 use qexplain::report::{Report, ReportedRun};
 use qnames::{Named, Reading, read};
 use qreading::place::Fault;
@@ -43,9 +44,9 @@ pub fn run_named<R: Files + Input + Print + Eprint + AllocGlobal>(
         print_text(rt, named.text.as_str())?;
         return Ok(ExitCode::SUCCESS);
     }
-    let outcome = outcome_of(rt.alloc(), named, run.names);
+    let outcome = outcome_of(rt.alloc(), named, run.names && !run.json);
     let outcome = outcome.map_err(|_| end_failed(rt, "out of memory"))?;
-    print_text(rt, outcome.trace.as_str())?;
+    print_trace(rt, run, outcome.trace.as_str())?;
     if run.explain {
         let _ = tell_run(rt, file, &outcome.report);
     }

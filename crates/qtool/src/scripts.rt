@@ -1,7 +1,8 @@
 //! Unproved: words and layout. Runs a script, from a file or from standard input.
 
 use crate::command::ScriptRun;
-use crate::ending::{end_quietly, end_unread, end_with, print_text};
+use crate::ending::{end_failed, end_quietly, end_unread, end_with, print_text};
+use crate::json::trace_json;
 use crate::names::{is_named, run_named};
 use crate::remarks::{tell_faults, tell_report};
 use crate::streams::{Outlet, Source};
@@ -38,7 +39,7 @@ fn run_plain<R: Print + Eprint + AllocGlobal, S: Read + Drop>(
     run: &ScriptRun,
     input: S,
 ) -> Result<ExitCode, ExitCode> {
-    if run.explain || run.strict {
+    if run.explain || run.strict || run.json {
         return explain_from(rt, run, input);
     }
     let keeps = run.terminal || run.file.is_some();
@@ -63,7 +64,7 @@ fn explain_from<R: Print + Eprint + AllocGlobal, S: Read + Drop>(
     let explained = text.and_then(|text| explained(rt.alloc(), text.as_slice()));
     let source = reader.into_inner();
     let (trace, report) = explained.map_err(|fault| end_faulty(rt, run, fault, &source))?;
-    print_text(rt, trace.as_str())?;
+    print_trace(rt, run, trace.as_str())?;
     if run.explain {
         let text = source.text().unwrap_or(&[]);
         let _ = tell_report(rt, run.file.as_deref(), text, &report);
@@ -72,6 +73,21 @@ fn explain_from<R: Print + Eprint + AllocGlobal, S: Read + Drop>(
         return Ok(ExitCode::FAILURE);
     }
     Ok(ExitCode::SUCCESS)
+}
+
+/// Prints a trace, or its objects of JSON if these are asked for.
+pub fn print_trace<R: Print + Eprint + AllocGlobal>(
+    rt: &R,
+    run: &ScriptRun,
+    trace: &str,
+) -> Result<(), ExitCode> {
+    if !run.json {
+        return print_text(rt, trace);
+    }
+    match trace_json(rt.alloc(), trace) {
+        Ok(text) => print_text(rt, text.as_str()),
+        Err(_) => Err(end_failed(rt, "out of memory")),
+    }
 }
 
 /// Ends the program for a script that has no run, and prints why: its faults with explanations if these are asked for,

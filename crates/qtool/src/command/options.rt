@@ -11,6 +11,9 @@ const EXPLAIN: (&str, &str) = (
     "Explain faulty lines, and of script also calls that fail and threads that wait",
 );
 
+/// The option that prints JSON: its name and its help.
+const JSON: (&str, &str) = ("json", "Print an object of JSON in place of each line");
+
 /// The option that prints names: its name and its help.
 const NAMES: (&str, &str) = (
     "names",
@@ -88,6 +91,7 @@ fn serve_command<'a>(alloc: Global) -> Result<Command<'a>, AllocError> {
 fn script_command<'a>(alloc: Global) -> Result<Command<'a>, AllocError> {
     let flags = [
         EXPLAIN,
+        JSON,
         NAMES,
         (
             "plain",
@@ -111,7 +115,7 @@ fn check_command<'a>(alloc: Global) -> Result<Command<'a>, AllocError> {
         .help("Scripts, and folders of scripts; none is the current folder");
     let update = ("update", "Write the traces that are missing or differ");
     let command = subcommand(alloc, "check", &CHECK).arg(paths)?;
-    with_flags(alloc, command, &[update, EXPLAIN])
+    with_flags(alloc, command, &[update, EXPLAIN, JSON])
 }
 
 /// Returns the subcommand `chart`.
