@@ -28,6 +28,7 @@ static uint64_t now(void) {
 #include "timeouts.c"
 #include "under_lock.c"
 
+#include "record.c"
 #include "sockets.c"
 #include "hidden.c"
 #include "calls.c"
@@ -62,6 +63,7 @@ static uint32_t open_all(void) {
     k->tables[MESSAGES].turns >>= SLOT_BITS; /* an rcvid has the process below */
     k->hooks.pulse = complete_pulse;
     open_notes();
+    record_roster(roster, length);
     for (int at = 0; at < CLIENTS; at++) clients[at].fd = -1;
     return balsaeuchre_open(roster, length, &k->library);
 }
@@ -159,26 +161,30 @@ static bool open_listener(const char *path) {
     return !limits.has_group || !chown(path, (uid_t)-1, limits.group);
 }
 
+static const char *record_file; /* or null */
+
 static const char usage[] =
     "usage: balsaeuchred [--processes N] [--threads N] [--channels N] [--connections N] [--bytes N] [--group NAME]\n"
-    "                    [SOCKET]\n"
+    "                    [--record FILE] [SOCKET]\n"
     "One kernel for the programs that run with BALSAEUCHRE_SYSTEM=SOCKET. Without SOCKET it is systemd's.\n"
     "  --processes 12      programs at a time, and\n"
     "  --threads 4         threads of each; N * (threads + 1) is at most 63\n"
     "  --channels 16       channels of each, of 64 in all\n"
     "  --connections 256   connections of each, of 1,024 in all\n"
     "  --bytes 8388608     bytes of the open calls of each\n"
-    "  --group NAME        whose members may connect, too, beside the same user\n";
+    "  --group NAME        whose members may connect, too, beside the same user\n"
+    "  --record FILE.names writes all calls as a script with names, for qdemo\n";
 
 /* Reads the options. Returns whether they are right. */
 static bool read_options(int count, char **words) {
     static const struct option options[] = {
         {"processes", required_argument, NULL, 'p'}, {"threads", required_argument, NULL, 't'},
         {"channels", required_argument, NULL, 'c'}, {"connections", required_argument, NULL, 'o'},
-        {"bytes", required_argument, NULL, 'b'}, {"group", required_argument, NULL, 'g'}, {NULL, 0, NULL, 0}};
+        {"bytes", required_argument, NULL, 'b'}, {"group", required_argument, NULL, 'g'},
+        {"record", required_argument, NULL, 'r'}, {NULL, 0, NULL, 0}};
     for (int option; (option = getopt_long(count, words, "", options, NULL)) != -1;) {
         const struct group *group = option == 'g' ? getgrnam(optarg) : NULL;
-        long number = option != '?' && option != 'g' ? atol(optarg) : 1;
+        long number = strchr("?gr", option) ? 1 : atol(optarg);
         if (option == '?' || number < 1 || (option == 'g' && !group) || number > INT_MAX) return false;
         switch (option) {
         case 'p': limits.processes = (int)number; break;
@@ -186,6 +192,7 @@ static bool read_options(int count, char **words) {
         case 'c': limits.channels = (int)number; break;
         case 'o': limits.connections = (int)number; break;
         case 'b': limits.bytes = (size_t)number; break;
+        case 'r': record_file = optarg; break;
         default: limits.group = group->gr_gid, limits.has_group = true;
         }
     }
@@ -215,6 +222,10 @@ int main(int count, char **words) {
     if (!read_options(count, words)) {
         fputs(usage, stderr);
         return 2;
+    }
+    if (record_file && (record = open(record_file, O_WRONLY | O_CREAT | O_TRUNC | O_CLOEXEC, 0600)) == -1) {
+        fprintf(stderr, "balsaeuchred: %s: %s\n", record_file, strerror(errno));
+        return 1;
     }
     if (!open_listener(words[optind])) {
         fprintf(stderr, "balsaeuchred: %s: %s\n", words[optind] ? words[optind] : "no socket", strerror(errno));

@@ -42,6 +42,7 @@ static void join_thread(struct client *c, const struct wire_ask *a) {
         c->host_tid = a->pid;
         c->place = p;
         client_of[seat] = c;
+        record_seat(c);
         make_hidden(request);
     }
     put_result(c, error, 0);

@@ -1,15 +1,5 @@
 /* What pidin prints. Tested, not proved. */
 
-/* The name that the host has for a thread. */
-static void name_thread(pid_t pid, pid_t tid, char name[20]) {
-    char path[60];
-    snprintf(path, sizeof path, "/proc/%d/task/%d/comm", (int)pid, (int)tid);
-    FILE *file = fopen(path, "re");
-    if (!file || !fgets(name, 20, file)) strcpy(name, "?");
-    if (file) fclose(file);
-    name[strcspn(name, "\n")] = 0;
-}
-
 /* Prints on whom a thread is blocked. */
 static void show_blocked(FILE *to, const struct place *p) {
     const struct call *call = p->call;
