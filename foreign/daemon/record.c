@@ -6,7 +6,7 @@
 static int record = -1; /* the file; -1: nothing is recorded */
 static size_t recorded; /* its bytes */
 
-/* The name that the host has for a thread. */
+/* The name that the host has for a thread, of bytes that a terminal shows. */
 static void name_thread(pid_t pid, pid_t tid, char name[20]) {
     char path[60];
     snprintf(path, sizeof path, "/proc/%d/task/%d/comm", (int)pid, (int)tid);
@@ -14,6 +14,7 @@ static void name_thread(pid_t pid, pid_t tid, char name[20]) {
     if (!file || !fgets(name, 20, file)) strcpy(name, "?");
     if (file) fclose(file);
     name[strcspn(name, "\n")] = 0;
+    for (char *at = name; *at; at++) *at = *at >= ' ' && *at <= '~' ? *at : '?';
 }
 
 static const char *process_name(int process) {
@@ -66,7 +67,6 @@ static void record_seat(const struct client *c) {
     struct line line = {.length = 0};
     char name[20];
     name_thread(c->peer.pid, c->host_tid, name);
-    for (char *at = name; *at; at++) *at = *at >= ' ' && *at <= '~' ? *at : '?';
     add(&line, "# ");
     add_thread(&line, c->place->tid);
     add(&line, " is %s, thread %d of process %d\n", name, c->tid, (int)c->peer.pid);

@@ -67,6 +67,11 @@ static void processes(void) {
     for (int at = 0; at < count; at++) kill_child(all[at]);
 }
 
+/* Each byte becomes another, so that what a box had before is no answer. */
+static void invert(char *bytes, size_t length) {
+    for (size_t at = 0; at < length; at++) bytes[at] = (char)~bytes[at];
+}
+
 static void echo(void *unused) {
     static char room[MOST];
     struct _msg_info info;
@@ -74,7 +79,9 @@ static void echo(void *unused) {
     name_attach_t *name = name_attach(NULL, "echo", 0);
     for (;;) {
         rcvid_t rcvid = receive_answering_opens(name->chid, room, sizeof room, &info);
-        if (rcvid > 0) MsgReply(rcvid, info.msglen, room, (size_t)info.msglen);
+        if (rcvid <= 0) continue;
+        invert(room, (size_t)info.msglen);
+        MsgReply(rcvid, info.msglen, room, (size_t)info.msglen);
     }
 }
 
@@ -89,7 +96,9 @@ static void lengths(void) {
         iov_t parts[2] = {{sent, all[turn] / 3}, {sent + all[turn] / 3, all[turn] - all[turn] / 3}};
         iov_t room[2] = {{back, all[turn] / 2}, {back + all[turn] / 2, MOST - all[turn] / 2}};
         memset(back, 'x', sizeof back);
-        check(MsgSendv(coid, parts, 2, room, 2) == (long)all[turn] && memcmp(sent, back, all[turn]) == 0);
+        check(MsgSendv(coid, parts, 2, room, 2) == (long)all[turn]);
+        invert(back, all[turn]);
+        check(memcmp(sent, back, all[turn]) == 0);
         for (size_t at = all[turn]; at < MOST; at++) check(back[at] == 'x');
     }
     fails(MsgSend(coid, sent, MOST + 1, NULL, 0), EMSGSIZE);
