@@ -3,7 +3,7 @@
 
 /* A thread looks at its box for a while before it sleeps. A call that waits for another program does so only with three
  * processors, one for each and one for the daemon. */
-enum { LOOKS = 100, SOON = 10000000, LATE = 1000000000 }; /* the last two: nanoseconds */
+enum { LOOKS = 100, LONG_LOOKS = 500, SOON = 10000000, LATE = 1000000000 }; /* the last two: nanoseconds */
 
 static _Thread_local struct { int socket, bell, processors; struct wire_box *box; } own = {-1, -1, 1, NULL};
 
@@ -26,7 +26,7 @@ static bool has_answer(void) { return atomic_load_explicit(&own.box->word, memor
 static int looks_for(const struct wire_ask *ask) {
     int kind = ask->op == OP_CALL ? ask->request.kind : 0;
     bool waits = kind == BALSAEUCHRE_SEND || kind == BALSAEUCHRE_RECEIVE || kind == BALSAEUCHRE_RECEIVE_PULSE;
-    return own.processors > (waits ? 2 : 1) ? LOOKS : 0;
+    return own.processors > (waits ? 2 : 1) ? waits ? LONG_LOOKS : LOOKS : 0;
 }
 
 /* Waits for the answer. A daemon that has ended wakes nobody, so its socket is looked at now and then. Returns false if
