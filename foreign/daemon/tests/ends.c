@@ -233,26 +233,49 @@ static void interrupted(void) {
     check(ConnectDetach(coid) == 0 && ChannelDestroy(chid) == 0);
 }
 
-static void *die_soon(void *daemon) {
-    usleep(50000);
+static void *kill_soon(void *daemon) {
+    usleep((useconds_t)(getpid() * 7919L % 50000));
     check(kill((pid_t)(intptr_t)daemon, SIGKILL) == 0);
     return NULL;
 }
 
-/* The daemon is killed: who waits gets ESHUTDOWN in the end, and each later call. Not among those that run by default. */
-static void daemon_dies(void) {
+static pid_t pid_of_daemon(void) {
     struct sockaddr_un address = {.sun_family = AF_UNIX};
     struct ucred daemon;
     socklen_t length = sizeof daemon;
-    pthread_t thread;
-    int chid = ChannelCreate(0), fd = socket(AF_UNIX, SOCK_SEQPACKET, 0);
+    int fd = socket(AF_UNIX, SOCK_SEQPACKET, 0);
     strncpy(address.sun_path, getenv("BALSAEUCHRE_SYSTEM"), sizeof address.sun_path - 1);
     check(connect(fd, (struct sockaddr *)&address, sizeof address) == 0);
-    check(getsockopt(fd, SOL_SOCKET, SO_PEERCRED, &daemon, &length) == 0 && daemon.pid > 0);
-    check(pthread_create(&thread, NULL, die_soon, (void *)(intptr_t)daemon.pid) == 0);
-    fails(MsgReceive(chid, NULL, 0, NULL), ESHUTDOWN);
+    check(getsockopt(fd, SOL_SOCKET, SO_PEERCRED, &daemon, &length) == 0 && daemon.pid > 0 && close(fd) == 0);
+    return daemon.pid;
+}
+
+static void answer_on(void *unused) {
+    char room[64];
+    (void)unused;
+    name_attach_t *name = name_attach(NULL, "server", 0);
+    check(name);
+    for (;;) {
+        rcvid_t rcvid = receive_answering_opens(name->chid, room, sizeof room, NULL);
+        if (rcvid < 0 || MsgReply(rcvid, 0, room, 6)) break;
+    }
+    check(errno == ESHUTDOWN);
+}
+
+/* The daemon is killed at any time: a server, a client and one who only waits get ESHUTDOWN from all calls then. It is
+ * not among the tests that run by default. */
+static void daemon_dies(void) {
+    pthread_t thread, waiter;
+    char back[16];
+    pid_t server = spawn(answer_on, NULL);
+    int chid = ChannelCreate(0), coid = open_name("server");
+    check(pthread_create(&waiter, NULL, wait_on, (void *)(intptr_t)chid) == 0);
+    check(pthread_create(&thread, NULL, kill_soon, (void *)(intptr_t)pid_of_daemon()) == 0);
+    while (MsgSend(coid, "hello", 6, back, sizeof back) == 0) continue;
+    check(errno == ESHUTDOWN);
     fails(ChannelCreate(0), ESHUTDOWN);
-    check(pthread_join(thread, NULL) == 0);
+    check(pthread_join(thread, NULL) == 0 && pthread_join(waiter, NULL) == 0);
+    expect_end(server);
 }
 
 #define TEST(name) {#name, name}
