@@ -85,9 +85,9 @@ static long call_long(struct call *c) { return is_remote ? call_remote(c) : call
 /* In a forked child, which has the sockets of its parent, but none of its threads. */
 static void forget_sockets(void) {
     if (!is_remote) return;
-    for (int *file = files[0]; file < files[UINT8_MAX + 1]; file++) {
-        if (*file) close(*file);
-        *file = 0;
+    for (int at = 0; at < 2 * (UINT8_MAX + 1); at++) {
+        if (files[at / 2][at % 2]) close(files[at / 2][at % 2]);
+        files[at / 2][at % 2] = 0;
     }
     if (program_socket != -1) close(program_socket);
     program_socket = own.socket = own.bell = -1;
