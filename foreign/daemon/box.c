@@ -3,7 +3,7 @@
 
 /* A thread looks at its box for a while before it sleeps. A call that waits for another program does so only with three
  * processors, one for each and one for the daemon. */
-enum { LOOKS = 100, LONG_LOOKS = 500, SOON = 10000000, LATE = 1000000000 }; /* the last two: nanoseconds */
+enum { LOOKS = 100, LONG_LOOKS = 500, SOON = 10000000, LATE = 500000000 }; /* the last two: nanoseconds */
 
 static _Thread_local struct { int socket, bell, processors; struct wire_box *box; } own = {-1, -1, 1, NULL};
 
@@ -40,7 +40,7 @@ static bool wait_for_answer(int looks) {
         long woken = syscall(SYS_futex, &own.box->word, FUTEX_WAIT, WIRE_ASLEEP, &time, NULL, 0);
         if (woken == 0 || errno != ETIMEDOUT) continue;
         if (is_gone() && !has_answer()) return false;
-        time = time.tv_nsec * 2 < LATE && !time.tv_sec ? (struct timespec){0, time.tv_nsec * 2} : (struct timespec){1, 0};
+        time.tv_nsec *= time.tv_nsec < LATE ? 2 : 1;
     }
     return true;
 }

@@ -38,9 +38,9 @@ static uint64_t now(void) {
 
 static int listener = -1;
 static bool stops;     /* a signal has asked for the end; its address is what the epoll says of signals */
-static int most_looks; /* at the boxes in vain, before it sleeps; none on one processor */
+static unsigned awake; /* how long it looks at the boxes in vain before it sleeps; on one processor not at all */
 
-enum { LOOKS = 200, PASSES = 500 }; /* PASSES: over the boxes, for one look at the sockets */
+enum { AWAKE = 20000, DUE = 50000 }; /* nanoseconds */
 
 /* Opens the kernel: seats and a clock for each process, and the daemon's own thread. Returns 0 or an error. */
 static uint32_t open_all(void) {
@@ -138,19 +138,22 @@ static void take_packets(bool sleeps) {
 
 /* Takes what is in the boxes. Where none has any news for a while, it sleeps. */
 static void serve_once(void) {
-    static uint64_t retry; /* when those that could not end are tried again */
-    static int looks;
-    static unsigned passes;
-    bool found = look_at_boxes(), sleeps = !found && !looks;
+    static uint64_t awake_until, due; /* due: when the sockets are looked at */
+    static uint64_t retry;            /* when those that could not end are tried again */
+    uint64_t time = now();
+    bool found = look_at_boxes(), sleeps = !found && time >= awake_until;
     if (sleeps) {
         want_bells();
         found = look_at_boxes();
         sleeps = !found;
     }
     wake_threads();
-    looks = found ? most_looks : looks - (looks > 0);
-    if (!found) __builtin_ia32_pause();
-    if (sleeps || ++passes % PASSES == 0) take_packets(sleeps);
+    if (found) awake_until = time + awake;
+    else __builtin_ia32_pause();
+    if (sleeps || time >= due) {
+        take_packets(sleeps);
+        due = time + DUE;
+    }
     leave_seats();
     if (ending && now() >= retry) {
         for (int process = 1; process <= limits.processes; process++) {
@@ -230,7 +233,7 @@ int main(int count, char **words) {
     sigaddset(&signals, SIGTERM);
     sigaddset(&signals, SIGINT);
     sigprocmask(SIG_BLOCK, &signals, NULL);
-    most_looks = sched_getaffinity(0, sizeof processors, &processors) || CPU_COUNT(&processors) > 1 ? LOOKS : 0;
+    awake = sched_getaffinity(0, sizeof processors, &processors) || CPU_COUNT(&processors) > 1 ? AWAKE : 0;
     events = epoll_create1(EPOLL_CLOEXEC);
     bool opened = events != -1 && !open_all() && watch(listener, EPOLLIN, NULL);
     if (!opened || !watch(signalfd(-1, &signals, SFD_CLOEXEC), EPOLLIN, &stops))

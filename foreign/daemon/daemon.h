@@ -1,8 +1,9 @@
 /* The parts of the daemon share these. Tested, not proved.
  *
  * One thread makes all calls, in the library's memory of this process alone. It waits for nothing but epoll: a socket
- * is read and written without waiting, a packet at a time, and a box an ask at a time. The kernel's threads are seats, some for each process, and
- * besides a clock for each process, which is never blocked and acts for it, and one thread of the daemon's own.
+ * is read and written without waiting, a packet at a time, and a box an ask at a time. The kernel's threads are seats,
+ * some for each process, and besides a clock for each process, which is never blocked and acts for it, and one thread
+ * of the daemon's own.
  */
 #ifndef BALSAEUCHRE_DAEMON_H
 #define BALSAEUCHRE_DAEMON_H

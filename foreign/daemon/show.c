@@ -30,7 +30,7 @@ static void show_thread(FILE *to, const struct client *c) {
     else fprintf(to, "%-8s ", states[state]), show_blocked(to, p);
 }
 
-static void show_channel(FILE *to, int place, int pulses) {
+static void show_channel(FILE *to, int place) {
     const struct name *channel = &k->channels[place];
     int chid = (int)(channel->turn << CHANNEL_BITS) | place, sent = 0, held = 0, receive = 0;
     for (int at = 0; at < PLACES; at++) {
@@ -41,20 +41,18 @@ static void show_channel(FILE *to, int place, int pulses) {
         held += p->state == STATE_REPLY && p->chid == chid;
         receive += p->state == STATE_RECEIVE && p->call->number == chid;
     }
-    fprintf(to, "%8d %4d %5d %5d %6d %9d %s\n", (int)processes[channel->owner].peer.pid, chid, sent, held, pulses,
-            receive, names[place]);
+    fprintf(to, "%8d %4d %5d %5d %6d %9d %s\n", (int)processes[channel->owner].peer.pid, chid, sent, held,
+            pulses[place], receive, names[place]);
 }
 
 static void show(FILE *to) {
-    int pulses[CHANNEL_PLACES] = {0};
     fprintf(to, "%8s %3s %-15s %4s %-8s Blocked\n", "pid", "tid", "name", "prio", "STATE");
     for (int at = 0; at < PLACES; at++) {
         if (client_of[at]) show_thread(to, client_of[at]);
     }
     fprintf(to, "\n%8s %4s %5s %5s %6s %9s Name\n", "pid", "chid", "Sent", "Held", "Pulses", "Receivers");
-    for (int at = 0; at < NOTES; at++) pulses[place_in(&k->tables[CHANNELS], notes[at].chid)] += notes[at].chid > 0;
     for (int at = 0; at < CHANNEL_PLACES; at++) {
-        if (k->channels[at].id) show_channel(to, at, pulses[at]);
+        if (k->channels[at].id) show_channel(to, at);
     }
 }
 

@@ -1,7 +1,7 @@
 /* Sockets and boxes: answers, and the bytes of calls. None waits. Tested, not proved.
  *
- * A box is the daemon's memory, whose length is sealed, and which its thread may change at any time. So an ask is copied
- * before it is looked at. */
+ * A box is the daemon's memory, whose length is sealed, and which its thread may change at any time. So an ask is
+ * copied before it is looked at. */
 #include <linux/futex.h>
 #include <sys/eventfd.h>
 #include <sys/mman.h>
@@ -9,7 +9,7 @@
 #include <sys/uio.h>
 
 static int events;      /* the epoll */
-static const char bell; /* what the epoll says of any bell is its address: each wakes, and then all boxes are looked at */
+static const char bell; /* its address is what the epoll says of any bell, after which all boxes are looked at */
 
 static bool watch(int fd, uint32_t wanted, const void *of) {
     return !epoll_ctl(events, EPOLL_CTL_ADD, fd, &(struct epoll_event){wanted, {.ptr = (void *)(uintptr_t)of}});

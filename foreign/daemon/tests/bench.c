@@ -1,6 +1,6 @@
-/* bench ROUNDS REPEATS [BYTES]: microseconds of a round trip of BYTES (4) between two processes, median of REPEATS: over
- * the daemon, by a Unix socket pair, and by a futex at which both sleep. With two processors each of the last two has
- * its processes on two. */
+/* bench ROUNDS REPEATS [BYTES]: microseconds of a round trip of BYTES (4) between two processes, median of REPEATS:
+ * over the daemon, by a Unix socket pair, and by a futex at which both sleep. With two processors each of the last two
+ * has its processes on two. */
 #define _GNU_SOURCE
 #include "tests.h"
 

@@ -17,7 +17,8 @@
 
 enum { SOCKETS = 4, ROOM = sizeof(struct wire_ask) + 4096 };
 
-static struct { int fd, left, bell; uint32_t call; struct wire_box *box; } all[SOCKETS]; /* the first is the process's */
+/* The first is the process's. */
+static struct { int fd, left, bell; uint32_t call; struct wire_box *box; } all[SOCKETS];
 static long closed, answered;
 
 static int connect_to(const char *path) {
@@ -103,7 +104,8 @@ static void put_in_box(int at) {
     const uint64_t once = 1;
     char byte;
     box->ask = any_ask(at);
-    for (int count = 0; count < 64; count++) box->bytes[below(below(2) ? 300 : (int)sizeof box->bytes)] = (uint8_t)rand();
+    for (int count = 0; count < 64; count++)
+        box->bytes[below(below(2) ? 300 : (int)sizeof box->bytes)] = (uint8_t)rand();
     if (below(10)) atomic_store(&box->word, (uint32_t)below(4));
     if (below(20)) atomic_fetch_add(&box->asked, 1);
     if (below(4) == 0) atomic_store(&box->given_up, below(2) ? all[at].call : (uint32_t)rand());
