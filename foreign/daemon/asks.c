@@ -50,10 +50,7 @@ int neutrino_remote_name(const char *name, int chid) {
     return (int)ask_by_name((struct wire_ask){.op = OP_NAME, .number = chid}, name, &answer);
 }
 
-int neutrino_remote_unname(int chid) {
-    struct wire_ask ask = {.op = OP_UNNAME, .number = chid};
-    return (int)ask_plainly(&ask);
-}
+int neutrino_remote_unname(int chid) { return (int)ask_about(OP_UNNAME, chid); }
 
 int neutrino_remote_find(const char *name, pid_t *pid) {
     struct wire_answer answer = {.error = 0};
@@ -68,10 +65,7 @@ int neutrino_remote_client(int scoid, struct wire_client *client) {
     return (int)ask_daemon(&ask, (struct iovec){NULL, 0}, &answer, (struct iovec){client, sizeof *client});
 }
 
-pid_t neutrino_remote_sender(int rcvid) {
-    struct wire_ask ask = {.op = OP_SENDER, .number = rcvid};
-    return (pid_t)ask_plainly(&ask);
-}
+pid_t neutrino_remote_sender(int rcvid) { return (pid_t)ask_about(OP_SENDER, rcvid); }
 
 int neutrino_remote_deliver(int rcvid, const struct sigevent *event, bool delivers) {
     int priority = event->sigev_priority;
@@ -82,24 +76,14 @@ int neutrino_remote_deliver(int rcvid, const struct sigevent *event, bool delive
     return (int)ask_plainly(&ask);
 }
 
-void neutrino_remote_death(int tid) {
-    struct wire_ask ask = {.op = OP_DEATH, .number = tid};
-    ask_plainly(&ask);
-}
+void neutrino_remote_death(int tid) { ask_about(OP_DEATH, tid); }
 
-int neutrino_remote_unblock(int rcvid) {
-    struct wire_ask ask = {.op = OP_UNBLOCK, .number = rcvid};
-    return (int)ask_plainly(&ask);
-}
+int neutrino_remote_unblock(int rcvid) { return (int)ask_about(OP_UNBLOCK, rcvid); }
 
 int neutrino_remote_show(int fd) {
-    static const size_t most = 65536;
+    char text[16384 + 64 * WIRE_NAME];
     struct wire_ask ask = {.op = OP_SHOW};
     struct wire_answer answer;
-    char *text = malloc(most);
-    if (!text) return -1;
-    long result = ask_daemon(&ask, (struct iovec){NULL, 0}, &answer, (struct iovec){text, most});
-    if (!result && write(fd, text, answer.length) < 0) result = -1;
-    free(text);
-    return (int)result;
+    if (ask_daemon(&ask, (struct iovec){NULL, 0}, &answer, (struct iovec){text, sizeof text}) == -1) return -1;
+    return write(fd, text, answer.length) < 0 ? -1 : 0;
 }

@@ -2,25 +2,15 @@
 
 /* The table that the number of a call is of; or TABLES for a call that no program makes. */
 static enum table table_of(uint8_t kind) {
-    switch (kind) {
-    case BALSAEUCHRE_CHANNEL_CREATE:
-    case BALSAEUCHRE_PRIORITY_SET:
-    case BALSAEUCHRE_STATE:
-    case BALSAEUCHRE_UNBLOCK: return NO_TABLE;
-    case BALSAEUCHRE_CONNECT_ATTACH:
-    case BALSAEUCHRE_RECEIVE:
-    case BALSAEUCHRE_RECEIVE_PULSE:
-    case BALSAEUCHRE_CHANNEL_DESTROY: return CHANNELS;
-    case BALSAEUCHRE_SEND:
-    case BALSAEUCHRE_PULSE:
-    case BALSAEUCHRE_CONNECT_DETACH: return CONNECTIONS;
-    case BALSAEUCHRE_REPLY:
-    case BALSAEUCHRE_ERROR:
-    case BALSAEUCHRE_READ:
-    case BALSAEUCHRE_WRITE:
-    case BALSAEUCHRE_INFO: return MESSAGES;
-    default: return TABLES;
-    }
+    static const uint8_t tables[] = {
+        [0] = TABLES, [BALSAEUCHRE_SHUTDOWN] = TABLES, [BALSAEUCHRE_CHANNEL_CREATE] = NO_TABLE,
+        [BALSAEUCHRE_PRIORITY_SET] = NO_TABLE, [BALSAEUCHRE_STATE] = NO_TABLE, [BALSAEUCHRE_UNBLOCK] = NO_TABLE,
+        [BALSAEUCHRE_CONNECT_ATTACH] = CHANNELS, [BALSAEUCHRE_RECEIVE] = CHANNELS,
+        [BALSAEUCHRE_RECEIVE_PULSE] = CHANNELS, [BALSAEUCHRE_CHANNEL_DESTROY] = CHANNELS,
+        [BALSAEUCHRE_SEND] = CONNECTIONS, [BALSAEUCHRE_PULSE] = CONNECTIONS,
+        [BALSAEUCHRE_CONNECT_DETACH] = CONNECTIONS, [BALSAEUCHRE_REPLY] = MESSAGES, [BALSAEUCHRE_ERROR] = MESSAGES,
+        [BALSAEUCHRE_READ] = MESSAGES, [BALSAEUCHRE_WRITE] = MESSAGES, [BALSAEUCHRE_INFO] = MESSAGES};
+    return kind < sizeof tables ? tables[kind] : TABLES;
 }
 
 /* A receive id has its sender's process below the layer's number. So it leads there after the answer, too. */
@@ -59,13 +49,8 @@ static size_t length_of_answer(const struct client *c) {
     const struct place *p = c->place;
     size_t room = c->call.room_len, count = 0;
     switch (c->call.request.kind) {
-    case BALSAEUCHRE_SEND:
-        for (size_t at = 0; at < k->event.done.endings; at++) {
-            const balsaeuchre_ending *row = &k->event.rows[at];
-            if (row->thread == p->tid && row->mark == BALSAEUCHRE_REPLIED) count = row->count;
-        }
-        return c->wrote ? room : count;
-    case BALSAEUCHRE_RECEIVE: count = p->result ? (size_t)c->info.msglen : sizeof(struct _pulse); break;
+    case BALSAEUCHRE_SEND: return c->wrote ? room : c->answer.count;
+    case BALSAEUCHRE_RECEIVE: count = p->result ? (size_t)c->answer.info.msglen : sizeof(struct _pulse); break;
     case BALSAEUCHRE_RECEIVE_PULSE: count = sizeof(struct _pulse); break;
     case BALSAEUCHRE_READ: count = (size_t)p->result; break;
     default: break;
@@ -94,19 +79,37 @@ static void complete_unblock(struct client *c) {
     memcpy(c->call.room, &pulse, sizeof pulse);
 }
 
+/* What the ending of a call says besides its result. */
+static void complete_answer(struct client *c) {
+    struct wire_answer *a = &c->answer;
+    for (size_t at = 0; at < k->event.done.endings; at++) {
+        const balsaeuchre_ending *row = &k->event.rows[at];
+        if (row->thread != c->place->tid) continue;
+        bool is_cut = row->mark == BALSAEUCHRE_FAILED && row->call != k->event.done.call;
+        a->how = row->mark == BALSAEUCHRE_ERRORED ? WIRE_CODE : is_cut ? WIRE_CUT : 0;
+        a->priority = row->priority;
+        a->count = row->mark == BALSAEUCHRE_REPLIED ? (uint32_t)row->count : 0;
+        if (row->mark != BALSAEUCHRE_THREAD_STATE || !row->id) continue;
+        a->count = (uint32_t)number_of(k, CHANNELS, row->id);
+        a->info.pid = k->channels[place_in(&k->tables[CHANNELS], (int)a->count)].owner;
+    }
+    if (a->info.pid) complete_info(&a->info);
+}
+
 /* A call has ended: its thread gets the result. */
 static void end_call(struct client *c) {
     struct place *p = c->place;
     int kind = c->call.request.kind;
     long result = p->result;
+    int sender = c->answer.info.pid;
+    complete_answer(c);
     size_t length = length_of_answer(c);
     if (!p->error && length && !result && (kind == BALSAEUCHRE_RECEIVE || kind == BALSAEUCHRE_RECEIVE_PULSE))
         complete_unblock(c);
-    if (!p->error && kind == BALSAEUCHRE_RECEIVE && result) result = rcvid_of((int)result, c->info.pid);
-    if (c->info.pid) complete_info(&c->info);
-    put_answer(c, p->error, p->error ? -1 : result, c->call.room, length);
+    if (!p->error && kind == BALSAEUCHRE_RECEIVE && result) result = rcvid_of((int)result, sender);
+    put_answer(c, p->error, result, c->call.room, length);
     drop_bytes(c);
-    c->wrote = c->gives_up = false;
+    c->wrote = false;
 }
 
 /* The layer tells of the threads whose calls have ended. */
@@ -184,7 +187,7 @@ static void finish_channel(struct client *c) {
 /* Ends a call that is open still where that is wanted already. */
 static void end_at_once(struct client *c) {
     struct place *p = c->place;
-    bool gives_up = c->gives_up && c->given_up == c->ask.call;
+    bool gives_up = c->given_up && c->given_up == c->ask.call;
     if (p->call && (gives_up || p->word == INTERRUPTED)) interrupt(c, WAS_INTERRUPTED);
     if (p->call && p->call->until && p->call->until <= now()) interrupt(c, TIMED_OUT);
 }
@@ -192,13 +195,13 @@ static void end_at_once(struct client *c) {
 static void make_call(struct client *c) {
     const struct wire_ask *a = &c->ask;
     uint64_t ended = 0, until = now() + a->time;
-    c->info = (struct _msg_info){.pid = 0};
+    c->answer = (struct wire_answer){.error = 0};
     c->wrote = false;
     c->call = (struct call){.request = a->request, .table = table_of(a->request.kind), .number = a->number,
                             .own_priority = a->flags & WIRE_OWN_PRIORITY, .states = a->states,
                             .until = !a->states ? 0 : until < a->time ? UINT64_MAX : until,
                             .sent = c->bytes, .sent_len = a->sent_len, .room = c->bytes + a->sent_len,
-                            .room_len = a->room_len, .info = &c->info, .cancels = a->flags & WIRE_CANCELS};
+                            .room_len = a->room_len, .info = &c->answer.info, .cancels = a->flags & WIRE_CANCELS};
     int error = c->bytes ? prepare_call(c) : ENOMEM, kind = a->request.kind;
     if (!error) {
         error = make_under_lock(k, c->place, &c->call, &ended);
@@ -217,29 +220,13 @@ static void make_call(struct client *c) {
     end_at_once(c);
 }
 
-/* Begins a call, of which these bytes came with the ask. Returns false if it is malformed. */
-static bool begin_call(struct client *c, const struct wire_ask *a, const uint8_t *bytes, size_t length) {
-    size_t whole = a->sent_len;
-    if (a->request.kind == BALSAEUCHRE_SEND) whole += a->room_len;
-    if (a->sent_len > WIRE_MOST || a->room_len > WIRE_MOST || length > whole) return false;
-    if (table_of(a->request.kind) == TABLES || (length < whole && length != WIRE_PART)) return false;
+/* Begins a call. Returns false if it is malformed. */
+static bool begin_call(struct client *c, const struct wire_ask *a, const uint8_t *bytes) {
+    if (a->sent_len > WIRE_MOST || a->room_len > WIRE_MOST || table_of(a->request.kind) == TABLES) return false;
+    size_t came = a->sent_len + (a->request.kind == BALSAEUCHRE_SEND ? a->room_len : 0);
     c->ask = *a;
-    c->came = length;
     take_bytes(c, (size_t)a->sent_len + a->room_len);
-    if (c->bytes && length) memcpy(c->bytes, bytes, length);
-    c->gathers = length < whole;
-    if (!c->gathers) make_call(c);
-    return true;
-}
-
-/* Takes further bytes of a call. Returns false if there are too many, or none. */
-static bool go_on(struct client *c, const uint8_t *bytes, size_t length) {
-    size_t whole = (size_t)c->ask.sent_len + c->ask.room_len;
-    if (c->ask.request.kind != BALSAEUCHRE_SEND) whole = c->ask.sent_len;
-    if (!length || length > whole - c->came) return false;
-    if (c->bytes) memcpy(c->bytes + c->came, bytes, length);
-    c->came += length;
-    c->gathers = c->came < whole;
-    if (!c->gathers) make_call(c);
+    if (c->bytes && came) memcpy(c->bytes, bytes, came);
+    make_call(c);
     return true;
 }

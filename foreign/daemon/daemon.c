@@ -2,9 +2,8 @@
 #define _GNU_SOURCE
 #include "daemon.h"
 
-#include <fcntl.h>
-#include <getopt.h>
 #include <grp.h>
+#include <sys/signalfd.h>
 #include <sys/stat.h>
 #include <time.h>
 
@@ -28,6 +27,7 @@ static uint64_t now(void) {
 #include "timeouts.c"
 #include "under_lock.c"
 
+#include "record.c"
 #include "sockets.c"
 #include "hidden.c"
 #include "calls.c"
@@ -37,8 +37,10 @@ static uint64_t now(void) {
 #include "packets.c"
 
 static int listener = -1;
-static volatile sig_atomic_t stops; /* a signal has asked for the end */
-static sigset_t while_waiting;      /* signals are blocked but while it waits */
+static bool stops;     /* a signal has asked for the end; its address is what the epoll says of signals */
+static unsigned awake; /* how long it looks at the boxes in vain before it sleeps; on one processor not at all */
+
+enum { AWAKE = 20000, DUE = 50000 }; /* nanoseconds */
 
 /* Opens the kernel: seats and a clock for each process, and the daemon's own thread. Returns 0 or an error. */
 static uint32_t open_all(void) {
@@ -62,6 +64,7 @@ static uint32_t open_all(void) {
     k->tables[MESSAGES].turns >>= SLOT_BITS; /* an rcvid has the process below */
     k->hooks.pulse = complete_pulse;
     open_notes();
+    record_roster(roster, length);
     for (int at = 0; at < CLIENTS; at++) clients[at].fd = -1;
     return balsaeuchre_open(roster, length, &k->library);
 }
@@ -97,8 +100,7 @@ static void accept_client(void) {
     int fd = accept4(listener, NULL, NULL, SOCK_CLOEXEC | SOCK_NONBLOCK);
     if (fd == -1) return;
     struct client *c = may_connect(fd, &peer) ? new_client() : NULL;
-    struct epoll_event event = {.events = EPOLLIN, .data.ptr = c};
-    if (!c || epoll_ctl(events, EPOLL_CTL_ADD, fd, &event)) {
+    if (!c || !watch(fd, EPOLLIN, c)) {
         close(fd);
         return;
     }
@@ -118,19 +120,39 @@ static uint64_t end_late_calls(void) {
     return next;
 }
 
-/* Waits for packets, and takes one of each socket that has one. */
-static void serve_once(void) {
-    static uint64_t retry; /* when those that could not end are tried again */
+/* Waits for packets and bells, or only looks for them, and takes a packet of each socket that has one. */
+static void take_packets(bool sleeps) {
     struct epoll_event ready[64];
     uint64_t next = end_late_calls(), time = next ? now() : 0, left = next > time ? next - time : 0;
     if (ending && (!next || left > RETRY * 1000000u)) left = RETRY * 1000000u;
+    if (!sleeps) left = 0;
     struct timespec until = {(time_t)(left / 1000000000u), (long)(left % 1000000000u)};
-    int count = epoll_pwait2(events, ready, 64, next || ending ? &until : NULL, &while_waiting);
+    int count = epoll_pwait2(events, ready, 64, !sleeps || next || ending ? &until : NULL, NULL);
     for (int at = 0; at < count; at++) {
         struct client *c = ready[at].data.ptr;
         if (!c) accept_client();
-        else if (c->fd != -1 && c->out && ready[at].events & EPOLLOUT) write_on(c);
-        else if (c->fd != -1) read_packet(c);
+        else if (c == (const void *)&stops) stops = true;
+        else if (c != (const void *)&bell && c->fd != -1) read_packet(c);
+    }
+}
+
+/* Takes what is in the boxes. Where none has any news for a while, it sleeps. */
+static void serve_once(void) {
+    static uint64_t awake_until, due; /* due: when the sockets are looked at */
+    static uint64_t retry;            /* when those that could not end are tried again */
+    uint64_t time = now();
+    bool found = look_at_boxes(), sleeps = !found && time >= awake_until;
+    if (sleeps) {
+        want_bells();
+        found = look_at_boxes();
+        sleeps = !found;
+    }
+    wake_threads();
+    if (found) awake_until = time + awake;
+    else __builtin_ia32_pause();
+    if (sleeps || time >= due) {
+        take_packets(sleeps);
+        due = time + DUE;
     }
     leave_seats();
     if (ending && now() >= retry) {
@@ -159,76 +181,65 @@ static bool open_listener(const char *path) {
     return !limits.has_group || !chown(path, (uid_t)-1, limits.group);
 }
 
+static const char *record_file; /* or null */
+
 static const char usage[] =
     "usage: balsaeuchred [--processes N] [--threads N] [--channels N] [--connections N] [--bytes N] [--group NAME]\n"
-    "                    [SOCKET]\n"
+    "                    [--record FILE] [SOCKET]\n"
     "One kernel for the programs that run with BALSAEUCHRE_SYSTEM=SOCKET. Without SOCKET it is systemd's.\n"
     "  --processes 12      programs at a time, and\n"
     "  --threads 4         threads of each; N * (threads + 1) is at most 63\n"
     "  --channels 16       channels of each, of 64 in all\n"
     "  --connections 256   connections of each, of 1,024 in all\n"
     "  --bytes 8388608     bytes of the open calls of each\n"
-    "  --group NAME        whose members may connect, too, beside the same user\n";
+    "  --group NAME        whose members may connect, too, beside the same user\n"
+    "  --record FILE.names writes all calls as a script with names, for qdemo\n";
 
-/* Reads the options. Returns whether they are right. */
-static bool read_options(int count, char **words) {
-    static const struct option options[] = {
-        {"processes", required_argument, NULL, 'p'}, {"threads", required_argument, NULL, 't'},
-        {"channels", required_argument, NULL, 'c'}, {"connections", required_argument, NULL, 'o'},
-        {"bytes", required_argument, NULL, 'b'}, {"group", required_argument, NULL, 'g'}, {NULL, 0, NULL, 0}};
-    for (int option; (option = getopt_long(count, words, "", options, NULL)) != -1;) {
-        const struct group *group = option == 'g' ? getgrnam(optarg) : NULL;
-        long number = option != '?' && option != 'g' ? atol(optarg) : 1;
-        if (option == '?' || number < 1 || (option == 'g' && !group) || number > INT_MAX) return false;
-        switch (option) {
-        case 'p': limits.processes = (int)number; break;
-        case 't': limits.threads = (int)number; break;
-        case 'c': limits.channels = (int)number; break;
-        case 'o': limits.connections = (int)number; break;
-        case 'b': limits.bytes = (size_t)number; break;
-        default: limits.group = group->gr_gid, limits.has_group = true;
-        }
+/* Reads the options. Returns the words behind them, or null if an option is wrong. */
+static char **read_options(char **words) {
+    static const struct { const char *name; int *limit; } options[] = {
+        {"--processes", &limits.processes}, {"--threads", &limits.threads}, {"--channels", &limits.channels},
+        {"--connections", &limits.connections}, {"--bytes", &limits.bytes}};
+    for (; *words && **words == '-'; words += 2) {
+        size_t at = 0, count = sizeof options / sizeof *options;
+        if (!words[1]) return NULL;
+        const struct group *group = strcmp(*words, "--group") ? NULL : getgrnam(words[1]);
+        while (at < count && strcmp(*words, options[at].name)) at++;
+        if (at < count) *options[at].limit = atoi(words[1]);
+        else if (!strcmp(*words, "--record")) record_file = words[1];
+        else if (group) limits.group = group->gr_gid, limits.has_group = true;
+        if (at == count ? !group && record_file != words[1] : *options[at].limit < 1) return NULL;
     }
-    return count - optind <= 1 && limits.processes < PROCESSES && limits.threads < PLACES &&
-           limits.processes * (limits.threads + 1) < PLACES;
+    bool fits = limits.processes < PROCESSES && limits.threads < PLACES &&
+                limits.processes * (limits.threads + 1) < PLACES;
+    return fits && (!*words || !words[1]) ? words : NULL;
 }
 
-static void stop(int signo) {
-    (void)signo;
-    stops = 1;
-}
-
-static void take_signals(void) {
-    sigset_t ends;
-    struct sigaction action;
-    memset(&action, 0, sizeof action);
-    action.sa_handler = stop;
-    sigemptyset(&ends);
-    sigaddset(&ends, SIGTERM);
-    sigaddset(&ends, SIGINT);
-    sigprocmask(SIG_BLOCK, &ends, &while_waiting);
-    sigaction(SIGTERM, &action, NULL);
-    sigaction(SIGINT, &action, NULL);
+/* Opens the file of the record and the socket. Returns the one that it could not open, or null. */
+static const char *open_files(const char *path) {
+    if (record_file) record = open(record_file, O_WRONLY | O_CREAT | O_TRUNC | O_CLOEXEC, 0600);
+    if (record_file && record == -1) return record_file;
+    return open_listener(path) ? NULL : path ? path : "no socket";
 }
 
 int main(int count, char **words) {
-    if (!read_options(count, words)) {
-        fputs(usage, stderr);
-        return 2;
-    }
-    if (!open_listener(words[optind])) {
-        fprintf(stderr, "balsaeuchred: %s: %s\n", words[optind] ? words[optind] : "no socket", strerror(errno));
-        return 1;
-    }
-    struct epoll_event event = {.events = EPOLLIN, .data.ptr = NULL};
+    sigset_t signals;
+    cpu_set_t processors;
+    words = read_options(words + (count > 0));
+    if (!words) return fputs(usage, stderr), 2;
+    const char *failed = open_files(*words);
+    if (failed) return fprintf(stderr, "balsaeuchred: %s: %s\n", failed, strerror(errno)), 1;
+    sigemptyset(&signals);
+    sigaddset(&signals, SIGTERM);
+    sigaddset(&signals, SIGINT);
+    sigprocmask(SIG_BLOCK, &signals, NULL);
+    awake = sched_getaffinity(0, sizeof processors, &processors) || CPU_COUNT(&processors) > 1 ? AWAKE : 0;
     events = epoll_create1(EPOLL_CLOEXEC);
-    if (events == -1 || open_all() || epoll_ctl(events, EPOLL_CTL_ADD, listener, &event)) {
-        fputs("balsaeuchred: no memory\n", stderr);
-        return 1;
-    }
-    take_signals();
+    bool opened = events != -1 && !open_all() && watch(listener, EPOLLIN, NULL);
+    if (!opened || !watch(signalfd(-1, &signals, SFD_CLOEXEC), EPOLLIN, &stops))
+        return fputs("balsaeuchred: no memory\n", stderr), 1;
     while (!stops) serve_once();
-    if (words[optind]) unlink(words[optind]);
+    if (*words) unlink(*words);
     for (int at = 0; at < CLIENTS; at++) free_client(&clients[at]);
     balsaeuchre_close(&k->library);
     free(k->event.bytes);

@@ -1,8 +1,9 @@
 /* The parts of the daemon share these. Tested, not proved.
  *
  * One thread makes all calls, in the library's memory of this process alone. It waits for nothing but epoll: a socket
- * is read and written without waiting, a packet at a time. The kernel's threads are seats, some for each process, and
- * besides a clock for each process, which is never blocked and acts for it, and one thread of the daemon's own.
+ * is read and written without waiting, a packet at a time, and a box an ask at a time. The kernel's threads are seats,
+ * some for each process, and besides a clock for each process, which is never blocked and acts for it, and one thread
+ * of the daemon's own.
  */
 #ifndef BALSAEUCHRE_DAEMON_H
 #define BALSAEUCHRE_DAEMON_H
@@ -10,6 +11,7 @@
 #include "layer.h"
 #include "wire.h"
 
+#include <fcntl.h>
 #include <stdio.h>
 #include <sys/epoll.h>
 #include <sys/socket.h>
@@ -23,22 +25,21 @@ enum { CHANNEL_PLACES = 1 << CHANNEL_BITS, CONNECTION_PLACES = 1 << CONNECTION_B
 struct client {
     bool is_used, is_process;
     int fd; /* -1: it has ended, while the thread's call is still open */
+    int bell;             /* of a thread */
+    struct wire_box *box; /* of a thread, or null */
+    uint32_t asked, given_up; /* as they were read in the box */
+    bool rings;               /* as it was written there */
     struct ucred peer;
     uint8_t process;     /* 0: it hasn't joined */
     struct place *place; /* of a thread */
     int tid;             /* of a thread, in its process */
     pid_t host_tid;      /* of a thread, as it says */
-    struct wire_ask ask; /* of the call that is open, or whose bytes come */
+    struct wire_ask ask; /* of the call that is open */
     struct call call;
-    struct _msg_info info;
+    struct wire_answer answer;
     uint8_t *bytes; /* of the call: sent, then room; null if they are too many */
-    size_t came, size;
-    bool gathers; /* bytes of the call have yet to come */
-    bool wrote;   /* a Write has changed the reply buffer */
-    bool gives_up;
-    uint32_t given_up; /* the number of the call, if gives_up */
-    uint8_t *out;      /* what the socket has not taken yet */
-    size_t out_length, out_done;
+    size_t size;
+    bool wrote;       /* a Write has changed the reply buffer */
     uint64_t came_as; /* the number of its accept */
 };
 
@@ -53,8 +54,7 @@ struct process {
 };
 
 static struct {
-    int processes, threads, channels, connections;
-    size_t bytes;
+    int processes, threads, channels, connections, bytes;
     gid_t group; /* which may connect, too, if has_group */
     bool has_group;
 } limits = {12, 4, 16, 256, 8 << 20, 0, false};

@@ -4,11 +4,11 @@
  * Each pulse has the code NOTED in the kernel, and as its value the number of a note. There are as many notes as pulses
  * may wait: 1,024 on each of 64 channels, besides one for each seat whose pulse is refused.
  */
-enum { NOTED = 127, NOTES = 65536 + PLACES };
+enum { NOTED = 127, NOTES = 65536 + PLACES, TAKEN = -2 };
 
 struct note {
-    int next;   /* of a free one; -1: none */
-    int chid;   /* 0: it is free */
+    int next; /* the next free one, -1: none; TAKEN: it is not free */
+    int chid;
     int32_t scoid;
     int8_t code;
     int64_t value;
@@ -16,6 +16,9 @@ struct note {
 
 static struct note notes[NOTES];
 static int free_note = -1;
+static int pulses[CHANNEL_PLACES]; /* notes of a channel, by its place */
+
+static int *pulses_of(int chid) { return &pulses[place_in(&k->tables[CHANNELS], chid)]; }
 
 static void open_notes(void) {
     for (int at = NOTES - 1; at >= 0; at--) {
@@ -29,19 +32,20 @@ static int new_note(int chid, int scoid, int code, int64_t value) {
     int at = free_note;
     if (at == -1) return -1;
     free_note = notes[at].next;
-    notes[at] = (struct note){-1, chid, scoid, (int8_t)code, value};
+    notes[at] = (struct note){TAKEN, chid, scoid, (int8_t)code, value};
+    ++*pulses_of(chid);
     return at;
 }
 
 static void end_note(int at) {
-    if (at < 0 || !notes[at].chid) return;
-    notes[at].chid = 0;
+    if (at < 0 || notes[at].next != TAKEN) return;
     notes[at].next = free_note;
     free_note = at;
+    --*pulses_of(notes[at].chid);
 }
 
 static void end_notes(int chid) {
-    for (int at = 0; at < NOTES; at++) {
+    for (int at = 0; at < NOTES && *pulses_of(chid); at++) {
         if (notes[at].chid == chid) end_note(at);
     }
 }

@@ -14,7 +14,25 @@
 #include "timeouts.c"
 #include "under_lock.c"
 
-/* The layer's functions that differ, by other names: with a kernel of the program's own. */
+/* With a kernel of the program's own: the layer's functions that differ, which have other names here. */
+static long call_here(struct call *c);
+static neutrino *open_here(uint32_t version, const struct neutrino_thread *threads, size_t count);
+static int join_here(neutrino *k, int tid);
+static int leave_here(void);
+static int shutdown_here(neutrino *k);
+static int close_here(neutrino *k);
+static void interrupt_here(void);
+static int cancel_here(neutrino *k, int tid);
+static int look_here(neutrino *k, struct neutrino_blocked *all);
+
+#include "link.c"
+#include "box.c"
+#include "remote.c"
+#include "messages.c"
+#include "channels.c"
+#include "threads.c"
+#include "asks.c"
+
 #define call_long call_here
 #define neutrino_open_version open_here
 #define neutrino_join join_here
@@ -25,32 +43,6 @@
 #define neutrino_cancel cancel_here
 #define neutrino_look look_here
 
-static neutrino *open_here(uint32_t version, const struct neutrino_thread *threads, size_t count);
-static int join_here(neutrino *k, int tid);
-static int leave_here(void);
-static int shutdown_here(neutrino *k);
-static int close_here(neutrino *k);
-static void interrupt_here(void);
-static int cancel_here(neutrino *k, int tid);
-static int look_here(neutrino *k, struct neutrino_blocked *all);
-
 #include "call.c"
 #include "kernel.c"
 #include "above.c"
-
-#undef call_long
-#undef neutrino_open_version
-#undef neutrino_join
-#undef neutrino_leave
-#undef neutrino_shutdown
-#undef neutrino_close
-#undef neutrino_interrupt
-#undef neutrino_cancel
-#undef neutrino_look
-
-#include "link.c"
-#include "remote.c"
-#include "messages.c"
-#include "channels.c"
-#include "threads.c"
-#include "asks.c"

@@ -1,14 +1,15 @@
-/* Reads packets. Tested, not proved. */
+/* Reads packets and boxes. Tested, not proved. */
 
-/* Makes what an ask of the program's own socket, or of a thread's, wants at once. Returns false for a malformed one. */
-static bool serve(struct client *c, const struct wire_ask *a, const uint8_t *bytes, size_t length) {
+/* Makes what an ask of the program's own socket, or of a thread's box, wants at once. Returns false for a malformed
+ * one. */
+static bool serve(struct client *c, const struct wire_ask *a, const uint8_t *bytes) {
     bool has_bytes = a->op == OP_NAME || a->op == OP_FIND;
-    if (length && !has_bytes) return false;
-    c->info = (struct _msg_info){.pid = 0};
+    if (a->sent_len && !has_bytes) return false;
+    c->answer = (struct wire_answer){.error = 0};
     switch (a->op) {
-    case OP_NAME: attach_name(c, a, bytes, length); break;
+    case OP_NAME: attach_name(c, a, bytes); break;
     case OP_UNNAME: detach_name(c, a); break;
-    case OP_FIND: look_up_name(c, bytes, length); break;
+    case OP_FIND: look_up_name(c, a, bytes); break;
     case OP_CLIENT: tell_client(c, a); break;
     case OP_SENDER: tell_sender(c, a); break;
     case OP_EVENT: deliver_event(c, a); break;
@@ -35,44 +36,76 @@ static void send_plain_pulse(struct client *c, const struct wire_ask *a) {
     put_result(c, !id ? EBADF : !request.priority ? EINVAL : send_pulse(request, &content), 0);
 }
 
-/* The thread wants its call to end, which may not have come yet. */
-static void give_up(struct client *c, uint32_t call) {
-    c->gives_up = true;
-    c->given_up = call;
-    if (c->place->call && c->ask.call == call) interrupt(c, WAS_INTERRUPTED);
-}
-
 /* The first packet of a socket says what it is. */
-static bool join(struct client *c, const struct wire_ask *a, size_t length) {
-    if (length || (a->op != OP_PROCESS && a->op != OP_THREAD && a->op != OP_SHOW)) return false;
+static bool join(struct client *c, const struct wire_ask *a) {
+    if (a->sent_len || (a->op != OP_PROCESS && a->op != OP_THREAD && a->op != OP_SHOW)) return false;
     if (a->op == OP_PROCESS) join_process(c, a);
     if (a->op == OP_THREAD) join_thread(c, a);
     if (a->op == OP_SHOW) show_all(c);
     return true;
 }
 
-/* Takes a packet. Returns false if no program would send it: the socket is closed then. */
+/* Takes an ask. Its bytes may change still. Returns false if no program would send it: the socket is closed then. */
+static bool take_ask(struct client *c, const struct wire_ask *a, const uint8_t *bytes) {
+    if (!c->is_process && !c->place) return join(c, a);
+    if (c->place && c->place->call) return false;
+    if (a->op != OP_CALL) return serve(c, a, bytes);
+    if (c->place) return begin_call(c, a, bytes);
+    if (a->request.kind != BALSAEUCHRE_PULSE || a->sent_len) return false;
+    send_plain_pulse(c, a);
+    return true;
+}
+
+/* Takes a packet, which a thread that has a box sends none of. */
 static bool take_packet(struct client *c, const uint8_t *packet, size_t length) {
     struct wire_ask a;
-    if (length < sizeof a || length > sizeof a + WIRE_PART) return false;
+    if (length < sizeof a || length > sizeof a + WIRE_NAME || c->box) return false;
     memcpy(&a, packet, sizeof a);
-    packet += sizeof a;
-    length -= sizeof a;
-    if (c->out) return a.op == OP_GIVE_UP; /* it has not read its last answer */
-    if (!c->is_process && !c->place) return join(c, &a, length);
-    if (c->place && a.op == OP_GIVE_UP && !length) return give_up(c, a.call), true;
-    if (c->gathers) return a.op == OP_MORE && go_on(c, packet, length);
-    if (c->place && c->place->call) return false;
-    if (c->is_process && a.op == OP_CALL && a.request.kind == BALSAEUCHRE_PULSE && !length)
-        return send_plain_pulse(c, &a), true;
-    if (c->place && a.op == OP_CALL) return begin_call(c, &a, packet, length);
-    return serve(c, &a, packet, length);
+    return a.sent_len == length - sizeof a && take_ask(c, &a, packet + sizeof a);
 }
 
 /* Reads one packet, if there is one. */
 static void read_packet(struct client *c) {
-    static uint8_t packet[sizeof(struct wire_ask) + WIRE_PART + 1];
+    uint8_t packet[sizeof(struct wire_ask) + WIRE_NAME + 1];
     ssize_t length = recv(c->fd, packet, sizeof packet, MSG_DONTWAIT);
     if (length < 0 && (errno == EAGAIN || errno == EINTR)) return;
     if (length <= 0 || !take_packet(c, packet, (size_t)length)) hang_up(c);
+}
+
+/* Takes what is new in a thread's box: an ask, or that it wants its call to end. Returns whether there was any. */
+static bool read_box(struct client *c) {
+    struct wire_box *box = c->box;
+    uint32_t asked = atomic_load(&box->asked), given_up = atomic_load(&box->given_up);
+    bool is_ask = asked != c->asked, gives_up = given_up != c->given_up;
+    c->asked = asked;
+    c->given_up = given_up;
+    if (is_ask) {
+        struct wire_ask a = box->ask;
+        atomic_thread_fence(memory_order_seq_cst); /* it is read once */
+        if (c->rings) atomic_store_explicit(&box->rings, 0, memory_order_relaxed);
+        c->rings = false;
+        if (!take_ask(c, &a, box->bytes)) hang_up(c);
+    } else if (gives_up && c->place->call && c->ask.call == given_up) {
+        interrupt(c, WAS_INTERRUPTED);
+    }
+    return is_ask || gives_up;
+}
+
+/* Looks at each box. Returns whether there was any news. */
+static bool look_at_boxes(void) {
+    bool found = false;
+    for (int at = 0; at < PLACES; at++) {
+        if (client_of[at] && client_of[at]->box) found |= read_box(client_of[at]);
+    }
+    return found;
+}
+
+/* Before it sleeps: from now on a bell has to be rung. */
+static void want_bells(void) {
+    for (int at = 0; at < PLACES; at++) {
+        struct client *c = client_of[at];
+        if (!c || !c->box || c->rings) continue;
+        c->rings = true;
+        atomic_store(&c->box->rings, 1);
+    }
 }

@@ -23,7 +23,6 @@ int main(int count, char **words) {
     static char text[65536];
     struct wire_ask ask = {.op = OP_SHOW};
     struct wire_answer answer;
-    const struct iovec none[2] = {{NULL, 0}, {NULL, 0}};
     const char *path = count > 1 ? words[1] : getenv("BALSAEUCHRE_SYSTEM");
     if (count > 2 || !path || *path == '-') {
         fputs("usage: pidin [SOCKET]\nPrints the programs of the balsaeuchred whose socket it is, or else "
@@ -31,7 +30,8 @@ int main(int count, char **words) {
         return 2;
     }
     int fd = connect_to(path);
-    if (fd == -1 || exchange(fd, &ask, none, &answer, (struct iovec){text, sizeof text}) == -1) {
+    struct iovec none = {NULL, 0}, room = {text, sizeof text};
+    if (fd == -1 || exchange(fd, &ask, none, &answer, room, NULL) == -1) {
         fprintf(stderr, "pidin: %s: %s\n", path, strerror(errno));
         return 1;
     }

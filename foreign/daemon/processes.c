@@ -29,7 +29,9 @@ static void join_thread(struct client *c, const struct wire_ask *a) {
     int process = process_of(c->peer.pid), seat = 0;
     while (process && seat < PLACES && (k->places[seat].pid != process || client_of[seat])) seat++;
     int error = !process ? ESRCH : thread_of(process, a->number) ? EBUSY : seat == PLACES ? EAGAIN : 0;
+    int files[2] = {-1, -1};
     if (a->number < 1 || a->number > UINT8_MAX || a->value < 1 || a->value > UINT8_MAX) error = EINVAL;
+    if (!error && !open_box(c, files)) error = ENOMEM;
     if (!error) {
         struct place *p = &k->places[seat];
         balsaeuchre_request request = balsaeuchre_request_of(BALSAEUCHRE_PRIORITY_SET, clock_of(process), 0);
@@ -42,9 +44,14 @@ static void join_thread(struct client *c, const struct wire_ask *a) {
         c->host_tid = a->pid;
         c->place = p;
         client_of[seat] = c;
+        record_seat(c);
         make_hidden(request);
+    } else {
+        close_box(c);
     }
-    put_result(c, error, 0);
+    c->answer.error = error;
+    send_answer(c, NULL, error ? NULL : files);
+    if (files[0] != -1) close(files[0]);
 }
 
 /* A thread whose socket has ended leaves its seat, once it has no open call. */
@@ -93,11 +100,8 @@ static void end_socket(struct client *c) {
     if (c->fd == -1) return;
     close(c->fd);
     c->fd = -1;
-    drop_out(c);
-    if (!c->place) return;
-    gone++;
-    if (c->gathers) drop_bytes(c);
-    c->gathers = false;
+    close_box(c);
+    if (c->place) gone++;
 }
 
 /* A program has ended: so have its threads, and all that is its. */

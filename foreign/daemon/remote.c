@@ -2,25 +2,28 @@
 static struct neutrino remote_kernel; /* of which only the process is used */
 static bool is_remote;
 static int program_socket = -1, program_scoid;
-static int sockets[UINT8_MAX + 1]; /* of the threads, by tid, for a forked child to close; 0: none */
+static int files[UINT8_MAX + 1][2]; /* sockets and bells of the threads, by tid, for a forked child to close; 0: none */
 static pthread_mutex_t asking = PTHREAD_MUTEX_INITIALIZER; /* over the program's socket and the table */
 
-static _Thread_local struct place own;
-static _Thread_local int own_socket = -1;
+static _Thread_local struct place own_place;
 static _Thread_local uint32_t calls;
 static _Thread_local volatile sig_atomic_t open_call; /* the number of the call that waits, or 0 */
 
-/* Sends an ask without bytes that are kept from a call, on the thread's socket or else the program's, and waits. */
+/* Asks by the thread's box, or else the program's socket, and waits. */
 static long ask_daemon(struct wire_ask *ask, struct iovec bytes, struct wire_answer *answer, struct iovec room) {
     int cancel, ignored;
-    bool joined = self;
+    long result;
     if (inside || program_socket == -1) return fail(inside ? EDEADLK : ESHUTDOWN);
     pthread_setcancelstate(PTHREAD_CANCEL_DISABLE, &cancel);
     inside++;
-    if (!joined) pthread_mutex_lock(&asking);
-    struct iovec sent[2] = {bytes, {NULL, 0}};
-    long result = exchange(joined ? own_socket : program_socket, ask, sent, answer, room);
-    if (!joined) pthread_mutex_unlock(&asking);
+    if (self) {
+        ask->sent_len = (uint32_t)bytes.iov_len;
+        result = ask_by_box(ask, (struct iovec[2]){bytes, {NULL, 0}}, answer, room);
+    } else {
+        pthread_mutex_lock(&asking);
+        result = exchange(program_socket, ask, bytes, answer, room, NULL);
+        pthread_mutex_unlock(&asking);
+    }
     inside--;
     pthread_setcancelstate(cancel, &ignored);
     return result;
@@ -30,6 +33,8 @@ static long ask_plainly(struct wire_ask *ask) {
     struct wire_answer answer;
     return ask_daemon(ask, (struct iovec){NULL, 0}, &answer, (struct iovec){NULL, 0});
 }
+
+static long ask_about(uint32_t op, int number) { return ask_plainly(&(struct wire_ask){.op = op, .number = number}); }
 
 /* ---- calls */
 
@@ -51,7 +56,7 @@ static long make_remote(struct call *c, struct wire_ask *ask, int cancel) {
     int ignored;
     inside++;
     open_call = (sig_atomic_t)ask->call;
-    long result = exchange(own_socket, ask, sent, &answer, (struct iovec){c->room, c->room_len});
+    long result = ask_by_box(ask, sent, &answer, (struct iovec){c->room, c->room_len});
     int error = errno;
     open_call = 0;
     inside--;
@@ -80,12 +85,13 @@ static long call_long(struct call *c) { return is_remote ? call_remote(c) : call
 /* In a forked child, which has the sockets of its parent, but none of its threads. */
 static void forget_sockets(void) {
     if (!is_remote) return;
-    for (int tid = 0; tid <= UINT8_MAX; tid++) {
-        if (sockets[tid]) close(sockets[tid]);
-        sockets[tid] = 0;
+    for (int at = 0; at < 2 * (UINT8_MAX + 1); at++) {
+        if (files[at / 2][at % 2]) close(files[at / 2][at % 2]);
+        files[at / 2][at % 2] = 0;
     }
     if (program_socket != -1) close(program_socket);
-    program_socket = own_socket = -1;
+    program_socket = own.socket = own.bell = -1;
+    own.box = NULL; /* a child doesn't have it */
     open_call = 0;
     inside = 0;
     self = NULL;
@@ -95,21 +101,18 @@ static void forget_sockets(void) {
 
 static neutrino *open_remote(const char *path) {
     static bool prepared;
-    struct wire_ask ask = {.op = OP_PROCESS, .number = WIRE_VERSION};
-    int fd = connect_to(path);
-    if (fd == -1) return NULL;
+    program_socket = connect_to(path);
+    if (program_socket == -1) return NULL;
     if (!prepared) pthread_atfork(NULL, NULL, forget_sockets);
     prepared = true;
-    program_socket = fd;
-    long scoid = ask_plainly(&ask);
-    if (scoid == -1) {
+    program_scoid = (int)ask_about(OP_PROCESS, WIRE_VERSION);
+    if (program_scoid == -1) {
         int error = errno;
-        close(fd);
+        close(program_socket);
         program_socket = -1;
         errno = error;
         return NULL;
     }
-    program_scoid = (int)scoid;
     remote_kernel.process = getpid();
     is_remote = true;
     return &remote_kernel;
@@ -120,42 +123,36 @@ neutrino *neutrino_open_version(uint32_t version, const struct neutrino_thread *
     return path && *path ? open_remote(path) : open_here(version, threads, count);
 }
 
+/* Notes the files of a thread, or none. */
+static void note_files(int tid, int socket, int bell) {
+    pthread_mutex_lock(&asking);
+    files[tid][0] = socket;
+    files[tid][1] = bell;
+    pthread_mutex_unlock(&asking);
+}
+
 static int join_remote(int tid) {
     struct wire_ask ask = {.op = OP_THREAD, .number = tid, .value = 10, .pid = (int32_t)syscall(SYS_gettid)};
-    struct wire_answer answer;
-    struct iovec none[2] = {{NULL, 0}, {NULL, 0}};
     if (tid < 1 || tid > UINT8_MAX) return fail(ESRCH);
-    int fd = connect_to(getenv("BALSAEUCHRE_SYSTEM"));
-    if (fd == -1) return -1;
-    if (exchange(fd, &ask, none, &answer, none[0]) == -1) {
-        int error = errno;
-        close(fd);
-        return fail(error);
-    }
-    pthread_mutex_lock(&asking);
-    sockets[tid] = fd;
-    pthread_mutex_unlock(&asking);
-    own_socket = fd;
-    own = (struct place){.tid = (uint8_t)tid};
-    self = &own;
+    if (open_box(getenv("BALSAEUCHRE_SYSTEM"), &ask)) return -1;
+    note_files(tid, own.socket, own.bell);
+    own_place = (struct place){.tid = (uint8_t)tid};
+    self = &own_place;
     kernel = &remote_kernel;
     return 0;
 }
 
 int neutrino_join(neutrino *k, int tid) {
     if (k != &remote_kernel) return join_here(k, tid);
-    return refuse(k) ? -1 : self ? fail(EBUSY) : join_remote(tid);
+    return k->process != getpid() ? fail(EPERM) : self ? fail(EBUSY) : join_remote(tid);
 }
 
 int neutrino_leave(void) {
     if (!is_remote) return leave_here();
     if (refuse_call()) return -1;
-    pthread_mutex_lock(&asking);
-    sockets[self->tid] = 0;
-    pthread_mutex_unlock(&asking);
-    shutdown(own_socket, SHUT_RDWR); /* a forked child may have it, too, for a moment */
-    close(own_socket);
-    own_socket = -1;
+    note_files(self->tid, 0, 0);
+    shutdown(own.socket, SHUT_RDWR); /* a forked child may have it, too, for a moment */
+    close_box();
     self = NULL;
     return 0;
 }
@@ -170,17 +167,17 @@ int neutrino_look(neutrino *k, struct neutrino_blocked *all) {
 
 /* ---- interruptions */
 
-/* Asks the daemon to end the open call of this thread. The ask may overtake that of the call. */
+/* Asks the daemon to end the open call of this thread, which it may not have taken yet. */
 void neutrino_interrupt(void) {
     if (!is_remote) {
         interrupt_here();
         return;
     }
-    struct wire_ask ask = {.op = OP_GIVE_UP, .call = (uint32_t)open_call};
-    if (self && self->interruptible && open_call) send(own_socket, &ask, sizeof ask, MSG_NOSIGNAL | MSG_DONTWAIT);
+    if (!self || !self->interruptible || !open_call) return;
+    atomic_store(&own.box->given_up, (uint32_t)open_call);
+    ring();
 }
 
 int neutrino_cancel(neutrino *k, int tid) {
-    struct wire_ask ask = {.op = OP_CANCEL, .number = tid};
-    return k == &remote_kernel ? (int)ask_plainly(&ask) : cancel_here(k, tid);
+    return k == &remote_kernel ? (int)ask_about(OP_CANCEL, tid) : cancel_here(k, tid);
 }

@@ -1,11 +1,11 @@
 /* What programs ask of the daemon beside calls: names, clients, events. Tested, not proved. */
 
 /* Reads a name that an ask brings. Returns an errno or 0. */
-static int read_name(const uint8_t *bytes, size_t length, char *name) {
-    if (!length || length >= WIRE_NAME || memchr(bytes, 0, length)) return EINVAL;
-    memcpy(name, bytes, length);
-    name[length] = 0;
-    return 0;
+static int read_name(const struct wire_ask *a, const uint8_t *bytes, char name[WIRE_NAME]) {
+    if (!a->sent_len || a->sent_len >= WIRE_NAME) return EINVAL;
+    memcpy(name, bytes, a->sent_len);
+    name[a->sent_len] = 0;
+    return strlen(name) == a->sent_len ? 0 : EINVAL;
 }
 
 /* The place of a name's channel, or -1. */
@@ -16,9 +16,9 @@ static int find_name(const char *name) {
     return -1;
 }
 
-static void attach_name(struct client *c, const struct wire_ask *a, const uint8_t *bytes, size_t length) {
+static void attach_name(struct client *c, const struct wire_ask *a, const uint8_t *bytes) {
     char name[WIRE_NAME];
-    int error = read_name(bytes, length, name), place = place_in(&k->tables[CHANNELS], a->number);
+    int error = read_name(a, bytes, name), place = place_in(&k->tables[CHANNELS], a->number);
     if (!error && find_name(name) != -1) error = EEXIST;
     if (!error && (!id_of(k, CHANNELS, a->number, c->process) || *names[place])) error = EINVAL;
     if (!error) strcpy(names[place], name);
@@ -32,12 +32,11 @@ static void detach_name(struct client *c, const struct wire_ask *a) {
     put_result(c, known ? 0 : EINVAL, 0);
 }
 
-static void look_up_name(struct client *c, const uint8_t *bytes, size_t length) {
+static void look_up_name(struct client *c, const struct wire_ask *a, const uint8_t *bytes) {
     char name[WIRE_NAME];
-    int error = read_name(bytes, length, name), place = error ? -1 : find_name(name);
+    int error = read_name(a, bytes, name), place = error ? -1 : find_name(name);
     if (!error && place == -1) error = ENOENT;
-    c->info = (struct _msg_info){.pid = 0};
-    if (place != -1) c->info.pid = processes[k->channels[place].owner].peer.pid;
+    if (place != -1) c->answer.info.pid = processes[k->channels[place].owner].peer.pid;
     put_result(c, error, error ? -1 : (int)(k->channels[place].turn << CHANNEL_BITS) | place);
 }
 

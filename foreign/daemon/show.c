@@ -1,15 +1,5 @@
 /* What pidin prints. Tested, not proved. */
 
-/* The name that the host has for a thread. */
-static void name_thread(pid_t pid, pid_t tid, char name[20]) {
-    char path[60];
-    snprintf(path, sizeof path, "/proc/%d/task/%d/comm", (int)pid, (int)tid);
-    FILE *file = fopen(path, "re");
-    if (!file || !fgets(name, 20, file)) strcpy(name, "?");
-    if (file) fclose(file);
-    name[strcspn(name, "\n")] = 0;
-}
-
 /* Prints on whom a thread is blocked. */
 static void show_blocked(FILE *to, const struct place *p) {
     const struct call *call = p->call;
@@ -42,7 +32,7 @@ static void show_thread(FILE *to, const struct client *c) {
 
 static void show_channel(FILE *to, int place) {
     const struct name *channel = &k->channels[place];
-    int chid = (int)(channel->turn << CHANNEL_BITS) | place, sent = 0, held = 0, receive = 0, pulses = 0;
+    int chid = (int)(channel->turn << CHANNEL_BITS) | place, sent = 0, held = 0, receive = 0;
     for (int at = 0; at < PLACES; at++) {
         const struct place *p = &k->places[at];
         if (!p->call || p->state == STATE_READY) continue;
@@ -51,9 +41,8 @@ static void show_channel(FILE *to, int place) {
         held += p->state == STATE_REPLY && p->chid == chid;
         receive += p->state == STATE_RECEIVE && p->call->number == chid;
     }
-    for (int at = 0; at < NOTES; at++) pulses += notes[at].chid == chid;
-    fprintf(to, "%8d %4d %5d %5d %6d %9d %s\n", (int)processes[channel->owner].peer.pid, chid, sent, held, pulses,
-            receive, names[place]);
+    fprintf(to, "%8d %4d %5d %5d %6d %9d %s\n", (int)processes[channel->owner].peer.pid, chid, sent, held,
+            pulses[place], receive, names[place]);
 }
 
 static void show(FILE *to) {

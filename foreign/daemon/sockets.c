@@ -1,64 +1,89 @@
-/* Sockets: answers, and the bytes of calls. None waits. Tested, not proved. */
+/* Sockets and boxes: answers, and the bytes of calls. None waits. Tested, not proved.
+ *
+ * A box is the daemon's memory, whose length is sealed, and which its thread may change at any time. So an ask is
+ * copied before it is looked at. */
+#include <linux/futex.h>
+#include <sys/eventfd.h>
+#include <sys/mman.h>
+#include <sys/syscall.h>
 #include <sys/uio.h>
 
-static int events; /* the epoll */
+static int events;      /* the epoll */
+static const char bell; /* its address is what the epoll says of any bell, after which all boxes are looked at */
 
-static void watch(struct client *c, uint32_t wanted) {
-    epoll_ctl(events, EPOLL_CTL_MOD, c->fd, &(struct epoll_event){.events = wanted, .data.ptr = c});
+static bool watch(int fd, uint32_t wanted, const void *of) {
+    return !epoll_ctl(events, EPOLL_CTL_ADD, fd, &(struct epoll_event){wanted, {.ptr = (void *)(uintptr_t)of}});
 }
 
-static void drop_out(struct client *c) {
-    free(c->out);
-    c->out = NULL;
-    c->out_length = c->out_done = 0;
+/* Makes the box and the bell of a thread. Returns whether it could. files gets what the thread gets: both. */
+static bool open_box(struct client *c, int files[2]) {
+    int file = memfd_create("balsaeuchre", MFD_CLOEXEC | MFD_ALLOW_SEALING);
+    files[0] = file;
+    files[1] = c->bell = eventfd(0, EFD_CLOEXEC | EFD_NONBLOCK);
+    if (file == -1 || c->bell == -1 || ftruncate(file, sizeof *c->box)) return false;
+    if (fcntl(file, F_ADD_SEALS, F_SEAL_SHRINK | F_SEAL_GROW | F_SEAL_SEAL)) return false;
+    void *box = mmap(NULL, sizeof *c->box, PROT_READ | PROT_WRITE, MAP_SHARED, file, 0);
+    if (box == MAP_FAILED) return false;
+    c->box = box;
+    return watch(c->bell, EPOLLIN | EPOLLET, &bell);
 }
 
-/* Writes a packet of what is left, as the socket has room. */
-static void write_on(struct client *c) {
-    size_t most = c->out_done ? WIRE_PART : sizeof(struct wire_answer) + WIRE_PART;
-    size_t left = c->out_length - c->out_done, part = left < most ? left : most;
-    bool sent = send(c->fd, c->out + c->out_done, part, MSG_NOSIGNAL | MSG_DONTWAIT) >= 0;
-    if (!sent && errno == EAGAIN) return;
-    c->out_done += part;
-    if (sent && c->out_done < c->out_length) return; /* if it broke, its next read says so */
-    drop_out(c);
-    watch(c, EPOLLIN);
+static void close_box(struct client *c) {
+    if (c->box) munmap(c->box, sizeof *c->box);
+    if (c->bell > 0) epoll_ctl(events, EPOLL_CTL_DEL, c->bell, NULL), close(c->bell); /* its thread may have it still */
+    c->box = NULL;
+    c->bell = 0;
 }
 
-/* Keeps an answer whose first packet the socket did not take, or only that. */
-static void keep_answer(struct client *c, const struct wire_answer *head, const void *bytes, bool began) {
-    c->out = malloc(sizeof *head + head->length);
-    if (!c->out) {
-        shutdown(c->fd, SHUT_RDWR); /* its read says so */
-        return;
+/* Sends an answer as a packet, with files or without. */
+static void send_answer(struct client *c, const void *bytes, const int files[2]) {
+    struct iovec parts[] = {{&c->answer, sizeof c->answer}, {(void *)(uintptr_t)bytes, c->answer.length}};
+    union { struct cmsghdr head; char room[CMSG_SPACE(2 * sizeof *files)]; } rights = {.head = {0}};
+    struct msghdr packet = {.msg_iov = parts, .msg_iovlen = 2};
+    if (files) {
+        rights.head = (struct cmsghdr){CMSG_LEN(2 * sizeof *files), SOL_SOCKET, SCM_RIGHTS};
+        memcpy(CMSG_DATA(&rights.head), files, 2 * sizeof *files);
+        packet.msg_control = &rights;
+        packet.msg_controllen = sizeof rights.room;
     }
-    memcpy(c->out, head, sizeof *head);
-    if (head->length) memcpy(c->out + sizeof *head, bytes, head->length);
-    c->out_length = sizeof *head + head->length;
-    c->out_done = began ? sizeof *head + WIRE_PART : 0;
-    watch(c, EPOLLIN | EPOLLOUT);
+    /* A socket that takes no answer has not read the last ones. */
+    if (sendmsg(c->fd, &packet, MSG_NOSIGNAL | MSG_DONTWAIT) < 0) shutdown(c->fd, SHUT_RDWR);
+}
+
+static uint64_t asleep; /* threads that have an answer, and have to be woken, by place */
+
+/* Puts an answer into the box of a thread. */
+static void put_in_box(struct client *c, const void *bytes) {
+    if (c->answer.length) memcpy(c->box->bytes, bytes, c->answer.length);
+    c->box->answer = c->answer;
+    if (atomic_exchange(&c->box->word, WIRE_ANSWERED) == WIRE_ASLEEP) asleep |= bit_of(k, c->place);
+}
+
+/* Wakes threads once all have their answers, as that takes longer than those. */
+static void wake_threads(void) {
+    for (; asleep; asleep &= asleep - 1) {
+        const struct client *c = client_of[__builtin_ctzll(asleep)];
+        if (c && c->box) syscall(SYS_futex, &c->box->word, FUTEX_WAKE, 1, NULL, NULL, 0);
+    }
 }
 
 static void put_answer(struct client *c, int error, int64_t result, const void *bytes, size_t length) {
-    struct wire_answer head = {error, (uint32_t)length, result, c->info};
-    size_t first = length < WIRE_PART ? length : WIRE_PART;
-    struct iovec parts[] = {{&head, sizeof head}, {(void *)(uintptr_t)bytes, first}};
-    struct msghdr packet = {.msg_iov = parts, .msg_iovlen = first ? 2 : 1};
-    if (c->fd == -1) return;
-    bool began = sendmsg(c->fd, &packet, MSG_NOSIGNAL | MSG_DONTWAIT) >= 0;
-    bool is_broken = !began && errno != EAGAIN; /* its next read says so */
-    if (!is_broken && (!began || first < length)) keep_answer(c, &head, bytes, began);
+    c->answer.error = error;
+    c->answer.result = error ? -1 : result;
+    c->answer.length = (uint32_t)length;
+    if (c->box) put_in_box(c, bytes);
+    else if (c->fd != -1) send_answer(c, bytes, NULL);
 }
 
 static void put_result(struct client *c, int error, int64_t result) {
-    put_answer(c, error, error ? -1 : result, NULL, 0);
+    put_answer(c, error, result, NULL, 0);
 }
 
 /* Takes memory for a call's bytes, as far as its process may have so many. */
 static void take_bytes(struct client *c, size_t size) {
     struct process *process = &processes[c->process];
     c->size = 0;
-    c->bytes = process->bytes + size <= limits.bytes ? calloc(1, size + 1) : NULL;
+    c->bytes = process->bytes + size <= (size_t)limits.bytes ? calloc(1, size + 1) : NULL;
     if (!c->bytes) return;
     c->size = size;
     process->bytes += size;
@@ -73,7 +98,7 @@ static void drop_bytes(struct client *c) {
 
 static void free_client(struct client *c) {
     if (c->fd != -1) close(c->fd);
+    close_box(c);
     drop_bytes(c);
-    drop_out(c);
     *c = (struct client){.fd = -1};
 }

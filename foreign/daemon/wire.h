@@ -1,9 +1,9 @@
 /* What a program and the daemon send each other. Tested, not proved.
  *
  * The sockets are of SOCK_SEQPACKET. A program has one for itself, whose end is the program's, and one for each of its
- * threads. A packet of a program is an ask with at most WIRE_PART bytes behind it; further bytes of a call follow in
- * packets of OP_MORE. A packet of the daemon is an answer with at most WIRE_PART bytes; the rest of these follow in
- * packets that have nothing else. Each ask has one answer, but for OP_MORE and OP_GIVE_UP, which have none.
+ * threads. Each packet of a program is an ask with the bytes behind it, and each packet of the daemon an answer with
+ * its bytes. The answer to OP_THREAD brings the thread's box, a mapping that thread and daemon share, and its bell, an
+ * eventfd; then the thread asks by its box, and sends no more packets.
  */
 #ifndef BALSAEUCHRE_WIRE_H
 #define BALSAEUCHRE_WIRE_H
@@ -11,14 +11,12 @@
 #include "balsaeuchre.h"
 #include "sys/neutrino.h"
 
-enum { WIRE_VERSION = 1, WIRE_PART = 32768, WIRE_MOST = 1 << 20, WIRE_NAME = 256, WIRE_GROUPS = 8 };
+enum { WIRE_VERSION = 2, WIRE_MOST = 1 << 20, WIRE_NAME = 256, WIRE_GROUPS = 8 };
 
 enum wire_op {
     OP_PROCESS = 1, /* the first of a program's socket: number is WIRE_VERSION; the result is its scoid */
     OP_THREAD,      /* the first of a thread's: number is its tid, value its priority */
     OP_CALL,        /* the request, with the number of what it names; the bytes: sent, then a Send's reply buffer */
-    OP_MORE,        /* further bytes of the call */
-    OP_GIVE_UP,     /* unblock the thread whose call has this number */
     OP_CANCEL,      /* unblock the thread whose tid is number, in this call or the next ones */
     OP_NAME,        /* number is a chid, the bytes are its name */
     OP_UNNAME,      /* number is a chid */
@@ -46,11 +44,29 @@ struct wire_ask {
     balsaeuchre_request request;
 };
 
+enum { WIRE_CUT = 1, WIRE_CODE }; /* an error: the call was ended by force; it is what the server answered */
+
 struct wire_answer {
     int32_t error;
     uint32_t length; /* of the bytes behind it */
     int64_t result;
+    uint32_t count; /* bytes of a reply; of a State the chid that the thread is blocked on */
+    uint8_t how;
+    uint8_t priority; /* of a pulse, or a State */
     struct _msg_info info;
+};
+
+enum { WIRE_OPEN, WIRE_ASLEEP, WIRE_ANSWERED }; /* the last ask has no answer yet; its thread also sleeps; it has one */
+
+/* Only bytes of the call that is open are in use: before the answer those of the ask, and then those of the answer. */
+struct wire_box {
+    _Atomic uint32_t asked;    /* changes with each ask */
+    _Atomic uint32_t given_up; /* the call that its thread wants to end */
+    struct wire_ask ask;
+    _Alignas(64) _Atomic uint32_t word;
+    _Atomic uint32_t rings; /* the daemon sleeps, or is about to, so the bell has to be rung */
+    struct wire_answer answer;
+    uint8_t bytes[2 * WIRE_MOST];
 };
 
 struct wire_client {

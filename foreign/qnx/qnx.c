@@ -16,7 +16,7 @@
 #include "threads.c"
 #include "signals.c"
 #include "show.c"
+#include "record_lines.c"
 #include "record.c"
-#include "record_calls.c"
 #include "service.c"
 #include "forms.c"

@@ -1,39 +1,19 @@
 /* Records a run as a script with names, in the file that BALSAEUCHRE_RECORD names. Tested, not proved.
  *
- * The hook has each call of the kernel in the order in which the kernel made it, with all that it completes. So the
- * number of a call is that of its line among the calls, and each line says how its call has to complete. In the text a
- * thread is MARK and its number; its name is put there as the text is written, and all is written again when a thread
- * gets a name. Buffers are recorded as zeros, as their bytes are in no result; so are the bytes of a message that is
- * too long for a line.
+ * In the text a thread is MARK and its number; its name is put there as the text is written, and all is written again
+ * when a thread gets a name.
  */
 #include <fcntl.h>
-#include <stdarg.h>
 
-enum { MARK = 1, LINE = 4000, LONGEST = 800, MOST = 4096, WHOLE = 4194304 - 2 * LINE, NAME_ROOM = 24 };
+enum { MARK = 1, NAME_ROOM = 24 };
 
 static struct {
     int fd;                     /* -1: nothing is recorded */
     size_t length, written;     /* of the lines below, and of the file */
     char names[256][NAME_ROOM]; /* of threads; empty: it has no line yet */
-    char open_as[256];          /* the letter of the name of the call that a thread is blocked in */
 } record = {.fd = -1};
 static char lines[WHOLE];
 static pthread_mutex_t recording = PTHREAD_MUTEX_INITIALIZER; /* over the record; taken under the kernel's lock */
-
-/* A line that grows. */
-struct line {
-    char text[2 * LINE];
-    size_t length;
-};
-
-__attribute__((format(printf, 2, 3))) static void add(struct line *line, const char *form, ...) {
-    va_list arguments;
-    size_t room = sizeof line->text - line->length;
-    va_start(arguments, form);
-    int length = vsnprintf(line->text + line->length, room, form, arguments);
-    va_end(arguments);
-    if (length > 0) line->length += (size_t)length < room ? (size_t)length : room - 1;
-}
 
 static void write_text(const char *text, size_t length) {
     while (length) {
@@ -118,31 +98,56 @@ int neutrino_pthread_setname_np(pthread_t thread, const char *name) {
     return error;
 }
 
-/* Adds bytes as a script has them, or zeros. */
-static void add_bytes(struct line *line, const void *bytes, size_t length, bool zeros) {
-    const uint8_t *from = bytes;
-    bool is_text = true;
-    if (length > MOST) length = MOST;
-    if (!length || zeros) {
-        add(line, length ? " [%zu]" : " -", length);
-        return;
-    }
-    for (size_t at = 0; at < length; at++) is_text &= (from[at] >= ' ' && from[at] <= '~') || (at && !from[at]);
-    add(line, is_text ? " \"" : " ");
-    for (size_t at = 0; at < length; at++) {
-        if (is_text && (from[at] == '"' || from[at] == '\\' || !from[at])) add(line, "\\");
-        add(line, is_text ? "%c" : "%02x", is_text && !from[at] ? '0' : from[at]);
-    }
-    if (is_text) add(line, "\"");
-}
-
 static void add_thread(struct line *line, int tid) {
     list_thread(tid);
     line->text[line->length++] = MARK;
     line->text[line->length++] = (char)tid;
 }
 
-/* Adds the name of what a call made; 0 is what no call made. */
-static void add_name(struct line *line, const char *kind, uint64_t id) {
-    add(line, id ? " %s%llu" : " 0", id ? kind : "", (unsigned long long)id);
+static const char *process_name(int process) { return process == PROGRAM ? "program" : "system"; }
+
+/* Keeps a line, or ends the record where a script would be too long. */
+static void keep_line(const struct line *line) {
+    static const char told_end[] = "balsaeuchre: the record is full at 4 MiB, and ends here\n";
+    if (record.length + line->length <= WHOLE && record.written + line->length <= WHOLE) {
+        memcpy(lines + record.length, line->text, line->length);
+        record.length += line->length;
+        write_named(line->text, line->length);
+        return;
+    }
+    if (write(STDERR_FILENO, told_end, sizeof told_end - 1) < 0) errno = 0;
+    close(record.fd);
+    record.fd = -1;
+}
+
+/* The hook: the kernel has made a call. */
+static void record_call(const balsaeuchre_request *r, const void *sent, size_t sent_len, const void *room,
+                        size_t room_len, const balsaeuchre_event *event) {
+    struct line line = {.length = 0};
+    (void)room;
+    pthread_mutex_lock(&recording);
+    if (record.fd != -1) {
+        add_made(&line, &(struct made){r, sent, sent_len, room_len}, event);
+        keep_line(&line);
+    }
+    pthread_mutex_unlock(&recording);
+}
+
+/* Opens the record, if there has to be one. Returns the hooks of the run. */
+static const struct neutrino_hooks *hooks_of_run(void) {
+    static struct neutrino_hooks hooks = {NULL, complete_pulse};
+    const char *file = getenv("BALSAEUCHRE_RECORD");
+    record.fd = file && *file ? open(file, O_WRONLY | O_CREAT | O_TRUNC | O_CLOEXEC, 0666) : -1;
+    if (file && *file && record.fd == -1) dprintf(STDERR_FILENO, "balsaeuchre: %s: %s\n", file, strerror(errno));
+    if (record.fd != -1) hooks.call = record_call;
+    return &hooks;
+}
+
+/* In a forked child, whose calls are not its parent's. */
+static void forget_record(void) {
+    if (record.fd != -1) close(record.fd);
+    pthread_mutex_init(&recording, NULL);
+    memset(&record, 0, sizeof record);
+    record.fd = -1;
+    unsetenv("BALSAEUCHRE_RECORD");
 }

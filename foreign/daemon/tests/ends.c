@@ -4,6 +4,8 @@
 
 #include <fcntl.h>
 #include <sys/mman.h>
+#include <sys/socket.h>
+#include <sys/un.h>
 
 static struct shared {
     volatile int errors[8];
@@ -213,10 +215,73 @@ static void fork_and_exec(void) {
     check(name_detach(name, 0) == 0);
 }
 
+static void ignore(int signo) { (void)signo; }
+
+/* A signal handler ends a call that waits, and none that doesn't. */
+static void interrupted(void) {
+    struct sigaction action;
+    memset(&action, 0, sizeof action);
+    action.sa_handler = ignore;
+    int chid = ChannelCreate(0), coid = ConnectAttach(0, 0, chid, _NTO_SIDE_CHANNEL, 0);
+    check(sigaction(SIGALRM, &action, NULL) == 0);
+    for (int turn = 0; turn < 20; turn++) {
+        ualarm(2000, 0);
+        fails(MsgReceive(chid, NULL, 0, NULL), EINTR);
+        ualarm(2000, 0);
+        fails(MsgSend(coid, NULL, 0, NULL, 0), EINTR);
+    }
+    check(ConnectDetach(coid) == 0 && ChannelDestroy(chid) == 0);
+}
+
+static void *kill_soon(void *daemon) {
+    usleep((useconds_t)(getpid() * 7919L % 50000));
+    check(kill((pid_t)(intptr_t)daemon, SIGKILL) == 0);
+    return NULL;
+}
+
+static pid_t pid_of_daemon(void) {
+    struct sockaddr_un address = {.sun_family = AF_UNIX};
+    struct ucred daemon;
+    socklen_t length = sizeof daemon;
+    int fd = socket(AF_UNIX, SOCK_SEQPACKET, 0);
+    strncpy(address.sun_path, getenv("BALSAEUCHRE_SYSTEM"), sizeof address.sun_path - 1);
+    check(connect(fd, (struct sockaddr *)&address, sizeof address) == 0);
+    check(getsockopt(fd, SOL_SOCKET, SO_PEERCRED, &daemon, &length) == 0 && daemon.pid > 0 && close(fd) == 0);
+    return daemon.pid;
+}
+
+static void answer_on(void *unused) {
+    char room[64];
+    (void)unused;
+    name_attach_t *name = name_attach(NULL, "server", 0);
+    check(name);
+    for (;;) {
+        rcvid_t rcvid = receive_answering_opens(name->chid, room, sizeof room, NULL);
+        if (rcvid < 0 || MsgReply(rcvid, 0, room, 6)) break;
+    }
+    check(errno == ESHUTDOWN);
+}
+
+/* The daemon is killed at any time: a server, a client and one who only waits get ESHUTDOWN from all calls then. It is
+ * not among the tests that run by default. */
+static void daemon_dies(void) {
+    pthread_t thread, waiter;
+    char back[16];
+    pid_t server = spawn(answer_on, NULL);
+    int chid = ChannelCreate(0), coid = open_name("server");
+    check(pthread_create(&waiter, NULL, wait_on, (void *)(intptr_t)chid) == 0);
+    check(pthread_create(&thread, NULL, kill_soon, (void *)(intptr_t)pid_of_daemon()) == 0);
+    while (MsgSend(coid, "hello", 6, back, sizeof back) == 0) continue;
+    check(errno == ESHUTDOWN);
+    fails(ChannelCreate(0), ESHUTDOWN);
+    check(pthread_join(thread, NULL) == 0 && pthread_join(waiter, NULL) == 0);
+    expect_end(server);
+}
+
 #define TEST(name) {#name, name}
 static const struct { const char *name; void (*run)(void); } tests[] = {
     TEST(client_dies), TEST(sender_dies), TEST(server_dies), TEST(connection_dies), TEST(full_channel),
-    TEST(thread_ends), TEST(fork_and_exec),
+    TEST(thread_ends), TEST(fork_and_exec), TEST(interrupted), TEST(daemon_dies),
 };
 
 static void run(void *at) { tests[(intptr_t)at].run(); }
@@ -226,7 +291,7 @@ int main(int count, char **words) {
     shared = mmap(NULL, sizeof *shared, PROT_READ | PROT_WRITE, MAP_SHARED | MAP_ANONYMOUS, -1, 0);
     check(shared != MAP_FAILED);
     for (size_t at = 0; at < sizeof tests / sizeof *tests; at++) {
-        bool asked = count == 1;
+        bool asked = count == 1 && tests[at].run != daemon_dies;
         for (int word = 1; word < count; word++) asked |= strcmp(words[word], tests[at].name) == 0;
         if (!asked) continue;
         memset((void *)shared, 0, sizeof *shared);

@@ -1,5 +1,5 @@
-/* A libFuzzer harness over the packet reader: the input is packets for the sockets of one program, in one kernel that
- * stays. Built over daemon.c, whose main has another name then. */
+/* A libFuzzer harness over the readers of packets and boxes: the input is asks for the sockets of one program, in one
+ * kernel that stays. Built over daemon.c, whose main has another name then. */
 #define main balsaeuchred_main
 #include "../daemon.c"
 #undef main
@@ -15,8 +15,7 @@ static struct client *open_socket(int at) {
     if (socketpair(AF_UNIX, SOCK_SEQPACKET | SOCK_NONBLOCK, 0, ends)) abort();
     struct client *c = new_client();
     *c = (struct client){.is_used = true, .fd = ends[0], .peer = {getpid(), 0, 0}};
-    struct epoll_event event = {.events = EPOLLIN, .data.ptr = c};
-    if (epoll_ctl(events, EPOLL_CTL_ADD, c->fd, &event)) abort();
+    if (!watch(c->fd, EPOLLIN, c)) abort();
     far[at] = ends[1];
     if (!take_packet(c, (const uint8_t *)&ask, sizeof ask)) abort();
     return c;
@@ -37,25 +36,35 @@ static struct wire_ask ask_from(const uint8_t *data) {
     return ask;
 }
 
-static void read_answers(void) {
+static void note_result(const struct wire_answer *answer) {
     static int next;
+    if (answer->result > 0) results[next++ % (2 * SOCKETS)] = (int)answer->result;
+}
+
+static void read_answers(struct client *all[SOCKETS]) {
     struct wire_answer answer;
     for (int at = 0; at < SOCKETS; at++) {
-        while (recv(far[at], &answer, sizeof answer, MSG_DONTWAIT) == sizeof answer) {
-            if (answer.result > 0) results[next++ % (2 * SOCKETS)] = (int)answer.result;
-        }
+        while (recv(far[at], &answer, sizeof answer, MSG_DONTWAIT) == sizeof answer) note_result(&answer);
+        if (all[at]->box && atomic_exchange(&all[at]->box->word, WIRE_OPEN) == WIRE_ANSWERED)
+            note_result(&all[at]->box->answer);
     }
 }
 
-/* Sends one packet of the input. Returns how much of that it is. */
+/* Puts one ask of the input into a packet or a box. Returns how much of the input it is. */
 static size_t take_one(struct client *c, const uint8_t *data, size_t size) {
-    static uint8_t packet[sizeof(struct wire_ask) + WIRE_PART];
+    static uint8_t packet[sizeof(struct wire_ask) + WIRE_NAME + 1];
     bool is_raw = data[0] & 64;
     struct wire_ask ask = ask_from(data);
-    size_t behind = ask.request.kind == BALSAEUCHRE_SEND ? ask.sent_len + ask.room_len : ask.sent_len;
-    if (ask.op != OP_CALL || is_raw) behind = data[7];
-    if (behind > WIRE_PART) behind = WIRE_PART;
-    size_t from = 8 + (behind < size - 8 ? behind : size - 8);
+    size_t behind = c->box ? 64 : data[7], from = 8 + (behind < size - 8 ? behind : size - 8);
+    if (ask.op != OP_CALL && !is_raw) ask.sent_len = (uint32_t)behind;
+    if (c->box) {
+        memcpy(c->box->bytes, data + 8, from - 8);
+        c->box->ask = ask;
+        atomic_fetch_add(&c->box->asked, !is_raw);
+        atomic_store(&c->box->given_up, data[6] & 3);
+        read_box(c);
+        return from;
+    }
     memset(packet, 1, sizeof packet);
     memcpy(packet, &ask, sizeof ask);
     memcpy(packet + (is_raw ? 0 : sizeof ask), data + 8, from - 8);
@@ -77,7 +86,7 @@ int LLVMFuzzerTestOneInput(const uint8_t *data, size_t size) {
         struct client *c = all[data[0] % SOCKETS];
         size_t taken = c->fd != -1 ? take_one(c, data, size) : 8;
         end_late_calls();
-        read_answers();
+        read_answers(all);
         data += taken;
         size -= taken;
     }

@@ -22,6 +22,11 @@ static bool is_gone(int error) {
 
 static unsigned rest_of(unsigned length, unsigned at) { return (length * 7 + at) & 127; }
 
+/* Each byte becomes another, so that what a box had before is no answer. */
+static void invert(char *bytes, size_t length) {
+    for (size_t at = 0; at < length; at++) bytes[at] = (char)~bytes[at];
+}
+
 /* Answers a message of length bytes, which begins with that length, in one of four ways. */
 static void answer(rcvid_t rcvid, char *room, const struct _msg_info *info) {
     uint32_t length;
@@ -30,6 +35,7 @@ static void answer(rcvid_t rcvid, char *room, const struct _msg_info *info) {
     for (uint32_t at = 4; at < length; at++) check((unsigned)room[at] == rest_of(length, at));
     int how = rand() % 4;
     if (how == 0) check(MsgRead(rcvid, room, length, 0) == (ssize_t)length || errno == ESRCH);
+    invert(room, length);
     if (how == 1) check(MsgWrite(rcvid, room, length, 0) == (ssize_t)length || errno == ESRCH);
     if (how == 2) check(MsgError(rcvid, 1000) == 0 || errno == ESRCH);
     else check(MsgReply(rcvid, length, room, how == 1 ? 0 : length) == 0 || errno == ESRCH);
@@ -74,7 +80,9 @@ static bool ask(int coid, char *sent, char *back) {
     long status = MsgSend(coid, sent, length, back, length);
     note(3);
     if (status == -1 && (errno == 1000 || errno == ETIMEDOUT || errno == EINTR)) return true;
-    check(status == -1 ? is_gone(errno) : status == (long)length && memcmp(back, sent, length) == 0);
+    int error = errno;
+    if (status != -1) invert(back, length);
+    check(status == -1 ? is_gone(error) : status == (long)length && memcmp(back, sent, length) == 0);
     return status != -1;
 }
 

@@ -5,6 +5,7 @@
 
 #include <fcntl.h>
 #include <sys/stat.h>
+#include <time.h>
 
 enum { CHANNELS = 16, CONNECTIONS = 256, THREADS = 4, MOST = 1 << 20 };
 
@@ -27,6 +28,47 @@ static void connections(void) {
     }
     fails(ConnectAttach(0, getppid(), chid, 0, 0), ESRCH);
     check(ChannelDestroy(chid) == 0);
+}
+
+/* Pulses over connections that never were cost nothing that others need. */
+static void pulses(void) {
+    struct _pulse pulse;
+    int chid = ChannelCreate(0), coid = ConnectAttach(0, 0, chid, 0, 0);
+    for (int at = 0; at < 70000; at++) fails(MsgSendPulse(1000, 10, 1, at), EBADF);
+    for (int at = 0; at < 1024; at++) check(MsgSendPulse(coid, 10, 1, at) == 0);
+    fails(MsgSendPulse(coid, 10, 1, 0), EAGAIN);
+    check(MsgReceivePulse(chid, &pulse, sizeof pulse, NULL) == 0 && pulse.value.sival_int == 0);
+    check(ConnectDetach(coid) == 0 && ChannelDestroy(chid) == 0);
+}
+
+static void echo(void *unused);
+static void live(void *unused);
+
+static void *send_into_nothing(void *unused) {
+    static char sent[MOST];
+    (void)unused;
+    for (;;) MsgSend(1000, sent, sizeof sent, NULL, 0);
+    return NULL;
+}
+
+static void flood(void *unused) {
+    pthread_t all[THREADS];
+    (void)unused;
+    for (int at = 0; at < THREADS; at++) check(pthread_create(&all[at], NULL, send_into_nothing, NULL) == 0);
+    pause();
+}
+
+/* Beside a program that only makes the longest calls, others come, send and go. */
+static void busy(void) {
+    struct timespec start, end;
+    pid_t server = spawn(echo, NULL), flooding = spawn(flood, NULL);
+    usleep(200000);
+    clock_gettime(CLOCK_MONOTONIC, &start);
+    for (int turn = 0; turn < 10; turn++) expect_end(spawn(live, NULL));
+    clock_gettime(CLOCK_MONOTONIC, &end);
+    check(end.tv_sec - start.tv_sec < 40);
+    kill_child(flooding);
+    kill_child(server);
 }
 
 static void *receive(void *chid) {
@@ -67,6 +109,11 @@ static void processes(void) {
     for (int at = 0; at < count; at++) kill_child(all[at]);
 }
 
+/* Each byte becomes another, so that what a box had before is no answer. */
+static void invert(char *bytes, size_t length) {
+    for (size_t at = 0; at < length; at++) bytes[at] = (char)~bytes[at];
+}
+
 static void echo(void *unused) {
     static char room[MOST];
     struct _msg_info info;
@@ -74,7 +121,9 @@ static void echo(void *unused) {
     name_attach_t *name = name_attach(NULL, "echo", 0);
     for (;;) {
         rcvid_t rcvid = receive_answering_opens(name->chid, room, sizeof room, &info);
-        if (rcvid > 0) MsgReply(rcvid, info.msglen, room, (size_t)info.msglen);
+        if (rcvid <= 0) continue;
+        invert(room, (size_t)info.msglen);
+        MsgReply(rcvid, info.msglen, room, (size_t)info.msglen);
     }
 }
 
@@ -89,7 +138,9 @@ static void lengths(void) {
         iov_t parts[2] = {{sent, all[turn] / 3}, {sent + all[turn] / 3, all[turn] - all[turn] / 3}};
         iov_t room[2] = {{back, all[turn] / 2}, {back + all[turn] / 2, MOST - all[turn] / 2}};
         memset(back, 'x', sizeof back);
-        check(MsgSendv(coid, parts, 2, room, 2) == (long)all[turn] && memcmp(sent, back, all[turn]) == 0);
+        check(MsgSendv(coid, parts, 2, room, 2) == (long)all[turn]);
+        invert(back, all[turn]);
+        check(memcmp(sent, back, all[turn]) == 0);
         for (size_t at = all[turn]; at < MOST; at++) check(back[at] == 'x');
     }
     fails(MsgSend(coid, sent, MOST + 1, NULL, 0), EMSGSIZE);
@@ -178,8 +229,8 @@ static void lives(void) {
 
 #define TEST(name) {#name, name}
 static const struct { const char *name; void (*run)(void); } tests[] = {
-    TEST(channels), TEST(connections), TEST(threads), TEST(processes), TEST(lengths), TEST(writes), TEST(stopped),
-    TEST(users), TEST(lives),
+    TEST(channels), TEST(connections), TEST(pulses), TEST(threads), TEST(processes), TEST(lengths), TEST(writes),
+    TEST(stopped), TEST(users), TEST(lives), TEST(busy),
 };
 
 static void run(void *at) { tests[(intptr_t)at].run(); }

@@ -1,20 +1,24 @@
 /* noise SOCKET PACKETS SEED: sends packets that no program would send, as a process and as threads of it: of random
- * bytes, cut, too long, with lengths that aren't right, calls in the wrong place, and answers that are never read. */
+ * bytes, cut, too long, with lengths that aren't right, calls in the wrong place, and answers that are never read; and
+ * asks of that kind in the threads' boxes, which change while they are read. */
 #define _GNU_SOURCE
 #include "wire.h"
 
 #include <errno.h>
 #include <stdbool.h>
+#include <stdatomic.h>
 #include <stdio.h>
 #include <stdlib.h>
 #include <string.h>
+#include <sys/mman.h>
 #include <sys/socket.h>
 #include <sys/un.h>
 #include <unistd.h>
 
-enum { SOCKETS = 4, ROOM = sizeof(struct wire_ask) + WIRE_PART + 64 };
+enum { SOCKETS = 4, ROOM = sizeof(struct wire_ask) + 4096 };
 
-static struct { int fd, left; uint32_t call; } all[SOCKETS]; /* the first is the process's */
+/* The first is the process's. */
+static struct { int fd, left, bell; uint32_t call; struct wire_box *box; } all[SOCKETS];
 static long closed, answered;
 
 static int connect_to(const char *path) {
@@ -31,15 +35,34 @@ static int connect_to(const char *path) {
 
 static int below(int most) { return rand() % most; }
 
+/* Maps the box that an answer brings. */
+static void open_box(int at, struct msghdr *in) {
+    const struct cmsghdr *rights = CMSG_FIRSTHDR(in);
+    int files[2];
+    if (!rights || rights->cmsg_len != CMSG_LEN(sizeof files)) return;
+    memcpy(files, CMSG_DATA(rights), sizeof files);
+    all[at].bell = files[1];
+    all[at].box = mmap(NULL, sizeof *all[at].box, PROT_READ | PROT_WRITE, MAP_SHARED, files[0], 0);
+    if (all[at].box == MAP_FAILED) exit(fprintf(stderr, "mmap: %s\n", strerror(errno)));
+    if (!ftruncate(files[0], 0)) exit(fprintf(stderr, "a box can be cut\n"));
+    close(files[0]);
+}
+
 /* Opens a socket again, and mostly joins. */
 static void reopen(const char *path, int at) {
     struct wire_ask ask = {.op = at ? OP_THREAD : OP_PROCESS, .number = at ? at : WIRE_VERSION, .value = 10};
-    char room[ROOM];
+    char room[ROOM], rights[100];
+    struct iovec part = {room, sizeof room};
+    struct msghdr in = {.msg_iov = &part, .msg_iovlen = 1, .msg_control = rights, .msg_controllen = sizeof rights};
     if (all[at].fd) close(all[at].fd);
+    if (all[at].box) munmap(all[at].box, sizeof *all[at].box), close(all[at].bell);
+    all[at].box = NULL;
     all[at].fd = connect_to(path);
     all[at].left = 1 + below(100);
-    if (below(20) == 0) return;
-    if (send(all[at].fd, &ask, sizeof ask, MSG_NOSIGNAL) > 0 && recv(all[at].fd, room, sizeof room, 0) > 0) answered++;
+    if (below(20) == 0 || send(all[at].fd, &ask, sizeof ask, MSG_NOSIGNAL) < 0) return;
+    if (recvmsg(all[at].fd, &in, 0) <= 0) return;
+    answered++;
+    open_box(at, &in);
 }
 
 /* An ask whose fields are each right, near to that, or anything. */
@@ -60,23 +83,47 @@ static struct wire_ask any_ask(int at) {
     return ask;
 }
 
-static void send_one(const char *path, int at) {
-    static uint8_t packet[4 * ROOM];
+static void send_packet(int at) {
+    static uint8_t packet[2 * ROOM];
     struct wire_ask ask = any_ask(at);
-    size_t behind = ask.op == OP_CALL ? ask.sent_len : (size_t)below(40);
-    if (ask.op == OP_CALL && ask.request.kind == BALSAEUCHRE_SEND) behind += ask.room_len;
-    if (behind > WIRE_PART) behind = WIRE_PART;
-    if (below(30) == 0) behind = (size_t)below(3 * ROOM);
+    size_t behind = (size_t)below(below(10) ? 300 : ROOM);
+    if (below(10)) ask.sent_len = (uint32_t)behind;
     memcpy(packet, &ask, sizeof ask);
     for (size_t byte = 0; byte < 64; byte++) packet[sizeof ask + byte] = (uint8_t)rand();
     size_t length = below(50) ? sizeof ask + behind : (size_t)below(sizeof ask);
     ssize_t sent = send(all[at].fd, packet, length, MSG_NOSIGNAL | MSG_DONTWAIT);
-    bool reads = below(8);
-    if (sent < 0 && errno != EAGAIN) closed++;
-    if ((sent < 0 && errno != EAGAIN) || --all[at].left == 0) reopen(path, at);
-    for (int turn = 0; reads && turn < 3; turn++) {
+    if (sent < 0 && errno != EAGAIN) all[at].left = 1;
+    for (int turn = 0; below(8) && turn < 3; turn++) {
         if (recv(all[at].fd, packet, sizeof packet, MSG_DONTWAIT) > 0) answered++;
     }
+}
+
+/* Puts an ask into a box, of which some changes while the daemon reads it. */
+static void put_in_box(int at) {
+    struct wire_box *box = all[at].box;
+    const uint64_t once = 1;
+    char byte;
+    box->ask = any_ask(at);
+    for (int count = 0; count < 64; count++)
+        box->bytes[below(below(2) ? 300 : (int)sizeof box->bytes)] = (uint8_t)rand();
+    if (below(10)) atomic_store(&box->word, (uint32_t)below(4));
+    if (below(20)) atomic_fetch_add(&box->asked, 1);
+    if (below(4) == 0) atomic_store(&box->given_up, below(2) ? all[at].call : (uint32_t)rand());
+    if (below(20) == 0) atomic_store(&box->rings, (uint32_t)rand());
+    if (write(all[at].bell, &once, sizeof once) < 0) exit(fprintf(stderr, "bell: %s\n", strerror(errno)));
+    for (int turn = below(100); turn; turn--) {
+        box->ask.sent_len = (uint32_t)rand();
+        if (atomic_load(&box->word) == WIRE_ANSWERED) break;
+    }
+    answered += atomic_load(&box->word) == WIRE_ANSWERED;
+    if (recv(all[at].fd, &byte, 1, MSG_DONTWAIT) == 0) all[at].left = 1;
+}
+
+static void send_one(const char *path, int at) {
+    if (all[at].box && below(30)) put_in_box(at);
+    else send_packet(at);
+    closed += all[at].left == 1;
+    if (--all[at].left == 0) reopen(path, at);
 }
 
 int main(int count, char **words) {

@@ -30,7 +30,7 @@ void pulse_timers(void) {
     time = (struct itimerspec){{0, 0}, now};
     check(timer_settime(once, TIMER_ABSTIME, &time, &left) == 0 && left.it_value.tv_nsec > 0); /* over at once */
     check(MsgReceivePulse(chid, &pulse, sizeof pulse, NULL) == 0 && pulse.code == 3 && timer_delete(once) == 0);
-    ticks = pulse_timer(coid, 4, 1000000, 0);
+    ticks = pulse_timer(coid, 4, 100000000, 0); /* the connection goes first */
     check(ConnectDetach(coid) == 0 && ChannelDestroy(chid) == 0);
     while (timer_getoverrun(ticks) == 0) usleep(100); /* it has no connection */
     check(timer_delete(ticks) == 0);

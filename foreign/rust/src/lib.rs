@@ -1,6 +1,7 @@
 #![doc = include_str!("../README.md")]
 
 mod calls;
+mod daemon;
 mod errors;
 mod ids;
 pub mod kernel;

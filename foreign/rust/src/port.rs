@@ -1,10 +1,14 @@
 //! The port of a thread, by which it calls the kernel, and the waiting of its calls.
 
+use crate::daemon::{FIND, Link, NAME, UNNAME};
 use crate::errors::{CallError, Errno, OpenError, Result, outcome};
+use crate::ids::ChannelId;
 use crate::kernel::{Call, Mark, Thread};
 use crate::shared::{Lent, Shared};
 use crate::sleeping::LOOKS;
+use std::io;
 use std::mem::forget;
+use std::path::Path;
 use std::process::abort;
 use std::sync::Arc;
 use std::thread;
@@ -19,10 +23,22 @@ const AGAIN: Duration = Duration::from_millis(1);
 /// is shut down, so that nobody waits for it for ever. A port that is dropped otherwise makes no more calls, and a
 /// client that waits for its answer goes on waiting.
 pub struct Port {
+    side: Side,
+    thread: Thread,
+    timeout: Option<Duration>,
+}
+
+/// The kernel of a port: one of this program, or a daemon's.
+enum Side {
+    Own(Place),
+    Daemon(Link),
+}
+
+/// A thread's place in a kernel of this program.
+pub(crate) struct Place {
     pub(crate) shared: Arc<Shared>,
     at: usize,
     thread: Thread,
-    timeout: Option<Duration>,
     looks: u32,
 }
 
@@ -36,7 +52,8 @@ pub fn open(threads: &[Thread]) -> std::result::Result<Vec<Port>, OpenError> {
     let ports = threads.iter().enumerate();
     // On one processor a port never looks, since the thread that it waits for can't run meanwhile.
     let looks = if thread::available_parallelism().is_ok_and(|count| count.get() == 1) { 0 } else { LOOKS };
-    Ok(ports.map(|(at, &thread)| Port { shared: shared.clone(), at, thread, timeout: None, looks }).collect())
+    let place = |at, thread| Place { shared: shared.clone(), at, thread, looks };
+    Ok(ports.map(|(at, &thread)| Port { side: Side::Own(place(at, thread)), thread, timeout: None }).collect())
 }
 
 /// Opens a kernel of these threads, like [`open`], and returns an array with a port for each.
@@ -80,6 +97,47 @@ impl Port {
         self
     }
 
+    /// Joins the kernel of the `balsaeuchred` whose socket has this path, as a further thread of this program, with the
+    /// priority 10. Servers and clients may be programs of their own then, in Rust or C: a server gives its channel a
+    /// name ([`name_attach`](Port::name_attach)), by which a client finds it ([`name_find`](Port::name_find)), and a
+    /// channel's number has the pid of its program in its upper half. What differs: [`Thread::process`] is the daemon's
+    /// number of a program, and [`sched_set`](Port::sched_set), [`unblock`](Port::unblock) and [`state`](Port::state)
+    /// know the threads of this program alone. [`shutdown`](Port::shutdown) is refused with `Inval`. A port that is
+    /// dropped leaves the kernel, and with the last one the program has ended for all others, who need not wait for it.
+    ///
+    /// Fails with the error of the host if there is no daemon or it belongs to another user, and with its `EAGAIN` if
+    /// all places of programs or threads are taken.
+    pub fn connect(path: impl AsRef<Path>) -> io::Result<Port> {
+        let link = Link::open(path.as_ref())?;
+        let thread = Thread::new(link.tid(), link.process(), 10);
+        Ok(Port { side: Side::Daemon(link), thread, timeout: None })
+    }
+
+    fn link(&mut self) -> Result<&mut Link> {
+        match &mut self.side {
+            Side::Daemon(link) => Ok(link),
+            Side::Own(_) => Err(CallError::Refused(Errno::Inval)),
+        }
+    }
+
+    /// Gives a channel of this program a name of at most 255 bytes in the daemon's kernel (`name_attach`). Refused with
+    /// `Busy` if the name is taken, and `Inval` if the channel isn't open, is another program's or has a name, or if the
+    /// kernel isn't a daemon's.
+    pub fn name_attach(&mut self, chid: ChannelId, name: &str) -> Result<()> {
+        self.link()?.ask_name(NAME, chid, name).map(|_| ())
+    }
+
+    /// Takes the name of a channel of this program back (`name_detach`). Refused with `Inval` as `name_attach`.
+    pub fn name_detach(&mut self, chid: ChannelId) -> Result<()> {
+        self.link()?.ask_name(UNNAME, chid, "").map(|_| ())
+    }
+
+    /// Returns the channel of any program that has this name, for `connect_attach`. Unlike `name_open` in C it sends the
+    /// server no message. Refused with `Srch` if there is none, and `Inval` if the kernel isn't a daemon's.
+    pub fn name_find(&mut self, name: &str) -> Result<ChannelId> {
+        self.link()?.ask_name(FIND, ChannelId(0), name)
+    }
+
     /// Makes a call that has no buffer and never waits.
     pub(crate) fn call(&mut self, call: Call<'_>) -> Result<Mark> {
         self.make(false, &mut [], |_| call)
@@ -93,6 +151,29 @@ impl Port {
         call: impl FnOnce(&'a [u8]) -> Call<'a>,
     ) -> Result<Mark> {
         let time = if can_block { self.timeout.take() } else { None };
+        match &mut self.side {
+            Side::Own(place) => place.make(time, buffer, call),
+            Side::Daemon(link) => link.make(time, buffer, call),
+        }
+    }
+
+    #[cfg(feature = "record")]
+    pub(crate) fn shared(&self) -> &Shared {
+        match &self.side {
+            Side::Own(place) => &place.shared,
+            Side::Daemon(_) => panic!("a daemon makes its own record"),
+        }
+    }
+}
+
+impl Place {
+    /// Makes a call with its buffer, and waits for its end.
+    fn make<'a>(
+        &mut self,
+        time: Option<Duration>,
+        buffer: &'a mut [u8],
+        call: impl FnOnce(&'a [u8]) -> Call<'a>,
+    ) -> Result<Mark> {
         let end = time.and_then(|time| Instant::now().checked_add(time));
         // SAFETY: this function borrows the buffer, and doesn't use it itself before the call is ended. Before that it
         // doesn't return, nor unwind: what panics with the lock poisons it, and `wait` aborts.
@@ -158,7 +239,7 @@ impl Drop for Open {
     }
 }
 
-/// A thread that panics shuts the kernel down, so that nobody waits for it for ever.
+/// A thread that panics shuts the kernel of its program down, so that nobody waits for it for ever.
 impl Drop for Port {
     fn drop(&mut self) {
         if thread::panicking() {

@@ -134,8 +134,8 @@ impl Port {
     }
 
     fn compare(&self) -> std::result::Result<usize, String> {
-        let _locked = self.shared.lock();
-        let record = &self.shared.record;
+        let _locked = self.shared().lock();
+        let record = &self.shared().record;
         let again = record.again();
         for (Thread { thread, .. }, got) in record.roster.iter().zip(&record.got) {
             let (got, again) = (got.lock().unwrap(), &again[usize::from(*thread)]);

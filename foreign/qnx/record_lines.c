@@ -1,4 +1,57 @@
-/* The lines of a record. Tested, not proved. */
+/* The lines of a record: the calls of a kernel as a script with names has them. Tested, not proved.
+ *
+ * The hook of the layer has each call of the kernel in the order in which the kernel made it, with all that it
+ * completes. So the number of a call is that of its line among the calls, and each line says how its call has to
+ * complete. Buffers are recorded as zeros, as their bytes are in no result; so are the bytes of a message that is too
+ * long for a line. Who includes this defines the names of threads and processes.
+ */
+#include <stdarg.h>
+
+enum { LINE = 4000, LONGEST = 800, MOST = 4096, WHOLE = 4194304 - 2 * LINE };
+
+/* A line that grows. */
+struct line {
+    char text[2 * LINE];
+    size_t length;
+};
+
+__attribute__((format(printf, 2, 3))) static void add(struct line *line, const char *form, ...) {
+    va_list arguments;
+    size_t room = sizeof line->text - line->length;
+    va_start(arguments, form);
+    int length = vsnprintf(line->text + line->length, room, form, arguments);
+    va_end(arguments);
+    if (length > 0) line->length += (size_t)length < room ? (size_t)length : room - 1;
+}
+
+static void add_thread(struct line *line, int tid);
+static const char *process_name(int process);
+
+/* Adds bytes as a script has them, or zeros. */
+static void add_bytes(struct line *line, const void *bytes, size_t length, bool zeros) {
+    const uint8_t *from = bytes;
+    bool is_text = true;
+    if (length > MOST) length = MOST;
+    if (!length || zeros) {
+        add(line, length ? " [%zu]" : " -", length);
+        return;
+    }
+    for (size_t at = 0; at < length; at++) is_text &= (from[at] >= ' ' && from[at] <= '~') || (at && !from[at]);
+    add(line, is_text ? " \"" : " ");
+    for (size_t at = 0; at < length; at++) {
+        if (is_text && (from[at] == '"' || from[at] == '\\' || !from[at])) add(line, "\\");
+        add(line, is_text ? "%c" : "%02x", is_text && !from[at] ? '0' : from[at]);
+    }
+    if (is_text) add(line, "\"");
+}
+
+/* Adds the name of what a call made; 0 is what no call made. */
+static void add_name(struct line *line, const char *kind, uint64_t id) {
+    add(line, id ? " %s%llu" : " 0", id ? kind : "", (unsigned long long)id);
+}
+
+static char open_as[256]; /* by tid: the letter of the name of the call that the thread is blocked in */
+
 /* A call's word, the letters of what it makes, and those of what it names first. */
 static const struct {
     const char *word, *makes, *names;
@@ -54,8 +107,6 @@ static void add_call(struct line *line, const struct made *made) {
     if (r->kind == BALSAEUCHRE_SEND || r->kind == BALSAEUCHRE_RECEIVE || r->kind == BALSAEUCHRE_READ)
         add_bytes(line, NULL, made->room_len, true);
 }
-
-static const char *process_name(int process) { return process == PROGRAM ? "program" : "system"; }
 
 static void add_pulse(struct line *line, const balsaeuchre_ending *row) {
     const char *kind = row->what == BALSAEUCHRE_WHAT_USER ? "p" : row->what == BALSAEUCHRE_WHAT_UNBLOCK ? "u" : "d";
@@ -121,60 +172,18 @@ static void add_results(struct line *line, const struct made *made, const balsae
     for (size_t at = 0; at < event->done.endings; at++) {
         const balsaeuchre_ending *row = &event->rows[at];
         if (row->thread == caller) continue;
-        add(line, "; %c%llu -> ", record.open_as[row->thread], (unsigned long long)row->call);
+        add(line, "; %c%llu -> ", open_as[row->thread], (unsigned long long)row->call);
         add_result(line, row, made, event->bytes);
     }
     add(line, "\n");
 }
 
-/* Keeps a line, or ends the record where a script would be too long. */
-static void keep_line(const struct line *line) {
-    static const char told_end[] = "balsaeuchre: the record is full at 4 MiB, and ends here\n";
-    if (record.length + line->length <= WHOLE && record.written + line->length <= WHOLE) {
-        memcpy(lines + record.length, line->text, line->length);
-        record.length += line->length;
-        write_named(line->text, line->length);
-        return;
-    }
-    if (write(STDERR_FILENO, told_end, sizeof told_end - 1) < 0) errno = 0;
-    close(record.fd);
-    record.fd = -1;
-}
-
-/* The hook: the kernel has made a call. */
-static void record_call(const balsaeuchre_request *r, const void *sent, size_t sent_len, const void *room,
-                        size_t room_len, const balsaeuchre_event *event) {
-    struct made made = {r, sent, sent_len, room_len};
-    struct line line = {.length = 0};
-    const char *letters = kinds[r->kind].makes;
-    (void)room;
-    pthread_mutex_lock(&recording);
-    if (record.fd != -1) {
-        record.open_as[r->thread] = letters ? letters[0] : 0;
-        if (letters) add(&line, "%s%llu = ", letters, (unsigned long long)event->done.call);
-        add_thread(&line, r->thread);
-        add_call(&line, &made);
-        add_results(&line, &made, event);
-        keep_line(&line);
-    }
-    pthread_mutex_unlock(&recording);
-}
-
-/* Opens the record, if there has to be one. Returns the hooks of the run. */
-static const struct neutrino_hooks *hooks_of_run(void) {
-    static struct neutrino_hooks hooks = {NULL, complete_pulse};
-    const char *file = getenv("BALSAEUCHRE_RECORD");
-    record.fd = file && *file ? open(file, O_WRONLY | O_CREAT | O_TRUNC | O_CLOEXEC, 0666) : -1;
-    if (file && *file && record.fd == -1) dprintf(STDERR_FILENO, "balsaeuchre: %s: %s\n", file, strerror(errno));
-    if (record.fd != -1) hooks.call = record_call;
-    return &hooks;
-}
-
-/* In a forked child, whose calls are not its parent's. */
-static void forget_record(void) {
-    if (record.fd != -1) close(record.fd);
-    pthread_mutex_init(&recording, NULL);
-    memset(&record, 0, sizeof record);
-    record.fd = -1;
-    unsetenv("BALSAEUCHRE_RECORD");
+/* The whole line of a call. */
+static void add_made(struct line *line, const struct made *made, const balsaeuchre_event *event) {
+    const char *letters = kinds[made->request->kind].makes;
+    open_as[made->request->thread] = letters ? letters[0] : 0;
+    if (letters) add(line, "%s%llu = ", letters, (unsigned long long)event->done.call);
+    add_thread(line, made->request->thread);
+    add_call(line, made);
+    add_results(line, made, event);
 }

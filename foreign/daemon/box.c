@@ -1,0 +1,92 @@
+/* The calling thread's socket, box and bell, by which it asks the daemon. Tested, not proved. */
+#include <sys/mman.h>
+
+/* A thread looks at its box for a while before it sleeps. A call that waits for another program does so only with three
+ * processors, one for each and one for the daemon. */
+enum { LOOKS = 100, LONG_LOOKS = 500, SOON = 10000000, LATE = 500000000 }; /* the last two: nanoseconds */
+
+static _Thread_local struct { int socket, bell, processors; struct wire_box *box; } own = {-1, -1, 1, NULL};
+
+/* Wakes the daemon. For signal handlers, too. */
+static void ring(void) {
+    const uint64_t once = 1;
+    int error = errno;
+    if (write(own.bell, &once, sizeof once) < 0) errno = error;
+}
+
+/* Whether the daemon has ended, or has closed the socket. */
+static bool is_gone(void) {
+    char byte;
+    return recv(own.socket, &byte, 1, MSG_PEEK | MSG_DONTWAIT) != -1 || (errno != EAGAIN && errno != EINTR);
+}
+
+static bool has_answer(void) { return atomic_load_explicit(&own.box->word, memory_order_acquire) == WIRE_ANSWERED; }
+
+/* How often a thread looks for the answer before it sleeps. */
+static int looks_for(const struct wire_ask *ask) {
+    int kind = ask->op == OP_CALL ? ask->request.kind : 0;
+    bool waits = kind == BALSAEUCHRE_SEND || kind == BALSAEUCHRE_RECEIVE || kind == BALSAEUCHRE_RECEIVE_PULSE;
+    return own.processors > (waits ? 2 : 1) ? waits ? LONG_LOOKS : LOOKS : 0;
+}
+
+/* Waits for the answer. A daemon that has ended wakes nobody, so its socket is looked at now and then. Returns false if
+ * it is gone. */
+static bool wait_for_answer(int looks) {
+    struct timespec time = {0, SOON};
+    uint32_t open = WIRE_OPEN;
+    for (; looks && !has_answer(); looks--) pause_briefly();
+    atomic_compare_exchange_strong(&own.box->word, &open, WIRE_ASLEEP);
+    while (!has_answer()) {
+        long woken = syscall(SYS_futex, &own.box->word, FUTEX_WAIT, WIRE_ASLEEP, &time, NULL, 0);
+        if (woken == 0 || errno != ETIMEDOUT) continue;
+        if (is_gone() && !has_answer()) return false;
+        time.tv_nsec *= time.tv_nsec < LATE ? 2 : 1;
+    }
+    return true;
+}
+
+/* Asks the daemon by the box, with the bytes of two buffers, and waits. Returns and fails as exchange. */
+static long ask_by_box(const struct wire_ask *ask, const struct iovec sent[2], struct wire_answer *answer,
+                       struct iovec room) {
+    struct wire_box *box = own.box;
+    uint8_t *to = box->bytes;
+    for (int at = 0; at < 2; to += sent[at++].iov_len) {
+        if (sent[at].iov_len) memcpy(to, sent[at].iov_base, sent[at].iov_len);
+    }
+    box->ask = *ask;
+    atomic_store_explicit(&box->word, WIRE_OPEN, memory_order_relaxed);
+    atomic_fetch_add(&box->asked, 1);
+    if (atomic_load(&box->rings)) ring();
+    if (!wait_for_answer(looks_for(ask))) return fail(ESHUTDOWN);
+    *answer = box->answer;
+    if (answer->length > room.iov_len) return fail(ESHUTDOWN);
+    if (answer->length) memcpy(room.iov_base, box->bytes, answer->length);
+    return answer->error ? fail(answer->error) : (long)answer->result;
+}
+
+static void close_box(void) {
+    if (own.box) munmap(own.box, sizeof *own.box);
+    if (own.bell != -1) close(own.bell);
+    if (own.socket != -1) close(own.socket);
+    own.socket = own.bell = -1;
+    own.box = NULL;
+}
+
+/* Opens the socket, the box and the bell of the calling thread. Returns 0, or -1 and sets errno. */
+static int open_box(const char *path, struct wire_ask *ask) {
+    int files[2] = {-1, -1};
+    struct iovec none = {NULL, 0};
+    struct wire_answer answer;
+    cpu_set_t processors;
+    own.socket = connect_to(path);
+    bool joined = own.socket != -1 && !exchange(own.socket, ask, none, &answer, none, files);
+    void *box = joined ? mmap(NULL, sizeof *own.box, PROT_READ | PROT_WRITE, MAP_SHARED, files[0], 0) : MAP_FAILED;
+    int error = errno;
+    if (files[0] != -1) close(files[0]);
+    own.bell = files[1];
+    own.box = box != MAP_FAILED ? box : NULL;
+    own.processors = sched_getaffinity(0, sizeof processors, &processors) ? 1 : CPU_COUNT(&processors);
+    if (own.box && !madvise(box, sizeof *own.box, MADV_DONTFORK)) return 0;
+    close_box();
+    return fail(error);
+}
