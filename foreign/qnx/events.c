@@ -1,4 +1,5 @@
 /* Events. Tested, not proved. */
+#include <sys/syscall.h>
 
 /* Returns an errno for an event that can't be delivered, or 0. */
 static int wrong_event(const struct sigevent *event) {
@@ -21,13 +22,28 @@ static int sender_of(rcvid_t rcvid) {
     return layer_MsgInfo(rcvid, &info) ? -1 : info.tid;
 }
 
-static int signal_sender(rcvid_t rcvid, int signo) {
+/* Signals a process of the host, or a thread of this one, with the event's value and code. */
+static int queue_signal(pid_t pid, pid_t thread, const struct sigevent *event) {
+    siginfo_t info;
+    int code = event->sigev_code;
+    memset(&info, 0, sizeof info);
+    info.si_signo = event->sigev_signo;
+    info.si_code = code < 0 || (code && pid == program) ? code : SI_QUEUE; /* the host refuses others */
+    info.si_pid = program;
+    info.si_uid = getuid();
+    info.si_value = event->sigev_value;
+    long result = thread ? syscall(SYS_rt_tgsigqueueinfo, pid, thread, info.si_signo, &info)
+                         : syscall(SYS_rt_sigqueueinfo, pid, info.si_signo, &info);
+    return (int)result;
+}
+
+static int signal_sender(rcvid_t rcvid, const struct sigevent *event) {
     int tid = sender_of(rcvid);
     if (tid == -1) return -1;
     hold();
-    int error = seats[tid].use == TAKEN ? pthread_kill(seats[tid].thread, signo) : ESRCH;
+    int result = seats[tid].use == TAKEN ? queue_signal(program, seats[tid].host, event) : fail(ESRCH);
     release();
-    return error ? fail(error) : 0;
+    return result;
 }
 
 static int send_event_pulse(const struct sigevent *event) {
@@ -43,8 +59,8 @@ static int deliver_remote(rcvid_t rcvid, const struct sigevent *event) {
     pid_t pid = neutrino_remote_sender(rcvid);
     if (pid == -1) return -1;
     if (type == SIGEV_SIGNAL) return kill(pid, signo);
-    if (type == SIGEV_SIGNAL_CODE) return sigqueue(pid, signo, event->sigev_value);
-    return pid == program ? signal_sender(rcvid, signo) : fail(ENOTSUP);
+    if (type == SIGEV_SIGNAL_CODE) return queue_signal(pid, 0, event);
+    return pid == program ? signal_sender(rcvid, event) : fail(ENOTSUP);
 }
 
 int MsgDeliverEvent(rcvid_t rcvid, const struct sigevent *event) {
@@ -55,8 +71,8 @@ int MsgDeliverEvent(rcvid_t rcvid, const struct sigevent *event) {
     switch (SIGEV_GET_TYPE(event)) {
     case SIGEV_PULSE: return send_event_pulse(event);
     case SIGEV_SIGNAL: return kill(program, event->sigev_signo);
-    case SIGEV_SIGNAL_CODE: return sigqueue(program, event->sigev_signo, event->sigev_value);
-    case SIGEV_SIGNAL_THREAD: return signal_sender(rcvid, event->sigev_signo);
+    case SIGEV_SIGNAL_CODE: return queue_signal(program, 0, event);
+    case SIGEV_SIGNAL_THREAD: return signal_sender(rcvid, event);
     case SIGEV_UNBLOCK: tid = sender_of(rcvid); return tid == -1 ? -1 : neutrino_unblock(tid);
     default: return 0;
     }

@@ -14,7 +14,8 @@ struct seat {
     enum use use;
     unsigned ticket; /* of the reservation */
     pthread_t thread;
-    int priority; /* with which it joins */
+    pid_t host;   /* the host's number of the thread */
+    int priority; /* that was set */
     int policy;
     char *parts[2]; /* where parts are gathered: what it sends, and room for what it gets */
     size_t longest[2];
@@ -44,26 +45,39 @@ static void prepare(void) {
     if (!refused) refused = pthread_atfork(hold, release, forget_all);
 }
 
+/* How a thread is scheduled if nobody says more. */
+static const struct seat usual = {.priority = USUAL, .policy = SCHED_RR};
+
 /* Reserves the first free seat for a thread that the caller creates, or for itself, under the lock. */
-static int reserve(int priority) {
+static int reserve(const struct seat *as) {
     for (int tid = 1; tid <= SEATS; tid++) {
         if (seats[tid].use != FREE) continue;
-        seats[tid] = (struct seat){.use = RESERVED, .ticket = ++tickets, .priority = priority, .policy = SCHED_RR};
+        seats[tid] = *as;
+        seats[tid].use = RESERVED;
+        seats[tid].ticket = ++tickets;
         return tid;
     }
     return 0;
 }
 
+/* Whether the seat that was reserved for the calling thread is so still, under the lock. */
+static bool has_reserved(void) {
+    return reserved && seats[reserved].use == RESERVED && seats[reserved].ticket == ticket;
+}
+
 /* Takes the seat that is reserved for the calling thread, or a free one, or one that is reserved for another thread,
  * under the lock. Returns 0 if all are taken. */
 static int take(void) {
-    bool is_mine = reserved && seats[reserved].use == RESERVED && seats[reserved].ticket == ticket;
-    int priority = is_mine ? seats[reserved].priority : USUAL;
-    int tid = is_mine ? reserved : reserve(USUAL);
+    int tid = has_reserved() ? reserved : reserve(&usual);
     for (int at = SEATS; !tid && at > 0; at--) {
-        if (seats[at].use == RESERVED) tid = at;
+        if (seats[at].use == RESERVED) seats[tid = at] = usual;
     }
-    if (tid) seats[tid] = (struct seat){TAKEN, ++tickets, pthread_self(), priority, SCHED_RR, {NULL, NULL}, {0, 0}};
+    if (tid) {
+        seats[tid].use = TAKEN;
+        seats[tid].ticket = ++tickets;
+        seats[tid].thread = pthread_self();
+        seats[tid].host = gettid();
+    }
     reserved = 0;
     return tid;
 }
