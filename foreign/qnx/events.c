@@ -50,39 +50,25 @@ static int send_event_pulse(const struct sigevent *event) {
     return send_pulse(event->sigev_coid, event->sigev_priority, event->sigev_code, event->sigev_value);
 }
 
-/* To the program that an rcvid is from, whichever that is. */
-static int deliver_remote(rcvid_t rcvid, const struct sigevent *event) {
-    int type = SIGEV_GET_TYPE(event), signo = event->sigev_signo;
-    if (type == SIGEV_NONE) return 0;
-    if (type == SIGEV_UNBLOCK) return neutrino_remote_unblock(rcvid);
-    if (type == SIGEV_PULSE) return neutrino_remote_deliver(rcvid, event, true);
-    pid_t pid = neutrino_remote_sender(rcvid);
-    if (pid == -1) return -1;
-    if (type == SIGEV_SIGNAL) return kill(pid, signo);
-    if (type == SIGEV_SIGNAL_CODE) return queue_signal(pid, 0, event);
-    return pid == program ? signal_sender(rcvid, event) : fail(ENOTSUP);
-}
-
 int MsgDeliverEvent(rcvid_t rcvid, const struct sigevent *event) {
-    int error = wrong_event(event), tid;
+    int error = wrong_event(event);
     if (enter()) return -1;
     if (error || rcvid < 0) return fail(error ? error : ESRCH);
-    if (neutrino_remote()) return deliver_remote(rcvid, event);
-    switch (SIGEV_GET_TYPE(event)) {
-    case SIGEV_PULSE: return send_event_pulse(event);
-    case SIGEV_SIGNAL: return kill(program, event->sigev_signo);
-    case SIGEV_SIGNAL_CODE: return queue_signal(program, 0, event);
-    case SIGEV_SIGNAL_THREAD: return signal_sender(rcvid, event);
-    case SIGEV_UNBLOCK: tid = sender_of(rcvid); return tid == -1 ? -1 : neutrino_unblock(tid);
-    default: return 0;
+    bool is_remote = neutrino_remote();
+    int type = SIGEV_GET_TYPE(event), tid;
+    switch (type) {
+    case SIGEV_NONE: return 0;
+    case SIGEV_PULSE: return is_remote ? neutrino_remote_deliver(rcvid, event, true) : send_event_pulse(event);
+    case SIGEV_UNBLOCK:
+        if (is_remote) return neutrino_remote_unblock(rcvid);
+        tid = sender_of(rcvid);
+        return tid == -1 ? -1 : neutrino_unblock(tid);
     }
-}
-
-static bool is_connection(int coid) {
-    hold();
-    bool known = connection_of(coid);
-    release();
-    return known;
+    pid_t pid = is_remote ? neutrino_remote_sender(rcvid) : program;
+    if (pid == -1) return -1;
+    if (type == SIGEV_SIGNAL) return kill(pid, event->sigev_signo);
+    if (type == SIGEV_SIGNAL_CODE) return queue_signal(pid, 0, event);
+    return pid == program ? signal_sender(rcvid, event) : fail(ENOTSUP);
 }
 
 int MsgVerifyEvent(rcvid_t rcvid, const struct sigevent *event) {
@@ -91,13 +77,13 @@ int MsgVerifyEvent(rcvid_t rcvid, const struct sigevent *event) {
     if (!error && rcvid < 0) error = ESRCH;
     bool is_pulse = !error && SIGEV_GET_TYPE(event) == SIGEV_PULSE;
     if (is_pulse && rcvid && neutrino_remote()) return neutrino_remote_deliver(rcvid, event, false);
-    if (is_pulse && !is_connection(event->sigev_coid)) error = EBADF;
+    if (is_pulse && !connection_as_is(event->sigev_coid).coid) error = EBADF;
     return error ? fail(error) : 0;
 }
 
 int MsgRegisterEvent(struct sigevent *event, int coid) {
     if (MsgVerifyEvent(0, event)) return -1;
-    return coid == -1 || is_connection(coid) ? 0 : fail(EBADF);
+    return coid == -1 || connection_as_is(coid).coid ? 0 : fail(EBADF);
 }
 
 int MsgUnregisterEvent(const struct sigevent *event) { return MsgVerifyEvent(0, event); }

@@ -107,10 +107,10 @@ static neutrino *open_program(void) {
     if (is_first && kernel) {
         program = getpid();
         neutrino_set_hooks(kernel, hooks_of_run());
+        start_service();
     }
     neutrino *opened = kernel;
     release();
-    if (is_first && opened) start_service();
     return opened;
 }
 
@@ -193,15 +193,19 @@ static void as_system(void (*work)(void *argument), void *argument) {
     end_quiet(&quiet);
 }
 
-/* Returns the tid of a thread that has a seat, or 0. */
-static int tid_of(pthread_t thread) {
-    int found = 0;
-    hold();
+/* Returns the tid of a thread that has a seat, or 0, under the lock. */
+static int tid_under_lock(pthread_t thread) {
     for (int tid = 1; tid <= SEATS; tid++) {
-        if (seats[tid].use != FREE && seats[tid].thread && pthread_equal(seats[tid].thread, thread)) found = tid;
+        if (seats[tid].use != FREE && seats[tid].thread && pthread_equal(seats[tid].thread, thread)) return tid;
     }
+    return 0;
+}
+
+static int tid_of(pthread_t thread) {
+    hold();
+    int tid = tid_under_lock(thread);
     release();
-    return found;
+    return tid;
 }
 
 /* A seat as it stands, which is free if there is no such. */

@@ -218,9 +218,8 @@ int neutrino_pthread_getschedparam(pthread_t thread, int *policy, struct sched_p
 int neutrino_pthread_cancel(pthread_t thread) {
     int before = errno, error = pthread_cancel(thread);
     hold(); /* so that no seat gets another thread; one that takes its seat later finds the cancellation first */
-    for (int tid = 1; !error && tid <= SEATS; tid++) {
-        if (seats[tid].use == TAKEN && pthread_equal(seats[tid].thread, thread)) neutrino_cancel(kernel, tid);
-    }
+    int tid = error ? 0 : tid_under_lock(thread);
+    if (tid && seats[tid].use == TAKEN) neutrino_cancel(kernel, tid);
     release();
     errno = before;
     return error;

@@ -221,6 +221,35 @@ static void in_the_child(int chid, int coid) {
     _exit(0);
 }
 
+static pthread_barrier_t together;
+
+static void *make_timer(void *argument) {
+    struct sigevent event;
+    timer_t id;
+    SIGEV_PULSE_INIT(&event, 1, 10, 1, 1);
+    pthread_barrier_wait(&together);
+    check(timer_create(CLOCK_MONOTONIC, &event, &id) == 0);
+    return argument;
+}
+
+/* The first calls of a program, by several threads at once. */
+void first_calls(void) {
+    enum { MANY = 6 };
+    for (int turn = 0; turn < 200; turn++) {
+        pthread_t threads[MANY];
+        int status;
+        pid_t child = fork();
+        if (child == 0) {
+            alarm(20);
+            check(pthread_barrier_init(&together, NULL, MANY) == 0);
+            for (int at = 0; at < MANY; at++) threads[at] = start(make_timer, NULL);
+            for (int at = 0; at < MANY; at++) result_of(threads[at]);
+            _exit(0);
+        }
+        check(waitpid(child, &status, 0) == child && WIFEXITED(status) && WEXITSTATUS(status) == 0);
+    }
+}
+
 /* A child has a kernel of its own, with nothing of its parent's. */
 void forks(void) {
     int chid = ChannelCreate(0), coid = attach(chid);
