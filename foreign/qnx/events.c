@@ -71,19 +71,24 @@ int MsgDeliverEvent(rcvid_t rcvid, const struct sigevent *event) {
     return pid == program ? signal_sender(rcvid, event) : fail(ENOTSUP);
 }
 
+static bool is_connection(int coid) {
+    struct connection c = connection_as_is(coid);
+    return c.coid;
+}
+
 int MsgVerifyEvent(rcvid_t rcvid, const struct sigevent *event) {
     int error = wrong_event(event);
     if (enter()) return -1;
     if (!error && rcvid < 0) error = ESRCH;
     bool is_pulse = !error && SIGEV_GET_TYPE(event) == SIGEV_PULSE;
     if (is_pulse && rcvid && neutrino_remote()) return neutrino_remote_deliver(rcvid, event, false);
-    if (is_pulse && !connection_as_is(event->sigev_coid).coid) error = EBADF;
+    if (is_pulse && !is_connection(event->sigev_coid)) error = EBADF;
     return error ? fail(error) : 0;
 }
 
 int MsgRegisterEvent(struct sigevent *event, int coid) {
     if (MsgVerifyEvent(0, event)) return -1;
-    return coid == -1 || connection_as_is(coid).coid ? 0 : fail(EBADF);
+    return coid == -1 || is_connection(coid) ? 0 : fail(EBADF);
 }
 
 int MsgUnregisterEvent(const struct sigevent *event) { return MsgVerifyEvent(0, event); }

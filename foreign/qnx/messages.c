@@ -45,7 +45,10 @@ static void complete_info(struct _msg_info *info) {
     if (neutrino_remote()) return; /* the daemon has done so */
     int known = atomic_load(&connections[(unsigned)info->coid % CONNECTIONS].coid);
     info->pid = program;
-    if (plain(known) != info->coid) known = connection_as_is(info->coid).coid;
+    if (plain(known) != info->coid) {
+        struct connection c = connection_as_is(info->coid);
+        known = c.coid;
+    }
     if (known) info->coid = known;
 }
 
