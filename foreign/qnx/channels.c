@@ -117,14 +117,23 @@ static struct connection *connection_of(int coid) {
     return NULL;
 }
 
+/* A connection as it stands; its coid is 0 if there is no such. */
+static struct connection connection_as_is(int coid) {
+    hold();
+    const struct connection *c = connection_of(coid);
+    struct connection found = c ? *c : (struct connection){0};
+    release();
+    return found;
+}
+
 /* Enters a connection, under the lock. There is a place, as each is left before its connection is detached. */
-static void add_connection(int coid, int chid, unsigned flags, pid_t pid) {
-    unsigned at = (unsigned)plain(coid) % CONNECTIONS;
+static void add_connection(const struct connection *new) {
+    unsigned at = (unsigned)plain(new->coid) % CONNECTIONS;
     while (connections[at].coid) at = (at + 1) % CONNECTIONS;
-    connections[at].chid = chid;
-    connections[at].flags = flags;
-    connections[at].pid = pid;
-    atomic_store(&connections[at].coid, coid);
+    connections[at].chid = new->chid;
+    connections[at].flags = new->flags;
+    connections[at].pid = new->pid;
+    atomic_store(&connections[at].coid, new->coid);
 }
 
 int ConnectAttach(uint32_t nd, pid_t pid, int chid, unsigned index, int flags) {
@@ -137,7 +146,7 @@ int ConnectAttach(uint32_t nd, pid_t pid, int chid, unsigned index, int flags) {
     if (coid == -1) return -1;
     coid |= (int)index & SIDE;
     hold();
-    add_connection(coid, chid, (unsigned)flags, pid);
+    add_connection(&(struct connection){coid, chid, (unsigned)flags, pid});
     release();
     return coid;
 }
@@ -146,16 +155,13 @@ int ConnectDetach(int coid) {
     if (enter()) return -1;
     if (is_scoid(coid)) return 0; /* it goes when the client's is detached */
     hold();
-    struct connection *c = connection_of(coid);
-    int kept = c ? c->coid : 0, chid = c ? c->chid : 0;
-    unsigned flags = c ? c->flags : 0;
-    pid_t pid = c ? c->pid : 0;
+    struct connection *c = connection_of(coid), kept = c ? *c : (struct connection){0};
     if (c) c->coid = 0;
     release();
     if (!layer_ConnectDetach(plain(coid))) return 0;
     int error = errno;
     hold();
-    if (kept) add_connection(kept, chid, flags, pid); /* the kernel refused the disconnect pulse */
+    if (kept.coid) add_connection(&kept); /* the kernel refused the disconnect pulse */
     release();
     return fail(error);
 }

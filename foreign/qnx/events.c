@@ -1,4 +1,5 @@
 /* Events. Tested, not proved. */
+#include <sys/syscall.h>
 
 /* Returns an errno for an event that can't be delivered, or 0. */
 static int wrong_event(const struct sigevent *event) {
@@ -21,52 +22,58 @@ static int sender_of(rcvid_t rcvid) {
     return layer_MsgInfo(rcvid, &info) ? -1 : info.tid;
 }
 
-static int signal_sender(rcvid_t rcvid, int signo) {
+/* Signals a process of the host, or a thread of this one, with the event's value and code. */
+static int queue_signal(pid_t pid, pid_t thread, const struct sigevent *event) {
+    siginfo_t info;
+    int code = event->sigev_code;
+    memset(&info, 0, sizeof info);
+    info.si_signo = event->sigev_signo;
+    info.si_code = code < 0 || (code && pid == program) ? code : SI_QUEUE; /* the host refuses others */
+    info.si_pid = program;
+    info.si_uid = getuid();
+    info.si_value = event->sigev_value;
+    long result = thread ? syscall(SYS_rt_tgsigqueueinfo, pid, thread, info.si_signo, &info)
+                         : syscall(SYS_rt_sigqueueinfo, pid, info.si_signo, &info);
+    return (int)result;
+}
+
+static int signal_sender(rcvid_t rcvid, const struct sigevent *event) {
     int tid = sender_of(rcvid);
     if (tid == -1) return -1;
     hold();
-    int error = seats[tid].use == TAKEN ? pthread_kill(seats[tid].thread, signo) : ESRCH;
+    int result = seats[tid].use == TAKEN ? queue_signal(program, seats[tid].host, event) : fail(ESRCH);
     release();
-    return error ? fail(error) : 0;
+    return result;
 }
 
 static int send_event_pulse(const struct sigevent *event) {
     return send_pulse(event->sigev_coid, event->sigev_priority, event->sigev_code, event->sigev_value);
 }
 
-/* To the program that an rcvid is from, whichever that is. */
-static int deliver_remote(rcvid_t rcvid, const struct sigevent *event) {
-    int type = SIGEV_GET_TYPE(event), signo = event->sigev_signo;
-    if (type == SIGEV_NONE) return 0;
-    if (type == SIGEV_UNBLOCK) return neutrino_remote_unblock(rcvid);
-    if (type == SIGEV_PULSE) return neutrino_remote_deliver(rcvid, event, true);
-    pid_t pid = neutrino_remote_sender(rcvid);
-    if (pid == -1) return -1;
-    if (type == SIGEV_SIGNAL) return kill(pid, signo);
-    if (type == SIGEV_SIGNAL_CODE) return sigqueue(pid, signo, event->sigev_value);
-    return pid == program ? signal_sender(rcvid, signo) : fail(ENOTSUP);
-}
-
 int MsgDeliverEvent(rcvid_t rcvid, const struct sigevent *event) {
-    int error = wrong_event(event), tid;
+    int error = wrong_event(event);
     if (enter()) return -1;
     if (error || rcvid < 0) return fail(error ? error : ESRCH);
-    if (neutrino_remote()) return deliver_remote(rcvid, event);
-    switch (SIGEV_GET_TYPE(event)) {
-    case SIGEV_PULSE: return send_event_pulse(event);
-    case SIGEV_SIGNAL: return kill(program, event->sigev_signo);
-    case SIGEV_SIGNAL_CODE: return sigqueue(program, event->sigev_signo, event->sigev_value);
-    case SIGEV_SIGNAL_THREAD: return signal_sender(rcvid, event->sigev_signo);
-    case SIGEV_UNBLOCK: tid = sender_of(rcvid); return tid == -1 ? -1 : neutrino_unblock(tid);
-    default: return 0;
+    bool is_remote = neutrino_remote();
+    int type = SIGEV_GET_TYPE(event), tid;
+    switch (type) {
+    case SIGEV_NONE: return 0;
+    case SIGEV_PULSE: return is_remote ? neutrino_remote_deliver(rcvid, event, true) : send_event_pulse(event);
+    case SIGEV_UNBLOCK:
+        if (is_remote) return neutrino_remote_unblock(rcvid);
+        tid = sender_of(rcvid);
+        return tid == -1 ? -1 : neutrino_unblock(tid);
     }
+    pid_t pid = is_remote ? neutrino_remote_sender(rcvid) : program;
+    if (pid == -1) return -1;
+    if (type == SIGEV_SIGNAL) return kill(pid, event->sigev_signo);
+    if (type == SIGEV_SIGNAL_CODE) return queue_signal(pid, 0, event);
+    return pid == program ? signal_sender(rcvid, event) : fail(ENOTSUP);
 }
 
 static bool is_connection(int coid) {
-    hold();
-    bool known = connection_of(coid);
-    release();
-    return known;
+    struct connection c = connection_as_is(coid);
+    return c.coid;
 }
 
 int MsgVerifyEvent(rcvid_t rcvid, const struct sigevent *event) {

@@ -22,14 +22,6 @@
 #include <sys/neutrino.h>
 #include <unistd.h>
 
-#ifdef __SANITIZE_ADDRESS__
-#define SANITIZES_ADDRESSES
-#elif defined __has_feature
-#if __has_feature(address_sanitizer)
-#define SANITIZES_ADDRESSES
-#endif
-#endif
-
 /* The threads of the kernel: the program's, and two of the front, one of which is of a process of its own, so that its
  * connections are not the program's. With the layer's two clocks they are 64. */
 enum { SEATS = 60, TICKER, SYSTEM };

@@ -1,14 +1,11 @@
 /* Messages. Tested, not proved. */
 
-/* Ends the calling thread if it is cancelled. AddressSanitizer does not see by itself that its stack is left then. */
-#ifdef SANITIZES_ADDRESSES
-void __asan_handle_no_return(void);
-#else
-static void __asan_handle_no_return(void) {}
-#endif
+/* AddressSanitizer, if the program has it, does not see by itself that a cancelled thread's stack is left. */
+__attribute__((weak)) void __asan_handle_no_return(void);
 
+/* Ends the calling thread if it is cancelled. */
 static void test_cancel(void) {
-    __asan_handle_no_return();
+    if (__asan_handle_no_return) __asan_handle_no_return();
     pthread_testcancel();
 }
 
@@ -49,12 +46,10 @@ static void complete_info(struct _msg_info *info) {
     int known = atomic_load(&connections[(unsigned)info->coid % CONNECTIONS].coid);
     info->pid = program;
     if (plain(known) != info->coid) {
-        hold();
-        const struct connection *c = connection_of(info->coid);
-        known = c ? c->coid : info->coid;
-        release();
+        struct connection c = connection_as_is(info->coid);
+        known = c.coid;
     }
-    info->coid = known;
+    if (known) info->coid = known;
 }
 
 rcvid_t MsgReceive(int chid, void *msg, size_t bytes, struct _msg_info *info) {

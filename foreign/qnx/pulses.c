@@ -78,10 +78,7 @@ static int send_pulse(int coid, int priority, int code, union sigval value) {
     if (neutrino_remote()) return neutrino_remote_pulse(plain(coid), priority, code, value);
     bool fits = code >= 0 && code != NOTED && (intptr_t)value.sival_ptr == value.sival_int;
     if (fits) return layer_MsgSendPulse(plain(coid), priority, code, value.sival_int);
-    hold();
-    const struct connection *c = connection_of(coid);
-    int chid = c ? c->chid : 0;
-    release();
+    int chid = connection_as_is(coid).chid;
     return chid ? send_noted(plain(coid), chid, priority, code, value) : fail(EBADF);
 }
 

@@ -14,7 +14,8 @@ struct seat {
     enum use use;
     unsigned ticket; /* of the reservation */
     pthread_t thread;
-    int priority; /* with which it joins */
+    pid_t host;   /* the host's number of the thread */
+    int priority; /* that was set */
     int policy;
     char *parts[2]; /* where parts are gathered: what it sends, and room for what it gets */
     size_t longest[2];
@@ -44,26 +45,39 @@ static void prepare(void) {
     if (!refused) refused = pthread_atfork(hold, release, forget_all);
 }
 
+/* How a thread is scheduled if nobody says more. */
+static const struct seat usual = {.priority = USUAL, .policy = SCHED_RR};
+
 /* Reserves the first free seat for a thread that the caller creates, or for itself, under the lock. */
-static int reserve(int priority) {
+static int reserve(const struct seat *as) {
     for (int tid = 1; tid <= SEATS; tid++) {
         if (seats[tid].use != FREE) continue;
-        seats[tid] = (struct seat){.use = RESERVED, .ticket = ++tickets, .priority = priority, .policy = SCHED_RR};
+        seats[tid] = *as;
+        seats[tid].use = RESERVED;
+        seats[tid].ticket = ++tickets;
         return tid;
     }
     return 0;
 }
 
+/* Whether the seat that was reserved for the calling thread is so still, under the lock. */
+static bool has_reserved(void) {
+    return reserved && seats[reserved].use == RESERVED && seats[reserved].ticket == ticket;
+}
+
 /* Takes the seat that is reserved for the calling thread, or a free one, or one that is reserved for another thread,
  * under the lock. Returns 0 if all are taken. */
 static int take(void) {
-    bool is_mine = reserved && seats[reserved].use == RESERVED && seats[reserved].ticket == ticket;
-    int priority = is_mine ? seats[reserved].priority : USUAL;
-    int tid = is_mine ? reserved : reserve(USUAL);
+    int tid = has_reserved() ? reserved : reserve(&usual);
     for (int at = SEATS; !tid && at > 0; at--) {
-        if (seats[at].use == RESERVED) tid = at;
+        if (seats[at].use == RESERVED) seats[tid = at] = usual;
     }
-    if (tid) seats[tid] = (struct seat){TAKEN, ++tickets, pthread_self(), priority, SCHED_RR, {NULL, NULL}, {0, 0}};
+    if (tid) {
+        seats[tid].use = TAKEN;
+        seats[tid].ticket = ++tickets;
+        seats[tid].thread = pthread_self();
+        seats[tid].host = gettid();
+    }
     reserved = 0;
     return tid;
 }
@@ -93,10 +107,10 @@ static neutrino *open_program(void) {
     if (is_first && kernel) {
         program = getpid();
         neutrino_set_hooks(kernel, hooks_of_run());
+        start_service();
     }
     neutrino *opened = kernel;
     release();
-    if (is_first && opened) start_service();
     return opened;
 }
 
@@ -179,15 +193,19 @@ static void as_system(void (*work)(void *argument), void *argument) {
     end_quiet(&quiet);
 }
 
-/* Returns the tid of a thread that has a seat, or 0. */
-static int tid_of(pthread_t thread) {
-    int found = 0;
-    hold();
+/* Returns the tid of a thread that has a seat, or 0, under the lock. */
+static int tid_under_lock(pthread_t thread) {
     for (int tid = 1; tid <= SEATS; tid++) {
-        if (seats[tid].use != FREE && seats[tid].thread && pthread_equal(seats[tid].thread, thread)) found = tid;
+        if (seats[tid].use != FREE && seats[tid].thread && pthread_equal(seats[tid].thread, thread)) return tid;
     }
+    return 0;
+}
+
+static int tid_of(pthread_t thread) {
+    hold();
+    int tid = tid_under_lock(thread);
     release();
-    return found;
+    return tid;
 }
 
 /* A seat as it stands, which is free if there is no such. */

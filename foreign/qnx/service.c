@@ -56,13 +56,12 @@ static bool open_service(void) {
         close(epoll);
         return false;
     }
-    hold();
     watched = epoll;
-    release();
     return true;
 }
 
-/* Starts the thread, for a caller whose signals are blocked. Without it there are no timers, and SIGQUIT is as ever. */
+/* Starts the thread, for a caller whose signals are blocked, under the lock. Without it there are no timers, and
+ * SIGQUIT is as ever. */
 static void start_service(void) {
     pthread_t thread;
     struct sigaction quit;

@@ -13,7 +13,7 @@ static void end_thread(void *argument) {
     (void)argument;
     int tid = seat;
     hold();
-    if (!tid && reserved && seats[reserved].use == RESERVED && seats[reserved].ticket == ticket) tid = reserved;
+    if (!tid && has_reserved()) tid = reserved;
     release();
     if (seat) neutrino_leave();
     seat = reserved = 0;
@@ -28,40 +28,40 @@ static void *run_thread(void *argument) {
     hold();
     reserved = start.reserved;
     ticket = start.ticket;
-    if (reserved && seats[reserved].use == RESERVED && seats[reserved].ticket == ticket)
-        seats[reserved].thread = pthread_self();
+    if (has_reserved()) seats[reserved].thread = pthread_self();
     release();
     pthread_setspecific(ending, seats);
     return start.function(start.argument);
 }
 
-static int own_priority(void) {
-    int priority = seat ? neutrino_priority(0) : reserved ? seat_of(reserved).priority : USUAL;
-    return is_priority(priority) ? priority : USUAL;
-}
-
-/* The priority that a new thread has. */
-static int priority_of_attributes(const pthread_attr_t *attributes) {
+/* How a new thread is scheduled: as its attributes say, or as its creator is. Under the lock. */
+static struct seat scheduling(const pthread_attr_t *attributes) {
+    int own = seat ? seat : has_reserved() ? reserved : 0, inherits = PTHREAD_INHERIT_SCHED;
     struct sched_param param = {.sched_priority = 0};
-    int inherits = PTHREAD_INHERIT_SCHED;
+    struct seat new = usual;
+    if (own) new = (struct seat){.priority = seats[own].priority, .policy = seats[own].policy};
     if (attributes) {
         pthread_attr_getinheritsched(attributes, &inherits);
         pthread_attr_getschedparam(attributes, &param);
     }
-    bool is_explicit = inherits == PTHREAD_EXPLICIT_SCHED && is_priority(param.sched_priority);
-    return is_explicit ? param.sched_priority : own_priority();
+    if (inherits == PTHREAD_EXPLICIT_SCHED && is_priority(param.sched_priority)) {
+        new.priority = param.sched_priority;
+        pthread_attr_getschedpolicy(attributes, &new.policy);
+    }
+    return new;
 }
 
 /* Reserves seats for a new thread and, if it has none, for its creator, which comes first. */
-static void reserve_both(struct start *start, int priority) {
+static void reserve_both(struct start *start, const pthread_attr_t *attributes) {
     hold();
+    struct seat new = scheduling(attributes);
     if (!seat && !reserved) {
-        reserved = reserve(USUAL);
+        reserved = reserve(&usual);
         ticket = seats[reserved].ticket;
         seats[reserved].thread = pthread_self();
         pthread_setspecific(ending, seats);
     }
-    start->reserved = reserve(priority);
+    start->reserved = reserve(&new);
     start->ticket = seats[start->reserved].ticket;
     release();
 }
@@ -88,7 +88,7 @@ int neutrino_pthread_create(pthread_t *thread, const pthread_attr_t *attributes,
         return EAGAIN;
     }
     *start = (struct start){.function = function, .argument = argument};
-    reserve_both(start, priority_of_attributes(attributes));
+    reserve_both(start, attributes);
     copy = *start;
     if (attributes) {
         hosts = *attributes; /* for this call alone */
@@ -153,7 +153,7 @@ int SchedGet(pid_t pid, int tid, struct sched_param *param) {
     if (s.use == FREE) return fail(ESRCH);
     int priority = s.use == TAKEN ? neutrino_priority(tid) : s.priority;
     if (priority == -1) return -1;
-    if (param) param->sched_priority = priority;
+    if (param) *param = (struct sched_param){s.priority, priority};
     return s.policy;
 }
 
@@ -161,13 +161,32 @@ int SchedYield(void) { return sched_yield(); }
 
 int getprio(pid_t pid) {
     struct sched_param param;
-    return SchedGet(pid, 0, &param) == -1 ? -1 : param.sched_priority;
+    return SchedGet(pid, 0, &param) == -1 ? -1 : param.sched_curpriority;
 }
 
 int setprio(pid_t pid, int priority) {
     int old = getprio(pid);
     return old == -1 || set_priority(seat, SCHED_NOCHANGE, priority) ? -1 : old;
 }
+
+int neutrino_sched_setparam(pid_t pid, const struct sched_param *param) {
+    return SchedSet(pid, 0, SCHED_NOCHANGE, param);
+}
+
+int neutrino_sched_getparam(pid_t pid, struct sched_param *param) { return SchedGet(pid, 0, param) == -1 ? -1 : 0; }
+
+int neutrino_sched_setscheduler(pid_t pid, int policy, const struct sched_param *param) {
+    int old = SchedGet(pid, 0, NULL);
+    return old == -1 || SchedSet(pid, 0, policy, param) ? -1 : old;
+}
+
+int neutrino_sched_getscheduler(pid_t pid) { return SchedGet(pid, 0, NULL); }
+
+int neutrino_sched_get_priority_min(int policy) { return sched_get_priority_min(policy) == -1 ? -1 : LOWEST; }
+
+int neutrino_sched_get_priority_max(int policy) { return sched_get_priority_max(policy) == -1 ? -1 : HIGHEST; }
+
+int neutrino_gettid(void) { return seat || !enter() ? seat : -1; }
 
 /* The tid of a thread of the program; the calling one, which 0 is, too, takes a seat if it has none. */
 static int tid_of_thread(pthread_t thread) {
@@ -199,9 +218,8 @@ int neutrino_pthread_getschedparam(pthread_t thread, int *policy, struct sched_p
 int neutrino_pthread_cancel(pthread_t thread) {
     int before = errno, error = pthread_cancel(thread);
     hold(); /* so that no seat gets another thread; one that takes its seat later finds the cancellation first */
-    for (int tid = 1; !error && tid <= SEATS; tid++) {
-        if (seats[tid].use == TAKEN && pthread_equal(seats[tid].thread, thread)) neutrino_cancel(kernel, tid);
-    }
+    int tid = error ? 0 : tid_under_lock(thread);
+    if (tid && seats[tid].use == TAKEN) neutrino_cancel(kernel, tid);
     release();
     errno = before;
     return error;

@@ -2,7 +2,6 @@
  *
  * Such a timer is the host's timerfd, for which the front's own thread waits. */
 #include <sys/epoll.h>
-#include <sys/syscall.h>
 #include <sys/timerfd.h>
 
 struct timer {
@@ -44,7 +43,7 @@ static struct sigevent hosts_event(const struct sigevent *event) {
     if (hosts.sigev_notify == SIGEV_SIGNAL_CODE) hosts.sigev_notify = SIGEV_SIGNAL;
     if (hosts.sigev_notify == SIGEV_SIGNAL_THREAD) {
         hosts.sigev_notify = SIGEV_THREAD_ID;
-        hosts._sigev_un._tid = (pid_t)syscall(SYS_gettid);
+        hosts._sigev_un._tid = gettid();
     }
     return hosts;
 }

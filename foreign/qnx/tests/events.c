@@ -1,12 +1,14 @@
 /* Events that are delivered, with each of their errors. */
 #include "tests.h"
 
-static _Atomic int caught, caught_value, caught_thread;
+static _Atomic int caught, caught_value, caught_code;
+static _Atomic pthread_t caught_by;
 
 static void catch(int signo, siginfo_t *info, void *context) {
     (void)context;
     atomic_store(&caught_value, info->si_value.sival_int);
-    atomic_store(&caught_thread, SchedGet(0, 0, NULL) >= 0); /* a handler may ask, unless it interrupted a call */
+    atomic_store(&caught_code, info->si_code);
+    atomic_store(&caught_by, pthread_self());
     atomic_store(&caught, signo);
 }
 
@@ -25,6 +27,7 @@ static void until_caught(int signo) {
 }
 
 void events(void) {
+    static const int codes[] = {SI_MINAVAIL, SI_MAXAVAIL, 0, 3};
     struct sigevent event;
     struct _pulse pulse;
     struct client client;
@@ -42,11 +45,14 @@ void events(void) {
     SIGEV_SIGNAL_INIT(&event, SIGUSR2);
     check(MsgDeliverEvent(0, &event) == 0);
     until_caught(SIGUSR2);
-    catches(SIGUSR2);
-    SIGEV_SIGNAL_CODE_INIT(&event, SIGUSR2, 55, 1);
-    check(MsgDeliverEvent(0, &event) == 0);
-    until_caught(SIGUSR2);
-    check(atomic_load(&caught_value) == 55);
+    for (int at = 0; at < 4; at++) {
+        int code = codes[at];
+        catches(SIGUSR2);
+        SIGEV_SIGNAL_CODE_INIT(&event, SIGUSR2, 55 + code, code);
+        check(MsgDeliverEvent(0, &event) == 0);
+        until_caught(SIGUSR2);
+        check(atomic_load(&caught_value) == 55 + code && atomic_load(&caught_code) == (code ? code : SI_QUEUE));
+    }
     begin_send(&client, coid);
     int rcvid = receive(chid);
     SIGEV_UNBLOCK_INIT(&event);
@@ -56,11 +62,12 @@ void events(void) {
     begin_send(&client, coid);
     rcvid = receive(chid);
     catches(SIGUSR2);
-    SIGEV_SIGNAL_THREAD_INIT(&event, SIGUSR2, 5, 1);
+    SIGEV_SIGNAL_THREAD_PTR_INIT(&event, SIGUSR2, 5, SI_MAXAVAIL);
     check(MsgDeliverEvent(rcvid, &event) == 0);
     end_send(&client);
-    check(client.error == EINTR);
+    check(client.error == EINTR && pthread_equal(atomic_load(&caught_by), client.thread));
     until_caught(SIGUSR2);
+    check(atomic_load(&caught_value) == 5 && atomic_load(&caught_code) == SI_MAXAVAIL);
     check(ConnectDetach(coid) == 0 && ChannelDestroy(chid) == 0 && setprio(0, 10) > 0);
 }
 

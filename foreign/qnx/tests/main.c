@@ -9,10 +9,11 @@ static const struct { const char *name; void (*run)(void); } tests[] = {
     TEST(receives), TEST(replies), TEST(reads), TEST(infos), TEST(restarts), TEST(keys), TEST(vectors),
     TEST(wrong_parts), TEST(not_cancelled), TEST(codes), TEST(values), TEST(notes), TEST(pulse_errors),
     TEST(pulses_received), TEST(events), TEST(event_errors), TEST(verified), TEST(pulse_timers), TEST(host_timers),
-    TEST(timer_errors), TEST(timeouts), TEST(join_timeouts), TEST(timeout_errors), TEST(priorities), TEST(attributes),
-    TEST(seats), TEST(reserved), TEST(deaths), TEST(forks), TEST(delays), TEST(interrupted), TEST(handlers),
-    TEST(in_handlers), TEST(many_signals), TEST(cancelled), TEST(many_cancelled), TEST(lives), TEST(crowds),
-    TEST(echo_1_1), TEST(echo_40_8), TEST(names), TEST(shown), TEST(circles), TEST(quits),
+    TEST(timer_errors), TEST(timeouts), TEST(join_timeouts), TEST(timeout_errors), TEST(priorities), TEST(inherited),
+    TEST(policies), TEST(attributes), TEST(seats), TEST(reserved), TEST(deaths), TEST(first_calls), TEST(forks),
+    TEST(delays), TEST(interrupted), TEST(handlers), TEST(in_handlers), TEST(many_signals), TEST(cancelled),
+    TEST(many_cancelled), TEST(lives), TEST(crowds), TEST(echo_1_1), TEST(echo_40_8), TEST(headers), TEST(names),
+    TEST(shown), TEST(circles), TEST(quits),
 };
 
 pthread_t start(void *(*work)(void *), void *argument) {

@@ -8,6 +8,11 @@ static void *answer_priority(void *argument) {
     return (void *)(intptr_t)getprio(0);
 }
 
+static void *answer_policy(void *argument) {
+    (void)argument;
+    return (void *)(intptr_t)SchedGet(0, 0, NULL);
+}
+
 static void *hold_still(void *argument) {
     while (atomic_load((_Atomic int *)argument) == 0) usleep(100);
     return (void *)(intptr_t)getprio(0);
@@ -53,6 +58,52 @@ void priorities(void) {
     check(pthread_setschedparam(thread, SCHED_RR, &param) == ESRCH);
 }
 
+static void *send_it(void *coid) { return (void *)MsgSend(*(int *)coid, NULL, 0, NULL, 0); }
+
+/* A receiver has its client's priority, beside its own. */
+void inherited(void) {
+    struct sched_param param;
+    struct _msg_info info;
+    int chid = ChannelCreate(0), coid = attach(chid), policy;
+    check(setprio(0, 20) == 10);
+    pthread_t client = start(send_it, &coid);
+    check(setprio(0, 9) == 20);
+    int rcvid = MsgReceive(chid, NULL, 0, &info);
+    check(rcvid > 0 && info.priority == 20 && info.tid == 2 && getprio(0) == 20);
+    check(SchedGet(0, 0, &param) != -1 && param.sched_priority == 9 && param.sched_curpriority == 20);
+    check(pthread_getschedparam(pthread_self(), &policy, &param) == 0 && param.sched_priority == 9);
+    check(MsgReply(rcvid, 5, NULL, 0) == 0 && result_of(client) == 5);
+    check(setprio(0, 10) == 20 && ConnectDetach(coid) == 0 && ChannelDestroy(chid) == 0);
+    check(SchedGet(0, 0, &param) != -1 && param.sched_priority == 10 && param.sched_curpriority == 10);
+}
+
+static void *answer_tid(void *argument) {
+    (void)argument;
+    return (void *)(intptr_t)gettid();
+}
+
+/* The host's functions on a pid, which work on the calling thread. */
+void policies(void) {
+    struct sched_param param = {.sched_priority = 200}, none = {.sched_priority = 0};
+    check(gettid() == 1 && result_of(start(answer_tid, NULL)) == 2);
+    for (int policy = SCHED_OTHER; policy <= SCHED_RR; policy++)
+        check(sched_get_priority_min(policy) == 1 && sched_get_priority_max(policy) == 255);
+    fails(sched_get_priority_min(-1), EINVAL);
+    fails(sched_get_priority_max(-1), EINVAL);
+    check(SchedSet(0, 0, SCHED_RR, &param) == 0 && sched_setscheduler(0, SCHED_FIFO, &param) == SCHED_RR);
+    check(sched_getscheduler(getpid()) == SCHED_FIFO);
+    param.sched_priority = 10;
+    check(sched_setparam(0, &param) == 0 && sched_getparam(0, &none) == 0 && none.sched_curpriority == 10);
+    check(sched_setscheduler(0, SCHED_RR, &param) == SCHED_FIFO && sched_getscheduler(0) == SCHED_RR);
+    none.sched_priority = 0;
+    fails(sched_setparam(0, &none), EINVAL);
+    fails(sched_setscheduler(0, SCHED_RR, &none), EINVAL);
+    fails(sched_setparam(getpid() + 1, &param), ESRCH);
+    fails(sched_getparam(getpid() + 1, &param), ESRCH);
+    fails(sched_setscheduler(getpid() + 1, SCHED_RR, &param), ESRCH);
+    fails(sched_getscheduler(getpid() + 1), ESRCH);
+}
+
 void attributes(void) {
     pthread_attr_t attributes;
     pthread_t thread;
@@ -67,6 +118,7 @@ void attributes(void) {
     check(pthread_attr_setinheritsched(&attributes, PTHREAD_EXPLICIT_SCHED) == 0);
     check(pthread_attr_setschedpolicy(&attributes, SCHED_FIFO) == 0);
     check(pthread_create(&thread, &attributes, answer_priority, NULL) == 0 && result_of(thread) == 27);
+    check(pthread_create(&thread, &attributes, answer_policy, NULL) == 0 && result_of(thread) == SCHED_FIFO);
     param.sched_priority = 200;
     check(pthread_attr_setschedparam(&attributes, &param) == 0);
     check(pthread_create(&thread, &attributes, answer_priority, NULL) == 0 && result_of(thread) == 99);
@@ -167,6 +219,35 @@ static void in_the_child(int chid, int coid) {
     name_attach_t *name = name_attach(NULL, "of the child", 0);
     check(name && name_detach(name, 0) == 0);
     _exit(0);
+}
+
+static pthread_barrier_t together;
+
+static void *make_timer(void *argument) {
+    struct sigevent event;
+    timer_t id;
+    SIGEV_PULSE_INIT(&event, 1, 10, 1, 1);
+    pthread_barrier_wait(&together);
+    check(timer_create(CLOCK_MONOTONIC, &event, &id) == 0);
+    return argument;
+}
+
+/* The first calls of a program, by several threads at once. */
+void first_calls(void) {
+    enum { MANY = 6 };
+    for (int turn = 0; turn < 200; turn++) {
+        pthread_t threads[MANY];
+        int status;
+        pid_t child = fork();
+        if (child == 0) {
+            alarm(20);
+            check(pthread_barrier_init(&together, NULL, MANY) == 0);
+            for (int at = 0; at < MANY; at++) threads[at] = start(make_timer, NULL);
+            for (int at = 0; at < MANY; at++) result_of(threads[at]);
+            _exit(0);
+        }
+        check(waitpid(child, &status, 0) == child && WIFEXITED(status) && WEXITSTATUS(status) == 0);
+    }
 }
 
 /* A child has a kernel of its own, with nothing of its parent's. */

@@ -16,13 +16,13 @@ void pulse_timers(void) {
     struct itimerspec time, left;
     struct timespec now;
     int chid = ChannelCreate(0), coid = attach(chid);
-    timer_t ticks = pulse_timer(coid, -9, 1000000, 1000000);
+    timer_t ticks = pulse_timer(coid, -9, 1000000, 10000000);
     for (int at = 0; at < 20; at++) {
         check(MsgReceivePulse(chid, &pulse, sizeof pulse, NULL) == 0 && pulse.code == -9);
         check(pulse.value.sival_int == 11 && timer_getoverrun(ticks) == 0);
     }
-    check(timer_gettime(ticks, &time) == 0 && time.it_interval.tv_nsec == 1000000 && timer_delete(ticks) == 0);
-    usleep(5000);
+    check(timer_gettime(ticks, &time) == 0 && time.it_interval.tv_nsec == 10000000 && timer_delete(ticks) == 0);
+    usleep(15000);
     set_timeout(_NTO_TIMEOUT_RECEIVE, 0);
     while (MsgReceivePulse(chid, &pulse, sizeof pulse, NULL) == 0) set_timeout(_NTO_TIMEOUT_RECEIVE, 0);
     timer_t once = pulse_timer(coid, 3, 999999999, 0);
@@ -30,7 +30,7 @@ void pulse_timers(void) {
     time = (struct itimerspec){{0, 0}, now};
     check(timer_settime(once, TIMER_ABSTIME, &time, &left) == 0 && left.it_value.tv_nsec > 0); /* over at once */
     check(MsgReceivePulse(chid, &pulse, sizeof pulse, NULL) == 0 && pulse.code == 3 && timer_delete(once) == 0);
-    ticks = pulse_timer(coid, 4, 100000000, 0); /* the connection goes first */
+    ticks = pulse_timer(coid, 4, 1000000, 1000000);
     check(ConnectDetach(coid) == 0 && ChannelDestroy(chid) == 0);
     while (timer_getoverrun(ticks) == 0) usleep(100); /* it has no connection */
     check(timer_delete(ticks) == 0);

@@ -39,4 +39,8 @@ struct _io_msg {
     uint16_t subtype;
 };
 
+typedef union {
+    struct _io_msg i;
+} io_msg_t;
+
 #endif

@@ -31,6 +31,7 @@
 #include <errno.h>
 #include <inttypes.h>
 #include <limits.h>
+#include <pthread.h>
 #include <sched.h>
 #include <signal.h>
 #include <stddef.h>
@@ -167,9 +168,12 @@ int ConnectClientInfo_r(int scoid, struct _client_info *info, int ngroups);
 /* ---- messages */
 
 typedef struct iovec iov_t;
-#define SETIOV(iov, base, len) \
-    ((void)((iov)->iov_base = (void *)(uintptr_t)(base), (iov)->iov_len = (size_t)(len)))
+#define SETIOV(iov, base, len) neutrino_set_iov(iov, (void *)(uintptr_t)(base), (size_t)(len))
 #define SETIOV_CONST SETIOV
+static inline void neutrino_set_iov(iov_t *iov, void *base, size_t len) {
+    iov->iov_base = base;
+    iov->iov_len = len;
+}
 #define GETIOVBASE(iov) ((iov)->iov_base)
 #define GETIOVLEN(iov) ((iov)->iov_len)
 
@@ -249,6 +253,10 @@ int MsgKeyData_r(rcvid_t rcvid, int oper, uint32_t key, uint32_t *key2, const io
 
 #define _PULSE_CODE_THREADDEATH (-3) /* value.sival_int: the tid */
 #define _PULSE_CODE_COIDDEATH (-4)   /* value.sival_int: the coid */
+#define _PULSE_CODE_NET_ACK (-5)     /* these are never sent */
+#define _PULSE_CODE_NET_UNBLOCK (-6)
+#define _PULSE_CODE_NET_DETACH (-7)
+#define _PULSE_CODE_RESTART (-8)
 #define _PULSE_SUBTYPE 0
 
 /* Sends a pulse: priority 1 to 255, or SIGEV_PULSE_PRIO_INHERIT for the caller's; code -128 to 127, of which a
@@ -299,6 +307,8 @@ int TimerTimeout_r(clockid_t id, int flags, const struct sigevent *notify, const
 
 /* ---- threads */
 
+#define _NTO_THREAD_NAME_MAX 100 /* of which pthread_setname_np keeps 15 */
+
 /* Sets the priority of a thread (0: the caller), or gets it and returns its policy, which is the one last set, or
  * SCHED_RR. A tid may also be what pthread_self returned. ESRCH: another process, or no such thread; EINVAL, EFAULT. */
 int SchedSet(pid_t pid, int tid, int policy, const struct sched_param *param);
@@ -307,6 +317,13 @@ int SchedGet(pid_t pid, int tid, struct sched_param *param);
 int SchedGet_r(pid_t pid, int tid, struct sched_param *param);
 int SchedYield(void);
 int SchedYield_r(void);
+
+/* Nanoseconds since some time. sys/syspage.h has the rate. */
+static inline uint64_t ClockCycles(void) {
+    struct timespec now;
+    clock_gettime(CLOCK_MONOTONIC, &now);
+    return (uint64_t)now.tv_sec * 1000000000u + (uint64_t)now.tv_nsec;
+}
 
 /* ---- seeing a run; not QNX's
  *

@@ -18,6 +18,10 @@
 #define SIGEV_SIGNAL_THREAD 0x6e73
 #define SIGEV_INTR 0x6e74 /* no call here takes it: there are no interrupts */
 
+/* The codes that a program's own signals may have. */
+#define SI_MINAVAIL (-128)
+#define SI_MAXAVAIL (-64)
+
 /* The priority of an event's pulse: that of the thread that delivers it, or 10 of a timer. */
 #define SIGEV_PULSE_PRIO_INHERIT (-1)
 
@@ -28,32 +32,46 @@
 #define SIGEV_FLAG_CODE_UPDATEABLE 0x80000
 #define SIGEV_FLAG_MASK 0xf0000
 #define SIGEV_GET_TYPE(event) ((event)->sigev_notify & ~SIGEV_FLAG_MASK)
+#define SIGEV_SET_TYPE(event, type) \
+    ((void)((event)->sigev_notify = ((event)->sigev_notify & SIGEV_FLAG_MASK) | (type)))
 #define SIGEV_MAKE_UPDATEABLE(event) ((void)((event)->sigev_notify |= SIGEV_FLAG_UPDATEABLE))
+#define SIGEV_CLEAR_UPDATEABLE(event) ((void)((event)->sigev_notify &= ~SIGEV_FLAG_UPDATEABLE))
 #define SIGEV_MAKE_CODE_UPDATEABLE(event) ((void)((event)->sigev_notify |= SIGEV_FLAG_CODE_UPDATEABLE))
 #define SIGEV_MAKE_CRITICAL(event) ((void)((event)->sigev_notify |= SIGEV_FLAG_CRITICAL))
 #define SIGEV_CLEAR_CRITICAL(event) ((void)((event)->sigev_notify &= ~SIGEV_FLAG_CRITICAL))
+
+#ifdef SIGEV_NONE /* the host has struct sigevent where POSIX is asked for */
+static inline void neutrino_set_event(struct sigevent *event, int type, int signo_or_coid, int priority, int code,
+                                      void *value) {
+    event->sigev_notify = type;
+    event->sigev_signo = signo_or_coid;
+    event->sigev_priority = priority;
+    event->sigev_code = code;
+    event->sigev_value.sival_ptr = value;
+}
+#endif
 
 #define SIGEV_NONE_INIT(event) ((void)((event)->sigev_notify = SIGEV_NONE))
 #define SIGEV_INTR_INIT(event) ((void)((event)->sigev_notify = SIGEV_INTR))
 #ifndef SIGEV_UNBLOCK_INIT
 #define SIGEV_UNBLOCK_INIT(event) ((void)((event)->sigev_notify = SIGEV_UNBLOCK))
 #endif
-#define SIGEV_SIGNAL_INIT(event, signo) \
-    ((void)((event)->sigev_notify = SIGEV_SIGNAL, (event)->sigev_signo = (signo), (event)->sigev_value.sival_ptr = 0))
-#define SIGEV_SIGNAL_VALUE_INIT(event, signo, value) SIGEV_SIGNAL_CODE_INIT(event, signo, value, 0)
+#define SIGEV_SIGNAL_INIT(event, signo) neutrino_set_event(event, SIGEV_SIGNAL, signo, 0, 0, 0)
 #define SIGEV_SIGNAL_CODE_INIT(event, signo, value, code) \
-    ((void)((event)->sigev_notify = SIGEV_SIGNAL_CODE, (event)->sigev_signo = (signo), \
-            (event)->sigev_value.sival_ptr = (void *)(intptr_t)(value), (event)->sigev_code = (code)))
+    neutrino_set_event(event, SIGEV_SIGNAL_CODE, signo, 0, code, (void *)(intptr_t)(value))
+#define SIGEV_SIGNAL_CODE_INT_INIT SIGEV_SIGNAL_CODE_INIT
+#define SIGEV_SIGNAL_CODE_PTR_INIT SIGEV_SIGNAL_CODE_INIT
 #define SIGEV_SIGNAL_THREAD_INIT(event, signo, value, code) \
-    ((void)((event)->sigev_notify = SIGEV_SIGNAL_THREAD, (event)->sigev_signo = (signo), \
-            (event)->sigev_value.sival_ptr = (void *)(intptr_t)(value), (event)->sigev_code = (code)))
+    neutrino_set_event(event, SIGEV_SIGNAL_THREAD, signo, 0, code, (void *)(intptr_t)(value))
+#define SIGEV_SIGNAL_THREAD_INT_INIT SIGEV_SIGNAL_THREAD_INIT
+#define SIGEV_SIGNAL_THREAD_PTR_INIT SIGEV_SIGNAL_THREAD_INIT
+#define SIGEV_SIGNAL_VALUE_INIT(event, signo, value) SIGEV_SIGNAL_CODE_INIT(event, signo, value, 0)
+#define SIGEV_SIGNAL_VALUE_INT_INIT SIGEV_SIGNAL_VALUE_INIT
+#define SIGEV_SIGNAL_VALUE_PTR_INIT SIGEV_SIGNAL_VALUE_INIT
 #define SIGEV_PULSE_INIT(event, coid, priority, code, value) \
-    ((void)((event)->sigev_notify = SIGEV_PULSE, (event)->sigev_coid = (coid), (event)->sigev_priority = (priority), \
-            (event)->sigev_code = (code), (event)->sigev_value.sival_ptr = (void *)(intptr_t)(value)))
+    neutrino_set_event(event, SIGEV_PULSE, coid, priority, code, (void *)(intptr_t)(value))
 #define SIGEV_PULSE_INT_INIT(event, coid, priority, code, value) \
     SIGEV_PULSE_INIT(event, coid, priority, code, (int)(value))
 #define SIGEV_PULSE_PTR_INIT SIGEV_PULSE_INIT
-#define SIGEV_SIGNAL_VALUE_INT_INIT SIGEV_SIGNAL_VALUE_INIT
-#define SIGEV_SIGNAL_VALUE_PTR_INIT SIGEV_SIGNAL_VALUE_INIT
 
 #endif

@@ -1,0 +1,3 @@
+/* For programs that include it beside sys/dispatch.h and use nothing of it: resource managers are missing. */
+#pragma GCC system_header
+#include <sys/dispatch.h>
