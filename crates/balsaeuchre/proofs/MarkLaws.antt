@@ -1,4 +1,5 @@
 -- The mark of each ending fits the call that it ends.
+use Rattle.qrules.proofs.Traces.Rows.{answer_same, pulse_same, sent_same, unblocked_same}
 use Rattle.std.proofs.Common.{◌≡◌, ◌∙◌, ◌+◌, ℕ, List, [], ◌∷◌, length, refl, ap, sym, subst, cond, Bool, true, false, inl, inr, int_eq}
 use Rattle.std.specs.Prelude.{ℤ, pos, Result, Err, Option, None, Some, option_map}
 use Rattle.std.specs.List.{AllByRecursion}
@@ -13,22 +14,26 @@ use Rattle.qqueue.specs.declared.item.Item.{Item}
 use Rattle.qqueue.specs.declared.item.Kind.{Kind}
 use Rattle.qqueue.specs.declared.item.Kind.TheVariants.{Any, PulseOnly}
 use Rattle.qqueue.proofs.OrderLaws.{best-may}
-use Rattle.qrules.specs.Private.Answer.{ending, refusal_ending}
-use Rattle.qrules.specs.Private.Calls.{row_of}
-use Rattle.qrules.specs.Private.Calls.ConnectDetach as connect_detach
-use Rattle.qrules.specs.Private.Calls.Error.{error_finish, mark_of}
-use Rattle.qrules.specs.Private.Calls.Info.{info_of, info_ending}
-use Rattle.qrules.specs.Private.Calls.Pulse as pulse
-use Rattle.qrules.specs.Private.Calls.Reply.{reply_finish}
-use Rattle.qrules.specs.Private.Calls.Send.{item}
-use Rattle.qrules.specs.Private.Calls.Unblock as unblock
-use Rattle.qrules.specs.Private.Cancelling.{is_on}
-use Rattle.qrules.specs.Private.Effects.{asks}
-use Rattle.qrules.specs.Private.Facts.{number_of, with_buffer, Facts, message, route, sender, threads_of}
-use Rattle.qrules.specs.Private.Held.{Finish}
-use Rattle.qrules.specs.Private.Lawful.{facts_of}
-use Rattle.qrules.specs.Private.Past.{filled, with_receipt}
-use Rattle.qrules.specs.Private.Rows.{delivery_of}
+use Rattle.qrules.specs.Outcome.{ending}
+use Rattle.qrules.proofs.Words.Items.{refusal_ending}
+use Rattle.qrules.specs.Rules.{row_of}
+use Rattle.qrules.specs.Rules.Connections as connect_detach
+use Rattle.qrules.proofs.Traces.Parts.{error_finish}
+use Rattle.qrules.specs.Records.{error_mark}
+use Rattle.qrules.specs.Rules.Held.{info_of}
+use Rattle.qrules.proofs.Words.Items.{info_ending}
+use Rattle.qrules.specs.Rules.Pulse as pulse
+use Rattle.qrules.proofs.Traces.Parts.{reply_finish}
+use Rattle.qrules.proofs.Words.Items.{message_item}
+use Rattle.qrules.specs.Rules.Unblock as unblock
+use Rattle.qrules.specs.Delivery.{is_on}
+use Rattle.qrules.proofs.Words.Effects.{asks}
+use Rattle.qrules.proofs.Words.Facts.{number_of, Facts, message, route, sender, threads_of}
+use Rattle.qrules.specs.Records.{with_buffer}
+use Rattle.qrules.proofs.Words.Items.{Finish}
+use Rattle.qrules.proofs.Words.Lawful.{facts_of}
+use Rattle.qrules.proofs.Words.Past.{filled, with_receipt}
+use Rattle.qrules.specs.Delivery.{delivery_of}
 use Rattle.qmodel.specs.Trace.{Trace}
 use Rattle.qmodel.specs.declared.call.Call.{Call}
 use Rattle.qmodel.specs.declared.call.Call.TheVariants.{Send, Receive, Reply, Error, Info, ReceivePulse, Pulse, ChannelDestroy, Shutdown, Unblock, ConnectDetach}
@@ -49,7 +54,6 @@ use Rattle.qrules.proofs.Traces.Properties.Rows.Delivering.{Delivers, delivery_m
 use Rattle.qrules.proofs.Traces.Properties.Rows.Receiving.{receive_takes}
 use Rattle.qrules.proofs.Traces.Properties.Rows.Telling.{told_meets, unblock_ends}
 use Rattle.qrules.specs.Trace.{call_at}
-use Rattle.qlaws.proofs.Waits.{before}
 use Rattle.qcalls.specs.Errors.{failure}
 use Rattle.qcalls.specs.declared.error.CallError.{CallError}
 use Rattle.qcalls.specs.declared.error.CallError.TheVariants.{Unexpected}
@@ -103,24 +107,24 @@ answered_fits f t rcvid finish u y any k w is =
     ∙ ap (λ v. fits (call_in v) (finish k.held.send.reply_buffer).0) (same_Some _ _ (sym is ∙ k.held.is_open))
     ∙ any k.held.send.connection k.held.send.message k.held.send.reply_buffer
 
-error_fits : (code : ℤ) (coid : ℕ) (m b : List ℕ) → fits (Send coid m b) (mark_of code) ≡ true
+error_fits : (code : ℤ) (coid : ℕ) (m b : List ℕ) → fits (Send coid m b) (error_mark code) ≡ true
 error_fits code coid m b = elim (int_eq code (pos 0)) as (λ z. fits (Send coid m b) (cond z (mark.Replied (pos 0) 0) (mark.Errored code)) ≡ true) [ true ↦ refl | false ↦ refl ]
 
-ends_fits : (f : Facts) (t : ℕ) (c : Call) (u : ℕ) (y : Completion) → Passes f t c → (row_of f t c).ends u ≡ Some y → FitsOpen f u y
-ends_fits f t (Send coid message reply_buffer) u y p e = met_fits f (route f t coid) (item f t) message u y (delivery_meets f (route f t coid) (item f t) message u y e)
-ends_fits f t (Reply rcvid status bytes) u y p e = answered_fits f t rcvid (reply_finish status bytes) u y (λ coid m b. refl) (sender_ends f t rcvid (reply_finish status bytes) u y p.row e)
-ends_fits f t (Error rcvid code) u y p e = answered_fits f t rcvid (error_finish code) u y (error_fits code) (sender_ends f t rcvid (error_finish code) u y p.row e)
+ends_fits : (f : Facts) (t : ℕ) (c : Call) (u : ℕ) (y : Completion) → Passes f t c → (row_of f t c).others u ≡ Some y → FitsOpen f u y
+ends_fits f t (Send coid message reply_buffer) u y p e = met_fits f (route f t coid) (message_item f t) message u y (delivery_meets f (route f t coid) (message_item f t) message u y (sym (sent_same f t coid message reply_buffer u p.row) ∙ e))
+ends_fits f t (Reply rcvid status bytes) u y p e = answered_fits f t rcvid (reply_finish status bytes) u y (λ coid m b. refl) (sender_ends f t rcvid (reply_finish status bytes) u y p.row (sym (answer_same f (reply_finish status bytes) (sender f rcvid) u) ∙ e))
+ends_fits f t (Error rcvid code) u y p e = answered_fits f t rcvid (error_finish code) u y (error_fits code) (sender_ends f t rcvid (error_finish code) u y p.row (sym (answer_same f (error_finish code) (sender f rcvid) u) ∙ e))
 ends_fits f t (Pulse coid priority code value) u y p e =
-    let k = told_meets f (pulse.sent_pulse f coid priority code value) u y e in met_fits f (Some k.made.channel) k.made.item [] u y k.delivers
+    let k = told_meets f (pulse.pulse_over f coid priority code value) u y (sym (pulse_same f (pulse.pulse_over f coid priority code value) u) ∙ e) in met_fits f (Some k.made.channel) k.made.item [] u y k.delivers
 ends_fits f t (ChannelDestroy chid) u y p e = λ w is. failed_fits w y.mark _ (ap (λ x. x.mark) (cancel_parts (is_on chid) Srch u (f.open_call u) y e).ending)
 ends_fits f t Shutdown u y p e = λ w is. failed_fits w y.mark _ (ap (λ x. x.mark) (cancel_parts (λ wait. true) Srch u (f.open_call u) y e).ending)
-ends_fits f t (Unblock thread) u y p e = elim (unblock_ends f thread u y (unblock.due_pulse f thread) e) [
+ends_fits f t (Unblock thread) u y p e = elim (unblock_ends f thread u y (unblock.unblock_pulse f thread) (sym (unblocked_same f t thread u) ∙ e)) [
   | inl cut ↦ λ w is. failed_fits w y.mark _ (ap (λ x. x.mark) cut.ending)
   | inr k ↦ met_fits f (Some k.made.channel) k.made.item [] u y k.delivers
 ]
-ends_fits f t (ConnectDetach coid) u y p e = elim (detach_ends f coid (connect_detach.due_pulse f t coid) u y e) [
+ends_fits f t (ConnectDetach coid) u y p e = elim (detach_ends f coid (connect_detach.disconnect_pulse f t coid) u y e) [
   | inl cut ↦ λ w is. failed_fits w y.mark _ (ap (λ x. x.mark) cut.ending)
-  | inr s ↦ let k = told_meets f (connect_detach.due_pulse f t coid) u y s in met_fits f (Some k.made.channel) k.made.item [] u y k.delivers
+  | inr s ↦ let k = told_meets f (connect_detach.disconnect_pulse f t coid) u y s in met_fits f (Some k.made.channel) k.made.item [] u y k.delivers
 ]
 ends_fits f t c u y p e = absurd (none-some y e)
 
@@ -149,7 +153,7 @@ pub endings_fit : EndingsFit
 endings_fit roster past e r l =
     let f = facts_of roster past in
     let P = λ (x : Completion). option_map (λ c. fits c x.mark) (call_at (e ∷ past) x.call) ≡ Some true in
-    elim ((before roster (e ∷ past) l).2) [
+    elim (l.1.1) [
       | inl a ↦ subst (AllByRecursion P) (sym a.1) (all_filter_map P (ending f e.thread e.call) (threads_of roster) (λ v y is.
           elim (ending_names f e.thread e.call v y (laws_of f e.thread e.call e.endings a) is) [
             | inl own ↦ of_call (e ∷ past) y (length past + 1) e.call own.names.call (call_newest e past) (own_fits f e.thread e.call y own.is)

@@ -1,4 +1,5 @@
 -- A message that an event receives is held after it, and `Info` tells of it.
+use Rattle.qrules.proofs.Traces.Rows.{answer_same, pulse_same, sent_same, unblocked_same}
 use Rattle.std.proofs.Common.{◌≡◌, ◌∙◌, ℕ, ◌+◌, List, [], length, refl, ap, sym, subst, arith, Bool, true, false, cond, eqb, inl, inr}
 use Rattle.std.specs.Prelude.{Option, None, Some, is_some, not}
 use Rattle.std.specs.List.{AllByRecursion}
@@ -13,21 +14,23 @@ use Rattle.qqueue.specs.declared.item.Kind.{Kind}
 use Rattle.qqueue.specs.declared.item.Kind.TheVariants.{Any, PulseOnly}
 use Rattle.qtables.specs.Members.{IsRoster, member_at}
 use Rattle.qtables.specs.declared.member.Member.{Member}
-use Rattle.qrules.specs.Private.Answer.{Answers, Outcome, ending}
-use Rattle.qrules.specs.Private.Calls.{row_of}
-use Rattle.qrules.specs.Private.Calls.ConnectDetach as connect_detach
-use Rattle.qrules.specs.Private.Calls.Error.{error_finish}
-use Rattle.qrules.specs.Private.Calls.Info.{info_of, info_of_open}
-use Rattle.qrules.specs.Private.Calls.Pulse as pulse
-use Rattle.qrules.specs.Private.Calls.Reply.{reply_finish}
-use Rattle.qrules.specs.Private.Calls.Send.{item}
-use Rattle.qrules.specs.Private.Calls.Unblock as unblock
-use Rattle.qrules.specs.Private.Cancelling.{is_on}
-use Rattle.qrules.specs.Private.Effects.{makes}
-use Rattle.qrules.specs.Private.Facts.{Facts, is_for_answer, message, sender, threads_of, route}
-use Rattle.qrules.specs.Private.Lawful.{IsLawful, facts_of, with_event}
-use Rattle.qrules.specs.Private.Past.{copied_count_among, copied_count_of, filled, has_ending_of, is_ended, open_call, priority_of_item, with_receipt}
-use Rattle.qrules.specs.Private.Rows.{item_in, receipt_ending}
+use Rattle.qrules.specs.Outcome.{Answers, Outcome, ending}
+use Rattle.qrules.specs.Rules.{row_of}
+use Rattle.qrules.specs.Rules.Connections as connect_detach
+use Rattle.qrules.proofs.Traces.Parts.{error_finish}
+use Rattle.qrules.specs.Rules.Held.{info_of}
+use Rattle.qrules.specs.Records.{info_of_open}
+use Rattle.qrules.specs.Rules.Pulse as pulse
+use Rattle.qrules.proofs.Traces.Parts.{reply_finish}
+use Rattle.qrules.proofs.Words.Items.{message_item}
+use Rattle.qrules.specs.Rules.Unblock as unblock
+use Rattle.qrules.specs.Delivery.{is_on}
+use Rattle.qrules.proofs.Words.Effects.{makes}
+use Rattle.qrules.proofs.Words.Facts.{Facts, is_for_answer, message, sender, threads_of, route}
+use Rattle.qrules.proofs.Words.Lawful.{IsLawful, facts_of, with_event}
+use Rattle.qrules.proofs.Words.Past.{copied_count_among, copied_count_of, filled, has_ending_of, is_ended, open_call, priority_of_item, with_receipt}
+use Rattle.qrules.proofs.Words.Items.{item_in}
+use Rattle.qrules.specs.Delivery.{receipt_ending}
 use Rattle.qmodel.specs.Trace.{SentItem}
 use Rattle.qmodel.specs.Trace.{Trace}
 use Rattle.qmodel.specs.declared.call.Call.{Call}
@@ -59,7 +62,6 @@ use Rattle.qrules.proofs.Traces.Properties.Rows.Receiving.{receive_takes}
 use Rattle.qrules.proofs.Traces.Properties.Rows.Telling.{Tells, told_meets, unblock_ends}
 use Rattle.qrules.proofs.Traces.TraceLaws.Held.{held_sender}
 use Rattle.qrules.specs.Past.{ReceivedItem}
-use Rattle.qrules.proofs.Traces.Due.{unblock_same}
 
 -- ---- a receipt whose mark is of a message
 
@@ -92,7 +94,7 @@ record TakesBest (f : Facts) (t : ℕ) (c : Call) (i : ℕ) : Type 0 where
   pub best_item : Item
   pub best : best_of kind (f.pending channel) ≡ Some best_item
   pub takes : TakesMessage best_item i
-  pub alone : (u : ℕ) → (row_of f t c).ends u ≡ None
+  pub alone : (u : ℕ) → (row_of f t c).others u ≡ None
 
 own_message : (f : Facts) (t : ℕ) (c : Call) (y : Completion) (i copied : ℕ) → (row_of f t c).own ≡ Some y → y.mark ≡ mark.Message i copied → TakesBest f t c i
 own_message f t (Send coid sent reply_buffer) y i copied e m = absurd (none-some y e)
@@ -122,25 +124,25 @@ told_message : (f : Facts) (t : ℕ) (c : Call) (o : Option SentItem) (u : ℕ) 
 told_message f t c o u y i copied made k m =
     met_message f t c (Some k.made.channel) k.made.item [] u y i copied k.delivers (λ h s. made ∙ k.is_due ∙ ap (λ n. Some (record { item = k.made.item; channel = n })) (same_Some k.made.channel h s)) m
 
-ends_message : (f : Facts) (t : ℕ) (c : Call) (u : ℕ) (y : Completion) (i copied : ℕ) → (row_of f t c).refusal ≡ None → (row_of f t c).ends u ≡ Some y → y.mark ≡ mark.Message i copied → TakesMade f t c i
+ends_message : (f : Facts) (t : ℕ) (c : Call) (u : ℕ) (y : Completion) (i copied : ℕ) → (row_of f t c).refusal ≡ None → (row_of f t c).others u ≡ Some y → y.mark ≡ mark.Message i copied → TakesMade f t c i
 ends_message f t (Reply rcvid status bytes) u y i copied r e m =
-    absurd (no_message y i copied m (answer_receives f t rcvid (reply_finish status bytes) u y (λ buffer. refl) (sender_ends f t rcvid (reply_finish status bytes) u y r e)))
+    absurd (no_message y i copied m (answer_receives f t rcvid (reply_finish status bytes) u y (λ buffer. refl) (sender_ends f t rcvid (reply_finish status bytes) u y r (sym (answer_same f (reply_finish status bytes) (sender f rcvid) u) ∙ e))))
 ends_message f t (Error rcvid code) u y i copied r e m =
-    absurd (no_message y i copied m (answer_receives f t rcvid (error_finish code) u y (λ buffer. no_receipt code) (sender_ends f t rcvid (error_finish code) u y r e)))
+    absurd (no_message y i copied m (answer_receives f t rcvid (error_finish code) u y (λ buffer. no_receipt code) (sender_ends f t rcvid (error_finish code) u y r (sym (answer_same f (error_finish code) (sender f rcvid) u) ∙ e))))
 ends_message f t (ChannelDestroy chid) u y i copied r e m = absurd (no_message y i copied m (ap (λ x. item_in x.mark) (sym (cancel_parts (is_on chid) Srch u (f.open_call u) y e).ending)))
 ends_message f t Shutdown u y i copied r e m = absurd (no_message y i copied m (ap (λ x. item_in x.mark) (sym (cancel_parts (λ o. true) Srch u (f.open_call u) y e).ending)))
-ends_message f t (Unblock thread) u y i copied r e m = elim (unblock_ends f thread u y (unblock.due_pulse f thread) e) [
+ends_message f t (Unblock thread) u y i copied r e m = elim (unblock_ends f thread u y (unblock.unblock_pulse f thread) (sym (unblocked_same f t thread u) ∙ e)) [
   | inl cancel ↦ absurd (no_message y i copied m (ap (λ x. item_in x.mark) (sym cancel.ending)))
-  | inr k ↦ told_message f t (Unblock thread) (unblock.due_pulse f thread) u y i copied (unblock_same f thread) k m
+  | inr k ↦ told_message f t (Unblock thread) (unblock.unblock_pulse f thread) u y i copied refl k m
 ]
-ends_message f t (ConnectDetach coid) u y i copied r e m = elim (detach_ends f coid (connect_detach.due_pulse f t coid) u y e) [
+ends_message f t (ConnectDetach coid) u y i copied r e m = elim (detach_ends f coid (connect_detach.disconnect_pulse f t coid) u y e) [
   | inl cancel ↦ absurd (no_message y i copied m (ap (λ x. item_in x.mark) (sym cancel.ending)))
-  | inr s ↦ told_message f t (ConnectDetach coid) (connect_detach.due_pulse f t coid) u y i copied refl (told_meets f (connect_detach.due_pulse f t coid) u y s) m
+  | inr s ↦ told_message f t (ConnectDetach coid) (connect_detach.disconnect_pulse f t coid) u y i copied refl (told_meets f (connect_detach.disconnect_pulse f t coid) u y s) m
 ]
 ends_message f t (Send coid sent reply_buffer) u y i copied r e m =
-    met_message f t (Send coid sent reply_buffer) (route f t coid) (item f t) sent u y i copied (delivery_meets f (route f t coid) (item f t) sent u y e) (sent_way f t coid (item f t)) m
+    met_message f t (Send coid sent reply_buffer) (route f t coid) (message_item f t) sent u y i copied (delivery_meets f (route f t coid) (message_item f t) sent u y (sym (sent_same f t coid sent reply_buffer u r) ∙ e)) (sent_way f t coid (message_item f t)) m
 ends_message f t (Pulse coid level code value) u y i copied r e m =
-    told_message f t (Pulse coid level code value) (pulse.sent_pulse f coid level code value) u y i copied refl (told_meets f (pulse.sent_pulse f coid level code value) u y e) m
+    told_message f t (Pulse coid level code value) (pulse.pulse_over f coid level code value) u y i copied refl (told_meets f (pulse.pulse_over f coid level code value) u y (sym (pulse_same f (pulse.pulse_over f coid level code value) u) ∙ e)) m
 ends_message f t c u y i copied r e m = absurd (none-some y e)
 
 -- ---- it isn't ended in the event that receives it
@@ -220,7 +222,7 @@ IsHeldAfter roster past x = (i copied : ℕ) → x.mark ≡ mark.Message i copie
 
 pub received_told : (roster : List Member) (past : Trace) (t : ℕ) (c : Call) (X : List Completion) → IsRoster roster → IsLawful roster past → is_some (member_at roster t) ≡ true
     → Answers (facts_of roster past) t c X → AllByRecursion (IsHeldAfter roster (with_event t c X past)) X
-received_told roster past t c X rises l member answers = let lawful : IsLawful roster (with_event t c X past) = (l, member, answers) in elim answers [
+received_told roster past t c X rises l member answers = let lawful : IsLawful roster (with_event t c X past) = (l, (member, answers)) in elim answers [
   | inl a ↦ subst (AllByRecursion (IsHeldAfter roster (with_event t c X past))) (sym a.1)
       (all_filter_map (IsHeldAfter roster (with_event t c X past)) (ending (facts_of roster past) t c) (threads_of roster) (λ v y given i copied m.
       held_told roster (with_event t c X past) i copied rises lawful (going_after roster past t c X l member a v y i copied given m) (counted_after roster past t c X l member a v y i copied given m)))

@@ -8,7 +8,7 @@ use Rattle.qtables.specs.Members.{IsRoster, member_at}
 use Rattle.qmodel.specs.declared.call.Call.{Call}
 use Rattle.qmodel.specs.declared.call.Completion.{Completion}
 use Rattle.qmodel.specs.declared.call.Info.{Info}
-use Rattle.qrules.specs.Private.Lawful.{with_event}
+use Rattle.qrules.proofs.Words.Lawful.{with_event}
 use Rattle.qstate.specs.Kept.{members_of}
 use Rattle.qkernel.specs.Kernel.{State, IsSound}
 use Rattle.qkernel.specs.Stands.{AnswersAtTraces}
@@ -19,7 +19,7 @@ use Rattle.balsaeuchre_c.specs.declared.row.Row.{Row}
 use Rattle.balsaeuchre_c.specs.declared.telling.Done.{Done}
 use Rattle.qrules.specs.Lawful.{IsLawful}
 use Rattle.qrules.specs.Trace.{Trace}
-use Rattle.qkernel.proofs.Traces.{answers_before, before, info_before, properties_of, stands_roster}
+use Rattle.qkernel.proofs.Traces.{properties_of, stands_roster}
 use Rattle.balsaeuchre_c.proofs.Holding.{received_told}
 use Rattle.balsaeuchre_c.proofs.Restoring.{all_at, restored}
 use Rattle.balsaeuchre_c.proofs.Tellings.{some_same, told_in_room}
@@ -48,13 +48,11 @@ informs old t c X new orows rows ob bytes done sound known answers told roster p
     let same_roster = stands_roster roster old past stands in
     let rises : IsRoster roster = subst IsRoster same_roster sound.roster in
     let member : is_some (member_at roster t) ≡ true = subst (λ r. is_some (member_at r t) ≡ true) same_roster known in
-    let held = all_at _ X place e (received_told roster past t c X rises (before roster past lawful) member (answers_before roster past lawful t c X a.0)) so rcvid copied m in
+    let held = all_at _ X place e (received_told roster past t c X rises lawful member a.0) so rcvid copied m in
     let trace : Trace = with_event t c X past in
-    let after : IsLawful roster trace = (lawful, (member, a.0)) in
-    let same_info = info_before roster trace after rcvid in
     let k = (row_at new X orows rows ob bytes done told place e row so at).message rcvid copied m in
-    let said = k.said roster trace a.1 ∙ same_info ∙ held.is in
-    same_info ∙ held.is ∙ ap Some (filled_same row held.info (held.count ∙ sym k.count) (subst (Fills row) said k.filled))
+    let said = k.said roster trace a.1 ∙ held.is in
+    held.is ∙ ap Some (filled_same row held.info (held.count ∙ sym k.count) (subst (Fills row) said k.filled))
 
 pub restores : (old : State) (t : ℕ) (c : Call) (X : List Completion) (new : State) (orows rows : List Row) (ob bytes : List ℕ) (done : Done) → IsSound old → is_some (member_at (members_of old.threads) t) ≡ true
     → AnswersAtTraces old t c X new → IsTold new X orows rows ob bytes done → OfEachRow (λ roster. Restores bytes) old t c X rows

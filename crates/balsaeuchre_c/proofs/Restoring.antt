@@ -18,12 +18,12 @@ use Rattle.qmodel.specs.declared.call.Mark.{Mark}
 use Rattle.qmodel.specs.declared.call.Mark.TheVariants as mark
 use Rattle.qrules.specs.Facts.{Facts, threads_of}
 use Rattle.qrules.specs.Lawful.{facts_of}
-use Rattle.qrules.specs.Outcome.{row, Answers}
+use Rattle.qrules.specs.Outcome.{ending, Answers}
 use Rattle.qrules.specs.Past.{item_in, with_writes}
 use Rattle.qrules.proofs.Traces.TraceLaws.Lengths.{writes_length}
 use Rattle.qrules.specs.Properties.{buffer_at, message_at, request_of, HasProperties, IsCopied, IsCounted, IsLaid, TakesBest}
 use Rattle.qrules.specs.Rule.{buffer_of, ReceiveRequest, Transfer}
-use Rattle.qrules.specs.Rules.{effect_of}
+use Rattle.qrules.specs.Rules.{row_of, effect_of}
 use Rattle.qrules.specs.Trace.{call_at, Event, Trace}
 use Rattle.balsaeuchre_c.specs.Calling.{brought_at}
 use Rattle.balsaeuchre_c.specs.Rows.{told_bytes, told_of}
@@ -59,9 +59,9 @@ front_told b p m n is count =
 -- ---- what a call brought
 
 buffer_length : (past : Trace) (i : ℕ) → length (buffer_at past i) ≡ length (brought_at past i)
-buffer_length past i = elim (call_at past i) as (λ o. length (option_map_or (λ c. cond (is_some (effect_of c).sends) (with_writes past i (buffer_of (effect_of c))) (buffer_of (effect_of c))) o []) ≡ length (option_map_or (λ c. buffer_of (effect_of c)) o [])) [
+buffer_length past i = elim (call_at past i) as (λ o. length (option_map_or (λ c. cond (is_some (effect_of c).sends) (with_writes past i (buffer_of c)) (buffer_of c)) o []) ≡ length (option_map_or (λ c. buffer_of c) o [])) [
   | None ↦ refl
-  | Some c ↦ elim (is_some (effect_of c).sends) as (λ b. length (cond b (with_writes past i (buffer_of (effect_of c))) (buffer_of (effect_of c))) ≡ length (buffer_of (effect_of c))) [ true ↦ writes_length past i (buffer_of (effect_of c)) | false ↦ refl ]
+  | Some c ↦ elim (is_some (effect_of c).sends) as (λ b. length (cond b (with_writes past i (buffer_of c)) (buffer_of c)) ≡ length (buffer_of c)) [ true ↦ writes_length past i (buffer_of c) | false ↦ refl ]
 ]
 
 receive_sends : (c : Call) (r : ReceiveRequest) → (effect_of c).receives ≡ Some r → is_some (effect_of c).sends ≡ false
@@ -71,26 +71,24 @@ receive_sends c r e = refl
 buffer_brought : (past : Trace) (i : ℕ) (r : ReceiveRequest) → request_of past i ≡ Some r → buffer_at past i ≡ brought_at past i
 buffer_brought past i r is = by_call (call_at past i) is where
   by_call : (o : Option Call) → option_and_then (λ c. (effect_of c).receives) o ≡ Some r
-      → option_map_or (λ c. cond (is_some (effect_of c).sends) (with_writes past i (buffer_of (effect_of c))) (buffer_of (effect_of c))) o [] ≡ option_map_or (λ c. buffer_of (effect_of c)) o []
+      → option_map_or (λ c. cond (is_some (effect_of c).sends) (with_writes past i (buffer_of c)) (buffer_of c)) o [] ≡ option_map_or (λ c. buffer_of c) o []
   by_call None e = absurd (none-some r e)
   by_call (Some c) e = rw (receive_sends c r e) refl
 
 -- ---- what a Read or a Write counts
 
-alone : (f : Facts) (own : Completion) (u : ℕ) (y : Completion) → find (λ x. eqb x.thread u) (own ∷ []) ≡ Some y → own.call ≡ f.number → y.call ≡ f.number
-alone f own u y e same = by_test (eqb own.thread u) e where
-  by_test : (b : Bool) → cond b (Some own) None ≡ Some y → y.call ≡ f.number
-  by_test true e = ap (λ x. x.call) (sym (same_Some own y e)) ∙ same
-  by_test false e = absurd (none-some y e)
-
-ended_alone : (f : Facts) (t : ℕ) (c : Call) (X : List Completion) (own : Completion) → (row f t c).endings ≡ own ∷ [] → own.call ≡ f.number → Answers f t c X → AllByRecursion (λ y. y.call ≡ f.number) X
-ended_alone f t c X own only same answers = elim answers [
-  | inl a ↦ subst (AllByRecursion (λ y. y.call ≡ f.number)) (sym a.1) (all_filter_map _ (λ u. find (λ x. eqb x.thread u) (row f t c).endings) (threads_of f.roster)
-      (λ u y e. alone f own u y (ap (λ ys. find (λ x. eqb x.thread u) ys) (sym only) ∙ e) same))
+-- a call that ends no other's has only its own ending
+ended_alone : (f : Facts) (t : ℕ) (c : Call) (X : List Completion) (own : Completion) → (row_of f t c).own ≡ Some own → ((u : ℕ) → (row_of f t c).others u ≡ None) → own.call ≡ f.number → Answers f t c X → AllByRecursion (λ y. y.call ≡ f.number) X
+ended_alone f t c X own is alone same answers = elim answers [
+  | inl a ↦ subst (AllByRecursion (λ y. y.call ≡ f.number)) (sym a.1) (all_filter_map _ (ending f t c) (threads_of f.roster) (λ u y e.
+      elim (eqb u t) as (λ b. cond b (row_of f t c).own ((row_of f t c).others u) ≡ Some y → y.call ≡ f.number) [
+        | true ↦ λ e. ap (λ x. x.call) (sym (same_Some own y (sym is ∙ e))) ∙ same
+        | false ↦ λ e. absurd (none-some y (sym (alone u) ∙ e))
+      ] e))
   | inr a ↦ subst (AllByRecursion (λ y. y.call ≡ f.number)) (sym a.2) (refl, tt)
 ]
 
-newest_brought : (v : Event) (past : Trace) → brought_at (v ∷ past) (length past + 1) ≡ buffer_of (effect_of v.call)
+newest_brought : (v : Event) (past : Trace) → brought_at (v ∷ past) (length past + 1) ≡ buffer_of v.call
 newest_brought v past = rw (eq-eqb (length past + 1) (length past + 1) refl) refl
 
 -- ---- each ending
@@ -102,12 +100,12 @@ module _ (roster : List Member) (past : Trace) (t : ℕ) (c : Call) (X : List Co
 
   -- a Read or a Write ends in its own event
   counted : (d : Call) (place : ℕ) (y : Completion) (n : ℕ) → Answers (facts_of roster past) t d X → slice_get X place ≡ Some y → IsCounted past (effect_of d).reads (effect_of d).writes y n
-      → brought_at (v ∷ past) (length past + 1) ≡ buffer_of (effect_of d) → Whole y.buffer (take n y.buffer) (brought_at (v ∷ past) y.call)
+      → brought_at (v ∷ past) (length past + 1) ≡ buffer_of d → Whole y.buffer (take n y.buffer) (brought_at (v ∷ past) y.call)
   counted (Read i at room) place y n a so h brought =
-      let own : y.call ≡ length past + 1 = all_at _ X place y (ended_alone (facts_of roster past) t (Read i at room) X _ refl refl a) so in
+      let own : y.call ≡ length past + 1 = all_at _ X place y (ended_alone (facts_of roster past) t (Read i at room) X _ refl (λ u. refl) refl a) so in
       subst (λ p. Whole y.buffer (take n y.buffer) p) (sym (ap (brought_at (v ∷ past)) own ∙ brought)) (front_told y.buffer room _ n h.0 h.1)
   counted (Write i at bytes) place y n a so h brought =
-      let own : y.call ≡ length past + 1 = all_at _ X place y (ended_alone (facts_of roster past) t (Write i at bytes) X _ refl refl a) so in
+      let own : y.call ≡ length past + 1 = all_at _ X place y (ended_alone (facts_of roster past) t (Write i at bytes) X _ refl (λ u. refl) refl a) so in
       subst (λ p. Whole y.buffer (take n y.buffer) p) (sym (ap (brought_at (v ∷ past)) own ∙ brought)) (subst (λ b. Whole b (take n b) []) (sym h.0) (none_told n))
   counted d place y n a so h brought = absurd h
 

@@ -9,6 +9,7 @@ use Rattle.qkernel.specs.Stands.{AnswersAtTraces, DispatchError, StandsAt}
 use Rattle.qrules.specs.Lawful.{IsLawful, facts_of}
 use Rattle.qrules.specs.Rule.{buffer_of}
 use Rattle.qrules.specs.Rules.{effect_of}
+use Rattle.qrules.specs.Facts.{sender}
 use Rattle.qrules.specs.Rules.Held.{info_of}
 use Rattle.qrules.specs.Trace.{call_at, Trace}
 use Rattle.qmodel.specs.declared.call.Call.{Call}
@@ -38,11 +39,11 @@ OfEachRow P old t call endings rows =
 -- if the ending is the receipt of a message, the row has what an `Info` of the message would return
 abbrev pub Informs : List Member → Trace → Completion → Row → Type 0
 Informs roster past e row = (rcvid copied : ℕ) → e.mark ≡ mark.Message rcvid copied
-    → info_of (facts_of roster past) rcvid ≡ Some (info_in row)
+    → info_of (facts_of roster past) (sender (facts_of roster past) rcvid) ≡ Some (info_in row)
 
 -- the buffer that call i brought
 abbrev pub brought_at : Trace → ℕ → List ℕ
-brought_at past i = option_map_or (λ c. buffer_of (effect_of c)) (call_at past i) []
+brought_at past i = option_map_or (λ c. buffer_of c) (call_at past i) []
 
 -- the ending's buffer is as long as the one that its call brought; its first `written` bytes are in the room
 -- for bytes, from `start` on, and behind its first `length` bytes it is as its call brought it

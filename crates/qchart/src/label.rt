@@ -4,7 +4,7 @@ use crate::arrow::{Arrow, arrow_of};
 use crate::row::Cut;
 use qbase::bytes::Bytes;
 use qbase::errno::word;
-use qbase::ids::{ChannelId, ConnectionId, ReceiveId, ThreadNo};
+use qbase::ids::{ChannelId, ConnectionId, ProcessNo, ReceiveId, ThreadNo};
 use qbase::priority::Priority;
 use qexplain::why::operand_shown;
 use qkernel::call::{Call, Completion, Mark};
@@ -193,8 +193,8 @@ fn pulse_words(names: Context<'_>, number: u64, what: What) -> Result<String, Al
             let message = names.id(message);
             format!(in names.alloc; "pulse {id} unblock of send {message}")
         }
-        What::Disconnect(process) => {
-            let process = names.process(process);
+        What::Disconnect(ProcessNo(number)) => {
+            let process = names.process(ProcessNo(number));
             format!(in names.alloc; "pulse {id} disconnect of process {process}")
         }
     }

@@ -7,8 +7,9 @@ use Rattle.std.proofs.lemmas.Grind.{take_at_read}
 use Rattle.std.proofs.lemmas.List.Elements.{filter_map-append}
 use Rattle.qtables.specs.Members.{IsRoster}
 use Rattle.qtables.specs.declared.member.Member.{Member}
-use Rattle.qrules.specs.Private.Blocked.{blocked_thread, blocked_threads_in}
-use Rattle.qrules.specs.Private.Facts.{threads_of, Facts}
+use Rattle.qrules.proofs.Words.Blocked.{blocked_threads_in}
+use Rattle.qrules.specs.Records.{blocked_thread}
+use Rattle.qrules.proofs.Words.Facts.{threads_of, Facts}
 use Rattle.qrules.specs.Rules.Threads.{state_in}
 use Rattle.qrules.proofs.Traces.Rosters.{filter_map_same}
 use Rattle.qrules.specs.Lawful.{facts_of}

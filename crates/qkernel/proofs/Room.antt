@@ -9,15 +9,17 @@ use Rattle.qmodel.specs.declared.call.Call.{Call}
 use Rattle.qmodel.specs.declared.call.Completion.{Completion}
 use Rattle.qmodel.specs.declared.open_call.OpenCall.{OpenCall}
 use Rattle.qstate.specs.declared.thread.Thread.{Thread}
-use Rattle.qrules.specs.Private.Answer.{ending, Outcome}
-use Rattle.qrules.specs.Private.Calls.{row_of}
-use Rattle.qrules.specs.Private.Facts.{Facts, sender, threads_of}
-use Rattle.qrules.specs.Private.Effects.{makes, unblocks, writes}
-use Rattle.qrules.specs.Private.Rows.{Received}
+use Rattle.qrules.specs.Outcome.{ending, Outcome}
+use Rattle.qrules.proofs.Words.Items.{receipt_of}
+use Rattle.qrules.specs.Rules.{row_of}
+use Rattle.qrules.proofs.Words.Facts.{Facts, sender, threads_of}
+use Rattle.qrules.proofs.Words.Effects.{makes, unblocks, writes}
+use Rattle.qrules.proofs.Words.Items.{Received}
 use Rattle.qmodel.specs.Trace.{SentItem}
 use Rattle.qkernel.specs.Kernel.{State}
 use Rattle.qkernel.specs.Private.Steps.{Step, Steps, facts_in}
-use Rattle.qrules.specs.Private.Step.{Follows, unless, after_receipt, after_write, is_thread, held_call, written_call, after_unblock, unblocked_call}
+use Rattle.qrules.proofs.Words.Step.{Follows, unless, after_receipt, after_write, after_unblock}
+use Rattle.qrules.specs.Records.{is_thread, held_call, written_call, unblocked_call}
 use Rattle.qstate.specs.Thread.{open_in, blocked_count}
 use Rattle.qstate.specs.Kept.{members_of}
 use Rattle.qrules.proofs.Traces.Past.Ends.{row_passes}
@@ -128,8 +130,8 @@ module _ (old : State) (t : ℕ) (c : Call) (X : List Completion) (new : State) 
     where
       one_apart : (u : ℕ) → eqb u t ≡ false → RowLaws (facts_in old) t c → Follows (facts_in old) t c true (facts_in new) → one (ending (facts_in old) t c u) + one (open_in new.threads u) ≤ one (open_in old.threads u)
       one_apart u other laws follows = rw (follows.open_call u, other) (
-          elim ((row_of (facts_in old) t c).ends u) as (λ y. (row_of (facts_in old) t c).ends u ≡ y → one y + one (unless (is_some y) (after_unblock (makes (facts_in old) t c) (unblocks c) u (after_receipt (row_of (facts_in old) t c).receipt u (after_write (facts_in old) (writes c) u (open_in old.threads u))))) ≤ one (open_in old.threads u)) [
-            | None ↦ λ e. rw (one-unblock (makes (facts_in old) t c) (unblocks c) u (after_receipt (row_of (facts_in old) t c).receipt u (after_write (facts_in old) (writes c) u (open_in old.threads u))), one-receipt (row_of (facts_in old) t c).receipt u (after_write (facts_in old) (writes c) u (open_in old.threads u)), one-write (facts_in old) (writes c) u (open_in old.threads u)) (omega arith)
+          elim ((row_of (facts_in old) t c).others u) as (λ y. (row_of (facts_in old) t c).others u ≡ y → one y + one (unless (is_some y) (after_unblock (makes (facts_in old) t c) (unblocks c) u (after_receipt (receipt_of (facts_in old) t c) u (after_write (facts_in old) (writes c) u (open_in old.threads u))))) ≤ one (open_in old.threads u)) [
+            | None ↦ λ e. rw (one-unblock (makes (facts_in old) t c) (unblocks c) u (after_receipt (receipt_of (facts_in old) t c) u (after_write (facts_in old) (writes c) u (open_in old.threads u))), one-receipt (receipt_of (facts_in old) t c) u (after_write (facts_in old) (writes c) u (open_in old.threads u)), one-write (facts_in old) (writes c) u (open_in old.threads u)) (omega arith)
             | Some y ↦ λ e. let waits = laws.ends_open u y e in rw (waits.is) (omega arith)
           ] refl)
 

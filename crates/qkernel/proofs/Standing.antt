@@ -9,20 +9,15 @@ use Rattle.qtables.specs.Members.{member_at, IsRoster}
 use Rattle.qtables.specs.declared.member.Member.{Member}
 use Rattle.qmodel.specs.declared.call.Call.{Call}
 use Rattle.qmodel.specs.declared.call.Completion.{Completion}
-use Rattle.qmodel.specs.declared.call.Mark.TheVariants as mark
-use Rattle.qrules.specs.Private.Answer.{Outcome, ending, refusal_ending}
-use Rattle.qrules.specs.Private.Answer as old_answer
-use Rattle.qrules.specs.Private.Facts.{Facts, threads_of}
-use Rattle.qrules.specs.Private.Lawful.{facts_of, with_event}
-use Rattle.qrules.proofs.Same.{AreOfRoster}
-use Rattle.qrules.proofs.Lawful.{of_roster, same_lawful}
-use Rattle.qrules.proofs.Outcomes.{same_answers, same_buffer}
-use Rattle.qrules.proofs.Past.Facts.{facts_known}
-use Rattle.qrules.specs.Private.Past.{is_failure, priority_in}
+use Rattle.qrules.specs.Outcome.{Answers, Outcome, ending}
+use Rattle.qrules.proofs.Words.Items.{refusal_ending}
+use Rattle.qrules.proofs.Words.Facts.{Facts, threads_of}
+use Rattle.qrules.proofs.Words.Lawful.{facts_of, with_event}
+use Rattle.qrules.proofs.Words.Past.{is_failure, priority_in}
 use Rattle.qkernel.specs.Stands.{StandsAt, AnswersAtTraces, LeavesIfRefused}
 use Rattle.qkernel.specs.Kernel.{State, IsSound}
 use Rattle.qkernel.specs.Private.Steps.{Step, Steps, facts_in}
-use Rattle.qrules.specs.Private.Step.{Follows}
+use Rattle.qrules.proofs.Words.Step.{Follows}
 use Rattle.qstate.specs.Thread.{open_in, ready_thread}
 use Rattle.qstate.specs.Kept.{members_of, thread_priority}
 use Rattle.qbase.proofs.Lists.{all_filter_map}
@@ -31,9 +26,9 @@ use Rattle.qrules.proofs.Traces.Past.Follows.{past_follows}
 use Rattle.qrules.proofs.Traces.TraceLaws.Refused.{only_counted}
 use Rattle.qrules.proofs.Once.{follows_once, one_facts}
 
-answer_of : (accept : Bool) (f : Facts) (t : ℕ) (c : Call) (X : List Completion) → Outcome accept f t c X → old_answer.Answers f t c X
-answer_of true f t c X a = inl a
-answer_of false f t c X a = inr a
+answers_of : (accept : Bool) (f : Facts) (t : ℕ) (c : Call) (X : List Completion) → Outcome accept f t c X → Answers f t c X
+answers_of true f t c X a = inl a
+answers_of false f t c X a = inr a
 
 -- the roster stays
 pub steps_roster : (old : State) (t : ℕ) (c : Call) (X : List Completion) (new : State) → Steps old t c X new → members_of new.threads ≡ members_of old.threads
@@ -42,7 +37,6 @@ steps_roster old t c X new step = step.1.follows.roster
 pub step_at_traces : (old : State) (t : ℕ) (c : Call) (X : List Completion) (new : State) → IsRoster (members_of old.threads) → is_some (member_at (members_of old.threads) t) ≡ true → Steps old t c X new → AnswersAtTraces old t c X new
 step_at_traces old t c X new rises known step roster past lawful stands =
     let accept = step.0 in
-    let of : AreOfRoster roster past = of_roster roster past lawful in
     let same : facts_in old ≡ facts_of roster past = stands in
     let roster_is : members_of old.threads ≡ roster = ap (λ f. f.roster) same in
     let outcome : Outcome accept (facts_of roster past) t c X = subst (λ f. Outcome accept f t c X) same step.1.answer in
@@ -50,8 +44,8 @@ step_at_traces old t c X new rises known step roster past lawful stands =
     let is_roster : IsRoster roster = subst IsRoster roster_is rises in
     let is_known : is_some (member_at roster t) ≡ true = subst (λ r. is_some (member_at r t) ≡ true) roster_is known in
     let after : facts_in new ≡ facts_of roster (with_event t c X past) =
-    follows_once _ _ _ t c accept now (past_follows accept roster past t c X is_roster ((same_lawful roster past).0 lawful) is_known outcome) in
-    ((same_answers (facts_of roster past) t c (facts_known roster past of) X).1 (answer_of accept _ t c X outcome), after)
+    follows_once _ _ _ t c accept now (past_follows accept roster past t c X is_roster (lawful) is_known outcome) in
+    (answers_of accept _ t c X outcome, after)
 
 -- the ending is no failure of thread t
 abbrev IsNoFailureOf : ℕ → Completion → Type 0
@@ -80,8 +74,7 @@ refused_counts old t c X new step e is = by_case step.0 step.1 where
 
 pub refused_leaves : (old : State) (t : ℕ) (c : Call) (X : List Completion) (new : State) → IsRoster (members_of old.threads) → Steps old t c X new → LeavesIfRefused old t c X new
 refused_leaves old t c X new rises step e is =
-    let ends : X ≡ refusal_ending (facts_in old) t c e ∷ [] = is ∙ ap (λ buffer. record { call = old.made + 1; thread = t; mark = mark.Failed e; buffer = buffer } ∷ []) (same_buffer c) in
-    refused_counts old t c X new step e ends
+    refused_counts old t c X new step e is
 
 -- one more call was made
 pub steps_made : (old : State) (t : ℕ) (c : Call) (X : List Completion) (new : State) → Steps old t c X new → new.made ≡ old.made + 1

@@ -4,7 +4,7 @@ use Rattle.std.specs.Prelude.{Option, None, Some, filter, is_some, not}
 use Rattle.std.specs.List.{AllByRecursion}
 use Rattle.std.proofs.lemmas.Bool.{eqb-true, eqb-false, eq-eqb, ne_eqb}
 use Rattle.qtables.specs.Entries.{entry_at, without_entry, IsRising}
-use Rattle.qrules.specs.Private.Facts.{count_to}
+use Rattle.qrules.proofs.Words.Facts.{count_to}
 use Rattle.qbase.proofs.Lists.{all_append, all_filter, eqb_same}
 use Rattle.qrules.proofs.Traces.Past.Live.{count_less, count_same}
 

@@ -3,26 +3,13 @@ use Rattle.std.proofs.Common.{◌≡◌, ◌+◌, ℕ, List, [], ◌∷◌, ◌+
 use Rattle.std.specs.Prelude.{is_some}
 use Rattle.qtables.specs.Members.{IsRoster}
 use Rattle.qtables.specs.declared.member.Member.{Member}
-use Rattle.qrules.specs.Private.Answer as old_answer
-use Rattle.qrules.specs.Private.Calls.Info as old_info
-use Rattle.qrules.specs.Private.Facts.{sender}
-use Rattle.qrules.specs.Private.Lawful as old_lawful
-use Rattle.qrules.specs.Private.Past.{open_call}
-use Rattle.qmodel.specs.declared.call.Call.{Call}
-use Rattle.qmodel.specs.declared.call.Completion.{Completion}
+use Rattle.qrules.proofs.Words.Past.{open_call}
 use Rattle.qrules.proofs.Traces.Properties.All.{has_properties}
 use Rattle.qrules.specs.Facts.{is_blocked}
 use Rattle.qrules.specs.Lawful.{facts_of, IsLawful}
-use Rattle.qrules.specs.Outcome.{Answers}
 use Rattle.qrules.specs.Past.{was_done}
 use Rattle.qrules.specs.Properties.{HasProperties}
-use Rattle.qrules.specs.Rules.Held.{info_of}
-use Rattle.qrules.proofs.Same.{AreOfRoster}
 use Rattle.qrules.specs.Trace.{followed_by, Event, Trace}
-use Rattle.qrules.proofs.Lawful.{of_roster, same_lawful}
-use Rattle.qrules.proofs.Outcomes.{same_answers}
-use Rattle.qrules.proofs.Past.Facts.{facts_known}
-use Rattle.qrules.proofs.Rows.Held.{info_same}
 use Rattle.qstate.specs.Kept.{members_of}
 use Rattle.qkernel.specs.Kernel.{State}
 use Rattle.qkernel.specs.Stands.{StandsAt}
@@ -30,23 +17,11 @@ use Rattle.qkernel.specs.Stands.{StandsAt}
 -- ---- a past
 
 module _ (roster : List Member) (past : Trace) (lawful : IsLawful roster past) where
-  of : AreOfRoster roster past
-  of = of_roster roster past lawful
-
-  pub before : old_lawful.IsLawful roster past
-  before = (same_lawful roster past).0 lawful
-
   pub blocked_same : (t : ℕ) → is_blocked (facts_of roster past) t ≡ is_some (open_call roster past t)
   blocked_same t = refl
 
-  pub answers_before : (t : ℕ) (c : Call) (X : List Completion) → Answers (facts_of roster past) t c X → old_answer.Answers (old_lawful.facts_of roster past) t c X
-  answers_before t c X a = (same_answers (old_lawful.facts_of roster past) t c (facts_known roster past of) X).0 a
-
-  pub info_before : (i : ℕ) → info_of (facts_of roster past) i ≡ old_info.info_of (old_lawful.facts_of roster past) (sender (old_lawful.facts_of roster past) i)
-  info_before i = info_same (old_lawful.facts_of roster past) i (facts_known roster past of)
-
   pub properties_of : IsRoster roster → HasProperties roster past
-  properties_of rises = has_properties roster past rises before
+  properties_of rises = has_properties roster past rises lawful
 
 pub followed_push : (past : Trace) (events : List Event) (e : Event) → followed_by past (events ++ e ∷ []) ≡ e ∷ followed_by past events
 followed_push past [] e = refl

@@ -4,10 +4,10 @@ use Rattle.qrules.specs.Words.{[], false, is_some, member_at, true}
 use Rattle.qrules.specs.Words.{Call, Completion, Errno, Info, List, Member, Option}
 use Rattle.qrules.specs.Words.mark
 use Rattle.qbase.specs.declared.errno.Errno.TheVariants.{Exhausted, NoThread}
+use Rattle.qrules.specs.Facts.{sender}
 use Rattle.qrules.specs.Lawful.{facts_of, IsLawful}
 use Rattle.qrules.specs.Outcome.{Answers}
 use Rattle.qrules.specs.Rule.{buffer_of, own_ending}
-use Rattle.qrules.specs.Rules.{effect_of}
 use Rattle.qrules.specs.Rules.Held.{info_of}
 use Rattle.qrules.specs.Trace.{ReceiveId, ThreadNo, Trace}
 use Rattle.qstate.specs.Kept.{members_of}
@@ -28,12 +28,13 @@ AnswersAtTraces old t c endings new =
 -- at every trace at which the kernel stands, this is what an Info of message i would return
 abbrev pub InfoAtTraces : State → ReceiveId → Option Info → Type 0
 InfoAtTraces s i info =
-    (roster : List Member) (past : Trace) → StandsAt roster s past → info ≡ info_of (facts_of roster past) i
+    (roster : List Member) (past : Trace) → StandsAt roster s past
+    → info ≡ info_of (facts_of roster past) (sender (facts_of roster past) i)
 
 -- a refused call, whose only ending is its own failure, changes nothing but the number of calls made
 abbrev pub LeavesIfRefused : State → ThreadNo → Call → List Completion → State → Type 0
 LeavesIfRefused old t c endings new = (e : Errno)
-    → endings ≡ own_ending (facts_in old) t (mark.Failed e) (buffer_of (effect_of c)) ∷ []
+    → endings ≡ own_ending (facts_in old) t (mark.Failed e) (buffer_of c) ∷ []
     → facts_in new ≡ record (facts_in old) { number = (facts_in old).number + 1 }
 
 -- the error of a call that is no event: its thread isn't in the roster, or else the kernel has made all the

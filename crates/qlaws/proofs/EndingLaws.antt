@@ -4,18 +4,17 @@ use Rattle.std.specs.Prelude.{None, Some, option_map, ◌&&◌, ◌||◌}
 use Rattle.std.specs.List.{AllByRecursion, cons_option, filter_map, list_any}
 use Rattle.qbase.proofs.Lists.{all_more, none_of, eqb_same}
 use Rattle.qtables.specs.declared.member.Member.{Member}
-use Rattle.qrules.specs.Private.Lawful as old
-use Rattle.qrules.specs.Private.Past.{open_call, has_ending_of, is_accepted, is_ended, item_of, items}
+use Rattle.qrules.proofs.Words.Lawful as old
+use Rattle.qrules.proofs.Words.Past.{has_ending_of, is_accepted, is_ended, item_of, items}
 use Rattle.qmodel.specs.Trace.{Trace, SentItem, Event}
 use Rattle.qmodel.specs.declared.call.Completion.{Completion}
 use Rattle.qrules.proofs.Traces.TraceLaws.Blocked as blocked
-use Rattle.qrules.proofs.Outcomes.{same_buffer}
 use Rattle.qrules.proofs.Traces.TraceLaws.Ending.{ending_thread, endings_name_own_calls as names}
 use Rattle.qrules.proofs.Traces.TraceLaws.Lengths.{endings_keep_length as keep_length}
 use Rattle.qrules.proofs.Traces.TraceLaws.Refused.{only_counted}
 use Rattle.qrules.proofs.Traces.TraceLaws.Held.{taken_stands}
 use Rattle.qlaws.proofs.OpenCallLaws.{open_is_unended}
-use Rattle.qrules.specs.Private.Facts.{buffer_of_open, threads_of}
+use Rattle.qrules.proofs.Words.Facts.{threads_of}
 use Rattle.qrules.specs.Past.{waiter}
 use Rattle.qrules.proofs.Traces.Past.Waits.{may_wait, waits_or_ends}
 use Rattle.qrules.proofs.Traces.Past.Follows.{past_follows}
@@ -23,8 +22,8 @@ use Rattle.qrules.proofs.Traces.Past.Ends.{accepted, ended_below, ends_own, laws
 use Rattle.qrules.proofs.Traces.Properties.ShutForGood.{shut_for_good}
 use Rattle.qrules.proofs.Traces.Properties.Sends.{made_newest}
 use Rattle.qrules.proofs.Traces.Rosters.{Rises, rises}
-use Rattle.qrules.specs.Private.Answer.{ending}
-use Rattle.qrules.specs.Private.Calls.{row_of}
+use Rattle.qrules.specs.Outcome.{ending}
+use Rattle.qrules.specs.Rules.{row_of}
 use Rattle.qrules.specs.Trace.{RiseByThread}
 use Rattle.std.specs.Option.{option_map, option_to_list}
 use Rattle.std.proofs.lemmas.Bool.{eq-eqb, and_from, true≢false, or_parts}
@@ -36,12 +35,11 @@ use Rattle.qrules.proofs.Traces.Past.Items.{item_at}
 use Rattle.qrules.proofs.Traces.Properties.BestFirst.{best_first}
 use Rattle.qrules.proofs.Traces.Properties.Connections.{item_over}
 use Rattle.qlaws.specs.Endings
-use Rattle.qlaws.proofs.Waits.{before}
 
 -- ---- whose they are
 
 pub endings_name_own_calls : Endings.EndingsNameOwnCalls
-endings_name_own_calls roster past e r l = names roster past e r (before roster (e ∷ past) l)
+endings_name_own_calls roster past e r l = names roster past e r l
 
 -- what is given to threads above n is of threads above n
 given_above : (g : ℕ → Option Completion) (n : ℕ) (ts : List ℕ) → ((u : ℕ) (y : Completion) → g u ≡ Some y → y.thread ≡ u) → AllByRecursion (λ u. n < u) ts → AllByRecursion (λ y. n < y.thread) (filter_map g ts)
@@ -62,25 +60,25 @@ given_rise g (u ∷ ts) names r =
 
 pub endings_rise_by_thread : Endings.EndingsRiseByThread
 endings_rise_by_thread roster past e r lawful =
-    let l = before roster (e ∷ past) lawful in
+    let l = lawful in
     let f = old.facts_of roster past in
-    elim (l.2) [
+    elim (l.1.1) [
       | inl a ↦ subst RiseByThread (sym a.1) (given_rise (ending f e.thread e.call) (threads_of roster) (ending_thread f e.thread e.call (laws_of f e.thread e.call e.endings a)) (rises roster r))
       | inr a ↦ subst RiseByThread (sym a.2) (tt, tt)
     ]
 
 pub endings_are_apart : Endings.EndingsAreApart
-endings_are_apart roster past e r l = blocked.endings_are_apart roster past e r (before roster (e ∷ past) l)
+endings_are_apart roster past e r l = blocked.endings_are_apart roster past e r l
 
 pub endings_go_to_blocked : Endings.EndingsGoToBlocked
 endings_go_to_blocked roster past e r l =
-    all_more _ _ e.endings (blocked.endings_go_to_blocked roster past e r (before roster (e ∷ past) l)) (λ x to. (to.known, to.may))
+    all_more _ _ e.endings (blocked.endings_go_to_blocked roster past e r l) (λ x to. (to.known, to.may))
 
 -- ---- who waits afterwards
 
 pub blocked_unless_ended : Endings.BlockedUnlessEnded
 blocked_unless_ended roster past e r l idle u =
-    blocked.blocked_unless_ended roster past e r (before roster (e ∷ past) l) idle u
+    blocked.blocked_unless_ended roster past e r l idle u
 
 -- a call that doesn't end in its own event is accepted, and may wait
 record Waits (e : Event) (past : Trace) : Type 0 where
@@ -90,9 +88,9 @@ record Waits (e : Event) (past : Trace) : Type 0 where
 waits : (roster : List Member) (past : Trace) (e : Event) → old.IsLawful roster (e ∷ past) → has_ending_of e.endings (length past + 1) ≡ false → Waits e past
 waits roster past e l none =
     let f = old.facts_of roster past in
-    elim (l.2) [
+    elim (l.1.1) [
       | inl a ↦
-          let own = none_of (row_of f e.thread e.call).own (sym (ends_own roster past e.thread e.call e.endings l.1 a) ∙ none) in
+          let own = none_of (row_of f e.thread e.call).own (sym (ends_own roster past e.thread e.call e.endings l.1.0 a) ∙ none) in
           let may : may_wait e.call ≡ true = waits_or_ends f e.thread e.call (passes_of f e.thread e.call e.endings a) own in
           record { accepted = rw (accepted roster past e.thread e.call e.endings a) refl; waits = rw may refl }
       | inr a ↦
@@ -101,7 +99,7 @@ waits roster past e l none =
     ]
 
 pub ends_or_waits : Endings.EndsOrWaits
-ends_or_waits roster past e r lawful = let l = before roster (e ∷ past) lawful in (
+ends_or_waits roster past e r lawful = let l = lawful in (
   λ none.
       let w = waits roster past e l none in
       let going : is_ended (e ∷ past) (length past + 1) ≡ false = rw (none, ended_below roster past (length past + 1) l.0 (omega arith)) refl in
@@ -112,14 +110,13 @@ ends_or_waits roster past e r lawful = let l = before roster (e ∷ past) lawful
 )
 
 pub caller_gets_its_own : Endings.CallerGetsItsOwn
-caller_gets_its_own roster past e r l = blocked.caller_gets_its_own roster past e r (before roster (e ∷ past) l)
+caller_gets_its_own roster past e r l = blocked.caller_gets_its_own roster past e r l
 
 -- ---- their buffers
 
 pub endings_keep_length : Endings.EndingsKeepLength
 endings_keep_length roster past e r l =
-    all_more _ _ e.endings (keep_length roster past e r (before roster (e ∷ past) l)) (λ x same.
-    same ∙ ap (λ b. length (cond (eqb x.thread e.thread) b (buffer_of_open (open_call roster past x.thread)))) (sym (same_buffer e.call)))
+    all_more _ _ e.endings (keep_length roster past e r l) (λ x same. same)
 
 -- ---- what they receive
 
@@ -148,7 +145,7 @@ was_sent roster past e x i k =
 
 pub received_was_sent : Endings.ReceivedWasSent
 received_was_sent roster past e r l =
-    all_more (λ x. (i : ℕ) → number_received x ≡ Some i → TakesBest roster past e x i) (λ x. (i : ℕ) → number_received x ≡ Some i → Endings.WasSent roster (e ∷ past) x i) e.endings (best_first roster (e ∷ past) r (before roster (e ∷ past) l)).1
+    all_more (λ x. (i : ℕ) → number_received x ≡ Some i → TakesBest roster past e x i) (λ x. (i : ℕ) → number_received x ≡ Some i → Endings.WasSent roster (e ∷ past) x i) e.endings (best_first roster (e ∷ past) r l).1
     (λ x h i is. was_sent roster past e x i (h i is))
 
 all_for : {X : Type 0} (Q : ℕ → Type 0) (P : ℕ → X → ℕ → Type 0) (xs : List X) → ((h : ℕ) → Q h → AllByRecursion (λ x. (i : ℕ) → P h x i) xs) → AllByRecursion (λ x. (h i : ℕ) → Q h → P h x i) xs
@@ -156,14 +153,14 @@ all_for Q P [] f = tt
 all_for Q P (x ∷ xs) f = (λ h i q. (f h q).0 i, all_for Q P xs (λ h q. (f h q).1))
 
 pub nothing_from_destroyed : Endings.NothingFromDestroyed
-nothing_from_destroyed roster past e r l = all_for _ _ e.endings (λ h closed. ((shut_for_good roster (e ∷ past) r (before roster (e ∷ past) l)).1 h closed).none_received)
+nothing_from_destroyed roster past e r l = all_for _ _ e.endings (λ h closed. ((shut_for_good roster (e ∷ past) r l).1 h closed).none_received)
 
 -- ---- refusals
 
 pub refused_changes_nothing : Endings.RefusedChangesNothing
 refused_changes_nothing roster past e r lawful is =
-    let l = before roster (e ∷ past) lawful in
-    elim (l.2) [
+    let l = lawful in
+    elim (l.1.1) [
       | inl a ↦ absurd (true≢false (sym (ap not (accepted roster past e.thread e.call e.endings a)) ∙ is))
-      | inr a ↦ only_counted _ _ e.thread e.call (past_follows false roster past e.thread e.call e.endings r l.0 l.1 a)
+      | inr a ↦ only_counted _ _ e.thread e.call (past_follows false roster past e.thread e.call e.endings r l.0 l.1.0 a)
     ]

@@ -1,4 +1,5 @@
 -- The laws of ids: of the channels that are open, and of the connections that are live.
+use Rattle.qrules.proofs.Traces.Rows.{answer_same, pulse_same, sent_same, unblocked_same}
 use Rattle.std.proofs.Common.{◌≡◌, ◌∙◌, ◌<◌, ◌≤◌, ◌+◌, ◌++◌, ℕ, List, [], ◌∷◌, length, refl, ap, sym, subst, cond, arith, eqb, Bool, true, false, inl, inr}
 use Rattle.std.specs.Prelude.{pos, Option, None, Some, is_some, nat_lt, option_map}
 use Rattle.std.specs.List.{AllByRecursion}
@@ -15,23 +16,24 @@ use Rattle.qqueue.specs.declared.item.Kind.{Kind}
 use Rattle.qqueue.specs.declared.item.Kind.TheVariants.{Any, PulseOnly}
 use Rattle.qtables.specs.Members.{IsRoster, member_at}
 use Rattle.qtables.specs.declared.member.Member.{Member}
-use Rattle.qrules.specs.Private.Answer.{ending, Answers}
-use Rattle.qrules.specs.Private.Calls.{row_of}
-use Rattle.qrules.specs.Private.Calls.ConnectDetach as connect_detach
-use Rattle.qrules.specs.Private.Calls.Error.{error_finish}
-use Rattle.qrules.specs.Private.Calls.Info.{info_of, info_ending}
-use Rattle.qrules.specs.Private.Calls.Pulse as pulse
-use Rattle.qrules.specs.Private.Calls.Reply.{reply_finish}
-use Rattle.qrules.specs.Private.Calls.Send.{item}
-use Rattle.qrules.specs.Private.Calls.Unblock as unblock
-use Rattle.qrules.specs.Private.Cancelling.{is_on}
-use Rattle.qrules.specs.Private.Effects.{attaches, creates, detaches}
-use Rattle.qrules.specs.Private.Facts.{count_to, is_of_process, message, route, sender, threads_of, Facts}
-use Rattle.qrules.specs.Private.Lawful as old
-use Rattle.qrules.specs.Private.Past as past_of
-use Rattle.qrules.specs.Private.Pulses.{refusal_if_full_for}
-use Rattle.qrules.specs.Private.Rows.{names}
-use Rattle.qrules.specs.Private.Step.{one_for}
+use Rattle.qrules.specs.Outcome.{ending, Answers}
+use Rattle.qrules.specs.Rules.{row_of}
+use Rattle.qrules.specs.Rules.Connections as connect_detach
+use Rattle.qrules.proofs.Traces.Parts.{error_finish}
+use Rattle.qrules.specs.Rules.Held.{info_of}
+use Rattle.qrules.proofs.Words.Items.{info_ending}
+use Rattle.qrules.specs.Rules.Pulse as pulse
+use Rattle.qrules.proofs.Traces.Parts.{reply_finish}
+use Rattle.qrules.proofs.Words.Items.{message_item}
+use Rattle.qrules.specs.Rules.Unblock as unblock
+use Rattle.qrules.specs.Delivery.{is_on}
+use Rattle.qrules.proofs.Words.Effects.{attaches, creates, detaches}
+use Rattle.qrules.proofs.Words.Facts.{count_to, is_of_process, message, route, sender, threads_of, Facts}
+use Rattle.qrules.proofs.Words.Lawful as old
+use Rattle.qrules.proofs.Words.Past as past_of
+use Rattle.qrules.specs.Delivery.{refusal_if_full_for}
+use Rattle.qrules.proofs.Words.Items.{names}
+use Rattle.qrules.proofs.Words.Step.{one_for}
 use Rattle.qmodel.specs.Trace.{Event, Trace}
 use Rattle.qmodel.specs.declared.call.Call.{Call}
 use Rattle.qmodel.specs.declared.call.Call.TheVariants as calls
@@ -58,7 +60,6 @@ use Rattle.qrules.specs.Past.{attached_connection, channel_at, connection_at, cr
 use Rattle.qrules.specs.Rule.{Effect}
 use Rattle.qrules.specs.Trace.{endings_of}
 use Rattle.qlaws.specs.Ids as laws
-use Rattle.qlaws.proofs.Waits.{before}
 
 -- ---- how many there are
 
@@ -92,13 +93,13 @@ are_few roster [] r l = (omega arith, omega arith)
 are_few roster (e ∷ past) r l =
     let f = old.facts_of roster past in
     let few = are_few roster past r l.0 in
-    elim (l.2) [
+    elim (l.1.1) [
       | inl a ↦
-          let k = past_follows true roster past e.thread e.call e.endings r l.0 l.1 a in
+          let k = past_follows true roster past e.thread e.call e.endings r l.0 l.1.0 a in
           let left = room f e.thread (member_at roster e.thread) e.call (passes_of f e.thread e.call e.endings a).row few in
           (stays_few _ _ _ _ 64 k.open_channels left.0, stays_few _ _ _ _ 1024 k.live_connections left.1)
       | inr a ↦
-          let k = past_follows false roster past e.thread e.call e.endings r l.0 l.1 a in
+          let k = past_follows false roster past e.thread e.call e.endings r l.0 l.1.0 a in
           (stays_few _ 0 _ 0 64 k.open_channels (omega (arith, few.0)), stays_few _ 0 _ 0 1024 k.live_connections (omega (arith, few.1)))
     ]
 
@@ -130,11 +131,11 @@ module _ {A : Type 0} where
 
 pub channels_are_limited : laws.ChannelsAreLimited
 channels_are_limited roster past r l =
-    at_most roster creates (λ f. f.destroys) past 64 (are_few roster past r (before roster past l)).0
+    at_most roster creates (λ f. f.destroys) past 64 (are_few roster past r l).0
 
 pub connections_are_limited : laws.ConnectionsAreLimited
 connections_are_limited roster past r l =
-    at_most roster attaches (λ f. f.detaches) past 1024 (are_few roster past r (before roster past l)).1
+    at_most roster attaches (λ f. f.detaches) past 1024 (are_few roster past r l).1
 
 -- ---- an id that an ending gives is the number of its call
 
@@ -158,21 +159,21 @@ module _ (i : ℕ) {P : Type 0} where
   told_no_id n t None y e is = absurd (none-some y e)
   told_no_id n t (Some told) y e is = no_id _ y (same_Some _ y e) refl is
 
-  ends_no_id : (f : Facts) (t : ℕ) (c : Call) (u : ℕ) (y : Completion) → Passes f t c → (row_of f t c).ends u ≡ Some y → id_in y.mark ≡ Some i → P
-  ends_no_id f t (calls.Send coid message reply_buffer) u y p e is = met_no_id f (route f t coid) (item f t) message u y (delivery_meets f (route f t coid) (item f t) message u y e) is
-  ends_no_id f t (calls.Pulse coid level code value) u y p e is = let k = told_meets f (pulse.sent_pulse f coid level code value) u y e in met_no_id f (Some k.made.channel) k.made.item [] u y k.delivers is
-  ends_no_id f t (calls.Reply rcvid status bytes) u y p e is = no_id _ y (sender_ends f t rcvid (reply_finish status bytes) u y p.row e).ending refl is
+  ends_no_id : (f : Facts) (t : ℕ) (c : Call) (u : ℕ) (y : Completion) → Passes f t c → (row_of f t c).others u ≡ Some y → id_in y.mark ≡ Some i → P
+  ends_no_id f t (calls.Send coid message reply_buffer) u y p e is = met_no_id f (route f t coid) (message_item f t) message u y (delivery_meets f (route f t coid) (message_item f t) message u y (sym (sent_same f t coid message reply_buffer u p.row) ∙ e)) is
+  ends_no_id f t (calls.Pulse coid level code value) u y p e is = let k = told_meets f (pulse.pulse_over f coid level code value) u y (sym (pulse_same f (pulse.pulse_over f coid level code value) u) ∙ e) in met_no_id f (Some k.made.channel) k.made.item [] u y k.delivers is
+  ends_no_id f t (calls.Reply rcvid status bytes) u y p e is = no_id _ y (sender_ends f t rcvid (reply_finish status bytes) u y p.row (sym (answer_same f (reply_finish status bytes) (sender f rcvid) u) ∙ e)).ending refl is
   ends_no_id f t (calls.Error rcvid code) u y p e is =
-      no_id _ y (sender_ends f t rcvid (error_finish code) u y p.row e).ending (elim (int_eq code (pos 0)) as (λ b. id_in (cond b (mark.Replied (pos 0) 0) (mark.Errored code)) ≡ None) [ true ↦ refl | false ↦ refl ]) is
+      no_id _ y (sender_ends f t rcvid (error_finish code) u y p.row (sym (answer_same f (error_finish code) (sender f rcvid) u) ∙ e)).ending (elim (int_eq code (pos 0)) as (λ b. id_in (cond b (mark.Replied (pos 0) 0) (mark.Errored code)) ≡ None) [ true ↦ refl | false ↦ refl ]) is
   ends_no_id f t (calls.ChannelDestroy chid) u y p e is = no_id _ y (cancel_parts (is_on chid) Srch u (f.open_call u) y e).ending refl is
   ends_no_id f t calls.Shutdown u y p e is = no_id _ y (cancel_parts (λ wait. true) Srch u (f.open_call u) y e).ending refl is
-  ends_no_id f t (calls.Unblock thread) u y p e is = elim (unblock_ends f thread u y (unblock.due_pulse f thread) e) [
+  ends_no_id f t (calls.Unblock thread) u y p e is = elim (unblock_ends f thread u y (unblock.unblock_pulse f thread) (sym (unblocked_same f t thread u) ∙ e)) [
     | inl cancel ↦ no_id _ y cancel.ending refl is
     | inr k ↦ met_no_id f (Some k.made.channel) k.made.item [] u y k.delivers is
   ]
-  ends_no_id f t (calls.ConnectDetach coid) u y p e is = elim (detach_ends f coid (connect_detach.due_pulse f t coid) u y e) [
+  ends_no_id f t (calls.ConnectDetach coid) u y p e is = elim (detach_ends f coid (connect_detach.disconnect_pulse f t coid) u y e) [
     | inl cancel ↦ no_id _ y cancel.ending refl is
-    | inr s ↦ let k = told_meets f (connect_detach.due_pulse f t coid) u y s in met_no_id f (Some k.made.channel) k.made.item [] u y k.delivers is
+    | inr s ↦ let k = told_meets f (connect_detach.disconnect_pulse f t coid) u y s in met_no_id f (Some k.made.channel) k.made.item [] u y k.delivers is
   ]
   ends_no_id f t c u y p e is = absurd (none-some y e)
 
@@ -197,7 +198,7 @@ never_given : (roster : List Member) (past later : Trace) (i : ℕ) → i ≤ le
 never_given roster past [] i below l = tt
 never_given roster past (e ∷ later) i below l =
     all_append _ e.endings (endings_of later)
-    (all_more _ _ e.endings (ids_given (old.facts_of roster (later ++ past)) e.thread e.call e.endings i l.2) (λ x number id.
+    (all_more _ _ e.endings (ids_given (old.facts_of roster (later ++ past)) e.thread e.call e.endings i l.1.1) (λ x number id.
     let same : length (later ++ past) + 1 ≡ i = number id in omega (arith, below, length-append later past)))
     (never_given roster past later i below l.0)
 
@@ -212,7 +213,7 @@ still_done is past (e ∷ later) done =
 detaches_live : (f : Facts) (t : ℕ) (c : Call) (k : ℕ) → (row_of f t c).refusal ≡ None → names (detaches c) k ≡ true → is_some (f.connection k) ≡ true
 detaches_live f t (calls.ConnectDetach coid) k r e =
     subst (λ j. is_some (f.connection j) ≡ true) (eqb-true coid k e)
-    (elim (f.connection coid) as (λ o. cond (option_map_or (λ c. is_of_process f t c.process) o false) (refusal_if_full_for f (connect_detach.due_pulse f t coid)) (Some Inval) ≡ None → is_some o ≡ true) [
+    (elim (f.connection coid) as (λ o. cond (option_map_or (λ c. is_of_process f t c.process) o false) (refusal_if_full_for f (connect_detach.disconnect_pulse f t coid)) (Some Inval) ≡ None → is_some o ≡ true) [
       | None ↦ λ s. absurd (none-some Inval (sym s))
       | Some c ↦ λ s. refl
     ] r)
@@ -229,7 +230,7 @@ lawful_before roster past (e ∷ later) l = lawful_before roster past later l.0
 
 never_again : (roster : List Member) (past later after : Trace) (i : ℕ) (given : Mark) → IsLawful roster after → after ≡ later ++ past → (old.IsLawful roster past → i ≤ length past) → id_in given ≡ Some i → AllByRecursion (λ x. x.mark ≡ given → ⊥) (endings_of later)
 never_again roster past later after i given l is below id =
-    let lawful : old.IsLawful roster (later ++ past) = subst (old.IsLawful roster) is (before roster after l) in
+    let lawful : old.IsLawful roster (later ++ past) = subst (old.IsLawful roster) is l in
     all_more _ _ (endings_of later) (never_given roster past later i (below (lawful_before roster past later lawful)) lawful) (λ x none same. none (ap id_in same ∙ id))
 
 pub destroyed_stays_destroyed : laws.DestroyedStaysDestroyed

@@ -1,5 +1,6 @@
 pub mod Lists
 pub mod Waits
+pub mod Newest
 pub mod OpenCallLaws
 pub mod EndingLaws
 pub mod PendingLaws

@@ -1,6 +1,6 @@
 -- No more than 1,024 pulses are pending on a channel.
 use Rattle.std.proofs.Common.{◌≡◌, ◌∙◌, ℕ, ◌+◌, ◌≤◌, ◌<◌, List, [], ◌∷◌, ◌++◌, refl, ap, sym, subst, cond, arith, eqb, true, false, inl, inr}
-use Rattle.std.specs.Prelude.{ℤ, Option, None, Some, nat_lt, not}
+use Rattle.std.specs.Prelude.{ℤ, Option, None, Some, int_lt, nat_lt, not, pos}
 use Rattle.std.proofs.lemmas.Bool.{eqb-true, ltb-true}
 use Rattle.std.proofs.lemmas.List.{append-nil}
 use Rattle.std.proofs.lemmas.List.Sums.{sum_by-append, sum_by-cons}
@@ -9,24 +9,23 @@ use Rattle.qbase.specs.declared.errno.Errno.TheVariants.{Again, Badf, Inval}
 use Rattle.qqueue.specs.Best.{is_pulse, without_item}
 use Rattle.qqueue.specs.declared.item.Item.{Item}
 use Rattle.qtables.specs.declared.connection.Connection.{Connection}
-use Rattle.qrules.specs.Private.Calls.Pulse.{is_negative}
 use Rattle.qrules.proofs.Traces.Parts.{refusal_on}
-use Rattle.qrules.specs.Private.Calls.ConnectDetach as connect_detach
-use Rattle.qrules.specs.Private.Calls.Unblock as unblock
-use Rattle.qrules.specs.Private.Pulses.{refusal_if_full, refusal_if_full_for, pulses_among}
-use Rattle.qrules.specs.Private.Facts.{Facts, route}
+use Rattle.qrules.specs.Rules.Connections as connect_detach
+use Rattle.qrules.specs.Rules.Unblock as unblock
+use Rattle.qrules.specs.Delivery.{refusal_if_full, refusal_if_full_for}
+use Rattle.qrules.specs.Records.{pulses_among}
+use Rattle.qrules.proofs.Words.Facts.{Facts, route}
 use Rattle.qtables.specs.Members.{IsRoster}
 use Rattle.qtables.specs.declared.member.Member.{Member}
 use Rattle.qmodel.specs.Trace.{Trace, SentItem}
 use Rattle.qlaws.specs.Pending as laws
 use Rattle.qlaws.proofs.Lists.{fewer_left}
-use Rattle.qlaws.proofs.Waits.{before}
-use Rattle.qrules.specs.Private.Lawful.{facts_of, IsLawful}
-use Rattle.qrules.specs.Private.Past.{pending_items, made_on}
-use Rattle.qrules.specs.Private.Effects.{closes, makes, sets}
-use Rattle.qrules.specs.Private.Rows.{Received, message_item, names, pulse_item, item_sent_over}
-use Rattle.qrules.specs.Private.Step.{is_cancelled, uncut_items, items_with_priority_set, pending_after, unreceived_items}
-use Rattle.qrules.specs.Private.Calls.{row_of}
+use Rattle.qrules.proofs.Words.Lawful.{facts_of, IsLawful}
+use Rattle.qrules.proofs.Words.Past.{pending_items, made_on}
+use Rattle.qrules.proofs.Words.Effects.{closes, makes, sets}
+use Rattle.qrules.proofs.Words.Items.{Received, message_numbered, names, pulse_item, item_sent_over}
+use Rattle.qrules.proofs.Words.Step.{is_cancelled, uncut_items, items_with_priority_set, pending_after, unreceived_items}
+use Rattle.qrules.proofs.Words.Items.{receipt_of}
 use Rattle.qmodel.specs.declared.call.Call.{Call}
 use Rattle.qmodel.specs.declared.call.Call.TheVariants.{Send, Pulse, Unblock, ConnectDetach}
 use Rattle.qrules.proofs.Traces.Past.Ends.{passes_of}
@@ -37,7 +36,6 @@ use Rattle.qrules.proofs.Traces.Calls.Delivering.{sent_way}
 use Rattle.qrules.proofs.Traces.Calls.ConnectDetach as detaching
 use Rattle.qrules.proofs.Traces.Calls.Unblock as unblocking
 use Rattle.qrules.specs.Rule.{PriorityChange}
-use Rattle.qrules.proofs.Traces.Due.{unblock_same}
 
 -- ---- counts
 
@@ -73,11 +71,11 @@ nothing_more : (items : List Item) → pulses_among items ≤ 1024 → pulses_am
 nothing_more items few = subst (λ l. pulses_among l ≤ 1024) (sym (append-nil items)) few
 
 -- a message adds no pulse
-message_more : (h n priority : ℕ) (o : Option Connection) (items : List Item) → pulses_among items ≤ 1024 → pulses_among (items ++ made_on h (item_sent_over o (message_item n priority))) ≤ 1024
+message_more : (h n priority : ℕ) (o : Option Connection) (items : List Item) → pulses_among items ≤ 1024 → pulses_among (items ++ made_on h (item_sent_over o (message_numbered n priority))) ≤ 1024
 message_more h n priority None items few = nothing_more items few
 message_more h n priority (Some c) items few =
-    elim (eqb c.channel h) as (λ b. pulses_among (items ++ cond b (message_item n priority ∷ []) []) ≤ 1024) [
-      | true ↦ subst (λ k. k ≤ 1024) (sym (more_message items (message_item n priority) refl)) few
+    elim (eqb c.channel h) as (λ b. pulses_among (items ++ cond b (message_numbered n priority ∷ []) []) ≤ 1024) [
+      | true ↦ subst (λ k. k ≤ 1024) (sym (more_message items (message_numbered n priority) refl)) few
       | false ↦ nothing_more items few
     ]
 
@@ -93,7 +91,7 @@ room_left f h r =
 finds_room : (f : Facts) (code : ℤ) (o : Option ℕ) → refusal_on f code o ≡ None → (h : ℕ) × (o ≡ Some h) × (refusal_if_full f h ≡ None)
 finds_room f code None r = absurd (none-some Badf (sym r))
 finds_room f code (Some h) r =
-    elim (is_negative code) as (λ b. cond b (Some Inval) (refusal_if_full f h) ≡ None → (k : ℕ) × (Some h ≡ Some k) × (refusal_if_full f k ≡ None)) [
+    elim (int_lt code (pos 0)) as (λ b. cond b (Some Inval) (refusal_if_full f h) ≡ None → (k : ℕ) × (Some h ≡ Some k) × (refusal_if_full f k ≡ None)) [
       | true ↦ λ s. absurd (none-some Inval (sym s))
       | false ↦ λ s. (h, refl, s)
     ] r
@@ -118,10 +116,9 @@ due_more f h items (Some m) pulse r less few = pulse_more f h items m (pulse m r
 limited : (f : Facts) (t : ℕ) (c : Call) (h : ℕ) → Passes f t c → (items : List Item) → pulses_among items ≤ pulses_among (f.pending h) → pulses_among (f.pending h) ≤ 1024
     → pulses_among (items ++ made_on h (makes f t c)) ≤ 1024
 limited f t (Unblock thread) h p items less few =
-    subst (λ o. pulses_among (items ++ made_on h o) ≤ 1024) (sym (unblock_same f thread))
-    (due_more f h items (unblock.due_pulse f thread) (unblocking.due_is_pulse f thread) (unblocking.fellow_passes f t thread p.row) less few)
+    (due_more f h items (unblock.unblock_pulse f thread) (unblocking.due_is_pulse f thread) (unblocking.fellow_passes f t thread p.row) less few)
 limited f t (ConnectDetach coid) h p items less few =
-    due_more f h items (connect_detach.due_pulse f t coid) (detaching.due_is_pulse f t coid) (detaching.own_passes f t coid p.row) less few
+    due_more f h items (connect_detach.disconnect_pulse f t coid) (detaching.due_is_pulse f t coid) (detaching.own_passes f t coid p.row) less few
 limited f t (Send coid message reply_buffer) h p items less few = message_more h f.number (f.priority t) (f.connection coid) items (omega (arith, less, few))
 limited f t (Pulse coid level code value) h p items less few =
     let room = finds_room f code (route f t coid) p.row in
@@ -135,22 +132,22 @@ limited_after f t c h p few =
     let L = uncut_items f t c h (f.pending h ++ M) in
     let made : pulses_among (f.pending h ++ M) ≤ 1024 = limited f t c h p (f.pending h) (omega arith) few in
     let less : pulses_among L ≤ pulses_among (f.pending h ++ M) = fewer_left (λ y. is_pulse y.what) (λ item. not (is_cancelled f t c h item.number)) (f.pending h ++ M) in
-    let out : pulses_among (unreceived_items (row_of f t c).receipt h L) ≤ pulses_among L = fewer_out (row_of f t c).receipt h L in
-    let same : pulses_among (items_with_priority_set f h (sets c) (unreceived_items (row_of f t c).receipt h L)) ≡ pulses_among (unreceived_items (row_of f t c).receipt h L) = same_moved f h (sets c) (unreceived_items (row_of f t c).receipt h L) in
-    elim (names (closes c) h) as (λ b. pulses_among (cond b [] (items_with_priority_set f h (sets c) (unreceived_items (row_of f t c).receipt h L))) ≤ 1024) [ true ↦ omega arith | false ↦ omega (arith, made, less, out, same) ]
+    let out : pulses_among (unreceived_items (receipt_of f t c) h L) ≤ pulses_among L = fewer_out (receipt_of f t c) h L in
+    let same : pulses_among (items_with_priority_set f h (sets c) (unreceived_items (receipt_of f t c) h L)) ≡ pulses_among (unreceived_items (receipt_of f t c) h L) = same_moved f h (sets c) (unreceived_items (receipt_of f t c) h L) in
+    elim (names (closes c) h) as (λ b. pulses_among (cond b [] (items_with_priority_set f h (sets c) (unreceived_items (receipt_of f t c) h L))) ≤ 1024) [ true ↦ omega arith | false ↦ omega (arith, made, less, out, same) ]
 
 limited_on : (roster : List Member) (past : Trace) → IsRoster roster → IsLawful roster past → (h : ℕ) → pulses_among (pending_items roster past h) ≤ 1024
 limited_on roster [] r l h = omega arith
 limited_on roster (e ∷ past) r l h =
     let few : pulses_among (pending_items roster past h) ≤ 1024 = limited_on roster past r l.0 h in
-    elim (l.2) [
+    elim (l.1.1) [
       | inl a ↦
-          let k = past_follows true roster past e.thread e.call e.endings r l.0 l.1 a in
+          let k = past_follows true roster past e.thread e.call e.endings r l.0 l.1.0 a in
           subst (λ items. pulses_among items ≤ 1024) (sym (k.pending h)) (limited_after (facts_of roster past) e.thread e.call h (passes_of (facts_of roster past) e.thread e.call e.endings a) few)
       | inr a ↦
-          let k = past_follows false roster past e.thread e.call e.endings r l.0 l.1 a in
+          let k = past_follows false roster past e.thread e.call e.endings r l.0 l.1.0 a in
           subst (λ items. pulses_among items ≤ 1024) (sym (k.pending h)) few
     ]
 
 pub pulses_are_limited : laws.PulsesAreLimited
-pulses_are_limited roster past r l h = limited_on roster past r (before roster past l) h
+pulses_are_limited roster past r l h = limited_on roster past r l h

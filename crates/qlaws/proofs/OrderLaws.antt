@@ -17,11 +17,10 @@ use Rattle.qrules.specs.Properties.{number_received, takeable, TakesBest}
 use Rattle.qrules.specs.Rule.{ReceiveRequest}
 use Rattle.qlaws.specs.Pending.{FirstGoesFirst, HasPriority, TakesBeside}
 use Rattle.qrules.specs.Lawful.{IsLawful}
-use Rattle.qrules.specs.Private.Lawful as old
+use Rattle.qrules.proofs.Words.Lawful as old
 use Rattle.qtables.specs.Members.{IsRoster}
 use Rattle.qlaws.proofs.Lists.{all_unfilter, all_unmap}
-use Rattle.qlaws.proofs.Waits.{before}
-use Rattle.qrules.specs.Private.Past.{is_destroyed, is_gone, item_of, made_on, pending_items, priority_before}
+use Rattle.qrules.proofs.Words.Past.{is_destroyed, is_gone, item_of, made_on, pending_items, priority_before}
 use Rattle.qmodel.specs.Trace.{SentItem, Event, Trace}
 use Rattle.qmodel.specs.declared.call.Completion.{Completion}
 use Rattle.qbase.proofs.Lists.{all_more, eqb_same}
@@ -156,4 +155,4 @@ goes_first roster past later e r l h =
 pub first_goes_first : FirstGoesFirst
 first_goes_first past roster after e r l later is h =
     subst (λ t. GoesFirst roster past t e h) (sym is)
-    (goes_first roster past later e r (before roster (e ∷ later ++ past) (subst (λ t. IsLawful roster (e ∷ t)) is l)) h)
+    (goes_first roster past later e r (subst (λ t. IsLawful roster (e ∷ t)) is l) h)

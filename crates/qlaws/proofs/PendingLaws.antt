@@ -10,14 +10,13 @@ use Rattle.qmodel.specs.declared.open_call.OpenCall.{OpenCall}
 use Rattle.qmodel.specs.declared.open_call.OpenCall.TheVariants.{Receive, Send}
 use Rattle.qrules.specs.Facts.{send_of}
 use Rattle.qrules.specs.Lawful.{facts_of}
-use Rattle.qrules.specs.Private.Facts.{is_for_receipt}
-use Rattle.qrules.specs.Private.Past.{is_ended, open_call, pending_items, sender_of}
+use Rattle.qrules.specs.Records.{is_for_receipt}
+use Rattle.qrules.proofs.Words.Past.{is_ended, open_call, pending_items, sender_of}
 use Rattle.qrules.proofs.Traces.Past.Cancels.{sent_by}
 use Rattle.qrules.proofs.Traces.Past.Items.{pending_all}
 use Rattle.qrules.proofs.Traces.Past.Open.{open_own}
 use Rattle.qrules.proofs.Traces.Past.Rising.{pending_rises as rises}
 use Rattle.qlaws.specs.Pending as laws
-use Rattle.qlaws.proofs.Waits.{before}
 
 pub pending_rises : laws.PendingRises
 pending_rises roster past r l h = rises roster past h
@@ -41,5 +40,5 @@ unreceived roster past i t (Receive r) sent is number unread = absurd (true≢fa
 pub pending_is_open : laws.PendingIsOpen
 pending_is_open roster past r l h =
     all_more _ _ (pending_items roster past h) (pending_all roster past h) (λ item p message.
-    let s = sent_by roster past h item (before roster past l) p message in
+    let s = sent_by roster past h item l p message in
     unreceived roster past item.number s.sender s.waiting s.sent s.is_open s.number s.unread)

@@ -8,8 +8,8 @@ use Rattle.qqueue.specs.Best.{is_pulse, with_priority}
 use Rattle.qqueue.specs.Order.{comes_before}
 use Rattle.qqueue.specs.declared.item.Item.{Item}
 use Rattle.qtables.specs.declared.member.Member.{Member}
-use Rattle.qrules.specs.Private.Lawful as old
-use Rattle.qrules.specs.Private.Past.{current_priority, is_destroyed, is_gone, is_received, item_of, made_on, pending_items, priority_set_by, sender_of}
+use Rattle.qrules.proofs.Words.Lawful as old
+use Rattle.qrules.proofs.Words.Past.{current_priority, is_destroyed, is_gone, is_received, item_of, made_on, pending_items, priority_set_by, sender_of}
 use Rattle.qmodel.specs.Trace.{Event, SentItem, Trace}
 use Rattle.qrules.proofs.Traces.Past.Cancels.{sent_by}
 use Rattle.qrules.proofs.Traces.Past.CurrentPriority.{now, worth_newest, worth_set}
@@ -17,7 +17,6 @@ use Rattle.qrules.proofs.Traces.Past.Items.{item_below, items_on, made_by, pendi
 use Rattle.qrules.proofs.Traces.Past.Pending.{items_more, stays_gone}
 use Rattle.qlaws.specs.Pending as laws
 use Rattle.qlaws.proofs.Lists.{all_two, all_unfilter, all_unmap, fewer_left}
-use Rattle.qlaws.proofs.Waits.{before}
 
 -- ---- counts
 
@@ -142,4 +141,4 @@ module _ (roster : List Member) (past : Trace) (e : Event) (l : old.IsLawful ros
 
 pub places_fall : laws.PlacesFall
 places_fall roster past e r l h x none =
-    falls roster past e (before roster past l.0) h x none.made none.set
+    falls roster past e l.0 h x none.made none.set

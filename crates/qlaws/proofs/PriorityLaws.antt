@@ -8,18 +8,18 @@ use Rattle.qqueue.specs.Best.{is_pulse}
 use Rattle.qqueue.specs.declared.item.Item.{Item}
 use Rattle.qtables.specs.declared.connection.Connection.{Connection}
 use Rattle.qtables.specs.declared.member.Member.{Member}
-use Rattle.qrules.specs.Private.Answer.{Outcome}
-use Rattle.qrules.specs.Private.Calls.{row_of}
-use Rattle.qrules.specs.Private.Calls.Send.{item as message_of}
-use Rattle.qrules.specs.Private.Effects.{makes, sets, thread_of_send}
-use Rattle.qrules.specs.Private.Facts.{Facts, is_fixed, is_for_receipt}
+use Rattle.qrules.specs.Outcome.{Outcome}
+use Rattle.qrules.proofs.Words.Items.{receipt_of}
+use Rattle.qrules.proofs.Words.Items.{message_item as message_of}
+use Rattle.qrules.proofs.Words.Effects.{makes, sets, thread_of_send}
+use Rattle.qrules.proofs.Words.Facts.{Facts}
+use Rattle.qrules.specs.Records.{is_fixed, is_for_receipt}
 use Rattle.qlaws.specs.Pending as laws
-use Rattle.qlaws.proofs.Waits.{before}
-use Rattle.qrules.specs.Private.Lawful.{IsLawful, facts_of}
-use Rattle.qrules.specs.Private.Past.{is_accepted, is_gone, is_received, item_of, priority_of_thread, sender_of, current_priority}
-use Rattle.qrules.specs.Private.Rows.{Received, item_sent_over, priority_set_for}
+use Rattle.qrules.proofs.Words.Lawful.{IsLawful, facts_of}
+use Rattle.qrules.proofs.Words.Past.{is_accepted, is_gone, is_received, item_of, priority_of_thread, sender_of, current_priority}
+use Rattle.qrules.proofs.Words.Items.{Received, item_sent_over, priority_set_for}
 use Rattle.qmodel.specs.Trace.{SentItem, Trace}
-use Rattle.qrules.specs.Private.Step.{priority_taken}
+use Rattle.qrules.proofs.Words.Step.{priority_taken}
 use Rattle.qmodel.specs.declared.call.Call.{Call}
 use Rattle.qmodel.specs.declared.call.Call.TheVariants.{Send}
 use Rattle.qmodel.specs.declared.call.Completion.{Completion}
@@ -35,9 +35,9 @@ use Rattle.qrules.proofs.Traces.Properties.Events.{is_accepted_by, is_refused_by
 use Rattle.qrules.proofs.Traces.Properties.Receipts.{TakesOne, takes_one, waits_for}
 
 -- a thread that takes nothing takes no priority
-none_taken : (f : Facts) (t : ℕ) (c : Call) (X : List Completion) (u : ℕ) → Outcome true f t c X → ((y : Completion) (i : ℕ) → TakesOne f t c u y i → ⊥) → priority_taken f (row_of f t c).receipt u ≡ None
-none_taken f t c X u a never = by (row_of f t c).receipt refl where
-  by : (o : Option Received) → (row_of f t c).receipt ≡ o → priority_taken f o u ≡ None
+none_taken : (f : Facts) (t : ℕ) (c : Call) (X : List Completion) (u : ℕ) → Outcome true f t c X → ((y : Completion) (i : ℕ) → TakesOne f t c u y i → ⊥) → priority_taken f (receipt_of f t c) u ≡ None
+none_taken f t c X u a never = by (receipt_of f t c) refl where
+  by : (o : Option Received) → (receipt_of f t c) ≡ o → priority_taken f o u ≡ None
   by None is = refl
   by (Some r) is =
       let k = (laws_of f t c X a).receives r is in
@@ -87,9 +87,9 @@ is_senders roster (e ∷ past) l h item t at stays message sent =
           let k = item_accepted roster e past _ here in
           let by : thread_of_send e.thread e.call ≡ Some t =
           ap (λ b. cond b (thread_of_send e.thread e.call) None) (sym k.0) ∙ ap (λ b. cond b (cond (is_accepted e past) (thread_of_send e.thread e.call) None) (sender_of past item.number)) (sym same) ∙ sent in
-          let a : Outcome true (facts_of roster past) e.thread e.call e.endings = outcome_of roster e past l.2 k.0 in
+          let a : Outcome true (facts_of roster past) e.thread e.call e.endings = outcome_of roster e past l.1.1 k.0 in
           let s = sent_as f e.thread e.call t _ by k.1 in
-          let taken : priority_taken (facts_of roster past) (row_of (facts_of roster past) e.thread e.call).receipt e.thread ≡ None =
+          let taken : priority_taken (facts_of roster past) (receipt_of (facts_of roster past) e.thread e.call) e.thread ≡ None =
           none_taken (facts_of roster past) e.thread e.call e.endings e.thread a (λ y i x. elim x [
             | inl p ↦ none-some _ (sym p.makes_none ∙ k.1)
             | inr m ↦ none-some m.waiting (sym (passes_of (facts_of roster past) e.thread e.call e.endings a).idle ∙ m.is_open)
@@ -97,7 +97,7 @@ is_senders roster (e ∷ past) l h item t at stays message sent =
           worth_newest e past item number ∙ s.priority
           ∙ ap (λ o. unwrap_or (option_or (priority_set_for o e.thread) None) (priority_of_thread roster past e.thread)) (sym s.none)
           ∙ ap (λ o. unwrap_or (option_or (priority_set_for (sets e.call) e.thread) o) (priority_of_thread roster past e.thread)) (sym taken)
-          ∙ sym (priority_accepted roster past e.thread e.call e.endings e.thread l.0 l.1 a)
+          ∙ sym (priority_accepted roster past e.thread e.call e.endings e.thread l.0 l.1.0 a)
           ∙ ap (priority_of_thread roster (e ∷ past)) s.same
       | false ↦ λ other.
           let was : item_at roster past item.number ≡ Some (record { item = item; channel = h }) = ap (λ b. cond b (item_of roster e past) (item_at roster past item.number)) (sym other) ∙ at in
@@ -108,9 +108,9 @@ is_senders roster (e ∷ past) l h item t at stays message sent =
           let earlier : current_priority past item ≡ priority_of_thread roster past t = is_senders roster past l.0 h item t was going message by in
           let s = sent_by roster past h item l.0 (standing_is roster past h item was going) message in
           let sender : s.sender ≡ t = same_Some s.sender t (sym s.sent ∙ by) in
-          elim (l.2) as (λ _. current_priority (e ∷ past) item ≡ priority_of_thread roster (e ∷ past) t) [
+          elim (l.1.1) as (λ _. current_priority (e ∷ past) item ≡ priority_of_thread roster (e ∷ past) t) [
             | inl a ↦
-                let taken : priority_taken (facts_of roster past) (row_of (facts_of roster past) e.thread e.call).receipt t ≡ None =
+                let taken : priority_taken (facts_of roster past) (receipt_of (facts_of roster past) e.thread e.call) t ≡ None =
                 none_taken (facts_of roster past) e.thread e.call e.endings t a
                 (sender_takes_none (facts_of roster past) e.thread e.call t s.waiting (passes_of (facts_of roster past) e.thread e.call e.endings a).idle (ap (λ v. (facts_of roster past).open_call v) (sym sender) ∙ s.is_open) s.unread) in
                 worth_set e past item t below message unread by
@@ -118,7 +118,7 @@ is_senders roster (e ∷ past) l h item t at stays message sent =
                 ∙ ap (unwrap_or (priority_set_for (sets e.call) t)) earlier
                 ∙ sym (or_none (priority_set_for (sets e.call) t) (priority_of_thread roster past t))
                 ∙ ap (λ o. unwrap_or (option_or (priority_set_for (sets e.call) t) o) (priority_of_thread roster past t)) (sym taken)
-                ∙ sym (priority_accepted roster past e.thread e.call e.endings t l.0 l.1 a)
+                ∙ sym (priority_accepted roster past e.thread e.call e.endings t l.0 l.1.0 a)
             | inr a ↦
                 worth_stays e past item below (refused_sets_none e past item.number (is_refused_by roster e past a)) ∙ earlier
                 ∙ sym (priority_refused roster past e.thread e.call e.endings t a)
@@ -128,4 +128,4 @@ is_senders roster (e ∷ past) l h item t at stays message sent =
 pub pending_follows_its_sender : laws.PendingFollowsItsSender
 pending_follows_its_sender roster past r l h =
     pending_each (λ item. is_pulse item.what ≡ false → (t : ℕ) → sender_of past item.number ≡ Some t → item.priority ≡ priority_of_thread roster past t) roster past h
-    (λ item at stays message t sent. is_senders roster past (before roster past l) h item t at stays message sent)
+    (λ item at stays message t sent. is_senders roster past l h item t at stays message sent)

@@ -7,14 +7,14 @@ use Rattle.std.proofs.lemmas.Option.{none-some}
 use Rattle.qqueue.specs.Best.{is_pulse, with_priority}
 use Rattle.qqueue.specs.declared.item.Item.{Item}
 use Rattle.qtables.specs.declared.member.Member.{Member}
-use Rattle.qrules.specs.Private.Answer.{Outcome}
-use Rattle.qrules.specs.Private.Lawful.{IsLawful, facts_of}
+use Rattle.qrules.specs.Outcome.{Outcome}
+use Rattle.qrules.proofs.Words.Lawful.{IsLawful, facts_of}
 use Rattle.qlaws.specs.Pending as laws
 use Rattle.qlaws.specs.Pending.{is_message_of}
-use Rattle.qlaws.proofs.Waits.{before}
-use Rattle.qrules.specs.Private.Past.{open_call, pending_items, sender_of}
-use Rattle.qrules.specs.Private.Rows.{names}
-use Rattle.qrules.specs.Private.Step.{items_with_priority_set, pending_after, is_unread_send}
+use Rattle.qrules.proofs.Words.Past.{open_call, pending_items, sender_of}
+use Rattle.qrules.proofs.Words.Items.{names}
+use Rattle.qrules.proofs.Words.Step.{items_with_priority_set, pending_after}
+use Rattle.qrules.specs.Records.{is_unread_send}
 use Rattle.qmodel.specs.Trace.{Trace}
 use Rattle.qmodel.specs.declared.call.Call.TheVariants.{PrioritySet}
 use Rattle.qbase.proofs.Lists.{all_more, eqb_either}
@@ -62,9 +62,9 @@ moves_own roster past t u priority h l =
 
 pub setting_moves_its_own : laws.SettingMovesItsOwn
 setting_moves_its_own roster past e r lawful accepted t priority is h =
-    let l = before roster (e ∷ past) lawful in
-    let a : Outcome true (facts_of roster past) e.thread e.call e.endings = outcome_of roster e past l.2 accepted in
-    (past_follows true roster past e.thread e.call e.endings r l.0 l.1 a).pending h
+    let l = lawful in
+    let a : Outcome true (facts_of roster past) e.thread e.call e.endings = outcome_of roster e past l.1.1 accepted in
+    (past_follows true roster past e.thread e.call e.endings r l.0 l.1.0 a).pending h
     ∙ ap (λ c. pending_after (facts_of roster past) e.thread c h) is
     ∙ moves_own roster past e.thread t priority h l.0
 

@@ -6,10 +6,11 @@ use Rattle.std.proofs.lemmas.Bool.{eqb-true, or_parts, true≢false}
 use Rattle.std.proofs.lemmas.List.Sums.{sum_by-append, sum_by-cons}
 use Rattle.std.proofs.lemmas.Option.{none-some, same_Some}
 use Rattle.qtables.specs.declared.member.Member.{Member}
-use Rattle.qrules.specs.Private.Effects.{makes, unblocks}
-use Rattle.qrules.specs.Private.Facts.{Facts as OldFacts, held_call, number_of}
-use Rattle.qrules.specs.Private.Lawful as old
-use Rattle.qrules.specs.Private.Past.{copied_count_of, is_unblock_for, item_of, items, priority_of_item, unblocked_among, with_receipt, filled}
+use Rattle.qrules.proofs.Words.Effects.{makes, unblocks}
+use Rattle.qrules.proofs.Words.Facts.{Facts as OldFacts, number_of}
+use Rattle.qrules.specs.Records.{held_call}
+use Rattle.qrules.proofs.Words.Lawful as old
+use Rattle.qrules.proofs.Words.Past.{copied_count_of, is_unblock_for, item_of, items, priority_of_item, unblocked_among, with_receipt, filled}
 use Rattle.qmodel.specs.Trace.{SentItem, Trace}
 use Rattle.qmodel.specs.declared.call.Call.{Call}
 use Rattle.qmodel.specs.declared.call.Call.TheVariants as calls
@@ -24,7 +25,6 @@ use Rattle.qrules.proofs.Traces.Past.Open.{is_unblocked, open_parts}
 use Rattle.qrules.proofs.Traces.Past.Unblocked.{none_unblocked}
 use Rattle.qrules.specs.Properties.{items}
 use Rattle.qlaws.specs.Pending as laws
-use Rattle.qrules.proofs.Traces.Due.{unblock_same}
 
 -- the receipt doesn't tell that no unblock pulse was made
 abbrev told : OpenCall → Bool
@@ -46,7 +46,7 @@ first_for roster past t c i m made is =
     elim (unblocks c) as (λ w. unblocks c ≡ w → is_unblocked roster past i ≡ false) [
       | None ↦ λ none. absurd (true≢false (sym is ∙ (call_laws c).unblocks_none none f t m made i))
       | Some v ↦ λ some.
-          let d = due_parts f (f.open_call v) m (sym (unblock_same f v) ∙ subst (λ c. makes f t c ≡ Some m) (unblock_is c v some) made) in
+          let d = due_parts f (f.open_call v) m (subst (λ c. makes f t c ≡ Some m) (unblock_is c v some) made) in
           let p = open_parts roster past v (Send d.send) d.is in
           let n : ℕ = number_of p.block in
           let number : n ≡ i = sym p.number ∙ eqb-true _ _ (ap (λ (m : SentItem). is_unblock_for i m.item.what) d.made ∙ is) in

@@ -1,21 +1,12 @@
 -- What threads wait in after a lawful trace.
-use Rattle.std.proofs.Common.{◌≡◌, ℕ, List, ap, option_and_then}
+use Rattle.std.proofs.Common.{◌≡◌, ℕ, ap, option_and_then}
 use Rattle.std.specs.Prelude.{Option, None, Some}
 use Rattle.std.specs.List.{AllByRecursion}
 use Rattle.std.proofs.lemmas.Option.{none-some, same_Some}
 use Rattle.qbase.proofs.Lists.{all_filter_map}
-use Rattle.qtables.specs.declared.member.Member.{Member}
-use Rattle.qrules.specs.Private.Lawful as old
-use Rattle.qmodel.specs.Trace.{Trace}
 use Rattle.qmodel.specs.declared.open_call.OpenCall.{OpenCall}
 use Rattle.qmodel.specs.declared.open_call.OpenCall.TheVariants.{Receive, Send}
 use Rattle.qrules.specs.Facts.{open_receives, open_sends, receive_in, receive_of, send_in, send_of, threads_of, Facts, OpenReceive, OpenSend}
-use Rattle.qrules.specs.Lawful.{IsLawful}
-use Rattle.qrules.proofs.Lawful.{same_lawful}
-
--- a lawful trace is so in the words of the proofs
-pub before : (roster : List Member) (past : Trace) → IsLawful roster past → old.IsLawful roster past
-before roster past l = (same_lawful roster past).0 l
 
 is_send : (o : Option OpenCall) (s : OpenSend) → option_and_then send_in o ≡ Some s → o ≡ Some (Send s)
 is_send None s e = absurd (none-some s e)

@@ -8,7 +8,6 @@ use Rattle.qrules.specs.Words.mark
 use Rattle.qrules.specs.Trace.{Bytes, CallNo, ChannelId, ConnectionId, Event, ThreadNo, Trace}
 use Rattle.qrules.specs.Facts.{buffer_in, is_blocked, Facts}
 use Rattle.qrules.specs.Rule.{buffer_of, own_ending, ReceiveRequest}
-use Rattle.qrules.specs.Rules.{effect_of}
 use Rattle.qrules.specs.Past.{attached_connection, is_accepted, is_destroyed, item_among, was_done}
 use Rattle.qrules.specs.Lawful.{facts_of}
 use Rattle.qrules.specs.Properties.{connection_of, items, number_received, request_of}
@@ -75,7 +74,7 @@ waiting_buffer f u = option_map_or buffer_in (f.open_call u) []
 -- it waits in
 abbrev pub EndingsKeepLength : Type 0
 EndingsKeepLength = OfEachEnding (λ roster past e x. length x.buffer
-    ≡ length (if x.thread == e.thread then buffer_of (effect_of e.call)
+    ≡ length (if x.thread == e.thread then buffer_of e.call
     else waiting_buffer (facts_of roster past) x.thread))
 
 -- ---- what they receive
@@ -115,5 +114,5 @@ RefusedChangesNothing = InEachNewest (λ roster past e. is_accepted e past ≡ f
 -- after an accepted Shutdown each call is refused with Down, gets its buffer back, and ends no other
 abbrev pub OnlyRefusedWhenDown : Type 0
 OnlyRefusedWhenDown = InEachNewest (λ roster past e. was_done (λ f. f.shuts_down) past ≡ true
-    → e.endings ≡ own_ending (facts_of roster past) e.thread (mark.Failed Down) (buffer_of (effect_of e.call))
+    → e.endings ≡ own_ending (facts_of roster past) e.thread (mark.Failed Down) (buffer_of e.call)
     ∷ [])

@@ -6,7 +6,6 @@ use Rattle.qrules.specs.Trace.{call_at, Bytes, CallNo, ReceiveId, ThreadNo, Trac
 use Rattle.qrules.specs.Facts.{is_blocked, open_receives, open_send, open_sends, receive_of, Facts}
 use Rattle.qrules.specs.Facts.{OpenReceive, OpenSend}
 use Rattle.qrules.specs.Rule.{buffer_of, SentItem}
-use Rattle.qrules.specs.Rules.{effect_of}
 use Rattle.qrules.specs.Delivery.{newest_receiver}
 use Rattle.qrules.specs.Past.{accepted_at, is_ended, is_received, was_done}
 use Rattle.qrules.specs.Lawful.{facts_of}
@@ -61,21 +60,22 @@ HeldIsOpenSend = AfterEach (λ roster past. (i : ReceiveId)
 abbrev pub may_receive : SentItem → OpenReceive → Bool
 may_receive m r = (r.channel == m.channel) && may_take r.kind m.item
 
--- the receive is open and may take the item, and no receive that may take it began later
-pub record IsNewest (f : Facts) (m : SentItem) (r : OpenReceive) : Type 0 where
-  pub is_open : receive_of f r.thread ≡ Some r
-  pub may : may_receive m r ≡ true
-  pub last : AllByRecursion (λ s. may_receive m s ≡ true → s.number ≤ r.number) (open_receives f)
+-- the receive of thread t may take the item, and no open receive that may take it began later
+pub record IsNewest (f : Facts) (m : SentItem) (t : ThreadNo) : Type 0 where
+  pub receive : OpenReceive
+  pub is_open : receive_of f t ≡ Some receive
+  pub may : may_receive m receive ≡ true
+  pub last : AllByRecursion (λ s. may_receive m s ≡ true → s.number ≤ receive.number) (open_receives f)
 
--- the newest receiver of an item is such a receive
+-- the newest receiver of an item waits in such a receive
 abbrev pub NewestIsLast : Type 0
-NewestIsLast = AfterEach (λ roster past. (m : SentItem) (r : OpenReceive)
-    → newest_receiver (facts_of roster past) m ≡ Some r → IsNewest (facts_of roster past) m r)
+NewestIsLast = AfterEach (λ roster past. (m : SentItem) (t : ThreadNo)
+    → newest_receiver (facts_of roster past) m.channel m.item ≡ Some t → IsNewest (facts_of roster past) m t)
 
 -- there is no newest receiver exactly if no open receive may take the item
 abbrev pub NoneIsNewest : Type 0
 NoneIsNewest = AfterEach (λ roster past. (m : SentItem)
-    → (newest_receiver (facts_of roster past) m ≡ None)
+    → (newest_receiver (facts_of roster past) m.channel m.item ≡ None)
     ↔ AllByRecursion (λ r. may_receive m r ≡ false) (open_receives (facts_of roster past)))
 
 -- no item that an open receive may take is pending on its channel
@@ -90,7 +90,7 @@ NothingPendingForWaiting = AfterEach (λ roster past. AllByRecursion
 pub record IsAsLong (past : Trace) (i : CallNo) (buffer : Bytes) : Type 0 where
   pub call : Call
   pub is : call_at past i ≡ Some call
-  pub same : length buffer ≡ length (buffer_of (effect_of call))
+  pub same : length buffer ≡ length (buffer_of call)
 
 -- the reply buffer of each open Send keeps its length
 abbrev pub ReplyBuffersKeepLength : Type 0

@@ -1,13 +1,4 @@
+pub mod Words
 pub mod Traces
-pub mod Same
-pub mod Lists
-pub mod View
 pub mod Messages
-pub mod Newest
-pub mod Cancels
-pub mod Deliveries
-pub mod Rows
-pub mod Outcomes
-pub mod Past
-pub mod Lawful
 pub mod Once

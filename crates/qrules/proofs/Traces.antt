@@ -1,7 +1,7 @@
-pub mod Due
 pub mod Laying
 pub mod Parts
 pub mod Routes
+pub mod Rows
 pub mod Past
 pub mod Calls
 pub mod Properties

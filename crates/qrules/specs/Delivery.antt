@@ -1,68 +1,93 @@
 -- Definitions that the rules share: delivery of an item to a receiver, the limit of pulses, and cancelling of
 -- blocked calls.
-use Rattle.std.specs.Prelude.{◌&&◌, ◌++◌, ◌==◌, if◌then◌else◌}
-use Rattle.qrules.specs.Words.{[], count_by, false, filter, is_pulse, is_some, laid_count, lay_over, map}
-use Rattle.qrules.specs.Words.{may_take, nat_lt, not, option_and_then, option_map, option_map_or}
-use Rattle.qrules.specs.Words.{option_to_list, reduce, Again, Bool, Completion, Errno, Item, List, None}
-use Rattle.qrules.specs.Words.{Option, Some}
-use Rattle.qrules.specs.Trace.{Bytes, ThreadNo}
-use Rattle.qrules.specs.Facts.{message, open_receives, open_sends, Facts, OpenReceive, OpenSend}
-use Rattle.qrules.specs.Rule.{plain_row, with_endings, Row, SentItem}
+use Rattle.std.specs.Prelude.{◌&&◌, ◌==◌, if◌then◌else◌}
+use Rattle.qrules.specs.Words.{[], count_by, false, find, is_pulse, is_some, laid_count, lay_over, list_any}
+use Rattle.qrules.specs.Words.{may_take, nat_lt, not, option_and_then, option_map, option_map_or, option_or}
+use Rattle.qrules.specs.Words.{Again}
+use Rattle.qrules.specs.Words.{Bool, Completion, Errno, Item, Mark, None, Option, Some}
+use Rattle.qrules.specs.Trace.{Bytes, CallNo, ChannelId, ConnectionId, ThreadNo}
+use Rattle.qrules.specs.Facts.{buffer_in, number_of, receive_of, threads_of, Facts, OpenCall}
+use Rattle.qrules.specs.Rule.{plain_row, Row, SentItem}
 use Rattle.qrules.specs.Words.mark
+use Rattle.qmodel.specs.declared.open_call.OpenCall.TheVariants.{Receive, Send}
 
--- the ending of a receive that takes an item: a message is copied over its buffer, a pulse is in the mark
-abbrev pub delivery : Item → Bytes → OpenReceive → Completion
-delivery item message r = record {
-  call = r.number;
-  thread = r.thread;
-  mark = if is_pulse item.what then mark.Pulse item.number item.priority item.what
-      else mark.Message item.number (laid_count r.buffer 0 message);
-  buffer = if is_pulse item.what then r.buffer else lay_over r.buffer 0 message;
+-- ---- a receiver
+
+-- the mark and the buffer of a receive that takes an item: a message is copied over the front of the buffer,
+-- a pulse is in the mark alone
+abbrev pub delivery_of : Item → Bytes → Bytes → Mark × Bytes
+delivery_of item message buffer =
+    if is_pulse item.what then (mark.Pulse item.number item.priority item.what, buffer)
+    else (mark.Message item.number (laid_count buffer 0 message), lay_over buffer 0 message)
+
+-- the ending of call n of thread u, which takes the item into this buffer
+abbrev pub receipt_ending : Item → Bytes → ThreadNo → CallNo → Bytes → Completion
+receipt_ending item message u n buffer = record {
+  call = n;
+  thread = u;
+  mark = (delivery_of item message buffer).0;
+  buffer = (delivery_of item message buffer).1;
 }
 
--- the ending of a Send that is cancelled, with its reply buffer in its present state
-abbrev pub cancel_send : Errno → OpenSend → Completion
-cancel_send e s = record { call = s.number; thread = s.thread; mark = mark.Failed e; buffer = s.reply_buffer }
+-- the number of an open call that waits on channel h and may take the item
+abbrev pub wait_for : ChannelId → Item → OpenCall → Option CallNo
+wait_for h item (Send s) = None
+wait_for h item (Receive r) = if (r.channel == h) && may_take r.kind item then Some r.number else None
 
--- the ending of a receive that is cancelled
-abbrev pub cancel_receive : Errno → OpenReceive → Completion
-cancel_receive e r = record { call = r.number; thread = r.thread; mark = mark.Failed e; buffer = r.buffer }
+-- ---- a cancelled call
 
--- the one of two receives that began later
-abbrev pub newer : OpenReceive → OpenReceive → OpenReceive
-newer r s = if nat_lt r.number s.number then s else r
+-- the open call is blocked on channel h
+abbrev pub is_on : ChannelId → OpenCall → Bool
+is_on h (Send s) = s.channel == h
+is_on h (Receive r) = r.channel == h
+
+-- the open call is a Send over connection k
+abbrev pub is_over : ConnectionId → OpenCall → Bool
+is_over k (Send s) = s.connection == k
+is_over k (Receive r) = false
+
+-- the ending of thread u's cancelled call: it fails, and gives its buffer back in its present state
+abbrev pub cancel_call : Errno → ThreadNo → OpenCall → Completion
+cancel_call e u o = record { call = number_of o; thread = u; mark = mark.Failed e; buffer = buffer_in o }
 
 module _ (f : Facts) where
-  -- the newest of the receives on the item's channel that may take it
-  abbrev pub newest_receiver : SentItem → Option OpenReceive
-  newest_receiver m =
-      reduce newer (filter (λ r. (r.channel == m.channel) && may_take r.kind m.item) (open_receives f))
+  -- the ending of thread u's open call, if the condition is true of both: the call is cancelled
+  abbrev pub cancels : (ThreadNo → OpenCall → Bool) → Errno → ThreadNo → Option Completion
+  cancels is_cancelled e u =
+      option_and_then (λ o. if is_cancelled u o then Some (cancel_call e u o) else None) (f.open_call u)
 
-  -- the ending of the receive that takes the item that is sent
-  abbrev pub deliver : Option SentItem → Bytes → List Completion
-  deliver sent message =
-      option_to_list (option_and_then (λ m. option_map (delivery m.item message) (newest_receiver m)) sent)
+  -- no thread waits on channel h for the item in a later call than n
+  abbrev pub is_last_wait : ChannelId → Item → CallNo → Bool
+  is_last_wait h item n = not (list_any (λ v. option_map_or (λ m. nat_lt n m)
+      (option_and_then (wait_for h item) (f.open_call v)) false) (threads_of f.roster))
 
-  -- an item is sent and no receive takes it, so it needs memory to wait in
+  -- the thread that takes the item: of those that wait on channel h for it, the one that began to wait last
+  abbrev pub newest_receiver : ChannelId → Item → Option ThreadNo
+  newest_receiver h item = find (λ u. option_map_or (is_last_wait h item)
+      (option_and_then (wait_for h item) (f.open_call u)) false) (threads_of f.roster)
+
+  -- the ending of thread u's open call, if u takes the item that is sent
+  abbrev pub deliver : Option SentItem → Bytes → ThreadNo → Option Completion
+  deliver sent message u = option_and_then (λ m. option_and_then (λ r. if u == r
+      then option_map (λ x. receipt_ending m.item message u x.number x.buffer) (receive_of f u) else None)
+      (newest_receiver m.channel m.item)) sent
+
+  -- an item is sent and no thread takes it, so it needs memory to wait in
   abbrev pub has_to_wait : Option SentItem → Bool
-  has_to_wait sent = option_map_or (λ m. not (is_some (newest_receiver m))) sent false
+  has_to_wait sent = option_map_or (λ m. not (is_some (newest_receiver m.channel m.item))) sent false
 
-  -- Again if a pulse is sent and 1,024 are pending on its channel already
-  abbrev pub refusal_if_full : Option SentItem → Option Errno
-  refusal_if_full pulse = option_and_then
-      (λ m. if nat_lt (count_by (λ x. is_pulse x.what) (f.pending m.channel)) 1024 then None else Some Again)
-      pulse
+  -- Again if 1,024 pulses are pending on channel h
+  abbrev pub refusal_if_full : ChannelId → Option Errno
+  refusal_if_full h =
+      if nat_lt (count_by (λ x. is_pulse x.what) (f.pending h)) 1024 then None else Some Again
 
-  -- the endings of the Sends and receives for which the conditions are true, which are cancelled with this
-  -- error
-  abbrev pub cancel : (OpenSend → Bool) → (OpenReceive → Bool) → Errno → List Completion
-  cancel sends receives e =
-      map (cancel_send e) (filter sends (open_sends f))
-      ++ map (cancel_receive e) (filter receives (open_receives f))
+  -- the same of a pulse that is sent, if one is
+  abbrev pub refusal_if_full_for : Option SentItem → Option Errno
+  refusal_if_full_for pulse = option_and_then (λ m. refusal_if_full m.channel) pulse
 
-  -- the row of a call that ends with Ok, cancels these calls, and may send a pulse
-  abbrev pub pulse_row : ThreadNo → Option Errno → List Completion → Option SentItem → Row
-  pulse_row t refusal cancellations pulse =
-      record (with_endings (plain_row f t refusal mark.Ok) (cancellations ++ deliver pulse [])) {
-        takes_memory = has_to_wait pulse;
-      }
+  -- the row of a call that ends with Ok, cancels these calls of others, and may send a pulse
+  abbrev pub pulse_row : ThreadNo → Option Errno → (ThreadNo → Option Completion) → Option SentItem → Row
+  pulse_row t refusal cancellations pulse = record (plain_row f t refusal mark.Ok) {
+    takes_memory = has_to_wait pulse;
+    others = λ u. option_or (cancellations u) (deliver pulse [] u);
+  }

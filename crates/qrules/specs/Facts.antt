@@ -1,10 +1,12 @@
 -- The facts of the past that a rule may read.
 use Rattle.std.specs.Prelude.{◌&&◌, ◌+◌, ◌==◌, if◌then◌else◌}
 use Rattle.qrules.specs.Words.{[], bit_and, false, filter_map, find, is_some, map, member_at, option_and_then}
+use Rattle.qrules.specs.Words.{true}
 use Rattle.qrules.specs.Words.{option_map, option_map_or, Bool, Connection, Item, List}
 use Rattle.qrules.specs.Words.{Member, None, Option, Some, ℕ}
 use Rattle.qrules.specs.Trace.{Bytes, CallNo, ChannelId, ConnectionId, Priority, ProcessNo, ReceiveId}
 use Rattle.qrules.specs.Trace.{ThreadNo}
+use Rattle.qmodel.specs.declared.open_call.OpenCall.TheVariants.{Receive, Send}
 pub use Rattle.qmodel.specs.Trace.{OpenChannel}
 pub use Rattle.qmodel.specs.declared.open_call.Receipt.{Receipt}
 pub use Rattle.qmodel.specs.declared.open_call.OpenCall.{OpenCall}
@@ -37,6 +39,15 @@ has_flag flag channel = option_map_or (λ c. bit_and c.flags.0 flag == flag) cha
 abbrev pub count_to : {A : Type 0} → (ℕ → Option A) → ℕ → ℕ
 count_to at Prim.Native.Nat.zero = 0
 count_to at (Prim.Native.Nat.suc n) = (if is_some (at (n + 1)) then 1 else 0) + count_to at n
+
+-- the open call is a Send, which waits for an answer
+abbrev pub is_for_answer : OpenCall → Bool
+is_for_answer (Send s) = true
+is_for_answer (Receive r) = false
+
+-- there is an open call, and it is the Send of number i
+abbrev pub is_send : ReceiveId → Option OpenCall → Bool
+is_send i call = option_map_or (λ o. (number_of o == i) && is_for_answer o) call false
 
 module _ (f : Facts) where
   -- the thread is one of this process
@@ -81,18 +92,23 @@ module _ (f : Facts) where
   abbrev pub is_blocked : ThreadNo → Bool
   is_blocked t = is_some (f.open_call t)
 
+  -- the thread that waits in the Send of number i
+  abbrev pub sender : ReceiveId → Option ThreadNo
+  sender i = find (λ t. is_send i (f.open_call t)) (threads_of f.roster)
+
   -- the open Send of number i
   abbrev pub open_send : ReceiveId → Option OpenSend
-  open_send i = find (λ s. s.number == i) open_sends
+  open_send i = option_and_then send_of (sender i)
 
   -- the bytes of message i
   abbrev pub message : ReceiveId → Bytes
   message i = option_map_or (λ s. s.message) (open_send i) []
 
-  -- the message is received, and its channel is one of the thread's process
-  abbrev pub is_held_for : ThreadNo → OpenSend → Bool
-  is_held_for t s = is_some s.receipt && owns t s.channel
+  -- the reply buffer of message i, in its present state
+  abbrev pub reply_buffer : ReceiveId → Bytes
+  reply_buffer i = option_map_or (λ s. s.reply_buffer) (open_send i) []
 
-  -- message i is held for thread t, which may answer it, read it and write to its reply buffer
+  -- message i is held for thread t, which may answer it, read it and write to its reply buffer: it is
+  -- received, and its channel is one of the thread's process
   abbrev pub holds : ThreadNo → ReceiveId → Bool
-  holds t i = option_map_or (is_held_for t) (open_send i) false
+  holds t i = option_map_or (λ s. is_some s.receipt && owns t s.channel) (open_send i) false

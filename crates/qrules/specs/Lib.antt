@@ -8,4 +8,4 @@ pub mod Outcome
 pub mod Past
 pub mod Lawful
 pub mod Properties
-pub mod Private
+pub mod Records

@@ -1,36 +1,38 @@
 -- The endings that a call must have, given the facts before it.
 use Rattle.std.specs.Prelude.{◌==◌, ◌∷◌, ◌≡◌, ◌⊎◌, if◌then◌else◌}
-use Rattle.qrules.specs.Words.{[], false, filter_map, find, true, Bool, Busy, Call, Completion, Down, Errno}
+use Rattle.qrules.specs.Words.{[], false, filter_map, is_some, true, Bool, Busy, Call, Completion, Down}
+use Rattle.qrules.specs.Words.{Errno}
 use Rattle.qrules.specs.Words.{List, NoMemory, None, Option, Some}
 use Rattle.qrules.specs.Trace.{ThreadNo}
-use Rattle.qrules.specs.Facts.{is_blocked, threads_of, Facts}
-use Rattle.qrules.specs.Rule.{buffer_of, own_ending, Row}
-use Rattle.qrules.specs.Rules.{effect_of, rule_of}
+use Rattle.qrules.specs.Facts.{threads_of, Facts}
+use Rattle.qrules.specs.Rule.{buffer_of, own_ending}
+use Rattle.qrules.specs.Rules.{row_of}
 use Rattle.qrules.specs.Words.mark
 
 module _ (f : Facts) (t : ThreadNo) (c : Call) where
-  -- the row of the call
-  abbrev pub row : Row
-  row = (rule_of c).row f t
-
   -- the first refusal that applies: Down after a shutdown, then Busy if the caller is blocked, then the row's
   -- own
-  abbrev pub first_refusal : Option Errno
-  first_refusal = if f.down then Some Down else (if is_blocked f t then Some Busy else row.refusal)
+  abbrev pub refusal_of : Option Errno
+  refusal_of =
+      if f.down then Some Down else (if is_some (f.open_call t) then Some Busy else (row_of f t c).refusal)
 
   -- the refusals that are allowed: that one, or lack of memory if there is none
   abbrev pub MayRefuse : Errno → Type 0
-  MayRefuse e = (first_refusal ≡ Some e)
-      ⊎ ((first_refusal ≡ None) × (row.takes_memory ≡ true) × (e ≡ NoMemory))
+  MayRefuse e = (refusal_of ≡ Some e)
+      ⊎ ((refusal_of ≡ None) × ((row_of f t c).takes_memory ≡ true) × (e ≡ NoMemory))
 
-  -- accepted: the endings are those of the row, in rising thread number; refused: only the caller gets an
-  -- ending, with its buffer
-  abbrev pub Outcome : Bool → List Completion → Type 0
-  Outcome true endings = (first_refusal ≡ None)
-      × (endings ≡ filter_map (λ u. find (λ x. x.thread == u) row.endings) (threads_of f.roster))
-  Outcome false endings = (e : Errno) × MayRefuse e
-      × (endings ≡ own_ending f t (mark.Failed e) (buffer_of (effect_of c)) ∷ [])
+  -- the ending that thread u gets if the call is accepted
+  abbrev pub ending : ThreadNo → Option Completion
+  ending u = if u == t then (row_of f t c).own else (row_of f t c).others u
 
-  -- these endings answer the call
-  abbrev pub Answers : List Completion → Type 0
-  Answers endings = Outcome true endings ⊎ Outcome false endings
+-- accepted: the endings are those of the row, in rising thread number; refused: only the caller gets an
+-- ending, with its buffer
+abbrev pub Outcome : Bool → Facts → ThreadNo → Call → List Completion → Type 0
+Outcome true f t c endings =
+    (refusal_of f t c ≡ None) × (endings ≡ filter_map (ending f t c) (threads_of f.roster))
+Outcome false f t c endings = (e : Errno) × MayRefuse f t c e
+    × (endings ≡ own_ending f t (mark.Failed e) (buffer_of c) ∷ [])
+
+-- these endings answer the call
+abbrev pub Answers : Facts → ThreadNo → Call → List Completion → Type 0
+Answers f t c endings = Outcome true f t c endings ⊎ Outcome false f t c endings

@@ -5,8 +5,8 @@ use Rattle.qrules.specs.Words.{lay_over, map, not, option_and_then, option_map, 
 use Rattle.qrules.specs.Words.{true, AllByRecursion, Any, Bool, Completion, Item, List}
 use Rattle.qrules.specs.Words.{Mark, Member, None, Option, Some, ℕ}
 use Rattle.qrules.specs.Trace.{call_at, endings_of, Bytes, CallNo, ChannelId, ConnectionId, Event}
-use Rattle.qrules.specs.Trace.{InEachEvent, Priority, ReceiveId, Trace}
-use Rattle.qrules.specs.Facts.{open_receives, open_sends, owns}
+use Rattle.qrules.specs.Trace.{InEachEvent, Priority, ReceiveId, ThreadNo, Trace}
+use Rattle.qrules.specs.Facts.{owns, receive_of, send_of, OpenReceive, OpenSend}
 use Rattle.qrules.specs.Rule.{buffer_of, ReceiveRequest, SentItem, Transfer}
 use Rattle.qrules.specs.Rules.{effect_of}
 use Rattle.qrules.specs.Past.{attached_connection, is_accepted, is_destroyed, is_ended, is_received}
@@ -79,7 +79,7 @@ message_at past i =
 -- the buffer of call i: a Send's with the bytes that were written over it, any other as the call brought it
 abbrev pub buffer_at : Trace → CallNo → Bytes
 buffer_at past i = option_map_or (λ c. if is_some (effect_of c).sends
-    then with_writes past i (buffer_of (effect_of c)) else buffer_of (effect_of c)) (call_at past i) []
+    then with_writes past i (buffer_of c) else buffer_of c) (call_at past i) []
 
 -- after is the buffer with these bytes copied over it from the offset on, and copied is their count
 abbrev pub IsLaid : Bytes → ℕ → Bytes → Bytes → ℕ → Type 0
@@ -178,10 +178,10 @@ pub record IsShut
     (roster : List Member) (past : Trace) (endings : List Completion) (h : ChannelId) : Type 0 where
   pub none_received : AllByRecursion (λ x. (i : CallNo) → number_received x ≡ Some i
       → option_map (λ m. m.channel) (item_among (items roster past) i) ≡ Some h → ⊥) endings
-  pub no_send : AllByRecursion
-      (λ s. option_map (λ c. c.channel) (attached_connection roster past s.connection) ≡ Some h → ⊥)
-      (open_sends (facts_of roster past))
-  pub no_receive : AllByRecursion (λ r. r.channel ≡ h → ⊥) (open_receives (facts_of roster past))
+  pub no_send : (t : ThreadNo) (s : OpenSend) → send_of (facts_of roster past) t ≡ Some s
+      → option_map (λ c. c.channel) (attached_connection roster past s.connection) ≡ Some h → ⊥
+  pub no_receive : (t : ThreadNo) (r : OpenReceive) → receive_of (facts_of roster past) t ≡ Some r
+      → r.channel ≡ h → ⊥
 
 -- after each event, each channel that is destroyed by then is shut
 abbrev pub ShutForGood : List Member → Trace → Type 0

@@ -1,16 +1,17 @@
 -- The rule of a call: its answer, and its effect.
-use Rattle.std.specs.Prelude.{◌++◌, ◌∷◌}
-use Rattle.qrules.specs.Words.{[], false, option_map, option_or, unwrap_or, Bool, ChannelFlags, Completion}
-use Rattle.qrules.specs.Words.{Errno, Kind, List, Mark, None, Option, What, ℕ, ℤ}
+use Rattle.qrules.specs.Words.{[], false, Bool, ChannelFlags, Completion}
+use Rattle.qrules.specs.Words.{Errno, Kind, Mark, None, Option, Some, What, ℕ, ℤ}
 use Rattle.qrules.specs.Trace.{Bytes, ChannelId, ConnectionId, Priority, ReceiveId, ThreadNo}
 use Rattle.qrules.specs.Facts.{Facts}
+pub use Rattle.qmodel.specs.Buffers.{buffer_of}
 pub use Rattle.qmodel.specs.Trace.{SentItem}
 
 -- the answer to a call
 pub record Row : Type 0 where
   pub refusal : Option Errno  -- the first of its own refusals that applies
   pub takes_memory : Bool  -- it may also be refused for want of memory
-  pub endings : List Completion  -- of the call, unless it waits, and of calls that others wait in
+  pub own : Option Completion  -- the ending of the call; None if it waits
+  pub others : ThreadNo → Option Completion  -- the ending of the call that another thread waits in
 
 -- the ending of the call that is answered: it is thread t's, and has this mark and this buffer
 abbrev pub own_ending : Facts → ThreadNo → Mark → Bytes → Completion
@@ -19,15 +20,16 @@ own_ending f t mark buffer = record { call = f.number; thread = t; mark = mark; 
 -- the row of a call that ends in its own event, with this mark and this buffer, and ends no other call
 abbrev pub own_row : Facts → ThreadNo → Option Errno → Mark → Bytes → Row
 own_row f t refusal mark buffer =
-    record { refusal = refusal; takes_memory = false; endings = own_ending f t mark buffer ∷ [] }
+    record {
+      refusal = refusal;
+      takes_memory = false;
+      own = Some (own_ending f t mark buffer);
+      others = λ u. None;
+    }
 
 -- own_row of a call that has no buffer
 abbrev pub plain_row : Facts → ThreadNo → Option Errno → Mark → Row
 plain_row f t refusal mark = own_row f t refusal mark []
-
--- the row with these endings added
-abbrev pub with_endings : Row → List Completion → Row
-with_endings row endings = record row { endings = row.endings ++ endings }
 
 -- the operands of a Send
 pub record SendRequest : Type 0 where
@@ -92,11 +94,6 @@ no_effect = record {
 pub record Rule : Type 0 where
   pub row : Facts → ThreadNo → Row  -- what it is answered, by what was so before it and its thread
   pub effect : Effect  -- what it does, if it is accepted
-
--- the buffer that a call brings, and gets back if it is refused
-abbrev pub buffer_of : Effect → Bytes
-buffer_of e = unwrap_or (option_or (option_map (λ s. s.reply_buffer) e.sends)
-    (option_or (option_map (λ r. r.buffer) e.receives) (option_map (λ r. r.bytes) e.reads))) []
 
 -- the item of this priority and content that the call makes for channel h: it has the call's number
 abbrev pub new_item : Facts → Priority → What → ChannelId → SentItem

@@ -12,8 +12,8 @@ use Rattle.qtables.specs.declared.member.Member.{Member}
 use Rattle.qmodel.specs.declared.call.Call.{Call}
 use Rattle.qmodel.specs.declared.call.Completion.{Completion}
 use Rattle.qrules.specs.Trace.{AreApart, gets, thread_at}
-use Rattle.qrules.specs.Private.Facts.{threads_of}
-use Rattle.qrules.specs.Private.Lawful.{with_event}
+use Rattle.qrules.proofs.Words.Facts.{threads_of}
+use Rattle.qrules.proofs.Words.Lawful.{with_event}
 use Rattle.qmodel.specs.Trace.{Trace}
 use Rattle.qrules.proofs.Traces.Rosters.{among_member}
 use Rattle.qrules.proofs.Traces.TraceLaws.Blocked.{caller_gets_its_own, endings_are_apart}
@@ -34,7 +34,7 @@ use Rattle.qshared.specs.Performing.{Admits, IsFree, IsServed, IsReason, IsEvent
 use Rattle.qshared.specs.Private.Putting.{MayPut, Handed}
 use Rattle.qshared.proofs.Places.{place_among, place_below}
 use Rattle.qshared.proofs.Turns.{gets_of, none_later, not_nil, of_one, own_number, waited_due}
-use Rattle.qkernel.proofs.Traces.{before, stands_down}
+use Rattle.qkernel.proofs.Traces.{stands_down}
 use Rattle.qshared.proofs.Telling.{undone, is_free, lawful_after, all_may_put, told_after}
 
 module _ (roster : List Member) (slots : ℕ) (kernel : State) (d : Desk Completion) (threads : List ℕ) (past : Trace)
@@ -89,7 +89,7 @@ module _ (roster : List Member) (slots : ℕ) (kernel : State) (d : Desk Complet
           answers = (step roster past h.told.lawful h.told.stands).0
 
           pub apart : AreApart X
-          apart = endings_are_apart roster past (record { thread = t; call = c; endings = X }) h.rises (before roster (with_event t c X past) (lawful_after roster kernel d past t i h.told at near free c X answers h.rises))
+          apart = endings_are_apart roster past (record { thread = t; call = c; endings = X }) h.rises (lawful_after roster kernel d past t i h.told at near free c X answers h.rises)
 
           pub may_put : AllByRecursion (MayPut threads (opened_desk d i)) X
           may_put = subst (λ ts. AllByRecursion (MayPut ts (opened_desk d i)) X) (sym h.threads_are) (all_may_put roster kernel d past t i h.told at near free c X answers h.rises)
@@ -115,7 +115,7 @@ module _ (roster : List Member) (slots : ℕ) (kernel : State) (d : Desk Complet
           pub performs : (refuses : Refuses) (admits : Admits) (d' : Desk Completion) → admits past c → (own : Option Completion) → of_thread t X ≡ one own
               → Performs roster refuses admits (record { kernel = kernel; desk = d; past = past }) t c (outcome own) (record { kernel = new; desk = d'; past = with_event t c X past })
           performs refuses admits d' admitted own is =
-              let lawful = before roster (with_event t c X past) (lawful_after roster kernel d past t i h.told at near free c X answers h.rises) in
+              let lawful = (lawful_after roster kernel d past t i h.told at near free c X answers h.rises) in
               let ends : gets X t ≡ has_ending_of X (length past + 1) = caller_gets_its_own roster past (record { thread = t; call = c; endings = X }) h.rises lawful in
               let names = endings_name_own_calls roster past (record { thread = t; call = c; endings = X }) h.rises lawful in
               let event : IsEvent roster admits past t c X = record { free = free; admitted = admitted; answers = answers } in

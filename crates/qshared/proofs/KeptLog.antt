@@ -12,14 +12,14 @@ use Rattle.qtables.specs.declared.member.Member.{Member}
 use Rattle.qmodel.specs.declared.call.Call.{Call}
 use Rattle.qmodel.specs.declared.call.Call.TheVariants.{Shutdown}
 use Rattle.qmodel.specs.declared.call.Completion.{Completion}
-use Rattle.qrules.specs.Private.Answer.{Answers, refusal}
+use Rattle.qrules.specs.Outcome.{Answers, refusal_of}
 use Rattle.qrules.specs.Trace.{AreApart, gets, followed_by, Event, Trace}
 use Rattle.qrules.proofs.Traces.TraceLaws.Blocked.{GoesToBlocked, blocked_unless_ended, endings_are_apart, endings_go_to_blocked}
 use Rattle.qrules.proofs.Traces.TraceLaws.Lengths.{buffer_brought, after_fits, ending_fits}
-use Rattle.qrules.specs.Private.Facts.{threads_of}
-use Rattle.qrules.specs.Private.Lawful.{IsLawful, facts_of, with_event}
-use Rattle.qrules.specs.Private.Past.{open_call}
-use Rattle.qrules.specs.Private.Past as old_past
+use Rattle.qrules.proofs.Words.Facts.{threads_of}
+use Rattle.qrules.proofs.Words.Lawful.{IsLawful, facts_of, with_event}
+use Rattle.qrules.proofs.Words.Past.{open_call}
+use Rattle.qrules.proofs.Words.Past as old_past
 use Rattle.qrules.specs.Facts.{is_blocked}
 use Rattle.qrules.specs.Lawful as rules
 use Rattle.qrules.specs.Outcome as outcome
@@ -32,7 +32,7 @@ use Rattle.qshared.specs.Past.{is_down}
 use Rattle.qshared.specs.Rooms.{KeptPast, admits_kept, refuses_kept}
 use Rattle.qshared.specs.Private.Rooms.{HasRoomFor, HasRooms, MayCopy, Copied, IsKept}
 use Rattle.qshared.proofs.Places.{place_below, place_same, place_some}
-use Rattle.qkernel.proofs.Traces.{answers_before, before, blocked_same, followed_length, followed_push}
+use Rattle.qkernel.proofs.Traces.{blocked_same, followed_length, followed_push}
 
 -- ---- a call that isn't noted
 
@@ -72,12 +72,12 @@ old_shutdown_down roster past t X up idle a = elim a [
     | inr m ↦ true≢false (sym m.1)
   ])
 ] where
-  none : refusal (facts_of roster past) t Shutdown ≡ None
+  none : refusal_of (facts_of roster past) t Shutdown ≡ None
   none = rw (up, none_of (open_call roster past t) idle) refl
 
 pub shutdown_down : (roster : List Member) (past : Trace) (t : ℕ) (X : List Completion) → rules.IsLawful roster past → is_down past ≡ false → is_blocked (rules.facts_of roster past) t ≡ false → outcome.Answers (rules.facts_of roster past) t Shutdown X → is_down (with_event t Shutdown X past) ≡ true
 shutdown_down roster past t X lawful up idle a =
-    old_shutdown_down roster past t X up (sym (blocked_same roster past lawful t) ∙ idle) (answers_before roster past lawful t Shutdown X a)
+    old_shutdown_down roster past t X up (sym (blocked_same roster past lawful t) ∙ idle) a
 
 -- ---- what an event requires
 
@@ -97,11 +97,11 @@ finds roster limit threads rooms log c room ready t X v h z =
     subst (λ w. w.ready ≡ true → is_down w.past ≡ false → rules.IsLawful roster w.past → (is_some (member_at roster t) ≡ true) × (is_blocked (rules.facts_of roster w.past) t ≡ false) → outcome.Answers (rules.facts_of roster w.past) t w.noted X → Finds roster limit threads rooms log c room t X) z
     (λ is up lawful thread answers. record {
       kept = subst (λ b. IsKept roster limit threads rooms log c room b) is h;
-      lawful = before roster (followed_by [] log.events) lawful;
+      lawful = lawful;
       member = thread.0;
       idle = sym (blocked_same roster (followed_by [] log.events) lawful t) ∙ thread.1;
       up = up;
-      answers = answers_before roster (followed_by [] log.events) lawful t c X answers;
+      answers = answers;
     })
 
 -- a log with one more event
@@ -126,7 +126,7 @@ module _ (roster : List Member) (limit : ℕ) (threads rooms : List ℕ) (log : 
   e = record { thread = t; call = c; endings = X }
 
   pub lawful_next : IsLawful roster (e ∷ past)
-  lawful_next = (f.lawful, f.member, f.answers)
+  lawful_next = (f.lawful, (f.member, f.answers))
 
   pub past_is : followed_by [] (log.events ++ e ∷ []) ≡ e ∷ past
   past_is = followed_push [] log.events e

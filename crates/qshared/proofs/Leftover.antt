@@ -12,7 +12,7 @@ use Rattle.qmodel.specs.Trace.{Trace}
 use Rattle.qrules.proofs.Traces.Rosters.{Rises, all_at, among_member}
 use Rattle.qhandoff.specs.Words.{AreBelow, left_for, took}
 use Rattle.qhandoff.specs.Words as cells
-use Rattle.qrules.specs.Private.Facts.{threads_of}
+use Rattle.qrules.proofs.Words.Facts.{threads_of}
 use Rattle.qtables.specs.declared.member.Member.{Member}
 use Rattle.qhandoff.specs.declared.seats.ThreadSeat.{ThreadSeat}
 use Rattle.qmodel.specs.declared.call.Call.{Call}

@@ -10,8 +10,8 @@ use lib.ListN.{get_elem?}
 use Rattle.qtables.specs.declared.member.Member.{Member}
 use Rattle.qmodel.specs.declared.call.Call.{Call}
 use Rattle.qmodel.specs.declared.call.Completion.{Completion}
-use Rattle.qrules.specs.Private.Facts.{threads_of}
-use Rattle.qrules.specs.Private.Lawful.{with_event}
+use Rattle.qrules.proofs.Words.Facts.{threads_of}
+use Rattle.qrules.proofs.Words.Lawful.{with_event}
 use Rattle.qmodel.specs.Trace.{Trace}
 use Rattle.qpast.specs.declared.asking.Heard.{Heard}
 use Rattle.qshared.specs.Answered.{Comes}

@@ -12,9 +12,9 @@ use Rattle.qmodel.specs.declared.call.Call.{Call}
 use Rattle.qmodel.specs.declared.call.Completion.{Completion}
 use Rattle.qrules.specs.Trace.{AreApart, gets}
 use Rattle.qrules.proofs.Traces.TraceLaws.Blocked.{GoesToBlocked, may_end, blocked_unless_ended, endings_are_apart, endings_go_to_blocked}
-use Rattle.qrules.specs.Private.Past.{open_call}
-use Rattle.qrules.specs.Private.Facts.{threads_of}
-use Rattle.qrules.specs.Private.Lawful.{with_event}
+use Rattle.qrules.proofs.Words.Past.{open_call}
+use Rattle.qrules.proofs.Words.Facts.{threads_of}
+use Rattle.qrules.proofs.Words.Lawful.{with_event}
 use Rattle.qmodel.specs.Trace.{Event, Trace}
 use Rattle.qrules.proofs.Traces.Rosters.{among_member, known}
 use Rattle.qrules.specs.Facts.{is_blocked}
@@ -33,7 +33,7 @@ use Rattle.qshared.specs.Performing.{IsFree}
 use Rattle.qshared.specs.Private.Putting.{MayPut, Handed}
 use Rattle.qshared.proofs.Places.{place_among, place_same, place_some}
 use Rattle.qshared.proofs.Turns.{of_none, of_one, owed_other, owed_own}
-use Rattle.qkernel.proofs.Traces.{before, blocked_same, properties_of, stands_down}
+use Rattle.qkernel.proofs.Traces.{blocked_same, properties_of, stands_down}
 
 -- ---- an opened cell
 
@@ -92,7 +92,7 @@ module _ (roster : List Member) (kernel : State) (d : Desk Completion) (past : T
       lawful_after = (told.lawful, (free.served.known, answers))
 
       pub all_may_put : AllByRecursion (MayPut (threads_of roster) (opened_desk d i)) X
-      all_may_put = each X (endings_go_to_blocked roster past e rises (before roster (e ∷ past) lawful_after)) where
+      all_may_put = each X (endings_go_to_blocked roster past e rises lawful_after) where
         each : (Y : List Completion) → AllByRecursion (GoesToBlocked roster past t) Y → AllByRecursion (MayPut (threads_of roster) (opened_desk d i)) Y
         each [] a = tt
         each (x ∷ Y) a =
@@ -101,10 +101,10 @@ module _ (roster : List Member) (kernel : State) (d : Desk Completion) (past : T
 
       -- the blocked threads are those whose calls might have ended and didn't
       still_blocked : (u : ℕ) → is_blocked (facts_of roster (with_event t c X past)) u ≡ cond (gets X u) false (may_end roster past t u)
-      still_blocked u = blocked_same roster (e ∷ past) lawful_after u ∙ blocked_unless_ended roster past e rises (before roster (e ∷ past) lawful_after) (sym (blocked_same roster past told.lawful t) ∙ free.idle) u
+      still_blocked u = blocked_same roster (e ∷ past) lawful_after u ∙ blocked_unless_ended roster past e rises lawful_after (sym (blocked_same roster past told.lawful t) ∙ free.idle) u
 
       one_each : AreApart X
-      one_each = endings_are_apart roster past e rises (before roster (e ∷ past) lawful_after)
+      one_each = endings_are_apart roster past e rises lawful_after
 
       may_of : (Y : List Completion) → AllByRecursion (GoesToBlocked roster past t) Y → (u : ℕ) → gets Y u ≡ true → may_end roster past t u ≡ true
       may_of [] all u got = absurd (true≢false (sym got))
@@ -139,7 +139,7 @@ module _ (roster : List Member) (kernel : State) (d : Desk Completion) (past : T
             let o = told.owed u j is in
             let r = owed_other (at_once past u) (later_due past u) (endings_due past u) (of_thread u X) (is_blocked (facts_of roster past) u) (is_blocked (facts_of roster (with_event t c X past)) u) o.later o.whole
             (elim (cases_Bool (gets X u)) [
-              | inl got ↦ let x = of_one u X one_each got in inr (x.0, x.1, sym waiting ∙ may_of X (endings_go_to_blocked roster past e rises (before roster (e ∷ past) lawful_after)) u got, still_blocked u ∙ rw got refl)
+              | inl got ↦ let x = of_one u X one_each got in inr (x.0, x.1, sym waiting ∙ may_of X (endings_go_to_blocked roster past e rises lawful_after) u got, still_blocked u ∙ rw got refl)
               | inr none ↦ inl (of_none u X none, still_blocked u ∙ ap (λ b. cond b false (may_end roster past t u)) none ∙ waiting)
             ]) in
             record { later = subst (owed_later u) (sym other) r.0; whole = subst (owed_whole u) (sym other) r.1 }

@@ -13,7 +13,7 @@ use Rattle.qtables.specs.declared.member.Member.{Member}
 use Rattle.qmodel.specs.declared.open_call.OpenCall.{OpenCall}
 use Rattle.qmodel.specs.declared.open_call.Receipt.{Receipt}
 use Rattle.qmodel.specs.declared.open_call.OpenCall.TheVariants.{Receive, Send}
-use Rattle.qrules.specs.Private.Step.{held_call, unblocked_call, written_call, with_buffer}
+use Rattle.qrules.specs.Records.{held_call, unblocked_call, written_call, with_buffer}
 use Rattle.qstate.specs.declared.cancelling.CancelSet.{CancelSet}
 use Rattle.qstate.specs.declared.index.Index.{Index}
 use Rattle.qstate.specs.declared.thread.Thread.{Thread}

@@ -11,9 +11,12 @@ use Rattle.qmodel.specs.declared.call.Completion.{Completion}
 use Rattle.qmodel.specs.declared.open_call.OpenCall.{OpenCall}
 use Rattle.qmodel.specs.declared.open_call.OpenCall.TheVariants.{Receive, Send}
 use Rattle.qstate.specs.declared.thread.Thread.{Thread}
-use Rattle.qrules.specs.Private.Facts.{threads_of, first_where}
-use Rattle.qrules.specs.Private.Receivers.{is_after, wait_on}
-use Rattle.qrules.specs.Private.Rows.{receipt_ending, takes}
+use Rattle.qrules.proofs.Words.Facts.{threads_of}
+use Rattle.std.specs.Prelude.{find}
+use Rattle.qrules.specs.Records.{is_after}
+use Rattle.qrules.specs.Records.{wait_on}
+use Rattle.qrules.specs.Delivery.{receipt_ending}
+use Rattle.qrules.specs.Records.{takes}
 use Rattle.qmodel.specs.declared.open_call.OpenReceive.{OpenReceive}
 use Rattle.qmodel.specs.OpenCalls.{receive_in}
 use Rattle.qrules.proofs.Traces.Properties.Receivers.{after_less, any_after, newest_parts}
@@ -58,7 +61,7 @@ module _ (wait : ℕ → Option ℕ) where
   abbrev lasts : List ℕ → ℕ → Bool
   lasts ts u = option_map_or (λ m. not (any_after wait m ts)) (wait u) false
 
-  first_same : (p q : ℕ → Bool) (ns : List ℕ) → ((u : ℕ) → p u ≡ q u) → first_where p ns ≡ first_where q ns
+  first_same : (p q : ℕ → Bool) (ns : List ℕ) → ((u : ℕ) → p u ≡ q u) → find p ns ≡ find q ns
   first_same p q [] same = refl
   first_same p q (u ∷ ns) same = rw (same u, first_same p q ns same) refl
 
@@ -77,12 +80,12 @@ module _ (wait : ℕ → Option ℕ) where
   ])
 
   -- what the search finds is the last to wait
-  pub top_is : (ts : List ℕ) → option_map (λ b. b.1) (top wait None ts) ≡ first_where (lasts ts) ts
+  pub top_is : (ts : List ℕ) → option_map (λ b. b.1) (top wait None ts) ≡ find (lasts ts) ts
   top_is [] = refl
-  top_is (t ∷ ts) = elim (wait t) as (λ o. wait t ≡ o → option_map (λ b. b.1) (top wait (later_of_two None t o) ts) ≡ cond (option_map_or (λ m. not (any_after wait m (t ∷ ts))) o false) (Some t) (first_where (lasts (t ∷ ts)) ts)) [
+  top_is (t ∷ ts) = elim (wait t) as (λ o. wait t ≡ o → option_map (λ b. b.1) (top wait (later_of_two None t o) ts) ≡ cond (option_map_or (λ m. not (any_after wait m (t ∷ ts))) o false) (Some t) (find (lasts (t ∷ ts)) ts)) [
     | None ↦ λ idle. top_is ts ∙ sym (first_same (lasts (t ∷ ts)) (lasts ts) ts (more_idle t ts idle))
     | Some m ↦ λ is. ap (option_map (λ (b : ℕ × ℕ). b.1)) (top_from m t ts) ∙ rw (is, le-ltb m m (omega arith)) (
-        elim (any_after wait m ts) as (λ b. any_after wait m ts ≡ b → option_map (λ b. b.1) (cond b (top wait None ts) (Some (m, t))) ≡ cond (not b) (Some t) (first_where (lasts (t ∷ ts)) ts)) [
+        elim (any_after wait m ts) as (λ b. any_after wait m ts ≡ b → option_map (λ b. b.1) (cond b (top wait None ts) (Some (m, t))) ≡ cond (not b) (Some t) (find (lasts (t ∷ ts)) ts)) [
           | true ↦ λ some. top_is ts ∙ sym (first_same (lasts (t ∷ ts)) (lasts ts) ts (more_earlier t m ts is some))
           | false ↦ λ none. refl
         ] refl)

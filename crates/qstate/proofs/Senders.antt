@@ -11,11 +11,13 @@ use Rattle.qtables.specs.Members.{IsRoster}
 use Rattle.qstate.specs.declared.channel.Channel.{Channel}
 use Rattle.qmodel.specs.declared.open_call.OpenCall.{OpenCall}
 use Rattle.qmodel.specs.declared.open_call.OpenCall.TheVariants.{Receive, Send}
-use Rattle.qrules.specs.Private.Held.{Finish, answer_ending}
+use Rattle.qrules.proofs.Words.Items.{Finish}
+use Rattle.qrules.proofs.Words.Items.{answer_ending}
 use Rattle.qmodel.specs.declared.open_call.OpenSend.{OpenSend}
 use Rattle.qmodel.specs.OpenCalls.{send_in, number_of}
 use Rattle.qstate.specs.declared.thread.Thread.{Thread}
-use Rattle.qrules.specs.Private.Facts.{threads_of, is_send, sender_among, message_in}
+use Rattle.qrules.proofs.Words.Facts.{threads_of, is_send}
+use Rattle.qrules.specs.Records.{sender_among, message_in}
 use Rattle.qstate.specs.Held.{is_held_in, is_held_of}
 use Rattle.qstate.specs.Thread.{open_in, seat_in, sender_in, sent_call, message_from, ChangesOpen, ChangesSender}
 use Rattle.qstate.specs.Kept.{members_of, channel_in}

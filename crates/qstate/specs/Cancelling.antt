@@ -6,9 +6,10 @@ use Rattle.qbase.specs.declared.errno.Errno.{Errno}
 use Rattle.qmodel.specs.declared.call.Completion.{Completion}
 use Rattle.qmodel.specs.declared.open_call.OpenCall.{OpenCall}
 use Rattle.qmodel.specs.declared.open_call.OpenCall.TheVariants.{Receive, Send}
-use Rattle.qrules.specs.Private.Cancelling.{is_on, is_over, cancel_where}
-use Rattle.qrules.specs.Private.Step.{is_unread_send}
-use Rattle.qrules.specs.Private.Facts.{threads_of}
+use Rattle.qrules.specs.Delivery.{is_on, is_over}
+use Rattle.qrules.specs.Records.{cancel_where}
+use Rattle.qrules.specs.Records.{is_unread_send}
+use Rattle.qrules.specs.Facts.{threads_of}
 use Rattle.qstate.specs.declared.channel.Channel.{Channel}
 use Rattle.qstate.specs.declared.cancelling.CancelSet.{CancelSet}
 use Rattle.qstate.specs.declared.cancelling.CancelSet.TheVariants.{On, All, Of, Over}

@@ -5,9 +5,9 @@ use Rattle.qbase.specs.declared.errno.Errno.{Errno}
 use Rattle.qbase.specs.declared.errno.Errno.TheVariants.{Again, NoMemory}
 use Rattle.qqueue.specs.declared.item.Item.{Item}
 use Rattle.qmodel.specs.declared.call.Completion.{Completion}
-use Rattle.qrules.specs.Private.Facts.{is_fixed}
-use Rattle.qrules.specs.Private.Pulses.{pulses_among}
-use Rattle.qrules.specs.Private.Rows.{takes}
+use Rattle.qrules.specs.Records.{is_fixed}
+use Rattle.qrules.specs.Records.{pulses_among}
+use Rattle.qrules.specs.Records.{takes}
 use Rattle.qstate.specs.declared.channel.Channel.{Channel}
 use Rattle.qstate.specs.declared.thread.Thread.{Thread}
 use Rattle.qstate.specs.Channel.{SetsItems}

@@ -8,9 +8,10 @@ use Rattle.qmodel.specs.declared.open_call.OpenCall.{OpenCall}
 use Rattle.qmodel.specs.declared.open_call.Receipt.{Receipt}
 use Rattle.qstate.specs.declared.thread.Thread.{Thread}
 use Rattle.qstate.specs.Kept.{members_of, thread_priority}
-use Rattle.qrules.specs.Private.Facts.{threads_of, sender_among, message_in}
-use Rattle.qrules.specs.Private.Receivers.{newest_receiver_among}
-use Rattle.qrules.specs.Private.Step.{held_call, is_thread}
+use Rattle.qrules.specs.Records.{sender_among, message_in}
+use Rattle.qrules.specs.Facts.{threads_of}
+use Rattle.qrules.specs.Records.{newest_receiver_among}
+use Rattle.qrules.specs.Records.{held_call, is_thread}
 
 -- the open call of thread u; None if it isn't blocked
 abbrev pub open_in : List Thread → ℕ → Option OpenCall

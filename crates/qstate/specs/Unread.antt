@@ -1,7 +1,7 @@
 -- The messages that are not received, by the kernel's content.
 use Rattle.std.specs.Prelude.{◌≡◌, ℕ, List, map, Option, None, Some, if◌then◌else◌, option_and_then, is_some}
 use Rattle.qqueue.specs.Best.{with_priority}
-use Rattle.qrules.specs.Private.Step.{is_unread_send}
+use Rattle.qrules.specs.Records.{is_unread_send}
 use Rattle.qmodel.specs.declared.open_call.OpenCall.{OpenCall}
 use Rattle.qmodel.specs.declared.open_call.OpenCall.TheVariants.{Receive, Send}
 use Rattle.qstate.specs.declared.channel.Channel.{Channel}

@@ -2,9 +2,10 @@
 
 ghost use Rattle.std.specs.Prelude.{◌≡◌, ◌==◌, ◌&&◌, ◌≤◌, ◌<◌, [], true, Some, None, is_some, length, filter_map, map, if◌then◌else◌};
 ghost use Rattle.qtables.specs.Members.{IsRoster};
-ghost use Rattle.qrules.specs.Private.Cancelling.{is_on, cancel_call, cancel_where};
-ghost use Rattle.qrules.specs.Private.Step.{is_unread_send};
-ghost use Rattle.qrules.specs.Private.Facts.{threads_of};
+ghost use Rattle.qrules.specs.Delivery.{is_on, cancel_call};
+ghost use Rattle.qrules.specs.Records.{cancel_where};
+ghost use Rattle.qrules.specs.Records.{is_unread_send};
+ghost use Rattle.qrules.specs.Facts.{threads_of};
 ghost use Rattle.qstate.specs.Cancelling.{is_cancelled_by, ending_for, with_ending, thread_after_cancelled, thread_unless_cancelled, unread_on_by, call_if_cancelled, is_taken_from, Lose, AreCancelled, LoseCancelled};
 ghost use Rattle.qstate.specs.Thread.{open_in};
 ghost use Rattle.qstate.specs.Kept.{members_of};

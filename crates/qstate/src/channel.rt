@@ -2,7 +2,7 @@
 
 ghost use Rattle.std.specs.Prelude.{◌≡◌, ◌==◌, ◌+◌, ◌<◌, ◌++◌, ◌∷◌, ◌&&◌, [], count_by, is_some, true, None, Some, if◌then◌else◌, IsOk, OnOk, OnErr, IfErr};
 ghost use Rattle.std.specs.List.{AllByRecursion};
-ghost use Rattle.qrules.specs.Private.Facts.{is_fixed, tells_disconnect, tells_unblock};
+ghost use Rattle.qrules.specs.Records.{is_fixed, tells_disconnect, tells_unblock};
 ghost use Rattle.qstate.specs.Channel.{is_of, route_in, ClosesIn};
 ghost use Rattle.qstate.specs.Kept.{channel_in, open_channel_of};
 ghost use Rattle.qtables.specs.Entries.{entry_at};

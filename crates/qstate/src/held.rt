@@ -3,10 +3,10 @@
 ghost use Rattle.std.specs.Prelude.{◌≡◌, None, Some, true, false, option_and_then, option_map, IfOk, IfErr, OnErr};
 ghost use Rattle.qbase.specs.Laying.{laid_count};
 ghost use Rattle.qmodel.specs.OpenCalls.{send_in};
-ghost use Rattle.qrules.specs.Private.Calls.Info.{info_of_open};
-ghost use Rattle.qrules.specs.Private.Facts.{message_in};
-ghost use Rattle.qrules.specs.Private.Held.{reply_buffer_in, reply_buffer_of};
-ghost use Rattle.qrules.specs.Private.Step.{unblocked_call, written_call};
+ghost use Rattle.qrules.specs.Records.{info_of_open};
+ghost use Rattle.qrules.specs.Records.{message_in};
+ghost use Rattle.qrules.specs.Records.{reply_buffer_in, reply_buffer_of};
+ghost use Rattle.qrules.specs.Records.{unblocked_call, written_call};
 ghost use Rattle.qstate.specs.Held.{guarded_message_in, is_held_in};
 ghost use Rattle.qstate.specs.Thread.{open_in, sender_in, ChangesOpen, SetsOpen};
 ghost use Rattle.qstate.specs.Threads.{IsSeatIn};

@@ -3,7 +3,7 @@
 ghost use Rattle.std.specs.Prelude.{◌≡◌, true, false, IfOk, IfErr};
 ghost use Rattle.qtables.specs.Entries.{entry_at};
 ghost use Rattle.qtables.specs.Members.{member_at};
-ghost use Rattle.qrules.specs.Private.Facts.{is_in_process};
+ghost use Rattle.qrules.specs.Records.{is_in_process};
 ghost use Rattle.qstate.specs.Channel.{own_channel_in};
 ghost use Rattle.qstate.specs.Kept.{members_of};
 ghost use Rattle.qstate.specs.Threads.{IsSeatIn};

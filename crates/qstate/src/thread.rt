@@ -3,8 +3,9 @@
 ghost use Rattle.std.specs.Prelude.{◌≡◌, false, option_and_then, option_copied, option_map};
 ghost use Rattle.qmodel.specs.OpenCalls.{receive_in, send_in};
 ghost use Rattle.qbase.specs.Laying.{laid_count, lay_over};
-ghost use Rattle.qrules.specs.Private.Facts.{held_call, is_send, message_in, message_of};
-ghost use Rattle.qrules.specs.Private.Receivers.{wait_on};
+ghost use Rattle.qrules.specs.Records.{held_call, message_in, message_of};
+ghost use Rattle.qrules.specs.Facts.{is_send};
+ghost use Rattle.qrules.specs.Records.{wait_on};
 
 use qbase::bytes::Bytes;
 use qbase::ids::ChannelId;

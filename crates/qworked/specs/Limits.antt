@@ -9,7 +9,6 @@ use Rattle.qmodel.specs.declared.call.Completion.{Completion}
 use Rattle.qmodel.specs.declared.call.Mark.TheVariants as mark
 use Rattle.qrules.specs.Outcome.{Answers}
 use Rattle.qrules.specs.Rule.{buffer_of}
-use Rattle.qrules.specs.Rules.{effect_of}
 use Rattle.qrules.specs.Facts.{Facts}
 use Rattle.qrules.specs.Lawful.{facts_of}
 use Rattle.qrules.specs.Trace.{followed_by}
@@ -27,9 +26,9 @@ facts_after events = facts_of roster (followed_by [] events)
 -- the only answer to the call is a refusal with this error
 abbrev pub IsRefusedWith : Facts → ℕ → Call → Errno → Type 0
 IsRefusedWith f t c e =
-    Answers f t c (ended f.number t (mark.Failed e) (buffer_of (effect_of c)) ∷ [])
+    Answers f t c (ended f.number t (mark.Failed e) (buffer_of c) ∷ [])
     × ((endings : List Completion) → Answers f t c endings → endings ≡ ended f.number t (mark.Failed e)
-    (buffer_of (effect_of c)) ∷ [])
+    (buffer_of c) ∷ [])
 
 -- k channels are created, by the calls from n on
 abbrev pub creations : ℕ → ℕ → List Event

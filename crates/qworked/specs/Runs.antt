@@ -13,7 +13,6 @@ use Rattle.qmodel.specs.declared.open_call.Blocked.{Blocked}
 use Rattle.qrules.specs.Facts.{threads_of, waiting_number, Facts}
 use Rattle.qrules.specs.Rules.Threads.{state_of}
 use Rattle.qrules.specs.Rule.{buffer_of}
-use Rattle.qrules.specs.Rules.{effect_of}
 use Rattle.qrules.specs.Lawful.{facts_of, IsLawful}
 use Rattle.qrules.specs.Trace.{followed_by}
 use Rattle.qrules.specs.Trace.{Event}
@@ -75,7 +74,7 @@ endings_at n events = of_event (λ e. e.endings) n events
 -- the endings of event n if memory runs out: the call is refused, with its buffer as it was
 abbrev pub refused_at : ℕ → List Event → List Completion
 refused_at n events = of_event
-    (λ e. ended n e.thread (mark.Failed NoMemory) (buffer_of (effect_of e.call)) ∷ []) n events
+    (λ e. ended n e.thread (mark.Failed NoMemory) (buffer_of e.call) ∷ []) n events
 
 -- the events up to event n are a lawful trace if event n has these endings
 abbrev pub MayEnd : List Member → List Event → ℕ → List Completion → Type 0

@@ -5,8 +5,8 @@ use Rattle.std.specs.List.{filter_map}
 use Rattle.std.proofs.lemmas.Bool.{eqb-true}
 use Rattle.qbase.specs.declared.errno.Errno.{Errno}
 use Rattle.qqueue.specs.declared.item.Item.{Item}
-use Rattle.qrules.specs.Private.Cancelling.{cancel_where}
-use Rattle.qrules.specs.Private.Facts.{threads_of}
+use Rattle.qrules.specs.Records.{cancel_where}
+use Rattle.qrules.proofs.Words.Facts.{threads_of}
 use Rattle.qmodel.specs.declared.call.Completion.{Completion}
 use Rattle.qmodel.specs.declared.call.Mark.TheVariants as mark
 use Rattle.qstate.specs.Kept.{pending_in, members_of}

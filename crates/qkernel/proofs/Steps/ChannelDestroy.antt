@@ -7,9 +7,9 @@ use Rattle.qbase.specs.declared.errno.Errno.TheVariants.{Inval, Srch}
 use Rattle.qqueue.specs.declared.item.Item.{Item}
 use Rattle.qtables.specs.Members.{member_at}
 use Rattle.qtables.specs.declared.member.Member.{Member}
-use Rattle.qrules.specs.Private.Answer.{refusal_ending}
-use Rattle.qrules.specs.Private.Facts.{owns}
-use Rattle.qrules.specs.Private.Step.{uncut_items}
+use Rattle.qrules.proofs.Words.Items.{refusal_ending}
+use Rattle.qrules.proofs.Words.Facts.{owns}
+use Rattle.qrules.proofs.Words.Step.{uncut_items}
 use Rattle.qmodel.specs.declared.call.Call.TheVariants.{ChannelDestroy}
 use Rattle.qmodel.specs.declared.call.Completion.{Completion}
 use Rattle.qstate.specs.Channel.{ClosesIn, is_of}

@@ -14,19 +14,21 @@ use Rattle.qstate.specs.declared.channel.Channel.{Channel}
 use Rattle.qstate.specs.declared.thread.Thread.{Thread}
 use Rattle.qbase.specs.declared.errno.Errno.{Errno}
 use Rattle.qqueue.specs.declared.item.Item.{Item}
-use Rattle.qrules.specs.Private.Answer.{MayRefuse, refusal_ending, refusal}
-use Rattle.qrules.specs.Private.Calls.{row_of}
-use Rattle.qrules.specs.Private.Effects.{closes, makes, sets}
-use Rattle.qrules.specs.Private.Rows.{names}
-use Rattle.qrules.specs.Private.Step.{uncut_items, items_with_priority_set, pending_after, unreceived_items}
-use Rattle.qrules.specs.Private.Past.{made_on}
+use Rattle.qrules.specs.Outcome.{MayRefuse, refusal_of}
+use Rattle.qrules.proofs.Words.Items.{refusal_ending}
+use Rattle.qrules.proofs.Words.Items.{receipt_of}
+use Rattle.qrules.proofs.Words.Effects.{closes, makes, sets}
+use Rattle.qrules.proofs.Words.Items.{names}
+use Rattle.qrules.proofs.Words.Step.{uncut_items, items_with_priority_set, pending_after, unreceived_items}
+use Rattle.qrules.proofs.Words.Past.{made_on}
 use Rattle.qrules.proofs.Traces.Past.Cancels.{EndsSettled, none_cancelled}
 use Rattle.qrules.proofs.Traces.Past.Ends.{row_passes}
 use Rattle.qrules.proofs.Traces.Past.Laws.{is_forceful}
 use Rattle.qrules.proofs.Traces.Calls.{row_laws}
 use Rattle.qstate.specs.Channel.{ids_of, is_of, route_in}
 use Rattle.qstate.specs.Kept.{channel_in, pending_in, members_of, thread_priority}
-use Rattle.qrules.specs.Private.Facts.{Facts, is_in_process}
+use Rattle.qrules.proofs.Words.Facts.{Facts}
+use Rattle.qrules.specs.Records.{is_in_process}
 use Rattle.qmodel.specs.Trace.{OpenChannel}
 use Rattle.qrules.proofs.Traces.Parts.{is_owned_by, leads_to}
 use Rattle.qkernel.specs.Kernel.{State, IsSound}
@@ -84,18 +86,18 @@ step_refused_alone s t c e X may is = step_refused s t c e X _ may is (counted_a
 
 -- what is pending after a call that neither destroys a channel nor ends a Send which isn't received
 pub uncut_by : (s : State) (t : ℕ) (c : Call) → EndsSettled (facts_in s) t c → closes c ≡ None → sets c ≡ None → (h : ℕ) {x : List Item}
-    → x ≡ unreceived_items (row_of (facts_in s) t c).receipt h (pending_in s.channels h ++ made_on h (makes (facts_in s) t c)) → x ≡ pending_after (facts_in s) t c h
+    → x ≡ unreceived_items (receipt_of (facts_in s) t c) h (pending_in s.channels h ++ made_on h (makes (facts_in s) t c)) → x ≡ pending_after (facts_in s) t c h
 uncut_by s t c settled closes_none sets_none h {x} is =
     let f = facts_in s in
     let items = pending_in s.channels h ++ made_on h (makes f t c) in
     is
-    ∙ ap (unreceived_items (row_of f t c).receipt h) (sym (none_cancelled f t c settled h items))
-    ∙ ap (λ o. cond (names o h) [] (unreceived_items (row_of f t c).receipt h (uncut_items f t c h items))) (sym closes_none)
-    ∙ ap (λ o. cond (names (closes c) h) [] (items_with_priority_set f h o (unreceived_items (row_of f t c).receipt h (uncut_items f t c h items)))) (sym sets_none)
+    ∙ ap (unreceived_items (receipt_of f t c) h) (sym (none_cancelled f t c settled h items))
+    ∙ ap (λ o. cond (names o h) [] (unreceived_items (receipt_of f t c) h (uncut_items f t c h items))) (sym closes_none)
+    ∙ ap (λ o. cond (names (closes c) h) [] (items_with_priority_set f h o (unreceived_items (receipt_of f t c) h (uncut_items f t c h items)))) (sym sets_none)
 
 -- the same of a call that is accepted and ends no other by force
-pub uncut : (s : State) (t : ℕ) (c : Call) → refusal (facts_in s) t c ≡ None → is_forceful c ≡ false → closes c ≡ None → sets c ≡ None → (h : ℕ) {x : List Item}
-    → x ≡ unreceived_items (row_of (facts_in s) t c).receipt h (pending_in s.channels h ++ made_on h (makes (facts_in s) t c)) → x ≡ pending_after (facts_in s) t c h
+pub uncut : (s : State) (t : ℕ) (c : Call) → refusal_of (facts_in s) t c ≡ None → is_forceful c ≡ false → closes c ≡ None → sets c ≡ None → (h : ℕ) {x : List Item}
+    → x ≡ unreceived_items (receipt_of (facts_in s) t c) h (pending_in s.channels h ++ made_on h (makes (facts_in s) t c)) → x ≡ pending_after (facts_in s) t c h
 uncut s t c passed mild closes_none sets_none h is = uncut_by s t c ((row_laws (facts_in s) t c (row_passes (facts_in s) t c passed)).ends_settled mild) closes_none sets_none h is
 
 -- ---- soundness

@@ -9,12 +9,13 @@ use Rattle.qtables.specs.declared.member.Member.{Member}
 use Rattle.qmodel.specs.declared.call.Call.TheVariants.{ConnectAttach}
 use Rattle.qmodel.specs.declared.call.Completion.{Completion}
 use Rattle.qmodel.specs.declared.call.Mark.TheVariants as mark
-use Rattle.qrules.specs.Private.Answer.{MayRefuse, refusal_ending}
+use Rattle.qrules.specs.Outcome.{MayRefuse}
+use Rattle.qrules.proofs.Words.Items.{refusal_ending}
 use Rattle.qstate.specs.Kept.{channel_in, members_of}
-use Rattle.qrules.specs.Private.Effects.{attaches}
+use Rattle.qrules.proofs.Words.Effects.{attaches}
 use Rattle.qkernel.specs.Kernel.{State, IsSound}
 use Rattle.qkernel.specs.Private.Steps.{Steps, facts_in}
-use Rattle.qrules.specs.Private.Step.{put_at, one_for}
+use Rattle.qrules.proofs.Words.Step.{put_at, one_for}
 use Rattle.qstate.specs.Thread.{open_in}
 use Rattle.qrules.proofs.Traces.Rosters.{rises, among, only_own}
 use Rattle.qbase.proofs.Lists.{all_append}

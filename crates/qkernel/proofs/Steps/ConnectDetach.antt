@@ -1,4 +1,6 @@
 -- ConnectDetach as a step of the kernel.
+use Rattle.qrules.specs.Rules.{row_of}
+use Rattle.qrules.proofs.Traces.Rows.{pulse_same}
 use Rattle.std.proofs.Common.{◌≡◌, ℕ, ◌+◌, ◌<◌, ◌≤◌, List, [], ◌∷◌, ◌++◌, length, refl, ap, sym, subst, ◌∙◌, cond, arith, true, false, eqb, inl, inr, add-zero}
 use Rattle.std.specs.Prelude.{Bool, Option, None, Some, filter, count_by, is_some, not, ◌&&◌}
 use Rattle.std.specs.List.{filter_map, list_any}
@@ -16,16 +18,24 @@ use Rattle.qtables.specs.Entries.{entry_at, without_entry}
 use Rattle.qtables.specs.Members.{member_at}
 use Rattle.qtables.specs.declared.connection.Connection.{Connection}
 use Rattle.qtables.specs.declared.member.Member.{Member}
-use Rattle.qrules.specs.Private.Answer.{MayRefuse, ending, refusal_ending}
-use Rattle.qrules.specs.Private.Calls.ConnectDetach.{connection_between, connections_between, due_pulse}
+use Rattle.qrules.specs.Outcome.{MayRefuse, ending}
+use Rattle.qrules.proofs.Words.Items.{refusal_ending}
+use Rattle.qrules.proofs.Traces.Parts.{connection_between, connections_between}
+use Rattle.qrules.specs.Rules.Connections.{disconnect_pulse}
 use Rattle.qrules.proofs.Traces.Parts.{due_pulse_over, is_own}
-use Rattle.qrules.specs.Private.Cancelling.{cancel_where, is_over}
-use Rattle.qrules.specs.Private.Facts.{tells_disconnect, threads_of}
-use Rattle.qrules.specs.Private.Pulses.{refusal_if_full_for, ends_receiver, pulse_receipt}
-use Rattle.qrules.specs.Private.Rows.{Received, disconnect_item}
+use Rattle.qrules.specs.Delivery.{is_over}
+use Rattle.qrules.specs.Records.{cancel_where}
+use Rattle.qrules.proofs.Words.Facts.{threads_of}
+use Rattle.qrules.specs.Records.{tells_disconnect}
+use Rattle.qrules.specs.Delivery.{refusal_if_full_for}
+use Rattle.qrules.proofs.Words.Items.{ends_receiver}
+use Rattle.qrules.proofs.Words.Items.{pulse_receipt}
+use Rattle.qrules.proofs.Words.Items.{Received}
+use Rattle.qrules.specs.Records.{disconnect_item}
 use Rattle.qmodel.specs.Trace.{SentItem}
-use Rattle.qrules.specs.Private.Step.{is_cancelled, uncut_items, unreceived_items, unless, is_unread_send}
-use Rattle.qrules.specs.Private.Past.{made_on}
+use Rattle.qrules.proofs.Words.Step.{is_cancelled, uncut_items, unreceived_items, unless}
+use Rattle.qrules.specs.Records.{is_unread_send}
+use Rattle.qrules.proofs.Words.Past.{made_on}
 use Rattle.qmodel.specs.declared.call.Call.TheVariants.{ConnectDetach}
 use Rattle.qmodel.specs.declared.call.Completion.{Completion}
 use Rattle.qstate.specs.declared.channel.Channel.{Channel}
@@ -36,7 +46,7 @@ use Rattle.qstate.specs.Kept.{channel_in, pending_in, thread_priority, members_o
 use Rattle.qstate.specs.Cancelling.{AreCancelled, LoseCancelled, ending_for, is_cancelled_among}
 use Rattle.qstate.specs.Endings.{with_ending_if}
 use Rattle.qstate.specs.Pulses.{has_room}
-use Rattle.qrules.specs.Private.Receivers.{newest_receiver}
+use Rattle.qrules.specs.Delivery.{newest_receiver}
 use Rattle.qstate.specs.Thread.{newest_in, open_in}
 use Rattle.qkernel.specs.Kernel.{State, IsSound}
 use Rattle.qkernel.specs.Private.Steps.{Steps, facts_in}
@@ -114,13 +124,13 @@ module _ (s : State) (t coid : ℕ) (m : Member) (known : member_at (members_of 
     pulse = disconnect_item (s.made + 1) (thread_priority s.threads t) m.process
 
     pub due_is : (last : Bool) → IsSound s → last ≡ (tells_disconnect (channel_in s.channels h) && eqb (count_by (λ e. (eqb e.1.process m.process) && (eqb e.1.channel h)) s.connections) 1)
-        → due_pulse (facts_in s) t coid ≡ made_for h (cond last (Some pulse) None)
+        → disconnect_pulse (facts_in s) t coid ≡ made_for h (cond last (Some pulse) None)
     due_is last sound is =
         let same : m.process ≡ of.connection.process = eqb-true m.process of.connection.process of.process in
         ap (due_pulse_over (facts_in s) t) of.is
         ∙ rw (← same, of.channel, counted_between s m.process h sound, ← is) (elim last as (λ b. cond {A = Option SentItem} b (Some (record { item = pulse; channel = h })) None ≡ made_for h (cond b (Some pulse) None)) [ true ↦ refl | false ↦ refl ])
 
-    module _ (d : Option Item) (due_is : due_pulse (facts_in s) t coid ≡ made_for h d) where
+    module _ (d : Option Item) (due_is : disconnect_pulse (facts_in s) t coid ≡ made_for h d) where
       pub detach_full : is_some d ≡ true → has_room s.channels h ≡ false → MayRefuse (facts_in s) t (ConnectDetach coid) Again
       detach_full some full = inl (rw (up, free, own, due_is) (elim d as (λ d. is_some d ≡ true → refusal_if_full_for (facts_in s) (made_for h d) ≡ Some Again) [
         | None ↦ λ e. absurd (true≢false (sym e))
@@ -130,7 +140,7 @@ module _ (s : State) (t coid : ℕ) (m : Member) (known : member_at (members_of 
       pub detach_memory : (item : Item) → d ≡ Some item → has_room s.channels h ≡ true → newest_in h item s.threads ≡ None → MayRefuse (facts_in s) t (ConnectDetach coid) NoMemory
       detach_memory item some room nobody =
           let none : newest_receiver (facts_in s) h item ≡ None = nobody in
-          let made : due_pulse (facts_in s) t coid ≡ Some (record { item = item; channel = h }) = due_is ∙ ap (made_for h) some in
+          let made : disconnect_pulse (facts_in s) t coid ≡ Some (record { item = item; channel = h }) = due_is ∙ ap (made_for h) some in
           inr (
             rw (up, free, own, made, room) refl,
             rw (made, none) refl,
@@ -181,8 +191,11 @@ module _ (s : State) (t coid : ℕ) (m : Member) (known : member_at (members_of 
           | Some y ↦ λ e some. rw (ne_eqb u t (not_caller s t u o mid between met is there), met_uncut u y e) refl
         ] refl there)
 
+        others_is : (u : ℕ) → (row_of (facts_in s) t (ConnectDetach coid)).others u ≡ option_or (cancel u) (ends_receiver (facts_in s) o u)
+        others_is u = ap (option_or (cancel u)) (pulse_same (facts_in s) (disconnect_pulse (facts_in s) t coid) u ∙ ap (λ d. ends_receiver (facts_in s) d u) due_is)
+
         ending_is : (u : ℕ) → option_or (g u) (ends_receiver (facts_in s) o u) ≡ ending (facts_in s) t (ConnectDetach coid) u
-        ending_is u = rw (due_is, g_is u) (elim (eqb u t) as (λ b. option_or (cond b (Some (mine s t)) (cancel u)) (ends_receiver (facts_in s) o u) ≡ cond b (Some (mine s t)) (option_or (cancel u) (ends_receiver (facts_in s) o u))) [ true ↦ refl | false ↦ refl ])
+        ending_is u = rw (g_is u, others_is u) (elim (eqb u t) as (λ b. option_or (cond b (Some (mine s t)) (cancel u)) (ends_receiver (facts_in s) o u) ≡ cond b (Some (mine s t)) (option_or (cancel u) (ends_receiver (facts_in s) o u))) [ true ↦ refl | false ↦ refl ])
 
         pub room_for_one : length s.threads ≤ 64 → is_some met ≡ true → length (filter_map g (threads_of (members_of mid))) < 64
         room_for_one few some = rw (is.members) (let fewer : length (filter_map g ts) + 1 ≤ length ts = is.few g g_none some in let as_many : length ts ≡ length s.threads = length-map (members_of s.threads) (λ m. m.thread) ∙ length-map s.threads (λ t. t.member) in omega arith)
@@ -212,7 +225,7 @@ module _ (s : State) (t coid : ℕ) (m : Member) (known : member_at (members_of 
               ] refl)
 
           cancel_is : (k i : ℕ) → is_cancelled_among (Over coid) Badf mid k i ≡ is_cancelled (facts_in s) t (ConnectDetach coid) k i
-          cancel_is k i = rw (is.members, due_is) (ap (λ (p : ℕ → Bool). list_any p ts) (λ j v. gone_is k i v j))
+          cancel_is k i = rw (is.members) (ap (λ (p : ℕ → Bool). list_any p ts) (λ j v. (gone_is k i v ∙ ap (λ x. is_unread_send k i (open_in s.threads v) && is_some x) (sym (others_is v))) j))
 
           pending_is : (k : ℕ) → pending_in now k ≡ unreceived_items (pulse_receipt (facts_in s) o) k (uncut_items (facts_in s) t (ConnectDetach coid) k (pending_in s.channels k ++ made_on k o))
           pending_is k = lose.pending k
@@ -238,7 +251,7 @@ module _ (s : State) (t coid : ℕ) (m : Member) (known : member_at (members_of 
                 open_channels = rw known (count_kept s.channels now (lose.ids ∙ is.ids));
                 connection = λ k. rw known (entry_at-without_entry s.connections coid k);
                 live_connections = rw known (fewer ∙ sym (add-zero (length s.connections)));
-                open_call = λ u. open_after u ∙ rw (due_is, is.senderless u (open_in s.threads u)) refl;
+                open_call = λ u. open_after u ∙ rw (others_is u, due_is, is.senderless u (open_in s.threads u)) refl;
                 pending = λ k. pending_is k ∙ rw due_is refl;
                 priority = λ u. are.priority u ∙ is.priority u ∙ rw due_is refl;
               };

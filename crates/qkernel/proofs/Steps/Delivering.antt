@@ -13,11 +13,12 @@ use Rattle.qstate.specs.declared.channel.Channel.{Channel}
 use Rattle.qstate.specs.declared.thread.Thread.{Thread}
 use Rattle.qstate.specs.Channel.{ids_of, route_in, SetsItems}
 use Rattle.qstate.specs.Kept.{pending_in, channel_in, members_of}
-use Rattle.qrules.specs.Private.Facts.{route, is_fixed}
-use Rattle.qrules.specs.Private.Rows.{item_sent_over}
+use Rattle.qrules.proofs.Words.Facts.{route}
+use Rattle.qrules.specs.Records.{is_fixed}
+use Rattle.qrules.proofs.Words.Items.{item_sent_over}
 use Rattle.qkernel.specs.Kernel.{State, IsSound}
 use Rattle.qkernel.specs.Private.Steps.{facts_in}
-use Rattle.qrules.specs.Private.Past.{made_on}
+use Rattle.qrules.proofs.Words.Past.{made_on}
 use Rattle.qbase.proofs.Lists.{all_append, eqb_either}
 use Rattle.qrules.proofs.Traces.Calls.Delivering.{sent_way}
 use Rattle.qkernel.proofs.Steps.Common.{Counted, count_same, all_up_to, route-leads_to}

@@ -13,17 +13,23 @@ use Rattle.qmodel.specs.declared.call.Mark.TheVariants as mark
 use Rattle.qmodel.specs.declared.open_call.OpenCall.{OpenCall}
 use Rattle.qmodel.specs.declared.open_call.OpenCall.TheVariants.{Receive, Send}
 use Rattle.qstate.specs.declared.thread.Thread.{Thread}
-use Rattle.qrules.specs.Private.Answer.{refusal_ending}
-use Rattle.qrules.specs.Private.Calls.{row_of}
+use Rattle.qrules.specs.Outcome.{ending}
+use Rattle.qrules.proofs.Words.Items.{refusal_ending}
+use Rattle.qrules.specs.Rules.{row_of}
 use Rattle.qstate.specs.Kept.{channel_in, members_of}
 use Rattle.qstate.specs.Endings.{with_ending_in_place}
-use Rattle.qrules.specs.Private.Facts.{is_send, sender, sender_among, threads_of}
-use Rattle.qrules.specs.Private.Held.{Finish, ends_sender, answer_ending, refusal}
+use Rattle.qrules.proofs.Words.Facts.{is_send, sender, threads_of}
+use Rattle.qrules.specs.Records.{sender_among}
+use Rattle.qrules.specs.Rules.Held.{refusal_unless_held}
+use Rattle.qrules.proofs.Words.Items.{Finish, ends_sender}
+use Rattle.qrules.proofs.Words.Items.{answer_ending}
+use Rattle.qrules.specs.Facts.{holds}
+use Rattle.qrules.proofs.Messages.{held_same as holds_by_call}
 use Rattle.qrules.proofs.Traces.Parts.{is_held_for}
 use Rattle.qstate.specs.Held.{is_held_in, is_held_of}
 use Rattle.qkernel.specs.Kernel.{State, IsSound}
 use Rattle.qkernel.specs.Private.Steps.{Steps, facts_in}
-use Rattle.qrules.specs.Private.Step.{unless}
+use Rattle.qrules.proofs.Words.Step.{unless}
 use Rattle.qstate.specs.Thread.{open_in, sender_in, sent_call, SetsOpen}
 use Rattle.qstate.proofs.Inserting.{two_endings}
 use Rattle.qbase.proofs.Lists.{is_among, cond_same}
@@ -38,13 +44,13 @@ module _ (s : State) (t : ℕ) (m : Member) (i : ℕ) (sound : IsSound s) (known
   held_same (Some (Send x)) = ap (λ b. is_some x.receipt && b) (owned_by_member (facts_in s) t m (channel_in s.channels x.channel) known)
 
   -- what the row tests is what the kernel finds
-  pub is_held : is_held_for (facts_in s) t (sent_call s.threads i) ≡ is_held_in s.threads s.channels m.process i
-  is_held = held_same (sent_call s.threads i)
+  pub is_held : holds (facts_in s) t i ≡ is_held_in s.threads s.channels m.process i
+  is_held = holds_by_call (facts_in s) t i ∙ held_same (sent_call s.threads i)
 
   -- refused where no message is held so
-  pub step_unheld : (c : Call) (X : List Completion) → (row_of (facts_in s) t c).refusal ≡ refusal (facts_in s) t i → s.down ≡ false → open_in s.threads t ≡ None → is_held_in s.threads s.channels m.process i ≡ false
+  pub step_unheld : (c : Call) (X : List Completion) → (row_of (facts_in s) t c).refusal ≡ refusal_unless_held (facts_in s) t i → s.down ≡ false → open_in s.threads t ≡ None → is_held_in s.threads s.channels m.process i ≡ false
       → X ≡ refusal_ending (facts_in s) t c Srch ∷ [] → Steps s t c X (counted s)
-  step_unheld c X row up free none is = step_refused_alone s t c Srch X (inl (rw (up, free, row, is_held, none) refl)) is
+  step_unheld c X row up free none is = step_refused_alone s t c Srch X (inl (rw (row, up, free, is_held, none) refl)) is
 
 -- ---- the sender
 
@@ -74,23 +80,24 @@ module _ (s : State) (t : ℕ) (m : Member) (i : ℕ) (sound : IsSound s) (known
   apart e = none-some y (sym (ap (answer_ending finish u) (ap (open_in s.threads) (sym e) ∙ free)) ∙ ended)
 
   -- the endings of the two threads
-  pub two_ended : (X : List Completion) → X ≡ with_ending_in_place y (mine ∷ []) → X ≡ filter_map (λ v. cond (eqb v t) (Some mine) (ends_sender (facts_in s) finish (sender (facts_in s) i) v)) (threads_of (members_of s.threads))
-  two_ended X is =
-      is ∙ two_endings mine y t u refl (finished_thread finish u (open_in s.threads u) y ended) apart (threads_of (members_of s.threads)) (rises (members_of s.threads) sound.roster) (among (members_of s.threads) t m known) (among_senders s.threads i u is_sender)
-      ∙ sym (filter_map_same (λ v. cond (eqb v t) (Some mine) (ends_sender (facts_in s) finish (sender (facts_in s) i) v)) (λ v. cond (eqb v t) (Some mine) (cond (eqb v u) (Some y) None)) (threads_of (members_of s.threads)) (λ v. rw is_sender
-      (ap (cond (eqb v t) (Some mine)) (elim (eqb v u) as (λ b. eqb v u ≡ b → cond b (answer_ending finish v (open_in s.threads v)) None ≡ cond b (Some y) None) [
-        | true ↦ λ f. rw (eqb-true v u f) ended
-        | false ↦ λ f. refl
-      ] refl))))
-
-  -- the sender waits no more
-  pub answered_calls : (threads : List Thread) → SetsOpen u None s.threads threads → (v : ℕ)
-      → open_in threads v ≡ cond (eqb v t) None (unless (is_some (ends_sender (facts_in s) finish (sender (facts_in s) i) v)) (open_in s.threads v))
-  answered_calls threads takes v = rw is_sender (takes.open_call v ∙ (elim (eqb v t) as (λ b. eqb v t ≡ b → cond (eqb v u) None (open_in s.threads v)
-      ≡ cond b None (unless (is_some (cond (eqb v u) (answer_ending finish v (open_in s.threads v)) None)) (open_in s.threads v))) [
-        | true ↦ λ e. let idle : open_in s.threads v ≡ None = ap (open_in s.threads) (eqb-true v t e) ∙ free in rw idle (cond_same (eqb v u) None)
-        | false ↦ λ e. elim (eqb v u) as (λ b. eqb v u ≡ b → cond b None (open_in s.threads v) ≡ unless (is_some (cond b (answer_ending finish v (open_in s.threads v)) None)) (open_in s.threads v)) [
-          | true ↦ λ f. rw (eqb-true v u f, ended) refl
+  module _ (c : Call) (own : (row_of (facts_in s) t c).own ≡ Some mine) (others : (v : ℕ) → (row_of (facts_in s) t c).others v ≡ ends_sender (facts_in s) finish (sender (facts_in s) i) v) where
+    pub two_ended : (X : List Completion) → X ≡ with_ending_in_place y (mine ∷ []) → X ≡ filter_map (ending (facts_in s) t c) (threads_of (members_of s.threads))
+    two_ended X is =
+        is ∙ two_endings mine y t u refl (finished_thread finish u (open_in s.threads u) y ended) apart (threads_of (members_of s.threads)) (rises (members_of s.threads) sound.roster) (among (members_of s.threads) t m known) (among_senders s.threads i u is_sender)
+        ∙ sym (filter_map_same (ending (facts_in s) t c) (λ v. cond (eqb v t) (Some mine) (cond (eqb v u) (Some y) None)) (threads_of (members_of s.threads)) (λ v. rw (own, others v, is_sender)
+        (ap (cond (eqb v t) (Some mine)) (elim (eqb v u) as (λ b. eqb v u ≡ b → cond b (answer_ending finish v (open_in s.threads v)) None ≡ cond b (Some y) None) [
+          | true ↦ λ f. rw (eqb-true v u f) ended
           | false ↦ λ f. refl
-        ] refl
-      ] refl))
+        ] refl))))
+
+    -- the sender waits no more
+    pub answered_calls : (threads : List Thread) → SetsOpen u None s.threads threads → (v : ℕ)
+        → open_in threads v ≡ cond (eqb v t) None (unless (is_some ((row_of (facts_in s) t c).others v)) (open_in s.threads v))
+    answered_calls threads takes v = rw (others v, is_sender) (takes.open_call v ∙ (elim (eqb v t) as (λ b. eqb v t ≡ b → cond (eqb v u) None (open_in s.threads v)
+        ≡ cond b None (unless (is_some (cond (eqb v u) (answer_ending finish v (open_in s.threads v)) None)) (open_in s.threads v))) [
+          | true ↦ λ e. let idle : open_in s.threads v ≡ None = ap (open_in s.threads) (eqb-true v t e) ∙ free in rw idle (cond_same (eqb v u) None)
+          | false ↦ λ e. elim (eqb v u) as (λ b. eqb v u ≡ b → cond b None (open_in s.threads v) ≡ unless (is_some (cond b (answer_ending finish v (open_in s.threads v)) None)) (open_in s.threads v)) [
+            | true ↦ λ f. rw (eqb-true v u f, ended) refl
+            | false ↦ λ f. refl
+          ] refl
+        ] refl))

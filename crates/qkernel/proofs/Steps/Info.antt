@@ -1,5 +1,5 @@
 -- Info as a step of the kernel.
-use Rattle.std.proofs.Common.{◌≡◌, ℕ, ◌+◌, List, [], ◌∷◌, refl, ap, sym, ◌∙◌, cond, eqb, arith, true, append-nil, false, subst}
+use Rattle.std.proofs.Common.{◌≡◌, ℕ, ◌+◌, List, [], ◌∷◌, refl, ap, sym, ◌∙◌, cond, eqb, arith, true, append-nil, false}
 use Rattle.std.specs.Prelude.{Option, None, Some, is_some}
 use Rattle.std.specs.List.{filter_map}
 use Rattle.std.specs.Option.{option_and_then, option_map, option_map_or}
@@ -13,8 +13,10 @@ use Rattle.qmodel.specs.declared.open_call.OpenCall.{OpenCall}
 use Rattle.qmodel.specs.declared.open_call.OpenCall.TheVariants.{Receive, Send}
 use Rattle.qstate.specs.declared.thread.Thread.{Thread}
 use Rattle.qmodel.specs.declared.call.Info.{Info as Told}
-use Rattle.qrules.specs.Private.Calls.Info.{info_of, info_of_open, info_ending}
-use Rattle.qrules.specs.Private.Facts.{sender, threads_of, Facts}
+use Rattle.qrules.specs.Rules.Held.{info_of}
+use Rattle.qrules.specs.Records.{info_of_open}
+use Rattle.qrules.proofs.Words.Items.{info_ending}
+use Rattle.qrules.proofs.Words.Facts.{sender, threads_of}
 use Rattle.qstate.specs.Held.{is_held_in, is_held_of}
 use Rattle.qkernel.specs.Kernel.{State, IsSound}
 use Rattle.qkernel.specs.Private.Steps.{Steps, facts_in}
@@ -24,16 +26,10 @@ use Rattle.qstate.specs.Threads.{IsRecordOf}
 use Rattle.qstate.specs.Kept.{members_of, channel_in}
 use Rattle.qstate.proofs.Senders.{held_sent}
 use Rattle.qrules.proofs.Traces.Rosters.{among, only_own, rises}
-use Rattle.qrules.proofs.Rows.Held.{info_same}
-use Rattle.qkernel.proofs.Contents.{open_among}
 use Rattle.qkernel.proofs.Steps.Common.{uncut, counted, stays_free}
 use Rattle.qkernel.proofs.Steps.Held.{is_held}
 use Rattle.qrules.proofs.Traces.Past.Waits.{some_map}
-use Rattle.qrules.proofs.View.{IsKnown}
-use Rattle.qrules.specs.Private.Lawful.{facts_of}
 use Rattle.qstate.specs.Channel.{is_of}
-use Rattle.qbase.proofs.Lists.{is_among}
-use Rattle.qrules.proofs.Traces.Past.Open.{open_own}
 
 -- what is told of the thread that sent it
 pub info_there : (s : State) (i u : ℕ) (t : Thread) → sender_in s.threads i ≡ Some u → IsRecordOf u s.threads t → info_of (facts_in s) (sender (facts_in s) i) ≡ info_of_open t.member t.open_call
@@ -48,9 +44,7 @@ info_nowhere s i none = ap (info_of (facts_in s)) none
 
 -- what is told by the kernel's content is told at every trace at which it stands
 pub info_at_traces : (s : State) (i : ℕ) (told : Option Told) → IsRoster (members_of s.threads) → told ≡ info_of (facts_in s) (sender (facts_in s) i) → InfoAtTraces s i told
-info_at_traces s i told rises is roster past stands =
-    let known : IsKnown (facts_of roster past) = record { among = subst (λ (f : Facts). (u : ℕ) → is_some (f.open_call u) ≡ true → is_among (threads_of f.roster) u ≡ true) stands (open_among s.threads); own = open_own roster past } in
-    is ∙ ap (λ f. info_of f (sender f i)) stands ∙ sym (info_same (facts_of roster past) i known)
+info_at_traces s i told rises is roster past stands = is ∙ ap (λ f. info_of f (sender f i)) stands
 
 -- what is held is told of
 told_some : (channels : List (ℕ × Channel)) (p : ℕ) (m : Member) (o : Option OpenCall) → option_map_or (is_held_of channels p) o false ≡ true → is_some (info_of_open m o) ≡ true

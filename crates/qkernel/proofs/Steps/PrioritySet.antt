@@ -10,8 +10,8 @@ use Rattle.qqueue.specs.Best.{with_priority}
 use Rattle.qqueue.specs.declared.item.Item.{Item}
 use Rattle.qtables.specs.Members.{member_at}
 use Rattle.qtables.specs.declared.member.Member.{Member}
-use Rattle.qrules.specs.Private.Answer.{refusal_ending}
-use Rattle.qrules.specs.Private.Facts.{is_in_process}
+use Rattle.qrules.proofs.Words.Items.{refusal_ending}
+use Rattle.qrules.specs.Records.{is_in_process}
 use Rattle.qmodel.specs.declared.call.Call.TheVariants.{PrioritySet}
 use Rattle.qmodel.specs.declared.call.Completion.{Completion}
 use Rattle.qmodel.specs.declared.call.Mark.TheVariants as mark
@@ -22,7 +22,8 @@ use Rattle.qkernel.specs.Private.Steps.{Steps, facts_in}
 use Rattle.qstate.specs.Kept.{pending_in, thread_priority, members_of}
 use Rattle.qstate.specs.Thread.{open_in, SetsPriority}
 use Rattle.qstate.specs.Unread.{MovesUnread}
-use Rattle.qrules.specs.Private.Step.{items_with_priority_set, is_unread_send}
+use Rattle.qrules.proofs.Words.Step.{items_with_priority_set}
+use Rattle.qrules.specs.Records.{is_unread_send}
 use Rattle.qrules.proofs.Traces.Past.Cancels.{none_cancelled}
 use Rattle.qrules.proofs.Traces.Rosters.{among, only_own, rises}
 use Rattle.qbase.proofs.Lists.{all_map, all_more}

@@ -1,4 +1,5 @@
 -- Read as a step of the kernel.
+use Rattle.qrules.proofs.Messages.{message_same}
 use Rattle.std.proofs.Common.{◌≡◌, ℕ, ◌+◌, List, [], ◌∷◌, refl, sym, ◌∙◌, arith, true, append-nil, false}
 use Rattle.std.specs.Prelude.{drop, None, Some}
 use Rattle.qbase.specs.Laying.{laid_count, lay_over}
@@ -9,7 +10,7 @@ use Rattle.qmodel.specs.declared.call.Completion.{Completion}
 use Rattle.qmodel.specs.declared.call.Mark.TheVariants as mark
 use Rattle.qstate.specs.Held.{is_held_in}
 use Rattle.qkernel.specs.Kernel.{State, IsSound}
-use Rattle.qkernel.specs.Private.Steps.{Steps}
+use Rattle.qkernel.specs.Private.Steps.{Steps, facts_in}
 use Rattle.qstate.specs.Thread.{message_from, open_in}
 use Rattle.qstate.specs.Kept.{members_of}
 use Rattle.qrules.proofs.Traces.Rosters.{among, only_own, rises}
@@ -24,7 +25,7 @@ module _ (s : State) (t : ℕ) (m : Member) (i : ℕ) (sound : IsSound s) (known
   step_read offset buffer X is = (
     true,
     record {
-      answer = (rw (up, free, is_held s t m i sound known, held) refl, is ∙ sym (only_own _ t _ (rises (members_of s.threads) sound.roster) (among (members_of s.threads) t m known)));
+      answer = (rw (up, free, is_held s t m i sound known, held) refl, is ∙ rw (← message_same (facts_in s) i) (sym (only_own _ t _ (rises (members_of s.threads) sound.roster) (among (members_of s.threads) t m known))));
       follows = record {
         roster = refl;
         number = refl;

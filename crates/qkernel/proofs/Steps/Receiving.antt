@@ -1,4 +1,6 @@
 -- Receive and ReceivePulse as steps of the kernel.
+use Rattle.qrules.specs.Facts.{message}
+use Rattle.qrules.proofs.Messages.{message_same}
 use Rattle.std.proofs.Common.{◌≡◌, ℕ, ◌+◌, ◌≤◌, List, [], ◌∷◌, ◌++◌, refl, ap, sym, subst, ◌∙◌, cond, arith, Bool, true, false, eqb, append-nil, inl}
 use Rattle.std.specs.Prelude.{Option, None, Some, is_some, not, unwrap_or}
 use Rattle.std.specs.List.{filter_map}
@@ -19,15 +21,19 @@ use Rattle.qstate.specs.declared.channel.Channel.{Channel}
 use Rattle.qmodel.specs.declared.open_call.OpenCall.{OpenCall}
 use Rattle.qmodel.specs.declared.open_call.Receipt.{Receipt}
 use Rattle.qstate.specs.declared.thread.Thread.{Thread}
-use Rattle.qrules.specs.Private.Answer.{ending}
+use Rattle.qrules.specs.Outcome.{ending}
 use Rattle.qstate.specs.Channel.{ids_of, is_of, SetsItems}
 use Rattle.qstate.specs.Kept.{channel_in, pending_in, members_of, thread_priority}
-use Rattle.qrules.specs.Private.Facts.{owns, threads_of, is_fixed}
-use Rattle.qrules.specs.Private.Receiving.{own_receipt, receipt_when_taken, receive_of}
-use Rattle.qrules.specs.Private.Rows.{Received, receipt_ending}
+use Rattle.qrules.proofs.Words.Facts.{owns, threads_of}
+use Rattle.qrules.specs.Records.{is_fixed}
+use Rattle.qrules.proofs.Words.Items.{own_receipt, receipt_when_taken}
+use Rattle.qrules.specs.Records.{receive_of}
+use Rattle.qrules.proofs.Words.Items.{Received}
+use Rattle.qrules.specs.Delivery.{receipt_ending}
 use Rattle.qkernel.specs.Kernel.{State, IsSound}
 use Rattle.qkernel.specs.Private.Steps.{Steps, facts_in}
-use Rattle.qrules.specs.Private.Step.{after_receipt, is_thread, held_call, unreceived_items, unless, priority_taken}
+use Rattle.qrules.proofs.Words.Step.{after_receipt, unreceived_items, unless, priority_taken}
+use Rattle.qrules.specs.Records.{is_thread, held_call}
 use Rattle.qstate.specs.Thread.{open_in, message_from, sender_in, SetsOpen, HandsOver, SetsPriority}
 use Rattle.qbase.proofs.Lists.{all_filter, eqb_either, cond_same}
 use Rattle.qrules.proofs.Traces.Rosters.{rises, among, nothing, filter_map_same, only_own}
@@ -161,6 +167,9 @@ module _ (s : State) (t chid : ℕ) (kind : Kind) (buffer : List ℕ) (m : Membe
           | false ↦ λ e. refl
         ] refl
 
+    message_is : message (facts_in s) item.number ≡ message_from s.threads item.number
+    message_is = message_same (facts_in s) item.number
+
     idle_after : (u : ℕ) → open_in s.threads u ≡ cond (eqb u t) None (open_in s.threads u)
     idle_after u = stays_free s.threads t u free
 
@@ -182,22 +191,22 @@ module _ (s : State) (t chid : ℕ) (kind : Kind) (buffer : List ℕ) (m : Membe
       by : (b : Bool) → is_pulse item.what ≡ b → HandsOver b item.number kept s.threads threads_1
           → Steps s t (receive_of kind chid buffer) X (record { made = s.made + 1; down = s.down; threads = threads_2; channels = channels; connections = s.connections })
       by true pulse same = step_of s t chid kind buffer m (Some item) X threads_2 channels empty known up free owned best (record {
-        endings = ends;
+        endings = rw message_is ends;
         roster = takes.members ∙ ap members_of same;
-        open_call = λ u. takes.open_call u ∙ ap (λ ts. open_in ts u) same ∙ rw pulse (idle_after u);
-        items = λ k. sets.pending k ∙ rw pulse (items_after k);
+        open_call = λ u. takes.open_call u ∙ ap (λ ts. open_in ts u) same ∙ rw (message_is, pulse) (idle_after u);
+        items = λ k. sets.pending k ∙ rw (message_is, pulse) (items_after k);
         ids = sets.ids;
         channel = sets.channel;
-        priority = λ u. priorities u (ap (λ ts. thread_priority ts u) same) ∙ rw pulse refl;
+        priority = λ u. priorities u (ap (λ ts. thread_priority ts u) same) ∙ rw (message_is, pulse) refl;
       })
       by false message changes = step_of s t chid kind buffer m (Some item) X threads_2 channels empty known up free owned best (record {
-        endings = ends;
+        endings = rw message_is ends;
         roster = takes.members ∙ changes.members;
-        open_call = λ u. takes.open_call u ∙ changes.open_call u ∙ rw message (calls_after (held_call kept) u);
-        items = λ k. sets.pending k ∙ rw message (items_after k);
+        open_call = λ u. takes.open_call u ∙ changes.open_call u ∙ rw (message_is, message) (calls_after (held_call kept) u);
+        items = λ k. sets.pending k ∙ rw (message_is, message) (items_after k);
         ids = sets.ids;
         channel = sets.channel;
-        priority = λ u. priorities u (changes.priority u) ∙ rw message refl;
+        priority = λ u. priorities u (changes.priority u) ∙ rw (message_is, message) refl;
       })
 
 -- ---- soundness

@@ -1,4 +1,6 @@
 -- Reply as a step of the kernel.
+use Rattle.qrules.specs.Facts.{sender}
+use Rattle.qrules.proofs.Traces.Rows.{answer_same}
 use Rattle.std.proofs.Common.{◌≡◌, ℕ, ◌+◌, List, [], ◌∷◌, refl, sym, arith, true, append-nil, false}
 use Rattle.std.specs.Prelude.{ℤ, None, Some}
 use Rattle.qtables.specs.Members.{member_at}
@@ -7,12 +9,12 @@ use Rattle.qmodel.specs.declared.call.Call.TheVariants.{Reply}
 use Rattle.qmodel.specs.declared.call.Completion.{Completion}
 use Rattle.qmodel.specs.declared.call.Mark.TheVariants as mark
 use Rattle.qstate.specs.declared.thread.Thread.{Thread}
-use Rattle.qrules.specs.Private.Calls.Reply.{reply_finish}
+use Rattle.qrules.proofs.Traces.Parts.{reply_finish}
 use Rattle.qstate.specs.Endings.{with_ending_in_place}
-use Rattle.qrules.specs.Private.Held.{answer_ending}
+use Rattle.qrules.proofs.Words.Items.{answer_ending}
 use Rattle.qstate.specs.Held.{is_held_in}
 use Rattle.qkernel.specs.Kernel.{State, IsSound}
-use Rattle.qkernel.specs.Private.Steps.{Steps}
+use Rattle.qkernel.specs.Private.Steps.{Steps, facts_in}
 use Rattle.qstate.specs.Thread.{open_in, sender_in, SetsOpen}
 use Rattle.qstate.specs.Kept.{members_of}
 use Rattle.qkernel.proofs.Steps.Common.{uncut}
@@ -25,7 +27,7 @@ pub step_replied : (s : State) (t : ℕ) (m : Member) (i : ℕ) (sound : IsSound
 step_replied s t m i sound known status bytes u y up free held is_sender ended threads X takes is = (
   true,
   record {
-    answer = (rw (up, free, is_held s t m i sound known, held) refl, two_ended s t m i sound known (reply_finish status bytes) u y up free is_sender ended X is);
+    answer = (rw (up, free, is_held s t m i sound known, held) refl, two_ended s t m i sound known (reply_finish status bytes) u y up free is_sender ended (Reply i status bytes) refl (λ v. answer_same (facts_in s) (reply_finish status bytes) (sender (facts_in s) i) v) X is);
     follows = record {
       roster = takes.members;
       number = refl;
@@ -34,7 +36,7 @@ step_replied s t m i sound known status bytes u y up free held is_sender ended t
       open_channels = rw known (omega arith);
       connection = λ k. rw known refl;
       live_connections = rw known (omega arith);
-      open_call = answered_calls s t m i sound known (reply_finish status bytes) u y up free is_sender ended threads takes;
+      open_call = answered_calls s t m i sound known (reply_finish status bytes) u y up free is_sender ended (Reply i status bytes) refl (λ v. answer_same (facts_in s) (reply_finish status bytes) (sender (facts_in s) i) v) threads takes;
       pending = λ k. uncut s t (Reply i status bytes) (rw (up, free, is_held s t m i sound known, held) refl) refl refl refl k (sym (append-nil _));
       priority = takes.priority;
     };

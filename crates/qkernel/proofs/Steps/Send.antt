@@ -1,4 +1,7 @@
 -- Send as a step of the kernel.
+use Rattle.qrules.specs.Delivery.{has_to_wait}
+use Rattle.qrules.specs.Rules.{row_of}
+use Rattle.qrules.proofs.Traces.Rows.{sent_same}
 use Rattle.std.proofs.Common.{◌≡◌, ◌≢◌, ℕ, ◌+◌, List, [], ◌∷◌, ◌++◌, refl, ap, sym, ◌∙◌, cond, arith, true, false, eqb, inl, inr}
 use Rattle.std.specs.Prelude.{Option, None, Some, is_some}
 use Rattle.std.specs.Option.{option_map}
@@ -17,16 +20,19 @@ use Rattle.qmodel.specs.declared.open_call.OpenCall.{OpenCall}
 use Rattle.qmodel.specs.declared.open_call.Receipt.{Receipt}
 use Rattle.qmodel.specs.declared.open_call.OpenCall.TheVariants.{Send as InSend}
 use Rattle.qstate.specs.declared.thread.Thread.{Thread}
-use Rattle.qrules.specs.Private.Answer.{refusal_ending, ending}
+use Rattle.qrules.specs.Outcome.{ending}
+use Rattle.qrules.proofs.Words.Items.{refusal_ending}
 use Rattle.qstate.specs.Channel.{route_in, SetsItems}
 use Rattle.qstate.specs.Kept.{pending_in, members_of, thread_priority}
-use Rattle.qrules.specs.Private.Facts.{route, threads_of}
-use Rattle.qrules.specs.Private.Receivers.{newest_receiver}
-use Rattle.qrules.specs.Private.Rows.{message_item, takes, item_in, item_sent_over}
+use Rattle.qrules.proofs.Words.Facts.{route, threads_of}
+use Rattle.qrules.specs.Delivery.{newest_receiver}
+use Rattle.qrules.proofs.Words.Items.{message_numbered, item_in, item_sent_over}
+use Rattle.qrules.specs.Records.{takes}
 use Rattle.qkernel.specs.Kernel.{State, IsSound}
 use Rattle.qkernel.specs.Private.Steps.{Steps, facts_in}
-use Rattle.qrules.specs.Private.Step.{unless, held_call}
-use Rattle.qrules.specs.Private.Past.{made_on}
+use Rattle.qrules.proofs.Words.Step.{unless}
+use Rattle.qrules.specs.Records.{held_call}
+use Rattle.qrules.proofs.Words.Past.{made_on}
 use Rattle.qstate.specs.Thread.{open_in, newest_in, SetsOpen, Wakes}
 use Rattle.qbase.proofs.Lists.{is_among, cond_same}
 use Rattle.qrules.proofs.Traces.Rosters.{rises, nothing, filter_map_same, only_own}
@@ -44,19 +50,20 @@ step_send_nowhere s t coid message reply_buffer m X known up free none is =
     step_refused_alone s t (Send coid message reply_buffer) Badf X (inl (rw (up, free, no_way) refl)) is
 
 pub step_send_no_memory : (s : State) (t coid : ℕ) (message reply_buffer : List ℕ) (m : Member) (h : ℕ) (new : List (ℕ × Channel)) (e : Errno) (X : List Completion) → member_at (members_of s.threads) t ≡ Some m
-    → s.down ≡ false → open_in s.threads t ≡ None → route_in m.process s.channels (entry_at s.connections coid) ≡ Some h → e ≡ NoMemory → newest_in h (message_item (s.made + 1) (thread_priority s.threads t)) s.threads ≡ None → SetsItems h (pending_in s.channels h) s.channels new
+    → s.down ≡ false → open_in s.threads t ≡ None → route_in m.process s.channels (entry_at s.connections coid) ≡ Some h → e ≡ NoMemory → newest_in h (message_numbered (s.made + 1) (thread_priority s.threads t)) s.threads ≡ None → SetsItems h (pending_in s.channels h) s.channels new
     → X ≡ refusal_ending (facts_in s) t (Send coid message reply_buffer) e ∷ []
     → Steps s t (Send coid message reply_buffer) X (record { made = s.made + 1; down = s.down; threads = s.threads; channels = new; connections = s.connections })
 step_send_no_memory s t coid message reply_buffer m h new e X known up free found want nobody sets is =
     let some_way : route (facts_in s) t coid ≡ Some h = route-leads_to s t m (entry_at s.connections coid) known ∙ found in
-    let none : newest_receiver (facts_in s) h (message_item (s.made + 1) (thread_priority s.threads t)) ≡ None = nobody in
-    step_refused s t (Send coid message reply_buffer) e X _ (inr (rw (up, free, some_way) refl, rw (some_way, none) refl, want)) is (counted_room s h new sets)
+    let none : newest_receiver (facts_in s) h (message_numbered (s.made + 1) (thread_priority s.threads t)) ≡ None = nobody in
+    let sent = some_sent s t coid m h known found (message_numbered (s.made + 1) (thread_priority s.threads t)) in
+    step_refused s t (Send coid message reply_buffer) e X _ (inr (rw (up, free, some_way) refl, ap (has_to_wait (facts_in s)) sent ∙ rw none refl, want)) is (counted_room s h new sets)
 
 module _ (s : State) (t coid : ℕ) (message reply_buffer : List ℕ) (m : Member) (h : ℕ) (sound : IsSound s) (known : member_at (members_of s.threads) t ≡ Some m) (up : s.down ≡ false) (free : open_in s.threads t ≡ None)
     (found : route_in m.process s.channels (entry_at s.connections coid) ≡ Some h) where
   -- the item that the call makes
   abbrev pub item : Item
-  item = message_item (s.made + 1) (thread_priority s.threads t)
+  item = message_numbered (s.made + 1) (thread_priority s.threads t)
 
   over_way : route (facts_in s) t coid ≡ Some h
   over_way = some_way s t coid m h known found
@@ -77,7 +84,7 @@ module _ (s : State) (t coid : ℕ) (message reply_buffer : List ℕ) (m : Membe
         record {
           answer = (
             rw (up, free, over_way) refl,
-            is ∙ sym (nothing (threads_of (members_of s.threads)) (ending (facts_in s) t (Send coid message reply_buffer)) (λ u. rw (over_way, none) (cond_same (eqb u t) None))),
+            is ∙ sym (nothing (threads_of (members_of s.threads)) (ending (facts_in s) t (Send coid message reply_buffer)) (λ u. rw (over_sent, none) (cond_same (eqb u t) None))),
           );
           follows = record {
             roster = opens.members;
@@ -87,7 +94,7 @@ module _ (s : State) (t coid : ℕ) (message reply_buffer : List ℕ) (m : Membe
             open_channels = rw known (count_kept s.channels channels sets.ids);
             connection = λ k. rw known refl;
             live_connections = rw known (omega arith);
-            open_call = λ u. opens.open_call u ∙ rw (over_way, none, over_sent) (elim (eqb u t) as (λ b. cond b (Some (waiting None)) (open_in s.threads u) ≡ cond b (Some (waiting None)) (open_in s.threads u)) [ true ↦ refl | false ↦ refl ]);
+            open_call = λ u. opens.open_call u ∙ rw (over_way, over_sent, none) (elim (eqb u t) as (λ b. cond b (Some (waiting None)) (open_in s.threads u) ≡ cond b (Some (waiting None)) (open_in s.threads u)) [ true ↦ refl | false ↦ refl ]);
             pending = λ k. uncut s t (Send coid message reply_buffer) (rw (up, free, over_way) refl) refl refl refl k (sets.pending k ∙ rw (over_way, none) (with_item s h item sound refl k ∙ ap (λ o. pending_in s.channels k ++ made_on k o) (sym over_sent)));
             priority = λ u. opens.priority u ∙ rw (over_way, none) refl;
           };
@@ -98,6 +105,9 @@ module _ (s : State) (t coid : ℕ) (message reply_buffer : List ℕ) (m : Membe
       (is_receipt : item_in y.mark ≡ Some (record { number = s.made + 1; copied = copied })) where
     apart : t ≢ r
     apart e = none-some y (sym (ap (takes item message r) (ap (open_in s.threads) (sym e) ∙ free)) ∙ ended)
+
+    others_is : (u : ℕ) → (row_of (facts_in s) t (Send coid message reply_buffer)).others u ≡ cond (eqb u r) (takes item message u (open_in s.threads u)) None
+    others_is u = sent_same (facts_in s) t coid message reply_buffer u (rw over_way refl) ∙ rw (over_way, newest_is_r) refl
 
     -- the sender waits with the receipt, the receiver no longer
     calls_after : (threads_1 : List Thread) → Wakes r (priority_at s h item) s.threads threads_1 → (u : ℕ)
@@ -122,7 +132,7 @@ module _ (s : State) (t coid : ℕ) (message reply_buffer : List ℕ) (m : Membe
       record {
         answer = (
           rw (up, free, over_way) refl,
-          is ∙ sym (filter_map_same (ending (facts_in s) t (Send coid message reply_buffer)) (λ u. cond (eqb u r) (Some y) None) (threads_of (members_of s.threads)) (λ u. rw (over_way, newest_is_r) (
+          is ∙ sym (filter_map_same (ending (facts_in s) t (Send coid message reply_buffer)) (λ u. cond (eqb u r) (Some y) None) (threads_of (members_of s.threads)) (λ u. rw (others_is u) (
               elim (eqb u t) as (λ b. eqb u t ≡ b → cond b None (cond (eqb u r) (takes item message u (open_in s.threads u)) None) ≡ cond (eqb u r) (Some y) None) [
                 | true ↦ λ e. let other : eqb u r ≡ false = ne_eqb u r (λ s. apart (sym (eqb-true u t e) ∙ s)) in rw other refl
                 | false ↦ λ e. elim (eqb u r) as (λ b. eqb u r ≡ b → cond b (takes item message u (open_in s.threads u)) None ≡ cond b (Some y) None) [
@@ -139,7 +149,7 @@ module _ (s : State) (t coid : ℕ) (message reply_buffer : List ℕ) (m : Membe
           open_channels = rw known (omega arith);
           connection = λ k. rw known refl;
           live_connections = rw known (omega arith);
-          open_call = λ u. sets_t.open_call u ∙ rw (over_way, newest_is_r, ended, is_receipt, over_sent) (calls_after threads_1 takes_r u);
+          open_call = λ u. sets_t.open_call u ∙ rw (others_is u, over_way, newest_is_r, ended, is_receipt, over_sent) (calls_after threads_1 takes_r u);
           pending = λ k. uncut s t (Send coid message reply_buffer) (rw (up, free, over_way) refl) refl refl refl k (rw (over_way, newest_is_r, ended, is_receipt) (items_after s h item sound refl k ∙ ap (λ o. cond (eqb h k) (without_item (s.made + 1) (pending_in s.channels k ++ made_on k o)) (pending_in s.channels k ++ made_on k o)) (sym over_sent)));
           priority = λ u. sets_t.priority u ∙ takes_r.priority u ∙ rw (over_way, newest_is_r, ended, is_receipt, ended_thread item message r (open_in s.threads r) y ended) refl;
         };

@@ -5,7 +5,7 @@ use Rattle.std.proofs.lemmas.List.{append-nil}
 use Rattle.qbase.specs.declared.errno.Errno.TheVariants.{Srch}
 use Rattle.qtables.specs.Members.{member_at}
 use Rattle.qtables.specs.declared.member.Member.{Member}
-use Rattle.qrules.specs.Private.Answer.{refusal_ending}
+use Rattle.qrules.proofs.Words.Items.{refusal_ending}
 use Rattle.qrules.specs.Rules.Threads.{state_in}
 use Rattle.qmodel.specs.declared.call.Call.TheVariants.{State as Ask}
 use Rattle.qmodel.specs.declared.call.Completion.{Completion}

@@ -9,12 +9,14 @@ use Rattle.qtables.specs.declared.member.Member.{Member}
 use Rattle.qbase.specs.declared.errno.Errno.{Errno}
 use Rattle.qbase.specs.declared.errno.Errno.TheVariants.{Again, NoMemory}
 use Rattle.qbase.proofs.Lists.{cond_same}
-use Rattle.qrules.specs.Private.Answer.{MayRefuse, ending, refusal_ending, refusal}
-use Rattle.qrules.specs.Private.Calls.{row_of}
-use Rattle.qrules.specs.Private.Facts.{Facts, threads_of}
-use Rattle.qrules.specs.Private.Effects.{attaches, closes, creates, detaches, makes, sets, shuts_down, unblocks, writes}
+use Rattle.qrules.specs.Outcome.{MayRefuse, ending, refusal_of}
+use Rattle.qrules.proofs.Words.Items.{refusal_ending}
+use Rattle.qrules.proofs.Words.Items.{receipt_of}
+use Rattle.qrules.specs.Rules.{row_of}
+use Rattle.qrules.proofs.Words.Facts.{Facts, threads_of}
+use Rattle.qrules.proofs.Words.Effects.{attaches, closes, creates, detaches, makes, sets, shuts_down, unblocks, writes}
 use Rattle.qmodel.specs.Trace.{SentItem}
-use Rattle.qrules.specs.Private.Step.{after_unblock, unless}
+use Rattle.qrules.proofs.Words.Step.{after_unblock, unless}
 use Rattle.qmodel.specs.declared.call.Call.{Call}
 use Rattle.qmodel.specs.declared.call.Completion.{Completion}
 use Rattle.qmodel.specs.declared.open_call.OpenCall.{OpenCall}
@@ -29,7 +31,8 @@ use Rattle.qkernel.specs.Kernel.{State, IsSound}
 use Rattle.qkernel.specs.Private.Steps.{Steps, facts_in}
 use Rattle.qrules.proofs.Traces.Past.OpenCalls.{unblock_none}
 use Rattle.qrules.proofs.Traces.Rosters.{among, filter_map_same, only_own, rises}
-use Rattle.qrules.specs.Private.Pulses.{ends_receiver, pulse_receipt}
+use Rattle.qrules.proofs.Words.Items.{ends_receiver}
+use Rattle.qrules.proofs.Words.Items.{pulse_receipt}
 use Rattle.qrules.proofs.Traces.Past.Laws.{IsSettled}
 use Rattle.qkernel.proofs.Steps.Common.{Counted, counted_alone, sound_counted, sound_counted_alone, step_refused, uncut_by}
 use Rattle.qkernel.proofs.Steps.Cancelling.{mine}
@@ -49,11 +52,11 @@ pub record Quiet (f : Facts) (t : ℕ) (c : Call) : Type 0 where
 -- the call is accepted, and sends this pulse
 pub record Tells (s : State) (t : ℕ) (c : Call) (o : Option SentItem) : Type 0 where
   pub quiet : Quiet (facts_in s) t c
-  pub passed : refusal (facts_in s) t c ≡ None
+  pub passed : refusal_of (facts_in s) t c ≡ None
   pub made : makes (facts_in s) t c ≡ o
   pub own : (row_of (facts_in s) t c).own ≡ Some (mine s t)
-  pub ends : (u : ℕ) → (row_of (facts_in s) t c).ends u ≡ ends_receiver (facts_in s) o u
-  pub receipt : (row_of (facts_in s) t c).receipt ≡ pulse_receipt (facts_in s) o
+  pub ends : (u : ℕ) → (row_of (facts_in s) t c).others u ≡ ends_receiver (facts_in s) o u
+  pub receipt : (receipt_of (facts_in s) t c) ≡ pulse_receipt (facts_in s) o
 
 -- the threads once it is kept that an unblock pulse was made, if it was
 pub record AreMarked (c : Call) (o : Option SentItem) (mid threads : List Thread) : Type 0 where
@@ -92,7 +95,7 @@ module _ (s : State) (t : ℕ) (c : Call) (m : Member) (o : Option SentItem) (so
         | false ↦ λ other. refl
       ] refl)
 
-  settled : (u : ℕ) (y : Completion) → (row_of (facts_in s) t c).ends u ≡ Some y → IsSettled (open_in s.threads u)
+  settled : (u : ℕ) (y : Completion) → (row_of (facts_in s) t c).others u ≡ Some y → IsSettled (open_in s.threads u)
   settled u y e = told_settled s o u y (sym (tells.ends u) ∙ e)
 
   -- it waits, or meets a receiver

@@ -9,13 +9,16 @@ use Rattle.std.specs.Option.{option_or}
 use Rattle.qbase.proofs.Lists.{eqb_same, is_among, or_none}
 use Rattle.qqueue.specs.Best.{is_pulse}
 use Rattle.qqueue.specs.declared.item.Item.{Item}
-use Rattle.qrules.specs.Private.Facts.{threads_of}
-use Rattle.qrules.specs.Private.Pulses.{refusal_if_full_for, ends_receiver, pulse_receipt}
-use Rattle.qrules.specs.Private.Receivers.{newest_receiver}
-use Rattle.qrules.specs.Private.Rows.{item_in, takes}
+use Rattle.qrules.proofs.Words.Facts.{threads_of}
+use Rattle.qrules.specs.Delivery.{refusal_if_full_for}
+use Rattle.qrules.proofs.Words.Items.{ends_receiver}
+use Rattle.qrules.proofs.Words.Items.{pulse_receipt}
+use Rattle.qrules.specs.Delivery.{newest_receiver}
+use Rattle.qrules.proofs.Words.Items.{item_in}
+use Rattle.qrules.specs.Records.{takes}
 use Rattle.qmodel.specs.Trace.{SentItem}
-use Rattle.qrules.specs.Private.Step.{after_receipt, priority_taken, unreceived_items, unless}
-use Rattle.qrules.specs.Private.Past.{made_on}
+use Rattle.qrules.proofs.Words.Step.{after_receipt, priority_taken, unreceived_items, unless}
+use Rattle.qrules.proofs.Words.Past.{made_on}
 use Rattle.qmodel.specs.declared.call.Completion.{Completion}
 use Rattle.qmodel.specs.declared.open_call.OpenCall.{OpenCall}
 use Rattle.qmodel.specs.declared.open_call.OpenCall.TheVariants.{Receive, Send}

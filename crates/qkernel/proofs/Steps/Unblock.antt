@@ -1,4 +1,6 @@
 -- Unblock as a step of the kernel.
+use Rattle.qrules.specs.Rules.{row_of}
+use Rattle.qrules.proofs.Traces.Rows.{unblocked_same}
 use Rattle.std.proofs.Common.{◌≡◌, ℕ, ◌+◌, List, [], ◌∷◌, ◌++◌, refl, ap, sym, subst, ◌∙◌, cond, arith, true, false, eqb, inl, inr, Bool, option_and_then}
 use Rattle.std.specs.Prelude.{Option, None, Some, filter, is_some, not, ◌&&◌}
 use Rattle.std.specs.List.{list_any}
@@ -11,16 +13,22 @@ use Rattle.qbase.specs.declared.errno.Errno.TheVariants.{Again, Intr, NoMemory, 
 use Rattle.qqueue.specs.declared.item.Item.{Item}
 use Rattle.qtables.specs.Members.{member_at}
 use Rattle.qtables.specs.declared.member.Member.{Member}
-use Rattle.qrules.specs.Private.Answer.{MayRefuse, ending, refusal_ending}
-use Rattle.qrules.specs.Private.Calls.Unblock.{due_pulse, other_ending, guards}
+use Rattle.qrules.specs.Outcome.{MayRefuse, ending}
+use Rattle.qrules.proofs.Words.Items.{refusal_ending}
+use Rattle.qrules.specs.Rules.Unblock.{unblock_pulse, guards}
+use Rattle.qrules.proofs.Words.Items.{ends_unblocked}
 use Rattle.qrules.proofs.Traces.Parts.{due_pulse_of_open}
-use Rattle.qrules.specs.Private.Cancelling.{cancel_call, cancel_where}
-use Rattle.qrules.specs.Private.Facts.{is_in_process, threads_of, tells_unblock}
-use Rattle.qrules.specs.Private.Pulses.{pulse_receipt, refusal_if_full}
-use Rattle.qrules.specs.Private.Rows.{unblock_item}
+use Rattle.qrules.specs.Delivery.{cancel_call}
+use Rattle.qrules.specs.Records.{cancel_where}
+use Rattle.qrules.proofs.Words.Facts.{threads_of}
+use Rattle.qrules.specs.Records.{is_in_process, tells_unblock}
+use Rattle.qrules.proofs.Words.Items.{pulse_receipt}
+use Rattle.qrules.specs.Delivery.{refusal_if_full}
+use Rattle.qrules.proofs.Words.Items.{unblock_item}
 use Rattle.qmodel.specs.Trace.{SentItem}
-use Rattle.qrules.specs.Private.Step.{uncut_items, unreceived_items, unblocked_call, is_unread_send}
-use Rattle.qrules.specs.Private.Past.{made_on}
+use Rattle.qrules.proofs.Words.Step.{uncut_items, unreceived_items}
+use Rattle.qrules.specs.Records.{unblocked_call, is_unread_send}
+use Rattle.qrules.proofs.Words.Past.{made_on}
 use Rattle.qmodel.specs.declared.call.Call.TheVariants.{Unblock}
 use Rattle.qmodel.specs.declared.call.Completion.{Completion}
 use Rattle.qmodel.specs.declared.open_call.OpenCall.{OpenCall}
@@ -33,7 +41,7 @@ use Rattle.qstate.specs.Kept.{pending_in, members_of, channel_in}
 use Rattle.qstate.specs.Cancelling.{AreCancelled, LoseCancelled}
 use Rattle.qstate.specs.Held.{guarded_message_in}
 use Rattle.qstate.specs.Pulses.{has_room}
-use Rattle.qrules.specs.Private.Receivers.{newest_receiver}
+use Rattle.qrules.specs.Delivery.{newest_receiver}
 use Rattle.qstate.specs.Thread.{newest_in, open_in, ChangesOpen}
 use Rattle.qkernel.specs.Kernel.{State, IsSound}
 use Rattle.qkernel.specs.Private.Steps.{Steps, facts_in}
@@ -43,8 +51,7 @@ use Rattle.qkernel.proofs.Steps.Cancelling.{endings_cancelled, mine, open_after}
 use Rattle.qkernel.proofs.Steps.Delivering.{count_kept}
 use Rattle.qkernel.proofs.Steps.Telling.{AreMarked, Tells}
 use Rattle.qkernel.proofs.Steps.Told.{IsNew}
-use Rattle.qrules.proofs.Traces.Due.{unblock_same}
-use Rattle.qrules.specs.Private.Effects.{makes}
+use Rattle.qrules.proofs.Words.Effects.{makes}
 use Rattle.qmodel.specs.declared.open_call.Receipt.{Receipt}
 use Rattle.qmodel.specs.declared.open_call.OpenSend.{OpenSend}
 
@@ -116,7 +123,7 @@ module _ (s : State) (t thread : ℕ) (m : Member) (sound : IsSound s) (known : 
       k = none_guards s (open_in s.threads thread) none
 
       made_none : makes (facts_in s) t (Unblock thread) ≡ None
-      made_none = unblock_same (facts_in s) thread ∙ k.none_due
+      made_none = k.none_due
 
       cancel_same : (u : ℕ) (o : Option OpenCall) → open_in s.threads u ≡ o → cancel_where (λ o. eqb u thread && not (guards (facts_in s) o)) Intr u o ≡ cancel_where (λ o. eqb u thread) Intr u o
       cancel_same u None is = refl
@@ -125,10 +132,10 @@ module _ (s : State) (t thread : ℕ) (m : Member) (sound : IsSound s) (known : 
         | false ↦ λ other. refl
       ] refl
 
-      ends_one : (u : ℕ) → other_ending (facts_in s) thread (due_pulse (facts_in s) thread) u ≡ cancel_where (λ o. eqb u thread) Intr u (open_in s.threads u)
-      ends_one u = ap (λ d. other_ending (facts_in s) thread d u) k.none_due ∙ cancel_same u (open_in s.threads u) refl
+      ends_one : (u : ℕ) → (row_of (facts_in s) t (Unblock thread)).others u ≡ cancel_where (λ o. eqb u thread) Intr u (open_in s.threads u)
+      ends_one u = unblocked_same (facts_in s) t thread u ∙ ap (λ d. ends_unblocked (facts_in s) thread d u) k.none_due ∙ cancel_same u (open_in s.threads u) refl
 
-      ends_same : other_ending (facts_in s) thread (due_pulse (facts_in s) thread) ≡ (λ u. cancel_where (λ o. eqb u thread) Intr u (open_in s.threads u))
+      ends_same : (row_of (facts_in s) t (Unblock thread)).others ≡ (λ u. cancel_where (λ o. eqb u thread) Intr u (open_in s.threads u))
       ends_same = λ i u. ends_one u i
 
       pub step_unblock_cancelled : (threads : List Thread) (channels : List (ℕ × Channel)) (X : List Completion) → AreCancelled (Of thread) Intr s.threads threads
@@ -150,12 +157,12 @@ module _ (s : State) (t thread : ℕ) (m : Member) (sound : IsSound s) (known : 
             open_channels = rw known (count_kept s.channels channels lose.ids);
             connection = λ h. rw known refl;
             live_connections = rw known (omega arith);
-            open_call = λ u. open_after s t (Of thread) Intr threads u free are ∙ rw (ends_one u, k.none_due, made_none, and-false (eqb u thread)) refl;
+            open_call = λ u. open_after s t (Of thread) Intr threads u free are ∙ rw (ends_one u, k.none_due, and-false (eqb u thread)) refl;
             pending = λ h. lose.pending h
                 ∙ ap (λ (g : ℕ → Option Completion). filter (λ item. not (list_any (λ v. is_unread_send h item.number (open_in s.threads v) && is_some (g v)) (threads_of (members_of s.threads)))) (pending_in s.channels h)) (sym ends_same)
                 ∙ ap (uncut_items (facts_in s) t (Unblock thread) h) (sym (append-nil (pending_in s.channels h)))
                 ∙ ap (λ o. unreceived_items (pulse_receipt (facts_in s) o) h (uncut_items (facts_in s) t (Unblock thread) h (pending_in s.channels h ++ []))) (sym k.none_due)
-                ∙ ap (λ o. unreceived_items (pulse_receipt (facts_in s) (due_pulse (facts_in s) thread)) h (uncut_items (facts_in s) t (Unblock thread) h (pending_in s.channels h ++ made_on h o))) (sym made_none);
+                ∙ ap (λ o. unreceived_items (pulse_receipt (facts_in s) (unblock_pulse (facts_in s) thread)) h (uncut_items (facts_in s) t (Unblock thread) h (pending_in s.channels h ++ made_on h o))) (sym made_none);
             priority = λ u. are.priority u ∙ rw (k.none_due) refl;
           };
         },
@@ -168,11 +175,8 @@ module _ (s : State) (t thread : ℕ) (m : Member) (sound : IsSound s) (known : 
 
       -- which had its pulse
       module _ (told : g.receipt.unblocked ≡ true) where
-        none_due : due_pulse (facts_in s) thread ≡ None
+        none_due : unblock_pulse (facts_in s) thread ≡ None
         none_due = q.due_is ∙ rw told refl
-
-        nothing_made : makes (facts_in s) t (Unblock thread) ≡ None
-        nothing_made = unblock_same (facts_in s) thread ∙ none_due
 
         uncut_where : (u : ℕ) (o : Option OpenCall) → open_in s.threads u ≡ o → cancel_where (λ o. eqb u thread && not (guards (facts_in s) o)) Intr u o ≡ None
         uncut_where u None is = refl
@@ -181,8 +185,8 @@ module _ (s : State) (t thread : ℕ) (m : Member) (sound : IsSound s) (known : 
           | false ↦ λ other. refl
         ] refl
 
-        ends_none : (u : ℕ) → other_ending (facts_in s) thread (due_pulse (facts_in s) thread) u ≡ None
-        ends_none u = ap (λ d. other_ending (facts_in s) thread d u) none_due ∙ uncut_where u (open_in s.threads u) refl
+        ends_none : (u : ℕ) → (row_of (facts_in s) t (Unblock thread)).others u ≡ None
+        ends_none u = unblocked_same (facts_in s) t thread u ∙ ap (λ d. ends_unblocked (facts_in s) thread d u) none_due ∙ uncut_where u (open_in s.threads u) refl
 
         pub step_unblock_again : (X : List Completion) → X ≡ mine s t ∷ [] → Steps s t (Unblock thread) X (counted s)
         step_unblock_again X is = (
@@ -201,8 +205,8 @@ module _ (s : State) (t thread : ℕ) (m : Member) (sound : IsSound s) (known : 
               open_channels = rw known (omega arith);
               connection = λ h. rw known refl;
               live_connections = rw known (omega arith);
-              open_call = λ u. stays_free s.threads t u free ∙ rw (ends_none u, none_due, nothing_made, and-false (eqb u thread)) refl;
-              pending = λ h. uncut_by s t (Unblock thread) (λ u y e. absurd (none-some y (sym (ends_none u) ∙ e))) refl refl h (rw (none_due, nothing_made) (sym (append-nil _)));
+              open_call = λ u. stays_free s.threads t u free ∙ rw (ends_none u, none_due, and-false (eqb u thread)) refl;
+              pending = λ h. uncut_by s t (Unblock thread) (λ u y e. absurd (none-some y (sym (ends_none u) ∙ e))) refl refl h (rw none_due (sym (append-nil _)));
               priority = λ u. rw none_due refl;
             };
           },
@@ -210,7 +214,7 @@ module _ (s : State) (t thread : ℕ) (m : Member) (sound : IsSound s) (known : 
 
       -- which is told now, by this pulse
       module _ (first : g.receipt.unblocked ≡ false) (pulse : Item) (is_pulse : pulse ≡ unblock_item (s.made + 1) g.receipt.priority g.rcvid) where
-        due_is : due_pulse (facts_in s) thread ≡ Some (record { item = pulse; channel = g.channel })
+        due_is : unblock_pulse (facts_in s) thread ≡ Some (record { item = pulse; channel = g.channel })
         due_is = q.due_is ∙ rw (first, is_pulse) refl
 
         pub unblock_full : has_room s.channels g.channel ≡ false → MayRefuse (facts_in s) t (Unblock thread) Again
@@ -225,9 +229,9 @@ module _ (s : State) (t thread : ℕ) (m : Member) (sound : IsSound s) (known : 
         tells_of_it room = record {
           quiet = record { closes_none = refl; detaches_none = refl; stays_up = refl; creates_none = rw known refl; attaches_none = rw known refl; sets_none = refl; writes_none = refl };
           passed = rw (up, free, known, fellow, due_is, room) refl;
-          made = unblock_same (facts_in s) thread ∙ due_is;
+          made = due_is;
           own = refl;
-          ends = λ u. ap (λ d. other_ending (facts_in s) thread d u) due_is;
+          ends = λ u. unblocked_same (facts_in s) t thread u ∙ ap (λ d. ends_unblocked (facts_in s) thread d u) due_is;
           receipt = ap (pulse_receipt (facts_in s)) due_is;
         }
 

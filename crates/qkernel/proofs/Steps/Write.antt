@@ -1,4 +1,5 @@
 -- Write as a step of the kernel.
+use Rattle.qrules.proofs.Messages.{reply_buffer_same}
 use Rattle.std.proofs.Common.{◌≡◌, ℕ, ◌+◌, List, [], ◌∷◌, refl, ap, sym, ◌∙◌, cond, eqb, arith, true, false, append-nil}
 use Rattle.std.specs.Prelude.{None, Some}
 use Rattle.std.specs.Option.{option_map}
@@ -10,11 +11,11 @@ use Rattle.qmodel.specs.declared.call.Call.TheVariants.{Write}
 use Rattle.qmodel.specs.declared.call.Completion.{Completion}
 use Rattle.qmodel.specs.declared.call.Mark.TheVariants as mark
 use Rattle.qstate.specs.declared.thread.Thread.{Thread}
-use Rattle.qrules.specs.Private.Held.{reply_buffer_in}
+use Rattle.qrules.specs.Records.{reply_buffer_in}
 use Rattle.qstate.specs.Held.{is_held_in}
-use Rattle.qrules.specs.Private.Step.{is_thread, written_call}
+use Rattle.qrules.specs.Records.{is_thread, written_call}
 use Rattle.qkernel.specs.Kernel.{State, IsSound}
-use Rattle.qkernel.specs.Private.Steps.{Steps}
+use Rattle.qkernel.specs.Private.Steps.{Steps, facts_in}
 use Rattle.qstate.specs.Thread.{open_in, sender_in, sent_call, ChangesSender}
 use Rattle.qstate.specs.Kept.{members_of}
 use Rattle.qbase.proofs.Lists.{cond_same}
@@ -39,7 +40,7 @@ module _ (s : State) (t : ℕ) (m : Member) (i : ℕ) (sound : IsSound s) (known
   step_written offset bytes threads X changes is = (
     true,
     record {
-      answer = (rw (up, free, is_held s t m i sound known, held) refl, is ∙ sym (only_own _ t _ (rises (members_of s.threads) sound.roster) (among (members_of s.threads) t m known)));
+      answer = (rw (up, free, is_held s t m i sound known, held) refl, is ∙ rw (← reply_buffer_same (facts_in s) i) (sym (only_own _ t _ (rises (members_of s.threads) sound.roster) (among (members_of s.threads) t m known))));
       follows = record {
         roster = changes.members;
         number = refl;

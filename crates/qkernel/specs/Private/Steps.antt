@@ -1,7 +1,7 @@
 -- One call, by the kernel's content alone.
 use Rattle.std.specs.Prelude.{ℕ, Bool, List}
-use Rattle.qrules.specs.Private.Answer.{Outcome}
-use Rattle.qrules.specs.Private.Step.{Follows}
+use Rattle.qrules.specs.Outcome.{Outcome}
+use Rattle.qrules.proofs.Words.Step.{Follows}
 use Rattle.qmodel.specs.declared.call.Call.{Call}
 use Rattle.qmodel.specs.declared.call.Completion.{Completion}
 use Rattle.qkernel.specs.Kernel.{State}

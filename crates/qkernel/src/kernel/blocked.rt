@@ -4,7 +4,7 @@ ghost use Rattle.std.specs.Prelude.{◌≡◌, ◌++◌, List, Some, is_some, If
 ghost use Rattle.qstate.specs.Thread.{open_in};
 ghost use Rattle.std.specs.Option.{option_to_list};
 ghost use Rattle.qtables.specs.declared.member.Member.{Member};
-ghost use Rattle.qrules.specs.Private.Blocked.{blocked_thread};
+ghost use Rattle.qrules.specs.Records.{blocked_thread};
 ghost use Rattle.qrules.specs.Lawful.{facts_of};
 ghost use Rattle.qrules.specs.Trace.{Trace};
 ghost use Rattle.qkernel.specs.Blocked.{blocked_threads};

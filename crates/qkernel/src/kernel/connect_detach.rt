@@ -1,7 +1,7 @@
 //! ConnectDetach.
 
 ghost use Rattle.std.specs.Prelude.{◌≡◌, ◌+◌, None, Some, if◌then◌else◌};
-ghost use Rattle.qrules.specs.Private.Rows.{disconnect_item};
+ghost use Rattle.qrules.specs.Records.{disconnect_item};
 
 use super::Kernel;
 use super::caller::Caller;

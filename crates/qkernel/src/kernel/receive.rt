@@ -1,7 +1,7 @@
 //! Receive and ReceivePulse.
 
 ghost use Rattle.std.specs.Prelude.{◌≡◌, []};
-ghost use Rattle.qrules.specs.Private.Receiving.{receive_of};
+ghost use Rattle.qrules.specs.Records.{receive_of};
 
 use super::Kernel;
 use super::caller::Caller;

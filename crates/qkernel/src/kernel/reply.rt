@@ -1,7 +1,7 @@
 //! Reply and Error.
 
 ghost use Rattle.std.specs.Prelude.{◌≡◌};
-ghost use Rattle.qrules.specs.Private.Calls.Error.{mark_of};
+ghost use Rattle.qrules.specs.Records.{error_mark};
 ghost use Rattle.qbase.specs.Laying.{laid_count, lay_over};
 
 use super::Kernel;
@@ -23,7 +23,7 @@ fn reply_ending(sent: OpenSend, status: i64, bytes: &[u8]) -> Completion
 
 /// Returns the mark of the sender's call: the code 0 is a reply of status 0 with no bytes, our own profile.
 fn error_mark(code: i32) -> Mark
-    ensures { result ≡ mark_of code }
+    ensures { result ≡ error_mark code }
 {
     if code == 0 {
         Mark::Replied {

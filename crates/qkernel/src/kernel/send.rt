@@ -2,7 +2,8 @@
 
 ghost use Rattle.std.specs.Prelude.{◌≡◌, Some, false};
 ghost use Rattle.qqueue.specs.Best.{is_pulse};
-ghost use Rattle.qrules.specs.Private.Rows.{item_in, receipt_ending};
+ghost use Rattle.qrules.specs.Past.{item_in};
+ghost use Rattle.qrules.specs.Delivery.{receipt_ending};
 
 use super::Kernel;
 use super::caller::Caller;

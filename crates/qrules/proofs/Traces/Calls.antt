@@ -24,7 +24,7 @@ pub mod Shutdown
 pub mod Unblock
 pub mod ConnectDetach
 use Rattle.std.proofs.Common.{ℕ}
-use Rattle.qrules.specs.Private.Facts.{Facts}
+use Rattle.qrules.proofs.Words.Facts.{Facts}
 use Rattle.qmodel.specs.declared.call.Call.{Call}
 use Rattle.qmodel.specs.declared.call.Call.TheVariants as calls
 use Rattle.qrules.proofs.Traces.Past.Laws.{CallLaws, RowLaws, Passes}

@@ -9,12 +9,11 @@ use Rattle.qtables.specs.declared.member.Member.{Member}
 use Rattle.qmodel.specs.declared.call.Call.{Call}
 use Rattle.qmodel.specs.declared.call.Completion.{Completion}
 use Rattle.qmodel.specs.declared.call.Mark.TheVariants as mark
-use Rattle.qrules.specs.Private.Answer.{Answers, MayRefuse, refusal, refusal_ending}
-use Rattle.qrules.specs.Private.Facts.{Facts}
-use Rattle.qrules.specs.Private.Lawful.{IsLawful, facts_of, followed_by}
-use Rattle.qrules.specs.Lawful as rules
+use Rattle.qrules.specs.Outcome.{Answers, MayRefuse, refusal_of}
+use Rattle.qrules.proofs.Words.Items.{refusal_ending}
+use Rattle.qrules.proofs.Words.Facts.{Facts}
+use Rattle.qrules.proofs.Words.Lawful.{IsLawful, facts_of, followed_by}
 use Rattle.qrules.specs.Lawful.{event_call, HadMemory, IsOnlyRun}
-use Rattle.qrules.proofs.Lawful.{same_lawful}
 use Rattle.qmodel.specs.Trace.{Event, Trace}
 
 -- no ending says that there was no memory
@@ -22,7 +21,7 @@ abbrev Fine : List Completion → Type 0
 Fine X = AllByRecursion (λ x. x.mark ≡ mark.Failed NoMemory → ⊥) X
 
 -- a refusal for another reason than memory is the first that applies
-first_refusal : (f : Facts) (t : ℕ) (c : Call) (e : Errno) (X : List Completion) → MayRefuse f t c e → X ≡ refusal_ending f t c e ∷ [] → Fine X → refusal f t c ≡ Some e
+first_refusal : (f : Facts) (t : ℕ) (c : Call) (e : Errno) (X : List Completion) → MayRefuse f t c e → X ≡ refusal_ending f t c e ∷ [] → Fine X → refusal_of f t c ≡ Some e
 first_refusal f t c e X (inl first) is fine = first
 first_refusal f t c e X (inr short) is fine = absurd ((subst Fine is fine).0 (ap mark.Failed (short.2)))
 
@@ -54,12 +53,12 @@ only_run-by roster past (e ∷ events) l h (o ∷ others) same m g =
     let thread : o.thread ≡ e.thread = ap (λ p. p.0) told in
     let call : o.call ≡ e.call = ap (λ p. p.1) told in
     let rest : map event_call others ≡ map event_call events = cc in
-    let answers : Answers (facts_of roster past) e.thread e.call o.endings = subst (λ p. Answers (facts_of roster past) p.0 p.1 o.endings) told other.2 in
-    let endings : o.endings ≡ e.endings = one_answer (facts_of roster past) e.thread e.call o.endings e.endings answers first.2 g.0 h.0 in
+    let answers : Answers (facts_of roster past) e.thread e.call o.endings = subst (λ p. Answers (facts_of roster past) p.0 p.1 o.endings) told other.1.1 in
+    let endings : o.endings ≡ e.endings = one_answer (facts_of roster past) e.thread e.call o.endings e.endings answers first.1.1 g.0 h.0 in
     let event : o ≡ e = same_event e.thread e.call e.endings o thread call endings in
     let after : others ≡ events = only_run-by roster (e ∷ past) events l h.1 others rest (subst (λ x. IsLawful roster (followed_by (x ∷ past) others)) event m) g.1 in
     cc
 
-pub only_run : (roster : List Member) (past : Trace) (events : List Event) → rules.IsLawful roster (followed_by past events) → IsOnlyRun roster past events
+pub only_run : (roster : List Member) (past : Trace) (events : List Event) → IsLawful roster (followed_by past events) → IsOnlyRun roster past events
 only_run roster past events l h others same m g =
-    only_run-by roster past events ((same_lawful roster (followed_by past events)).0 l) h others same ((same_lawful roster (followed_by past others)).0 m) g
+    only_run-by roster past events l h others same m g

@@ -1,17 +1,22 @@
 -- Parts of the look-ups, each by what was found so far, which is what the proofs split on.
-use Rattle.std.specs.Prelude.{◌&&◌, Bool, false, is_some, ℤ, Option, None, Some, if◌then◌else◌}
+use Rattle.std.specs.Prelude.{◌&&◌, ◌==◌, Bool, false, int_lt, is_some, List, ℕ, ℤ, pos, Option, None, Some, if◌then◌else◌}
 use Rattle.std.specs.Option.{option_and_then, option_map_or}
 use Rattle.qbase.specs.declared.errno.Errno.{Errno}
 use Rattle.qbase.specs.declared.errno.Errno.TheVariants.{Badf, Inval}
 use Rattle.qtables.specs.declared.connection.Connection.{Connection}
 use Rattle.qmodel.specs.declared.open_call.OpenCall.{OpenCall}
-use Rattle.qrules.specs.Private.Calls.ConnectDetach.{detach_pulse, is_last_connection}
-use Rattle.qrules.specs.Private.Calls.Pulse.{is_negative}
-use Rattle.qrules.specs.Private.Facts.{Facts, is_of_process}
-use Rattle.qmodel.specs.Trace.{OpenChannel, ChannelId, ThreadNo, SentItem}
-use Rattle.qrules.specs.Private.Held.{is_held_by}
-use Rattle.qrules.specs.Private.Pulses.{refusal_if_full}
-use Rattle.qrules.specs.Private.Calls.Unblock.{due_pulse_of}
+use Rattle.qbase.specs.Laying.{laid_count, lay_over}
+use Rattle.qmodel.specs.declared.call.Mark.TheVariants as mark
+use Rattle.qrules.proofs.Words.Items.{Finish}
+use Rattle.qrules.specs.Records.{error_mark}
+use Rattle.qrules.proofs.Words.Facts.{count_to}
+use Rattle.qrules.specs.Records.{tells_disconnect}
+use Rattle.qrules.specs.Records.{disconnect_item}
+use Rattle.qrules.proofs.Words.Facts.{Facts, is_of_process}
+use Rattle.qmodel.specs.Trace.{OpenChannel, ChannelId, ProcessNo, ThreadNo, SentItem}
+use Rattle.qrules.proofs.Words.Facts.{is_held_by}
+use Rattle.qrules.specs.Delivery.{refusal_if_full}
+use Rattle.qrules.specs.Rules.Unblock.{due_pulse_of}
 
 -- this channel is of the thread's process
 abbrev pub is_owned_by : Facts → ThreadNo → Option OpenChannel → Bool
@@ -30,6 +35,25 @@ is_held_for f t call = option_map_or (is_held_by f t) call false
 abbrev pub due_pulse_of_open : Facts → Option OpenCall → Option SentItem
 due_pulse_of_open f call = option_and_then (due_pulse_of f) call
 
+-- the connection, if it is one of process p to channel h
+abbrev pub connection_between : ProcessNo → ChannelId → Option Connection → Option Connection
+connection_between p h connection =
+    option_and_then (λ c. if (c.process == p) && (c.channel == h) then Some c else None) connection
+
+-- how many live connections process p has to channel h; each has a number of at most the call's
+abbrev pub connections_between : Facts → ProcessNo → ChannelId → ℕ
+connections_between f p h = count_to (λ k. connection_between p h (f.connection k)) f.number
+
+-- the connection is the last one of its process to a channel with the disconnect flag
+abbrev pub is_last_connection : Facts → Connection → Bool
+is_last_connection f c = tells_disconnect (f.channel c.channel)
+    && (connections_between f c.process c.channel == 1)
+
+-- the disconnect pulse for thread t, which detaches its process's last connection; it has the thread's
+-- priority
+abbrev pub detach_pulse : Facts → ThreadNo → Connection → SentItem
+detach_pulse f t c = record { item = disconnect_item f.number (f.priority t) c.process; channel = c.channel }
+
 -- the disconnect pulse that is due for this connection
 abbrev pub due_pulse_over : Facts → ThreadNo → Option Connection → Option SentItem
 due_pulse_over f t connection = option_and_then (λ c. if is_last_connection f c then Some (detach_pulse f t c) else None) connection
@@ -40,4 +64,12 @@ is_own f t connection = option_map_or (λ c. is_of_process f t c.process) connec
 
 -- why a pulse to this channel is refused
 abbrev pub refusal_on : Facts → ℤ → Option ChannelId → Option Errno
-refusal_on f code channel = option_map_or (λ h. if is_negative code then Some Inval else refusal_if_full f h) channel (Some Badf)
+refusal_on f code channel = option_map_or (λ h. if int_lt code (pos 0) then Some Inval else refusal_if_full f h) channel (Some Badf)
+
+-- the answer of a Reply
+abbrev pub reply_finish : ℤ → List ℕ → Finish
+reply_finish status bytes buffer = (mark.Replied status (laid_count buffer 0 bytes), lay_over buffer 0 bytes)
+
+-- the answer of an Error
+abbrev pub error_finish : ℤ → Finish
+error_finish code buffer = (error_mark code, buffer)

@@ -6,7 +6,7 @@ use Rattle.std.specs.Option.{option_to_list}
 use Rattle.std.proofs.lemmas.Bool.{eqb-true, ne_eqb, true≢false}
 use Rattle.qtables.specs.Members.{member_at, IsRoster}
 use Rattle.qtables.specs.declared.member.Member.{Member}
-use Rattle.qrules.specs.Private.Facts.{threads_of}
+use Rattle.qrules.proofs.Words.Facts.{threads_of}
 use Rattle.qbase.proofs.Lists.{is_among}
 
 -- the numbers rise

@@ -6,9 +6,7 @@ use Rattle.std.proofs.lemmas.Option.{none-some, cond_some}
 use Rattle.qbase.specs.declared.errno.Errno.TheVariants.{Badf}
 use Rattle.qtables.specs.declared.connection.Connection.{Connection}
 use Rattle.qrules.proofs.Traces.Parts.{refusal_on, leads_to}
-use Rattle.qrules.specs.Private.Calls.Pulse as pulse
-use Rattle.qrules.specs.Private.Calls.Send as send
-use Rattle.qrules.specs.Private.Facts.{Facts, route, is_of_process}
+use Rattle.qrules.proofs.Words.Facts.{Facts, route, is_of_process}
 
 -- there is a connection, it is to channel h, and that is open
 pub record Leads (f : Facts) (o : Option Connection) (h : ℕ) : Type 0 where
@@ -24,14 +22,14 @@ leads_over f t (Some c) h e =
     record { connection = c; is = refl; channel = k.1; is_open = subst (λ n. is_some (f.channel n) ≡ true) k.1 (and_parts (is_of_process f t c.process) (is_some (f.channel c.channel)) k.0).1 }
 
 -- an accepted Send has a way, and so has an accepted Pulse
-pub has_way : (f : Facts) (t coid : ℕ) → send.refusal f t coid ≡ None → (h : ℕ) × (route f t coid ≡ Some h)
+pub has_way : (f : Facts) (t coid : ℕ) → cond (is_some (route f t coid)) None (Some Badf) ≡ None → (h : ℕ) × (route f t coid ≡ Some h)
 has_way f t coid r =
     elim (route f t coid) as (λ o. cond (is_some o) None (Some Badf) ≡ None → (h : ℕ) × (o ≡ Some h)) [
       | None ↦ λ e. absurd (none-some Badf (sym e))
       | Some h ↦ λ e. (h, refl)
     ] r
 
-pub pulse_way : (f : Facts) (t coid : ℕ) (code : ℤ) → pulse.refusal f t coid code ≡ None → (h : ℕ) × (route f t coid ≡ Some h)
+pub pulse_way : (f : Facts) (t coid : ℕ) (code : ℤ) → refusal_on f code (route f t coid) ≡ None → (h : ℕ) × (route f t coid ≡ Some h)
 pulse_way f t coid code r =
     elim (route f t coid) as (λ o. refusal_on f code o ≡ None → (h : ℕ) × (o ≡ Some h)) [
       | None ↦ λ e. absurd (none-some Badf (sym e))

@@ -1,10 +1,10 @@
 -- ChannelCreate and ChannelDestroy.
-use Rattle.std.specs.Prelude.{◌==◌, if◌then◌else◌}
+use Rattle.std.specs.Prelude.{if◌then◌else◌}
 use Rattle.qrules.specs.Words.{nat_lt, true, Again, ChannelFlags, Inval, None, Some, Srch}
 use Rattle.qrules.specs.Trace.{ChannelId}
 use Rattle.qrules.specs.Facts.{owns}
-use Rattle.qrules.specs.Rule.{no_effect, plain_row, with_endings, Rule}
-use Rattle.qrules.specs.Delivery.{cancel}
+use Rattle.qrules.specs.Rule.{no_effect, plain_row, Rule}
+use Rattle.qrules.specs.Delivery.{cancels, is_on}
 use Rattle.qrules.specs.Words.mark
 
 -- creates a channel of the caller's process, whose id is the call's number; Inval if other flags are set, or
@@ -20,7 +20,7 @@ channel_create flags = record {
 -- ends a channel of the caller's process, and cancels each call that is blocked on it
 abbrev pub channel_destroy : ChannelId → Rule
 channel_destroy h = record {
-  row = λ f t. with_endings (plain_row f t (if owns f t h then None else Some Inval) mark.Ok)
-      (cancel f (λ s. s.channel == h) (λ r. r.channel == h) Srch);
+  row = λ f t. record (plain_row f t (if owns f t h then None else Some Inval) mark.Ok)
+      { others = cancels f (λ u. is_on h) Srch };
   effect = record no_effect { destroys = Some h };
 }

@@ -5,7 +5,7 @@ use Rattle.qrules.specs.Words.{Connection, Inval, None, Option, Some, Srch, ℕ}
 use Rattle.qrules.specs.Trace.{ChannelId, ConnectionId, ThreadNo}
 use Rattle.qrules.specs.Facts.{count_to, has_flag, is_of_process, Facts}
 use Rattle.qrules.specs.Rule.{new_item, no_effect, plain_row, Rule, SentItem}
-use Rattle.qrules.specs.Delivery.{cancel, pulse_row, refusal_if_full}
+use Rattle.qrules.specs.Delivery.{cancels, is_over, pulse_row, refusal_if_full_for}
 use Rattle.qrules.specs.Words.mark
 use Rattle.qrules.specs.Words.what
 
@@ -37,7 +37,7 @@ abbrev pub connect_detach : ConnectionId → Rule
 connect_detach k = record {
   row = λ f t. pulse_row f t
       (if option_map_or (λ c. is_of_process f t c.process) (f.connection k) false
-      then refusal_if_full f (disconnect_pulse f t k) else Some Inval)
-      (cancel f (λ s. s.connection == k) (λ r. false) Badf) (disconnect_pulse f t k);
+      then refusal_if_full_for f (disconnect_pulse f t k) else Some Inval)
+      (cancels f (λ u. is_over k) Badf) (disconnect_pulse f t k);
   effect = record no_effect { detaches = Some k; makes = λ f t. disconnect_pulse f t k };
 }

@@ -1,26 +1,29 @@
 -- The calls on a held message: Reply, Error, Read, Write and Info.
-use Rattle.std.specs.Prelude.{if◌then◌else◌}
+use Rattle.std.specs.Prelude.{◌==◌, if◌then◌else◌}
 use Rattle.qrules.specs.Words.{[], drop, int_eq, laid_count, lay_over, length, member_at, option_and_then}
-use Rattle.qrules.specs.Words.{option_map, option_map_or, option_to_list, pos, Errno, Info, Mark, None}
-use Rattle.qrules.specs.Words.{Option, Some, Srch, ℤ}
+use Rattle.qrules.specs.Words.{option_map, pos, Errno, Info, Mark, Member, None, Option, Some}
+use Rattle.qrules.specs.Words.{Srch, ℤ}
 use Rattle.qrules.specs.Trace.{Bytes, ReceiveId, ThreadNo}
-use Rattle.qrules.specs.Facts.{holds, message, open_send, Facts}
-use Rattle.qrules.specs.Rule.{no_effect, own_ending, own_row, plain_row, with_endings, Row, Rule, Transfer}
+use Rattle.qrules.specs.Facts.{holds, message, reply_buffer, send_of, sender, Facts, OpenCall}
+use Rattle.qrules.specs.Rule.{no_effect, own_ending, own_row, plain_row, Row, Rule, Transfer}
 use Rattle.qrules.specs.Words.mark
+use Rattle.qmodel.specs.declared.open_call.OpenCall.TheVariants.{Receive, Send}
 
 -- Srch if the message isn't held for the caller
 abbrev pub refusal_unless_held : Facts → ThreadNo → ReceiveId → Option Errno
 refusal_unless_held f t i = if holds f t i then None else Some Srch
 
--- the row of a call that answers message i; answer takes the reply buffer to the Send's mark and its buffer
+-- the row of a call that answers message i; answer takes the reply buffer to the mark of the Send's ending
+-- and the buffer that it gives back
 abbrev pub answer_row : ReceiveId → (Bytes → Mark × Bytes) → Facts → ThreadNo → Row
-answer_row i answer f t = with_endings (plain_row f t (refusal_unless_held f t i) mark.Ok)
-    (option_to_list (option_map (λ s. record {
-      call = s.number;
-      thread = s.thread;
-      mark = (answer s.reply_buffer).0;
-      buffer = (answer s.reply_buffer).1;
-    }) (open_send f i)))
+answer_row i answer f t = record (plain_row f t (refusal_unless_held f t i) mark.Ok) {
+  others = λ u. option_and_then (λ s. if u == s then option_map (λ x. record {
+    call = x.number;
+    thread = u;
+    mark = (answer x.reply_buffer).0;
+    buffer = (answer x.reply_buffer).1;
+  }) (send_of f u) else None) (sender f i);
+}
 
 -- Reply: copies the bytes over the front of the reply buffer
 abbrev pub reply : ReceiveId → ℤ → Bytes → Rule
@@ -53,28 +56,33 @@ read r = record {
 -- copied
 abbrev pub write : Transfer → Rule
 write w = record {
-  row = λ f t. plain_row f t (refusal_unless_held f t w.rcvid) (mark.Count
-      (option_map_or (λ s. laid_count s.reply_buffer w.offset w.bytes) (open_send f w.rcvid) 0));
+  row = λ f t. plain_row f t (refusal_unless_held f t w.rcvid)
+      (mark.Count (laid_count (reply_buffer f w.rcvid) w.offset w.bytes));
   effect = record no_effect { writes = Some w };
 }
 
--- the data of message i, if it is received
-abbrev pub info_of : Facts → ReceiveId → Option Info
-info_of f i = option_and_then (λ s. option_map (λ receipt. record {
-  process = option_map_or (λ m. m.process) (member_at f.roster s.thread) 0;
-  thread = s.thread;
+-- the data of an open Send of this member, if its message is received
+abbrev pub info_of_call : Member → OpenCall → Option Info
+info_of_call m (Send s) = option_map (λ receipt. record {
+  process = m.process;
+  thread = m.thread;
   connection = s.connection;
   msglen = receipt.copied;
   srcmsglen = length s.message;
   dstmsglen = length s.reply_buffer;
   priority = receipt.priority;
-}) s.receipt) (open_send f i)
+}) s.receipt
+info_of_call m (Receive r) = None
+
+-- the data of the message that this thread sent
+abbrev pub info_of : Facts → Option ThreadNo → Option Info
+info_of f sender = option_and_then (λ s. option_and_then
+    (λ m. option_and_then (info_of_call m) (f.open_call s)) (member_at f.roster s)) sender
 
 -- Info: returns the data of a held message
 abbrev pub info : ReceiveId → Rule
 info i = record {
-  row = λ f t. record (plain_row f t (refusal_unless_held f t i) mark.Ok) {
-    endings = option_to_list (option_map (λ told. own_ending f t (mark.Info told) []) (info_of f i));
-  };
+  row = λ f t. record (plain_row f t (refusal_unless_held f t i) mark.Ok)
+      { own = option_map (λ told. own_ending f t (mark.Info told) []) (info_of f (sender f i)) };
   effect = no_effect;
 }

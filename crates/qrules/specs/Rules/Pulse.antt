@@ -1,6 +1,7 @@
 -- Pulse: sends a pulse to the newest receiver, or adds it to the items that wait on the channel.
 use Rattle.std.specs.Prelude.{if◌then◌else◌}
-use Rattle.qrules.specs.Words.{[], int_lt, option_map, option_map_or, pos, Badf, Inval, Option, Some, User, ℤ}
+use Rattle.qrules.specs.Words.{int_lt, option_map, option_map_or, pos, Badf, Inval, None, Option, Some}
+use Rattle.qrules.specs.Words.{User, ℤ}
 use Rattle.qrules.specs.Trace.{ConnectionId, Priority}
 use Rattle.qrules.specs.Facts.{route, Facts}
 use Rattle.qrules.specs.Rule.{new_item, no_effect, Rule, SentItem}
@@ -15,8 +16,8 @@ pulse_over f k priority code value =
 -- 0, or else Again if 1,024 pulses are pending
 abbrev pub pulse : ConnectionId → Priority → ℤ → ℤ → Rule
 pulse k priority code value = record {
-  row = λ f t. pulse_row f t (option_map_or (λ h. if int_lt code (pos 0) then Some Inval
-      else refusal_if_full f (pulse_over f k priority code value)) (route f t k) (Some Badf))
-      [] (pulse_over f k priority code value);
+  row = λ f t. pulse_row f t (option_map_or
+      (λ h. if int_lt code (pos 0) then Some Inval else refusal_if_full f h) (route f t k) (Some Badf))
+      (λ u. None) (pulse_over f k priority code value);
   effect = record no_effect { makes = λ f t. pulse_over f k priority code value; pulses_over = Some k };
 }

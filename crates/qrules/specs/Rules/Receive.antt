@@ -1,9 +1,9 @@
 -- Receive and ReceivePulse: take the best item of the channel, or wait for one.
 use Rattle.std.specs.Prelude.{if◌then◌else◌}
-use Rattle.qrules.specs.Words.{best_of, false, option_map, option_to_list, None, Some, Srch}
+use Rattle.qrules.specs.Words.{best_of, false, option_map, None, Some, Srch}
 use Rattle.qrules.specs.Facts.{message, owns}
 use Rattle.qrules.specs.Rule.{no_effect, ReceiveRequest, Rule}
-use Rattle.qrules.specs.Delivery.{delivery}
+use Rattle.qrules.specs.Delivery.{receipt_ending}
 
 -- takes the best item that the kind may take, with the bytes of its Send; Srch if the channel is another
 -- process's
@@ -12,10 +12,9 @@ receive r = record {
   row = λ f t. record {
     refusal = if owns f t r.channel then None else Some Srch;
     takes_memory = false;
-    endings = option_to_list (option_map
-        (λ item. delivery item (message f item.number)
-        (record { number = f.number; thread = t; channel = r.channel; kind = r.kind; buffer = r.buffer }))
-        (best_of r.kind (f.pending r.channel)));
+    own = option_map (λ item. receipt_ending item (message f item.number) t f.number r.buffer)
+        (best_of r.kind (f.pending r.channel));
+    others = λ u. None;
   };
   effect = record no_effect { receives = Some r };
 }

@@ -17,7 +17,8 @@ send s = record {
   row = λ f t. record {
     refusal = if is_some (route f t s.connection) then None else Some Badf;
     takes_memory = has_to_wait f (message_over f t s.connection);
-    endings = deliver f (message_over f t s.connection) s.message;
+    own = None;
+    others = deliver f (message_over f t s.connection) s.message;
   };
   effect = record no_effect { sends = Some s; makes = λ f t. message_over f t s.connection };
 }

@@ -1,11 +1,13 @@
 -- Unblock: stands for a signal or a timeout.
 use Rattle.std.specs.Prelude.{◌&&◌, ◌==◌, if◌then◌else◌}
-use Rattle.qrules.specs.Words.{is_some, not, option_and_then, Intr, None, Option, Some, Srch, Bool}
+use Rattle.qrules.specs.Words.{false, is_some, not, option_and_then, Intr, None, Option, Some}
+use Rattle.qrules.specs.Words.{Srch, Bool}
 use Rattle.qrules.specs.Trace.{ThreadNo}
-use Rattle.qrules.specs.Facts.{has_flag, is_of_same_process, send_of, Facts, OpenSend}
+use Rattle.qrules.specs.Facts.{has_flag, is_of_same_process, Facts, OpenCall, OpenSend}
 use Rattle.qrules.specs.Rule.{new_item, no_effect, Rule, SentItem}
-use Rattle.qrules.specs.Delivery.{cancel, pulse_row, refusal_if_full}
+use Rattle.qrules.specs.Delivery.{cancels, pulse_row, refusal_if_full_for}
 use Rattle.qrules.specs.Words.what
+use Rattle.qmodel.specs.declared.open_call.OpenCall.TheVariants.{Receive, Send}
 
 -- the message is held on a channel with the unblock flag: then the server gets a pulse, and the Send stays
 -- open
@@ -18,16 +20,25 @@ abbrev pub pulse_for : Facts → OpenSend → Option SentItem
 pulse_for f s = option_and_then (λ receipt. if is_guarded f s && not receipt.unblocked
     then Some (new_item f receipt.priority (what.Unblock s.number) s.channel) else None) s.receipt
 
--- the unblock pulse for the Send that thread u is blocked in
+-- the open call is a Send that a channel guards against cancelling
+abbrev pub guards : Facts → OpenCall → Bool
+guards f (Send s) = is_guarded f s
+guards f (Receive r) = false
+
+-- the unblock pulse for an open call
+abbrev pub due_pulse_of : Facts → OpenCall → Option SentItem
+due_pulse_of f (Send s) = pulse_for f s
+due_pulse_of f (Receive r) = None
+
+-- the unblock pulse for the call that thread u is blocked in
 abbrev pub unblock_pulse : Facts → ThreadNo → Option SentItem
-unblock_pulse f u = option_and_then (pulse_for f) (send_of f u)
+unblock_pulse f u = option_and_then (due_pulse_of f) (f.open_call u)
 
 -- ends the call that a thread of the caller's process is blocked in, or sends an unblock pulse to its server
 abbrev pub unblock : ThreadNo → Rule
 unblock u = record {
   row = λ f t. pulse_row f t
-      (if is_of_same_process f t u then refusal_if_full f (unblock_pulse f u) else Some Srch)
-      (cancel f (λ s. (s.thread == u) && not (is_guarded f s)) (λ r. r.thread == u) Intr)
-      (unblock_pulse f u);
+      (if is_of_same_process f t u then refusal_if_full_for f (unblock_pulse f u) else Some Srch)
+      (cancels f (λ v o. (v == u) && not (guards f o)) Intr) (unblock_pulse f u);
   effect = record no_effect { makes = λ f t. unblock_pulse f u };
 }

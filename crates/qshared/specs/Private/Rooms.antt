@@ -7,9 +7,10 @@ use Rattle.qmodel.specs.declared.call.Call.{Call}
 use Rattle.qmodel.specs.declared.call.Call.TheVariants.{Shutdown}
 use Rattle.qmodel.specs.declared.call.Completion.{Completion}
 use Rattle.qmodel.specs.Buffers.{buffer_of}
-use Rattle.qrules.specs.Private.Facts.{buffer_of_open, threads_of}
+use Rattle.qrules.specs.Records.{buffer_of_open}
+use Rattle.qrules.specs.Facts.{threads_of}
 use Rattle.qrules.specs.Trace.{gets, followed_by, Trace}
-use Rattle.qrules.specs.Private.Past.{open_call}
+use Rattle.qrules.proofs.Words.Past.{open_call}
 use Rattle.qkernel.specs.EventLog.{Logged}
 use Rattle.qshared.specs.Due.{place}
 use Rattle.qshared.specs.Past.{is_down}

@@ -10,13 +10,13 @@ use Rattle.qqueue.specs.Best.{without_item}
 use Rattle.qtables.specs.Entries.{entry_at}
 use Rattle.qmodel.specs.declared.open_call.OpenCall.{OpenCall}
 use Rattle.qmodel.specs.declared.open_call.OpenCall.TheVariants.{Receive, Send}
-use Rattle.qrules.specs.Private.Step.{is_unread_send}
+use Rattle.qrules.specs.Records.{is_unread_send}
 use Rattle.qstate.specs.declared.channel.Channel.{Channel}
 use Rattle.qstate.specs.Channel.{SetsItems}
 use Rattle.qstate.specs.Kept.{pending_in, items_waiting_on}
 use Rattle.qstate.specs.Cancelling.{unread_on_by, call_if_cancelled, is_taken_from, Lose}
 use Rattle.qbase.proofs.Lists.{eqb_either, filter_twice, filter_whole}
-use Rattle.qrules.specs.Private.Facts.{number_of}
+use Rattle.qrules.proofs.Words.Facts.{number_of}
 
 -- without those of which one thing is so, and then without those of which another is
 pub filter_after : {A : Type 0} (p q : A → Bool) (xs : List A) → filter (λ x. not (q x)) (filter (λ x. not (p x)) xs) ≡ filter (λ x. not (p x || q x)) xs

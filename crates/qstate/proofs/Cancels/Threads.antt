@@ -9,9 +9,10 @@ use Rattle.qbase.specs.declared.errno.Errno.{Errno}
 use Rattle.qtables.specs.Members.{IsRoster}
 use Rattle.qmodel.specs.declared.call.Completion.{Completion}
 use Rattle.qmodel.specs.declared.open_call.OpenCall.{OpenCall}
-use Rattle.qrules.specs.Private.Cancelling.{cancel_call, cancel_where}
-use Rattle.qrules.specs.Private.Step.{is_unread_send}
-use Rattle.qrules.specs.Private.Facts.{threads_of}
+use Rattle.qrules.specs.Delivery.{cancel_call}
+use Rattle.qrules.specs.Records.{cancel_where}
+use Rattle.qrules.specs.Records.{is_unread_send}
+use Rattle.qrules.proofs.Words.Facts.{threads_of}
 use Rattle.qstate.specs.declared.channel.Channel.{Channel}
 use Rattle.qstate.specs.declared.cancelling.CancelSet.{CancelSet}
 use Rattle.qstate.specs.declared.thread.Thread.{Thread}

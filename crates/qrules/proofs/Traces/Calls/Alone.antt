@@ -2,10 +2,11 @@
 use Rattle.std.proofs.Common.{◌≡◌, ◌∙◌, ℕ, sym}
 use Rattle.std.specs.Prelude.{None, Some}
 use Rattle.std.proofs.lemmas.Option.{none-some}
-use Rattle.qrules.specs.Private.Calls.{row_of}
-use Rattle.qrules.specs.Private.Facts.{Facts, sender}
-use Rattle.qrules.specs.Private.Effects.{asks, makes, writes}
-use Rattle.qrules.specs.Private.Rows.{item_in}
+use Rattle.qrules.proofs.Words.Items.{receipt_of}
+use Rattle.qrules.specs.Rules.{row_of}
+use Rattle.qrules.proofs.Words.Facts.{Facts, sender}
+use Rattle.qrules.proofs.Words.Effects.{asks, makes, writes}
+use Rattle.qrules.proofs.Words.Items.{item_in}
 use Rattle.qmodel.specs.declared.call.Call.{Call}
 use Rattle.qmodel.specs.declared.call.Completion.{Completion}
 use Rattle.qrules.proofs.Traces.Past.Laws.{CallLaws, RowLaws, IsOwn}
@@ -26,7 +27,7 @@ pub record IsPlain (n t : ℕ) (y : Completion) : Type 0 where
   pub own : IsOwn n t y
   pub mark : item_in y.mark ≡ None
 
-pub alone : (f : Facts) (t : ℕ) (c : Call) → ((y : Completion) → (row_of f t c).own ≡ Some y → IsPlain f.number t y) → ((u : ℕ) → (row_of f t c).ends u ≡ None) → (row_of f t c).receipt ≡ None
+pub alone : (f : Facts) (t : ℕ) (c : Call) → ((y : Completion) → (row_of f t c).own ≡ Some y → IsPlain f.number t y) → ((u : ℕ) → (row_of f t c).others u ≡ None) → (receipt_of f t c) ≡ None
     → makes f t c ≡ None → ((w : Transfer) → writes c ≡ Some w → (s : ℕ) × (sender f w.rcvid ≡ Some s)) → RowLaws f t c
 alone f t c own ends receipt made written = record {
   owns = λ y e. (own y e).own;

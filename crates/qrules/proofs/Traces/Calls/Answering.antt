@@ -2,11 +2,13 @@
 use Rattle.std.proofs.Common.{◌≡◌, ◌∙◌, ℕ, List, ap, sym, is_some}
 use Rattle.std.specs.Prelude.{None, Some}
 use Rattle.std.proofs.lemmas.Option.{none-some, same_Some}
-use Rattle.qrules.specs.Private.Calls.{row_of}
-use Rattle.qrules.specs.Private.Facts.{Facts, sender}
-use Rattle.qrules.specs.Private.Held.{Finish, ends_sender, refusal}
-use Rattle.qrules.specs.Private.Effects.{makes, writes}
-use Rattle.qrules.specs.Private.Rows.{item_in}
+use Rattle.qrules.proofs.Words.Items.{receipt_of}
+use Rattle.qrules.specs.Rules.{row_of}
+use Rattle.qrules.proofs.Words.Facts.{Facts, sender}
+use Rattle.qrules.specs.Rules.Held.{refusal_unless_held}
+use Rattle.qrules.proofs.Words.Items.{Finish, ends_sender}
+use Rattle.qrules.proofs.Words.Effects.{makes, writes}
+use Rattle.qrules.proofs.Words.Items.{item_in}
 use Rattle.qmodel.specs.declared.call.Call.{Call}
 use Rattle.qmodel.specs.declared.call.Completion.{Completion}
 use Rattle.qrules.proofs.Traces.Calls.Alone.{IsPlain}
@@ -31,11 +33,11 @@ pub answer_receives : (f : Facts) (t rcvid : ℕ) (finish : Finish) (u : ℕ) (y
 answer_receives f t rcvid finish u y none s = ap (λ x. item_in x.mark) (sym s.ending) ∙ none s.held.send.reply_buffer
 
 -- a call that ends in its own event, and ends the Send that it answers
-pub answers : (f : Facts) (t : ℕ) (c : Call) (rcvid : ℕ) (finish : Finish) → ((buffer : List ℕ) → item_in (finish buffer).0 ≡ None) → refusal f t rcvid ≡ None
-    → ((y : Completion) → (row_of f t c).own ≡ Some y → IsPlain f.number t y) → ((u : ℕ) → (row_of f t c).ends u ≡ ends_sender f finish (sender f rcvid) u) → (row_of f t c).receipt ≡ None
+pub answers : (f : Facts) (t : ℕ) (c : Call) (rcvid : ℕ) (finish : Finish) → ((buffer : List ℕ) → item_in (finish buffer).0 ≡ None) → refusal_unless_held f t rcvid ≡ None
+    → ((y : Completion) → (row_of f t c).own ≡ Some y → IsPlain f.number t y) → ((u : ℕ) → (row_of f t c).others u ≡ ends_sender f finish (sender f rcvid) u) → (receipt_of f t c) ≡ None
     → makes f t c ≡ None → ((w : Transfer) → writes c ≡ Some w → (s : ℕ) × (sender f w.rcvid ≡ Some s)) → RowLaws f t c
 answers f t c rcvid finish none passed own ends receipt made written =
-    let ended = λ (u : ℕ) (y : Completion) (e : (row_of f t c).ends u ≡ Some y). sender_ends f t rcvid finish u y passed (sym (ends u) ∙ e) in
+    let ended = λ (u : ℕ) (y : Completion) (e : (row_of f t c).others u ≡ Some y). sender_ends f t rcvid finish u y passed (sym (ends u) ∙ e) in
     record {
       owns = λ y e. (own y e).own;
       ends_open = λ u y e. of_open f t rcvid finish u y (ended u y e);

@@ -4,11 +4,13 @@ use Rattle.std.specs.Prelude.{Bool, Option, None, Some}
 use Rattle.std.proofs.lemmas.Bool.{true≢false}
 use Rattle.std.proofs.lemmas.Option.{none-some, same_Some}
 use Rattle.qbase.specs.declared.errno.Errno.{Errno}
-use Rattle.qrules.specs.Private.Calls.{row_of}
-use Rattle.qrules.specs.Private.Cancelling.{cancel_call, cancel_where, cancels}
-use Rattle.qrules.specs.Private.Facts.{Facts, sender}
-use Rattle.qrules.specs.Private.Effects.{makes, writes}
-use Rattle.qrules.specs.Private.Rows.{item_in}
+use Rattle.qrules.proofs.Words.Items.{receipt_of}
+use Rattle.qrules.specs.Rules.{row_of}
+use Rattle.qrules.specs.Delivery.{cancel_call, cancels}
+use Rattle.qrules.specs.Records.{cancel_where}
+use Rattle.qrules.proofs.Words.Facts.{Facts, sender}
+use Rattle.qrules.proofs.Words.Effects.{makes, writes}
+use Rattle.qrules.proofs.Words.Items.{item_in}
 use Rattle.qmodel.specs.declared.call.Call.{Call}
 use Rattle.qmodel.specs.declared.call.Completion.{Completion}
 use Rattle.qmodel.specs.declared.open_call.OpenCall.{OpenCall}
@@ -33,9 +35,9 @@ cancel_parts is_cancelled e u (Some o) y h =
 
 -- a call that ends in its own event, and cancels others
 pub cancelling : (f : Facts) (t : ℕ) (c : Call) (is_cancelled : ℕ → OpenCall → Bool) (e : Errno) → is_forceful c ≡ true → ((y : Completion) → (row_of f t c).own ≡ Some y → IsPlain f.number t y)
-    → ((u : ℕ) → (row_of f t c).ends u ≡ cancels f is_cancelled e u) → (row_of f t c).receipt ≡ None → makes f t c ≡ None → ((w : Transfer) → writes c ≡ Some w → (s : ℕ) × (sender f w.rcvid ≡ Some s)) → RowLaws f t c
+    → ((u : ℕ) → (row_of f t c).others u ≡ cancels f is_cancelled e u) → (receipt_of f t c) ≡ None → makes f t c ≡ None → ((w : Transfer) → writes c ≡ Some w → (s : ℕ) × (sender f w.rcvid ≡ Some s)) → RowLaws f t c
 cancelling f t c is_cancelled e force own ends receipt made written =
-    let ended = λ (u : ℕ) (y : Completion) (s : (row_of f t c).ends u ≡ Some y). cancel_parts (is_cancelled u) e u (f.open_call u) y (sym (ends u) ∙ s) in
+    let ended = λ (u : ℕ) (y : Completion) (s : (row_of f t c).others u ≡ Some y). cancel_parts (is_cancelled u) e u (f.open_call u) y (sym (ends u) ∙ s) in
     record {
       owns = λ y s. (own y s).own;
       ends_open = λ u y s. let k = ended u y s in record { waiting = k.waiting; is = k.is; call = sym (ap (λ x. x.call) k.ending); thread = sym (ap (λ x. x.thread) k.ending) };

@@ -2,7 +2,7 @@
 use Rattle.std.proofs.Common.{ℕ, refl, subst}
 use Rattle.std.proofs.lemmas.Option.{none-some, same_Some}
 use Rattle.qbase.specs.declared.flags.ChannelFlags.{ChannelFlags}
-use Rattle.qrules.specs.Private.Facts.{Facts}
+use Rattle.qrules.proofs.Words.Facts.{Facts}
 use Rattle.qmodel.specs.declared.call.Call.TheVariants.{ChannelCreate}
 use Rattle.qrules.proofs.Traces.Calls.Alone.{IsPlain, alone, waits_not}
 use Rattle.qrules.proofs.Traces.Past.Laws.{CallLaws, RowLaws, Passes}

@@ -2,8 +2,8 @@
 use Rattle.std.proofs.Common.{ℕ, refl, subst}
 use Rattle.std.proofs.lemmas.Option.{none-some, same_Some}
 use Rattle.qbase.specs.declared.errno.Errno.TheVariants.{Srch}
-use Rattle.qrules.specs.Private.Cancelling.{is_on}
-use Rattle.qrules.specs.Private.Facts.{Facts}
+use Rattle.qrules.specs.Delivery.{is_on}
+use Rattle.qrules.proofs.Words.Facts.{Facts}
 use Rattle.qmodel.specs.declared.call.Call.TheVariants.{ChannelDestroy}
 use Rattle.qrules.proofs.Traces.Calls.Alone.{IsPlain, waits_not}
 use Rattle.qrules.proofs.Traces.Calls.Cancelling.{cancelling}

@@ -1,4 +1,5 @@
 -- The laws of ConnectDetach.
+use Rattle.qrules.proofs.Traces.Rows.{pulse_same}
 use Rattle.std.proofs.Common.{◌≡◌, ◌∙◌, ◌⊎◌, ℕ, [], ap, refl, sym, subst, cond, eqb, true, false, inl, inr}
 use Rattle.std.specs.Prelude.{Option, None, Some, is_some, ◌&&◌}
 use Rattle.std.proofs.lemmas.Bool.{true≢false, and_parts}
@@ -7,15 +8,22 @@ use Rattle.std.specs.Option.{option_or}
 use Rattle.qbase.specs.declared.errno.Errno.TheVariants.{Badf, Inval}
 use Rattle.qqueue.specs.Best.{is_pulse}
 use Rattle.qtables.specs.declared.connection.Connection.{Connection}
-use Rattle.qrules.specs.Private.Calls.{row_of}
-use Rattle.qrules.specs.Private.Calls.ConnectDetach.{connections_between, due_pulse, other_ending, refusal}
+use Rattle.qrules.proofs.Words.Items.{receipt_of}
+use Rattle.qrules.specs.Rules.{row_of}
+use Rattle.qrules.proofs.Traces.Parts.{connections_between}
+use Rattle.qrules.specs.Rules.Connections.{disconnect_pulse}
 use Rattle.qrules.proofs.Traces.Parts.{due_pulse_over, is_own}
-use Rattle.qrules.specs.Private.Cancelling.{cancel_where, is_over}
-use Rattle.qrules.specs.Private.Facts.{Facts, tells_disconnect}
+use Rattle.qrules.specs.Delivery.{is_over}
+use Rattle.qrules.specs.Records.{cancel_where}
+use Rattle.qrules.proofs.Words.Facts.{Facts}
+use Rattle.qrules.specs.Records.{tells_disconnect}
 use Rattle.qmodel.specs.Trace.{OpenChannel, SentItem}
-use Rattle.qrules.specs.Private.Past.{is_unblock_for}
-use Rattle.qrules.specs.Private.Pulses.{refusal_if_full_for, ends_receiver, pulse_receipt}
-use Rattle.qrules.specs.Private.Rows.{Received, disconnect_item, item_in}
+use Rattle.qrules.proofs.Words.Past.{is_unblock_for}
+use Rattle.qrules.specs.Delivery.{cancels, deliver, refusal_if_full_for}
+use Rattle.qrules.proofs.Words.Items.{ends_receiver}
+use Rattle.qrules.proofs.Words.Items.{pulse_receipt}
+use Rattle.qrules.proofs.Words.Items.{Received, item_in}
+use Rattle.qrules.specs.Records.{disconnect_item}
 use Rattle.qmodel.specs.declared.call.Call.TheVariants.{ConnectDetach}
 use Rattle.qmodel.specs.declared.call.Completion.{Completion}
 use Rattle.qrules.proofs.Traces.Past.Laws.{CallLaws, IsOfOpen, IsOwn, IsReceipt, IsReceived, Passes, RowLaws}
@@ -49,7 +57,7 @@ due_parts f t (Some c) m e =
     ] refl e
 
 -- it is a pulse
-pub due_is_pulse : (f : Facts) (t k : ℕ) (m : SentItem) → due_pulse f t k ≡ Some m → is_pulse m.item.what ≡ true
+pub due_is_pulse : (f : Facts) (t k : ℕ) (m : SentItem) → disconnect_pulse f t k ≡ Some m → is_pulse m.item.what ≡ true
 due_is_pulse f t k m e = ap (λ x. is_pulse x.item.what) (sym (due_parts f t (f.connection k) m e).made)
 
 -- a channel that tells anything is open
@@ -58,19 +66,23 @@ tells_open None e = absurd (true≢false (sym e))
 tells_open (Some c) e = refl
 
 -- an accepted ConnectDetach finds room for its pulse
-pub own_passes : (f : Facts) (t k : ℕ) → refusal f t k ≡ None → refusal_if_full_for f (due_pulse f t k) ≡ None
-own_passes f t k r = elim (is_own f t (f.connection k)) as (λ b. cond b (refusal_if_full_for f (due_pulse f t k)) (Some Inval) ≡ None → refusal_if_full_for f (due_pulse f t k) ≡ None) [
+pub own_passes : (f : Facts) (t k : ℕ) → (row_of f t (ConnectDetach k)).refusal ≡ None → refusal_if_full_for f (disconnect_pulse f t k) ≡ None
+own_passes f t k r = elim (is_own f t (f.connection k)) as (λ b. cond b (refusal_if_full_for f (disconnect_pulse f t k)) (Some Inval) ≡ None → refusal_if_full_for f (disconnect_pulse f t k) ≡ None) [
   | true ↦ λ s. s
   | false ↦ λ s. absurd (none-some Inval (sym s))
 ] r
 
 -- ---- what it ends
 
+-- the ending of another's call
+abbrev other_ending : Facts → ℕ → Option SentItem → ℕ → Option Completion
+other_ending f k m u = option_or (cancels f (λ v. is_over k) Badf u) (deliver f m [] u)
+
 -- another's call that it ends is cancelled, or meets the pulse
 pub detach_ends : (f : Facts) (k : ℕ) (o : Option SentItem) (u : ℕ) (y : Completion) → other_ending f k o u ≡ Some y → IsCutCall (is_over k) Badf u (f.open_call u) y ⊎ (ends_receiver f o u ≡ Some y)
 detach_ends f k o u y e =
-    elim (cancel_where (is_over k) Badf u (f.open_call u)) as (λ x. cancel_where (is_over k) Badf u (f.open_call u) ≡ x → option_or x (ends_receiver f o u) ≡ Some y → IsCutCall (is_over k) Badf u (f.open_call u) y ⊎ (ends_receiver f o u ≡ Some y)) [
-      | None ↦ λ none s. inr s
+    elim (cancel_where (is_over k) Badf u (f.open_call u)) as (λ x. cancel_where (is_over k) Badf u (f.open_call u) ≡ x → option_or x (deliver f o [] u) ≡ Some y → IsCutCall (is_over k) Badf u (f.open_call u) y ⊎ (ends_receiver f o u ≡ Some y)) [
+      | None ↦ λ none s. inr (sym (pulse_same f o u) ∙ s)
       | Some x ↦ λ some s. inl (cancel_parts (is_over k) Badf u (f.open_call u) y (some ∙ s))
     ] refl e
 
@@ -90,8 +102,8 @@ call_laws coid = record {
 }
 
 module _ (f : Facts) (t coid : ℕ) (p : Passes f t (ConnectDetach coid)) where
-  ended : (u : ℕ) (y : Completion) → other_ending f coid (due_pulse f t coid) u ≡ Some y → IsCutCall (is_over coid) Badf u (f.open_call u) y ⊎ (ends_receiver f (due_pulse f t coid) u ≡ Some y)
-  ended u y e = detach_ends f coid (due_pulse f t coid) u y e
+  ended : (u : ℕ) (y : Completion) → other_ending f coid (disconnect_pulse f t coid) u ≡ Some y → IsCutCall (is_over coid) Badf u (f.open_call u) y ⊎ (ends_receiver f (disconnect_pulse f t coid) u ≡ Some y)
+  ended u y e = detach_ends f coid (disconnect_pulse f t coid) u y e
 
   cancel_open : (u : ℕ) (y : Completion) → IsCutCall (is_over coid) Badf u (f.open_call u) y → IsOfOpen f u y
   cancel_open u y k = record { waiting = k.waiting; is = k.is; call = sym (ap (λ x. x.call) k.ending); thread = sym (ap (λ x. x.thread) k.ending) }
@@ -100,30 +112,30 @@ module _ (f : Facts) (t coid : ℕ) (p : Passes f t (ConnectDetach coid)) where
   told_open None u y e = absurd (none-some y e)
   told_open (Some m) u y e = met_open f m.item [] (Some m.channel) u y e
 
-  told_one : (o : Option SentItem) → due_pulse f t coid ≡ o → (u : ℕ) (y : Completion) (q : ReceivedItem) → ends_receiver f o u ≡ Some y → item_in y.mark ≡ Some q → IsReceipt (row_of f t (ConnectDetach coid)) u q
+  told_one : (o : Option SentItem) → disconnect_pulse f t coid ≡ o → (u : ℕ) (y : Completion) (q : ReceivedItem) → ends_receiver f o u ≡ Some y → item_in y.mark ≡ Some q → IsReceipt (receipt_of f t (ConnectDetach coid)) u q
   told_one None is u y q e m = absurd (none-some y e)
   told_one (Some m) is u y q e mark = met_receipt f t (Some m.channel) (ConnectDetach coid) m.item [] None (ap (pulse_receipt f) is) u y q e mark
 
   -- what meets the pulse isn't cancelled
-  met_ends : (m : SentItem) → due_pulse f t coid ≡ Some m → (u : ℕ) (y : Completion) → ends_receiver f (Some m) u ≡ Some y → other_ending f coid (due_pulse f t coid) u ≡ Some y
+  met_ends : (m : SentItem) → disconnect_pulse f t coid ≡ Some m → (u : ℕ) (y : Completion) → ends_receiver f (Some m) u ≡ Some y → other_ending f coid (disconnect_pulse f t coid) u ≡ Some y
   met_ends m is u y e =
       let k = met_item f m.item [] (Some m.channel) u y e in
       let uncut : cancel_where (is_over coid) Badf u (f.open_call u) ≡ None = rw k.is refl in
-      ap (λ x. option_or x (ends_receiver f (due_pulse f t coid) u)) uncut ∙ ap (λ o. ends_receiver f o u) is ∙ e
+      ap (λ x. option_or x (deliver f (disconnect_pulse f t coid) [] u)) uncut ∙ pulse_same f (disconnect_pulse f t coid) u ∙ ap (λ o. ends_receiver f o u) is ∙ e
 
-  receives : (o : Option SentItem) → due_pulse f t coid ≡ o → (q : Received) → pulse_receipt f o ≡ Some q → IsReceived f t (ConnectDetach coid) q
+  receives : (o : Option SentItem) → disconnect_pulse f t coid ≡ o → (q : Received) → pulse_receipt f o ≡ Some q → IsReceived f t (ConnectDetach coid) q
   receives None is q e = absurd (none-some q e)
   receives (Some m) is q e = met_received f t (Some m.channel) (ConnectDetach coid) m.item [] None (ap (pulse_receipt f) is) (met_ends m is) p.idle
-      (λ h s. subst (λ k. due_pulse f t coid ≡ Some (record { item = m.item; channel = k })) (same_Some m.channel h s) is) (λ h. refl) q (ap (pulse_receipt f) is ∙ e)
+      (λ h s. subst (λ k. disconnect_pulse f t coid ≡ Some (record { item = m.item; channel = k })) (same_Some m.channel h s) is) (λ h. refl) q (ap (pulse_receipt f) is ∙ e)
 
   pub row_laws : RowLaws f t (ConnectDetach coid)
   row_laws = record {
     owns = λ y e. subst (IsOwn f.number t) (same_Some _ y e) (record { call = refl; thread = refl; mark = refl });
-    ends_open = λ u y e. elim (ended u y e) [ inl k ↦ cancel_open u y k | inr s ↦ told_open (due_pulse f t coid) u y s ];
+    ends_open = λ u y e. elim (ended u y e) [ inl k ↦ cancel_open u y k | inr s ↦ told_open (disconnect_pulse f t coid) u y s ];
     ends_settled = λ mild. absurd (true≢false mild);
     own_receives = λ y q e m. absurd (none-some q (ap (λ x. item_in x.mark) (same_Some _ y e) ∙ m));
-    ends_receives = λ u y q e m. elim (ended u y e) [ inl k ↦ absurd (none-some q (ap (λ x. item_in x.mark) k.ending ∙ m)) | inr s ↦ told_one (due_pulse f t coid) refl u y q s m ];
-    receives = λ q e. receives (due_pulse f t coid) refl q e;
+    ends_receives = λ u y q e m. elim (ended u y e) [ inl k ↦ absurd (none-some q (ap (λ x. item_in x.mark) k.ending ∙ m)) | inr s ↦ told_one (disconnect_pulse f t coid) refl u y q s m ];
+    receives = λ q e. receives (disconnect_pulse f t coid) refl q e;
     sends = λ m e sent. absurd (true≢false (sym (due_is_pulse f t coid m e) ∙ sent));
     makes_open = λ m e. tells_open (f.channel m.channel) (due_parts f t (f.connection coid) m e).tells;
     writes_sent = λ w e. absurd (none-some w e);

@@ -6,14 +6,18 @@ use Rattle.std.proofs.lemmas.Bool.{eqb-true, ne_eqb}
 use Rattle.std.proofs.lemmas.Option.{none-some, same_Some}
 use Rattle.qqueue.specs.declared.item.Item.{Item}
 use Rattle.qtables.specs.declared.connection.Connection.{Connection}
-use Rattle.qrules.specs.Private.Answer.{ending}
-use Rattle.qrules.specs.Private.Calls.{row_of}
-use Rattle.qrules.specs.Private.Delivering.{delivers, receiver, receipt_by, receipt_when_sent}
-use Rattle.qrules.specs.Private.Facts.{Facts, route}
+use Rattle.qrules.specs.Outcome.{ending}
+use Rattle.qrules.proofs.Words.Items.{receipt_of}
+use Rattle.qrules.specs.Rules.{row_of}
+use Rattle.qrules.proofs.Words.Items.{delivers, receiver}
+use Rattle.qrules.proofs.Words.Items.{receipt_by, receipt_when_sent}
+use Rattle.qrules.proofs.Words.Facts.{Facts, route}
 use Rattle.qrules.proofs.Traces.Parts.{leads_to}
-use Rattle.qrules.specs.Private.Receivers.{newest_receiver}
-use Rattle.qrules.specs.Private.Effects.{asks, makes}
-use Rattle.qrules.specs.Private.Rows.{Received, item_in, receipt_in, item_sent_over, takes, receipt_ending}
+use Rattle.qrules.specs.Delivery.{newest_receiver}
+use Rattle.qrules.proofs.Words.Effects.{asks, makes}
+use Rattle.qrules.proofs.Words.Items.{Received, item_in, receipt_in, item_sent_over}
+use Rattle.qrules.specs.Records.{takes}
+use Rattle.qrules.specs.Delivery.{receipt_ending}
 use Rattle.qmodel.specs.Trace.{SentItem}
 use Rattle.qmodel.specs.declared.call.Call.{Call}
 use Rattle.qmodel.specs.declared.call.Completion.{Completion}
@@ -141,15 +145,15 @@ module _ (f : Facts) (item : Item) (message : List ℕ) (o : Option ℕ) where
       ap (λ v. is_settled v) (same_Some w k.waiting (sym is ∙ k.is)) ∙ k.settled
 
 module _ (f : Facts) (t : ℕ) (o : Option ℕ) (c : Call) (item : Item) (message : List ℕ) (sender : Option ℕ)
-    (receipt_is : (row_of f t c).receipt ≡ receipt_when_sent f sender item message o (receiver f item o)) where
-  pub met_receipt : (u : ℕ) (y : Completion) (p : ReceivedItem) → delivers f item message (receiver f item o) u ≡ Some y → item_in y.mark ≡ Some p → IsReceipt (row_of f t c) u p
+    (receipt_is : (receipt_of f t c) ≡ receipt_when_sent f sender item message o (receiver f item o)) where
+  pub met_receipt : (u : ℕ) (y : Completion) (p : ReceivedItem) → delivers f item message (receiver f item o) u ≡ Some y → item_in y.mark ≡ Some p → IsReceipt (receipt_of f t c) u p
   met_receipt u y p e m =
       let r = met_receives f sender item message o u y p e m in
       record { receipt = r.0; is = receipt_is ∙ r.1; by = r.2; item = r.3; copied = r.4 }
 
   -- the receipt of the row is of the item that is sent
-  pub met_received : ((u : ℕ) (y : Completion) → delivers f item message (receiver f item o) u ≡ Some y → (row_of f t c).ends u ≡ Some y) → f.open_call t ≡ None
-      → ((h : ℕ) → o ≡ Some h → makes f t c ≡ Some (record { item = item; channel = h })) → ((h : ℕ) → sender ≡ option_map (λ o. t) (asks f.number t h c)) → (q : Received) → (row_of f t c).receipt ≡ Some q → IsReceived f t c q
+  pub met_received : ((u : ℕ) (y : Completion) → delivers f item message (receiver f item o) u ≡ Some y → (row_of f t c).others u ≡ Some y) → f.open_call t ≡ None
+      → ((h : ℕ) → o ≡ Some h → makes f t c ≡ Some (record { item = item; channel = h })) → ((h : ℕ) → sender ≡ option_map (λ o. t) (asks f.number t h c)) → (q : Received) → (receipt_of f t c) ≡ Some q → IsReceived f t c q
   met_received ends_met idle makes_is sender_is q e =
       let s = sent_over_way f sender item message o (receiver f item o) q (sym receipt_is ∙ e) in
       let other : eqb s.by t ≡ false = ne_eqb s.by t (λ same. none-some s.taken.waiting (sym idle ∙ ap f.open_call (sym same) ∙ s.taken.is)) in
@@ -168,17 +172,17 @@ module _ (f : Facts) (t : ℕ) (o : Option ℕ) (c : Call) (item : Item) (messag
         mark = s.taken.mark;
       })
 
-module _ (f : Facts) (t : ℕ) (o : Option ℕ) (c : Call) (item : Item) (message : List ℕ) (sender : Option ℕ) (ends_is : (u : ℕ) → (row_of f t c).ends u ≡ delivers f item message (receiver f item o) u)
-    (receipt_is : (row_of f t c).receipt ≡ receipt_when_sent f sender item message o (receiver f item o)) where
-  pub delivers_open : (u : ℕ) (y : Completion) → (row_of f t c).ends u ≡ Some y → IsOfOpen f u y
+module _ (f : Facts) (t : ℕ) (o : Option ℕ) (c : Call) (item : Item) (message : List ℕ) (sender : Option ℕ) (ends_is : (u : ℕ) → (row_of f t c).others u ≡ delivers f item message (receiver f item o) u)
+    (receipt_is : (receipt_of f t c) ≡ receipt_when_sent f sender item message o (receiver f item o)) where
+  pub delivers_open : (u : ℕ) (y : Completion) → (row_of f t c).others u ≡ Some y → IsOfOpen f u y
   delivers_open u y e = met_open f item message o u y (sym (ends_is u) ∙ e)
 
-  pub delivers_settled : (u : ℕ) (y : Completion) → (row_of f t c).ends u ≡ Some y → IsSettled (f.open_call u)
+  pub delivers_settled : (u : ℕ) (y : Completion) → (row_of f t c).others u ≡ Some y → IsSettled (f.open_call u)
   delivers_settled u y e = met_settled f item message o u y (sym (ends_is u) ∙ e)
 
-  pub delivers_receipt : (u : ℕ) (y : Completion) (p : ReceivedItem) → (row_of f t c).ends u ≡ Some y → item_in y.mark ≡ Some p → IsReceipt (row_of f t c) u p
+  pub delivers_receipt : (u : ℕ) (y : Completion) (p : ReceivedItem) → (row_of f t c).others u ≡ Some y → item_in y.mark ≡ Some p → IsReceipt (receipt_of f t c) u p
   delivers_receipt u y p e m = met_receipt f t o c item message sender receipt_is u y p (sym (ends_is u) ∙ e) m
 
   pub delivers_received : f.open_call t ≡ None → ((h : ℕ) → o ≡ Some h → makes f t c ≡ Some (record { item = item; channel = h })) → ((h : ℕ) → sender ≡ option_map (λ o. t) (asks f.number t h c))
-      → (q : Received) → (row_of f t c).receipt ≡ Some q → IsReceived f t c q
+      → (q : Received) → (receipt_of f t c) ≡ Some q → IsReceived f t c q
   delivers_received idle makes_is sender_is q e = met_received f t o c item message sender receipt_is (λ u y m. ends_is u ∙ m) idle makes_is sender_is q e

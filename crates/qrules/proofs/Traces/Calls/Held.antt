@@ -5,8 +5,12 @@ use Rattle.std.specs.Option.{option_and_then}
 use Rattle.std.proofs.lemmas.Bool.{eqb-true, true≢false, and_parts}
 use Rattle.std.proofs.lemmas.Option.{none-some, same_Some}
 use Rattle.qbase.specs.declared.errno.Errno.{Errno}
-use Rattle.qrules.specs.Private.Facts.{Facts, sender, threads_of, number_of, owns}
-use Rattle.qrules.specs.Private.Held.{Finish, ends_sender, answer_ending, refusal}
+use Rattle.qrules.specs.Facts.{holds}
+use Rattle.qrules.proofs.Messages.{held_same}
+use Rattle.qrules.proofs.Words.Facts.{Facts, sender, threads_of, number_of, owns}
+use Rattle.qrules.specs.Rules.Held.{refusal_unless_held}
+use Rattle.qrules.proofs.Words.Items.{Finish, ends_sender}
+use Rattle.qrules.proofs.Words.Items.{answer_ending}
 use Rattle.qrules.proofs.Traces.Parts.{is_held_for}
 use Rattle.qmodel.specs.declared.call.Completion.{Completion}
 use Rattle.qmodel.specs.declared.open_call.OpenCall.{OpenCall}
@@ -41,17 +45,17 @@ passes : (b : Bool) (e : Errno) → cond b None (Some e) ≡ None → b ≡ true
 passes true e h = refl
 passes false e h = absurd (none-some e (sym h))
 
-pub held_for : (f : Facts) (t rcvid s : ℕ) → refusal f t rcvid ≡ None → sender f rcvid ≡ Some s → IsHeldFor f t (f.open_call s)
+pub held_for : (f : Facts) (t rcvid s : ℕ) → refusal_unless_held f t rcvid ≡ None → sender f rcvid ≡ Some s → IsHeldFor f t (f.open_call s)
 held_for f t rcvid s r e =
-    held_parts f t (f.open_call s) (subst (λ o. is_held_for f t (option_and_then f.open_call o) ≡ true) e (passes (is_held_for f t (option_and_then f.open_call (sender f rcvid))) _ r))
+    held_parts f t (f.open_call s) (subst (λ o. is_held_for f t (option_and_then f.open_call o) ≡ true) e (sym (held_same f t rcvid) ∙ passes (holds f t rcvid) _ r))
 
 -- a call that isn't refused has a sender
-pub has_sender : (f : Facts) (t rcvid : ℕ) → refusal f t rcvid ≡ None → (s : ℕ) × (sender f rcvid ≡ Some s)
+pub has_sender : (f : Facts) (t rcvid : ℕ) → refusal_unless_held f t rcvid ≡ None → (s : ℕ) × (sender f rcvid ≡ Some s)
 has_sender f t rcvid r =
     elim (sender f rcvid) as (λ o. is_held_for f t (option_and_then f.open_call o) ≡ true → (s : ℕ) × (o ≡ Some s)) [
       | None ↦ λ e. absurd (true≢false (sym e))
       | Some s ↦ λ e. (s, refl)
-    ] (passes (is_held_for f t (option_and_then f.open_call (sender f rcvid))) _ r)
+    ] (sym (held_same f t rcvid) ∙ passes (holds f t rcvid) _ r)
 
 -- thread u holds the Send of this number, which ends by the answer
 pub record SenderEnds (f : Facts) (t rcvid : ℕ) (finish : Finish) (u : ℕ) (y : Completion) : Type 0 where
@@ -72,7 +76,7 @@ ends_parts f finish (Some v) u y e =
       | false ↦ λ other s. absurd (none-some y s)
     ] refl e
 
-pub sender_ends : (f : Facts) (t rcvid : ℕ) (finish : Finish) (u : ℕ) (y : Completion) → refusal f t rcvid ≡ None → ends_sender f finish (sender f rcvid) u ≡ Some y → SenderEnds f t rcvid finish u y
+pub sender_ends : (f : Facts) (t rcvid : ℕ) (finish : Finish) (u : ℕ) (y : Completion) → refusal_unless_held f t rcvid ≡ None → ends_sender f finish (sender f rcvid) u ≡ Some y → SenderEnds f t rcvid finish u y
 sender_ends f t rcvid finish u y r e =
     let p = ends_parts f finish (sender f rcvid) u y e in
     let h = held_for f t rcvid u r p.0 in

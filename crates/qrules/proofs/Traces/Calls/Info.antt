@@ -3,8 +3,9 @@ use Rattle.std.proofs.Common.{◌≡◌, ℕ, refl, subst}
 use Rattle.std.specs.Prelude.{Option, None, Some}
 use Rattle.std.specs.Option.{option_map}
 use Rattle.std.proofs.lemmas.Option.{none-some, same_Some}
-use Rattle.qrules.specs.Private.Calls.Info.{info_of, info_ending}
-use Rattle.qrules.specs.Private.Facts.{Facts, sender}
+use Rattle.qrules.specs.Rules.Held.{info_of}
+use Rattle.qrules.proofs.Words.Items.{info_ending}
+use Rattle.qrules.proofs.Words.Facts.{Facts, sender}
 use Rattle.qmodel.specs.declared.call.Call.TheVariants.{Info}
 use Rattle.qmodel.specs.declared.call.Completion.{Completion}
 use Rattle.qmodel.specs.declared.call.Info.{Info as Told}

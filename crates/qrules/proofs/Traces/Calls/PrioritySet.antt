@@ -2,9 +2,9 @@
 use Rattle.std.proofs.Common.{◌≡◌, ◌⊎◌, ℕ, refl, subst, inl, inr}
 use Rattle.std.specs.Prelude.{None}
 use Rattle.std.proofs.lemmas.Option.{none-some, same_Some}
-use Rattle.qrules.specs.Private.Calls.{row_of}
-use Rattle.qrules.specs.Private.Facts.{Facts}
-use Rattle.qrules.specs.Private.Effects.{makes, sets}
+use Rattle.qrules.proofs.Words.Items.{receipt_of}
+use Rattle.qrules.proofs.Words.Facts.{Facts}
+use Rattle.qrules.proofs.Words.Effects.{makes, sets}
 use Rattle.qmodel.specs.declared.call.Call.{Call}
 use Rattle.qmodel.specs.declared.call.Call.TheVariants.{PrioritySet}
 use Rattle.qrules.proofs.Traces.Calls.Alone.{IsPlain, alone, waits_not}
@@ -22,7 +22,7 @@ row_laws f t thread priority p =
 
 pub record SetsAlone (c : Call) : Type 0 where
   pub makes_none : (f : Facts) (t : ℕ) → makes f t c ≡ None
-  pub receives_none : (f : Facts) (t : ℕ) → (row_of f t c).receipt ≡ None
+  pub receives_none : (f : Facts) (t : ℕ) → (receipt_of f t c) ≡ None
 
 pub sets_alone : (c : Call) → (sets c ≡ None) ⊎ SetsAlone c
 sets_alone (PrioritySet thread priority) = inr (record { makes_none = λ f t. refl; receives_none = λ f t. refl })

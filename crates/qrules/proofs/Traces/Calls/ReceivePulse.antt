@@ -1,7 +1,7 @@
 -- The laws of ReceivePulse.
 use Rattle.std.proofs.Common.{ℕ, [], refl}
 use Rattle.qqueue.specs.declared.item.Kind.TheVariants.{PulseOnly}
-use Rattle.qrules.specs.Private.Facts.{Facts}
+use Rattle.qrules.proofs.Words.Facts.{Facts}
 use Rattle.qmodel.specs.declared.call.Call.TheVariants.{ReceivePulse}
 use Rattle.qrules.proofs.Traces.Calls.Receiving.{receiving_call, receiving_row}
 use Rattle.qrules.proofs.Traces.Past.Laws.{CallLaws, RowLaws, Passes}

@@ -5,11 +5,13 @@ use Rattle.std.proofs.lemmas.Option.{none-some, same_Some}
 use Rattle.qqueue.specs.Best.{best_of}
 use Rattle.qqueue.specs.declared.item.Item.{Item}
 use Rattle.qqueue.specs.declared.item.Kind.{Kind}
-use Rattle.qrules.specs.Private.Calls.{row_of}
-use Rattle.qrules.specs.Private.Facts.{Facts, message}
-use Rattle.qrules.specs.Private.Receiving.{own_receipt, receipt_when_taken, sender_for}
-use Rattle.qrules.specs.Private.Effects.{asks, makes, writes}
-use Rattle.qrules.specs.Private.Rows.{Received, item_in, receipt_ending}
+use Rattle.qrules.proofs.Words.Items.{receipt_of}
+use Rattle.qrules.specs.Rules.{row_of}
+use Rattle.qrules.proofs.Words.Facts.{Facts, message}
+use Rattle.qrules.proofs.Words.Items.{own_receipt, receipt_when_taken, sender_for}
+use Rattle.qrules.proofs.Words.Effects.{asks, makes, writes}
+use Rattle.qrules.proofs.Words.Items.{Received, item_in}
+use Rattle.qrules.specs.Delivery.{receipt_ending}
 use Rattle.qmodel.specs.declared.call.Call.{Call}
 use Rattle.qmodel.specs.declared.call.Completion.{Completion}
 use Rattle.qmodel.specs.declared.open_call.OpenCall.{OpenCall}
@@ -73,8 +75,8 @@ best_received f t c chid kind buffer (Some item) r own is e =
       mark = g.1;
     })
 
-pub receiving_row : (f : Facts) (t : ℕ) (c : Call) (chid : ℕ) (kind : Kind) (buffer : List ℕ) → (row_of f t c).own ≡ own_receipt f t buffer (best_of kind (f.pending chid)) → ((u : ℕ) → (row_of f t c).ends u ≡ None)
-    → (row_of f t c).receipt ≡ receipt_when_taken f chid (own_receipt f t buffer (best_of kind (f.pending chid))) (best_of kind (f.pending chid)) → makes f t c ≡ None → writes c ≡ None → RowLaws f t c
+pub receiving_row : (f : Facts) (t : ℕ) (c : Call) (chid : ℕ) (kind : Kind) (buffer : List ℕ) → (row_of f t c).own ≡ own_receipt f t buffer (best_of kind (f.pending chid)) → ((u : ℕ) → (row_of f t c).others u ≡ None)
+    → (receipt_of f t c) ≡ receipt_when_taken f chid (own_receipt f t buffer (best_of kind (f.pending chid))) (best_of kind (f.pending chid)) → makes f t c ≡ None → writes c ≡ None → RowLaws f t c
 receiving_row f t c chid kind buffer own ends receipt made written = record {
   owns = λ y e. own_one f t buffer (best_of kind (f.pending chid)) y (sym own ∙ e);
   ends_open = λ u y e. absurd (none-some y (sym (ends u) ∙ e));

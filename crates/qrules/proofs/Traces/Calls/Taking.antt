@@ -5,8 +5,11 @@ use Rattle.std.proofs.lemmas.Option.{none-some, same_Some}
 use Rattle.qbase.specs.Laying.{laid_count, lay_over}
 use Rattle.qqueue.specs.Best.{is_pulse}
 use Rattle.qqueue.specs.declared.item.Item.{Item}
-use Rattle.qrules.specs.Private.Past.{is_failure}
-use Rattle.qrules.specs.Private.Rows.{delivery_of, takes, takes_into, item_in, Received, receipt_in}
+use Rattle.qrules.proofs.Words.Past.{is_failure}
+use Rattle.qrules.specs.Delivery.{delivery_of}
+use Rattle.qrules.specs.Records.{takes_into}
+use Rattle.qrules.proofs.Words.Items.{item_in, Received, receipt_in}
+use Rattle.qrules.specs.Records.{takes}
 use Rattle.qmodel.specs.declared.call.Completion.{Completion}
 use Rattle.qmodel.specs.declared.call.Mark.{Mark}
 use Rattle.qmodel.specs.declared.call.Mark.TheVariants as mark

@@ -2,7 +2,7 @@
 use Rattle.std.proofs.Common.{◌≡◌, ℕ, List, ap, refl, subst}
 use Rattle.std.specs.Prelude.{Some}
 use Rattle.std.proofs.lemmas.Option.{same_Some}
-use Rattle.qrules.specs.Private.Facts.{Facts, sender}
+use Rattle.qrules.proofs.Words.Facts.{Facts, sender}
 use Rattle.qmodel.specs.declared.call.Call.TheVariants.{Write}
 use Rattle.qrules.proofs.Traces.Calls.Alone.{IsPlain, alone, waits_not}
 use Rattle.qrules.proofs.Traces.Calls.Held.{has_sender}

@@ -4,12 +4,14 @@ use Rattle.std.specs.Prelude.{Option, None, Some, is_some, ◌&&◌}
 use Rattle.std.specs.Option.{option_map}
 use Rattle.std.proofs.lemmas.Option.{none-some, same_Some}
 use Rattle.qbase.specs.Laying.{lay_over}
-use Rattle.qrules.specs.Private.Calls.{row_of}
-use Rattle.qrules.specs.Private.Facts.{Facts, sender, with_buffer}
-use Rattle.qrules.specs.Private.Effects.{makes, unblocks, writes}
-use Rattle.qrules.specs.Private.Rows.{Received}
+use Rattle.qrules.proofs.Words.Items.{receipt_of}
+use Rattle.qrules.proofs.Words.Facts.{Facts, sender}
+use Rattle.qrules.specs.Records.{with_buffer}
+use Rattle.qrules.proofs.Words.Effects.{makes, unblocks, writes}
+use Rattle.qrules.proofs.Words.Items.{Received}
 use Rattle.qmodel.specs.Trace.{SentItem}
-use Rattle.qrules.specs.Private.Step.{after_receipt, after_unblock, after_write, held_call, is_thread, unblocked_call, unless, written_call}
+use Rattle.qrules.proofs.Words.Step.{after_receipt, after_unblock, after_write, unless}
+use Rattle.qrules.specs.Records.{held_call, is_thread, unblocked_call, written_call}
 use Rattle.qmodel.specs.declared.call.Call.{Call}
 use Rattle.qmodel.specs.declared.open_call.OpenCall.{OpenCall}
 use Rattle.qmodel.specs.declared.open_call.Receipt.{Receipt}
@@ -71,10 +73,10 @@ pub record Lasts {A : Type 0} (g : OpenCall → A) : Type 0 where
 
 -- before the call of another thread
 pub before_other : {A : Type 0} (g : OpenCall → A) → Lasts g → (f : Facts) (t : ℕ) (c : Call) (u : ℕ) (o : OpenCall)
-    → after_unblock (makes f t c) (unblocks c) u (after_receipt (row_of f t c).receipt u (after_write f (writes c) u (f.open_call u))) ≡ Some o → IsBefore g (f.open_call u) o
+    → after_unblock (makes f t c) (unblocks c) u (after_receipt (receipt_of f t c) u (after_write f (writes c) u (f.open_call u))) ≡ Some o → IsBefore g (f.open_call u) o
 before_other g lasts f t c u o e =
-    let a = before_unblock g lasts.unblocked (makes f t c) (unblocks c) u (after_receipt (row_of f t c).receipt u (after_write f (writes c) u (f.open_call u))) o e in
-    let b = before_receipt g lasts.held (row_of f t c).receipt u (after_write f (writes c) u (f.open_call u)) a.call a.is in
+    let a = before_unblock g lasts.unblocked (makes f t c) (unblocks c) u (after_receipt (receipt_of f t c) u (after_write f (writes c) u (f.open_call u))) o e in
+    let b = before_receipt g lasts.held (receipt_of f t c) u (after_write f (writes c) u (f.open_call u)) a.call a.is in
     let d = before_write g lasts.buffer f (writes c) u (f.open_call u) b.call b.is in
     record { call = d.call; is = d.is; same = d.same ∙ b.same ∙ a.same }
 

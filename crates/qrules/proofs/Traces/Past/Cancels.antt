@@ -7,13 +7,15 @@ use Rattle.std.proofs.Math.Bool.{and-false}
 use Rattle.qqueue.specs.Best.{is_pulse}
 use Rattle.qqueue.specs.declared.item.Item.{Item}
 use Rattle.qtables.specs.declared.member.Member.{Member}
-use Rattle.qrules.specs.Private.Answer.{Outcome}
-use Rattle.qrules.specs.Private.Calls.{row_of}
-use Rattle.qrules.specs.Private.Cancelling.{is_on}
-use Rattle.qrules.specs.Private.Facts.{Facts, threads_of, number_of, is_for_receipt, is_for_answer}
-use Rattle.qrules.specs.Private.Lawful.{facts_of, IsLawful, with_event}
-use Rattle.qrules.specs.Private.Past.{has_ending_of, is_ended, is_received, open_call, priority_of_item, copied_count_of, sender_of, filled, with_receipt}
-use Rattle.qrules.specs.Private.Step.{is_cancelled, uncut_items, is_unread_send}
+use Rattle.qrules.specs.Outcome.{Outcome}
+use Rattle.qrules.specs.Rules.{row_of}
+use Rattle.qrules.specs.Delivery.{is_on}
+use Rattle.qrules.proofs.Words.Facts.{Facts, threads_of, number_of, is_for_answer}
+use Rattle.qrules.specs.Records.{is_for_receipt}
+use Rattle.qrules.proofs.Words.Lawful.{facts_of, IsLawful, with_event}
+use Rattle.qrules.proofs.Words.Past.{has_ending_of, is_ended, is_received, open_call, priority_of_item, copied_count_of, sender_of, filled, with_receipt}
+use Rattle.qrules.proofs.Words.Step.{is_cancelled, uncut_items}
+use Rattle.qrules.specs.Records.{is_unread_send}
 use Rattle.qmodel.specs.Trace.{Trace}
 use Rattle.qmodel.specs.declared.call.Call.{Call}
 use Rattle.qmodel.specs.declared.call.Completion.{Completion}
@@ -61,11 +63,11 @@ unread_number h i (Some w) e = record { waiting = w; is = refl; number = eqb-tru
 
 -- what the call ends of others isn't such a Send
 abbrev pub EndsSettled : Facts → ℕ → Call → Type 0
-EndsSettled f t c = (u : ℕ) (y : Completion) → (row_of f t c).ends u ≡ Some y → IsSettled (f.open_call u)
+EndsSettled f t c = (u : ℕ) (y : Completion) → (row_of f t c).others u ≡ Some y → IsSettled (f.open_call u)
 
 none_is_cancelled : (f : Facts) (t : ℕ) (c : Call) → EndsSettled f t c → (h i : ℕ) → is_cancelled f t c h i ≡ false
 none_is_cancelled f t c settled h i = any_never _ (threads_of f.roster) (λ s.
-    elim ((row_of f t c).ends s) as (λ y. (row_of f t c).ends s ≡ y → (is_unread_send h i (f.open_call s) && is_some y) ≡ false) [
+    elim ((row_of f t c).others s) as (λ y. (row_of f t c).others s ≡ y → (is_unread_send h i (f.open_call s) && is_some y) ≡ false) [
       | None ↦ λ e. and-false _
       | Some y ↦ λ e. rw (not_unread h i (f.open_call s) (settled s y e)) refl
     ] refl)
@@ -121,11 +123,11 @@ ends_sent roster past t c X h item l a p message =
     let f = facts_of roster past in
     let s = sent_by roster past h item l p message in
     let other : eqb s.sender t ≡ false = ne_eqb s.sender t (λ same. none-some s.waiting (sym (passes_of f t c X a).idle ∙ ap (open_call roster past) (sym same) ∙ s.is_open)) in
-    let ended : has_ending_of X (number_of s.waiting) ≡ is_some ((row_of f t c).ends s.sender) = ends_other roster past t c X s.sender s.waiting l a other s.is_open in
+    let ended : has_ending_of X (number_of s.waiting) ≡ is_some ((row_of f t c).others s.sender) = ends_other roster past t c X s.sender s.waiting l a other s.is_open in
     let number : eqb (number_of s.waiting) item.number ≡ true = eq-eqb _ _ s.number in
-    let cancel : is_cancelled f t c h item.number ≡ is_some ((row_of f t c).ends s.sender) =
-    any_only (λ v. is_unread_send h item.number (f.open_call v) && is_some ((row_of f t c).ends v)) (threads_of roster) s.sender (known roster s.sender (open_known roster past s.sender s.waiting l s.is_open)) (λ v differs.
-    ap (λ b. b && is_some ((row_of f t c).ends v)) (unread_elsewhere roster past h item.number s.sender s.waiting v s.is_open s.number differs))
+    let cancel : is_cancelled f t c h item.number ≡ is_some ((row_of f t c).others s.sender) =
+    any_only (λ v. is_unread_send h item.number (f.open_call v) && is_some ((row_of f t c).others v)) (threads_of roster) s.sender (known roster s.sender (open_known roster past s.sender s.waiting l s.is_open)) (λ v differs.
+    ap (λ b. b && is_some ((row_of f t c).others v)) (unread_elsewhere roster past h item.number s.sender s.waiting v s.is_open s.number differs))
     ∙ rw (s.is_open, number, s.unread, s.on) refl in
     ap (has_ending_of X) (sym s.number) ∙ ended ∙ sym cancel
 
@@ -141,8 +143,8 @@ pulse_unread roster past h item v p pulse = false_from_ne_true _ (λ e.
 no_pulse_is_cancelled : (roster : List Member) (past : Trace) (t : ℕ) (c : Call) (h : ℕ) (item : Item) → IsPending roster past h item → is_pulse item.what ≡ true → is_cancelled (facts_of roster past) t c h item.number ≡ false
 no_pulse_is_cancelled roster past t c h item p pulse =
     let f = facts_of roster past in
-    any_never (λ v. is_unread_send h item.number (f.open_call v) && is_some ((row_of f t c).ends v)) (threads_of roster) (λ v.
-    ap (λ b. b && is_some ((row_of f t c).ends v)) (pulse_unread roster past h item v p pulse))
+    any_never (λ v. is_unread_send h item.number (f.open_call v) && is_some ((row_of f t c).others v)) (threads_of roster) (λ v.
+    ap (λ b. b && is_some ((row_of f t c).others v)) (pulse_unread roster past h item v p pulse))
 
 -- a pending item goes by an ending exactly where it is cancelled
 pub ended_is_cancelled : (roster : List Member) (past : Trace) (t : ℕ) (c : Call) (X : List Completion) (h : ℕ) (item : Item) → IsLawful roster past → Outcome true (facts_of roster past) t c X → IsPending roster past h item

@@ -6,16 +6,16 @@ use Rattle.std.proofs.lemmas.Option.{none-some}
 use Rattle.qbase.specs.declared.errno.Errno.TheVariants.{Inval}
 use Rattle.qtables.specs.Members.{member_at}
 use Rattle.qtables.specs.declared.member.Member.{Member}
-use Rattle.qrules.specs.Private.Answer.{Outcome}
-use Rattle.qrules.specs.Private.Calls.{row_of}
-use Rattle.qrules.specs.Private.Facts.{Facts, owns}
+use Rattle.qrules.specs.Outcome.{Outcome}
+use Rattle.qrules.specs.Rules.{row_of}
+use Rattle.qrules.proofs.Words.Facts.{Facts, owns}
 use Rattle.qmodel.specs.Trace.{OpenChannel, Event, Trace}
 use Rattle.qrules.proofs.Traces.Parts.{is_owned_by}
-use Rattle.qrules.specs.Private.Lawful.{facts_of, IsLawful, with_event}
-use Rattle.qrules.specs.Private.Effects.{closes, creates}
-use Rattle.qrules.specs.Private.Past.{channel_at, is_destroyed, open_channels, refuses}
-use Rattle.qrules.specs.Private.Rows.{names}
-use Rattle.qrules.specs.Private.Step.{channel_after, one_for}
+use Rattle.qrules.proofs.Words.Lawful.{facts_of, IsLawful, with_event}
+use Rattle.qrules.proofs.Words.Effects.{closes, creates}
+use Rattle.qrules.proofs.Words.Past.{channel_at, is_destroyed, open_channels, refuses}
+use Rattle.qrules.proofs.Words.Items.{names}
+use Rattle.qrules.proofs.Words.Step.{channel_after, one_for}
 use Rattle.qmodel.specs.declared.call.Call.{Call}
 use Rattle.qmodel.specs.declared.call.Call.TheVariants.{ChannelCreate, ChannelDestroy}
 use Rattle.qmodel.specs.declared.call.Completion.{Completion}

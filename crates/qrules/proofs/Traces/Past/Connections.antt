@@ -7,17 +7,17 @@ use Rattle.qbase.specs.declared.errno.Errno.TheVariants.{Inval}
 use Rattle.qtables.specs.Members.{member_at}
 use Rattle.qtables.specs.declared.connection.Connection.{Connection}
 use Rattle.qtables.specs.declared.member.Member.{Member}
-use Rattle.qrules.specs.Private.Answer.{Outcome}
-use Rattle.qrules.specs.Private.Calls.{row_of}
-use Rattle.qrules.specs.Private.Calls.ConnectDetach.{due_pulse}
+use Rattle.qrules.specs.Outcome.{Outcome}
+use Rattle.qrules.specs.Rules.{row_of}
+use Rattle.qrules.specs.Rules.Connections.{disconnect_pulse}
 use Rattle.qrules.proofs.Traces.Parts.{is_own}
-use Rattle.qrules.specs.Private.Facts.{Facts}
-use Rattle.qrules.specs.Private.Lawful.{facts_of, IsLawful, with_event}
-use Rattle.qrules.specs.Private.Effects.{attaches, detaches}
-use Rattle.qrules.specs.Private.Past.{attached_connection, connection_at, live_connections, refuses}
-use Rattle.qrules.specs.Private.Pulses.{refusal_if_full_for}
-use Rattle.qrules.specs.Private.Rows.{names}
-use Rattle.qrules.specs.Private.Step.{connection_after, one_for}
+use Rattle.qrules.proofs.Words.Facts.{Facts}
+use Rattle.qrules.proofs.Words.Lawful.{facts_of, IsLawful, with_event}
+use Rattle.qrules.proofs.Words.Effects.{attaches, detaches}
+use Rattle.qrules.proofs.Words.Past.{attached_connection, connection_at, live_connections, refuses}
+use Rattle.qrules.specs.Delivery.{refusal_if_full_for}
+use Rattle.qrules.proofs.Words.Items.{names}
+use Rattle.qrules.proofs.Words.Step.{connection_after, one_for}
 use Rattle.qmodel.specs.Trace.{Event, Trace}
 use Rattle.qmodel.specs.declared.call.Call.{Call}
 use Rattle.qmodel.specs.declared.call.Call.TheVariants.{ConnectAttach, ConnectDetach}
@@ -35,7 +35,7 @@ own_live f t (Some c) e = refl
 -- an accepted call detaches a connection that is live
 detaches_one : (f : Facts) (t : ℕ) (c : Call) (k : ℕ) → (row_of f t c).refusal ≡ None → names (detaches c) k ≡ true → is_some (f.connection k) ≡ true
 detaches_one f t (ConnectDetach coid) k r e =
-    elim (is_own f t (f.connection coid)) as (λ b. is_own f t (f.connection coid) ≡ b → cond b (refusal_if_full_for f (due_pulse f t coid)) (Some Inval) ≡ None → is_some (f.connection k) ≡ true) [
+    elim (is_own f t (f.connection coid)) as (λ b. is_own f t (f.connection coid) ≡ b → cond b (refusal_if_full_for f (disconnect_pulse f t coid)) (Some Inval) ≡ None → is_some (f.connection k) ≡ true) [
       | true ↦ λ own _. subst (λ j. is_some (f.connection j) ≡ true) (eqb-true coid k e) (own_live f t (f.connection coid) own)
       | false ↦ λ own s. absurd (none-some Inval (sym s))
     ] refl r

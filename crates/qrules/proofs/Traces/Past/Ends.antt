@@ -8,11 +8,11 @@ use Rattle.std.proofs.Math.Bool.{and-false}
 use Rattle.qbase.specs.declared.errno.Errno.TheVariants.{Down, Busy}
 use Rattle.qtables.specs.Members.{member_at}
 use Rattle.qtables.specs.declared.member.Member.{Member}
-use Rattle.qrules.specs.Private.Answer.{refusal, ending, Outcome, Answers}
-use Rattle.qrules.specs.Private.Calls.{row_of}
-use Rattle.qrules.specs.Private.Facts.{Facts, threads_of, number_of}
-use Rattle.qrules.specs.Private.Lawful.{facts_of, IsLawful}
-use Rattle.qrules.specs.Private.Past.{has_ending_of, refuses, is_ended, open_call, block}
+use Rattle.qrules.specs.Outcome.{refusal_of, ending, Outcome, Answers}
+use Rattle.qrules.specs.Rules.{row_of}
+use Rattle.qrules.proofs.Words.Facts.{Facts, threads_of, number_of}
+use Rattle.qrules.proofs.Words.Lawful.{facts_of, IsLawful}
+use Rattle.qrules.proofs.Words.Past.{has_ending_of, refuses, is_ended, open_call, block}
 use Rattle.qmodel.specs.Trace.{Trace}
 use Rattle.qmodel.specs.declared.call.Call.{Call}
 use Rattle.qmodel.specs.declared.call.Completion.{Completion}
@@ -26,7 +26,7 @@ use Rattle.qrules.proofs.Traces.Rosters.{known}
 
 -- ---- what an accepted call passed
 
-pub row_passes : (f : Facts) (t : ℕ) (c : Call) → refusal f t c ≡ None → Passes f t c
+pub row_passes : (f : Facts) (t : ℕ) (c : Call) → refusal_of f t c ≡ None → Passes f t c
 row_passes f t c e =
     elim (f.down) as (λ b. f.down ≡ b → cond b (Some Down) (cond (is_some (f.open_call t)) (Some Busy) (row_of f t c).refusal) ≡ None → Passes f t c) [
       | true ↦ λ down h. absurd (none-some Down (sym h))
@@ -52,12 +52,12 @@ pub record IsOwnOf (f : Facts) (t : ℕ) (c : Call) (v : ℕ) (y : Completion) :
 
 pub record IsOther (f : Facts) (t : ℕ) (c : Call) (v : ℕ) (y : Completion) : Type 0 where
   pub thread : eqb v t ≡ false
-  pub is : (row_of f t c).ends v ≡ Some y
+  pub is : (row_of f t c).others v ≡ Some y
   pub names : IsOfOpen f v y
 
 pub ending_names : (f : Facts) (t : ℕ) (c : Call) (v : ℕ) (y : Completion) → RowLaws f t c → ending f t c v ≡ Some y → IsOwnOf f t c v y ⊎ IsOther f t c v y
 ending_names f t c v y laws e =
-    elim (eqb v t) as (λ b. eqb v t ≡ b → cond b (row_of f t c).own ((row_of f t c).ends v) ≡ Some y → IsOwnOf f t c v y ⊎ IsOther f t c v y) [
+    elim (eqb v t) as (λ b. eqb v t ≡ b → cond b (row_of f t c).own ((row_of f t c).others v) ≡ Some y → IsOwnOf f t c v y ⊎ IsOther f t c v y) [
       | true ↦ λ h o. inl (record { thread = eqb-true v t h; is = o; names = laws.owns y o })
       | false ↦ λ h o. inr (record { thread = h; is = o; names = laws.ends_open v y o })
     ] refl e
@@ -97,7 +97,7 @@ names_below roster past t c X i a l = elim a [
 
 pub ended_below : (roster : List Member) (past : Trace) (i : ℕ) → IsLawful roster past → length past < i → is_ended past i ≡ false
 ended_below roster [] i l h = refl
-ended_below roster (e ∷ past) i l h = rw (names_below roster past e.thread e.call e.endings i l.2 (omega arith), ended_below roster past i l.0 (omega arith)) refl
+ended_below roster (e ∷ past) i l h = rw (names_below roster past e.thread e.call e.endings i l.1.1 (omega arith), ended_below roster past i l.0 (omega arith)) refl
 
 -- ---- threads of the roster
 
@@ -105,7 +105,7 @@ ended_below roster (e ∷ past) i l h = rw (names_below roster past e.thread e.c
 pub block_known : (roster : List Member) (past : Trace) (u : ℕ) (b : OpenCall) → IsLawful roster past → block roster past u ≡ Some b → is_some (member_at roster u) ≡ true
 block_known roster [] u b l is = absurd (none-some b is)
 block_known roster (e ∷ past) u b l is = elim (block_cases roster e past u b is) [
-  | inl h ↦ subst (λ v. is_some (member_at roster v) ≡ true) h.thread l.1
+  | inl h ↦ subst (λ v. is_some (member_at roster v) ≡ true) h.thread l.1.0
   | inr h ↦ block_known roster past u b l.0 h
 ]
 
@@ -116,18 +116,18 @@ open_known roster past u o l is = let k = open_parts roster past u o is in block
 
 -- of another thread's open call: just what its row says
 pub ends_other : (roster : List Member) (past : Trace) (t : ℕ) (c : Call) (X : List Completion) (u : ℕ) (o : OpenCall) → IsLawful roster past → Outcome true (facts_of roster past) t c X
-    → eqb u t ≡ false → open_call roster past u ≡ Some o → has_ending_of X (number_of o) ≡ is_some ((row_of (facts_of roster past) t c).ends u)
+    → eqb u t ≡ false → open_call roster past u ≡ Some o → has_ending_of X (number_of o) ≡ is_some ((row_of (facts_of roster past) t c).others u)
 ends_other roster past t c X u o l a other is =
     let f = facts_of roster past in
     let laws = laws_of (facts_of roster past) t c X a in
     rw (a.1) (
-    elim ((row_of f t c).ends u) as (λ z. (row_of f t c).ends u ≡ z → list_any (λ x. eqb x.call (number_of o)) (filter_map (ending f t c) (threads_of roster)) ≡ is_some z) [
+    elim ((row_of f t c).others u) as (λ z. (row_of f t c).others u ≡ z → list_any (λ x. eqb x.call (number_of o)) (filter_map (ending f t c) (threads_of roster)) ≡ is_some z) [
       | None ↦ λ e. any_filter_map _ (ending f t c) (threads_of roster) (λ v y ev.
           elim (ending_names f t c v y laws ev) [
             | inl h ↦ let below : (number_of o) ≤ length past = open_below roster past u o is in ne_eqb _ _ (λ s. omega (arith, h.names.call))
             | inr h ↦ ne_eqb _ _ (λ s.
                 let same : v ≡ u = open_thread roster past v u h.names.waiting o h.names.is is (sym h.names.call ∙ s) in
-                none-some y (sym e ∙ ap (λ w. (row_of f t c).ends w) (sym same) ∙ h.is))
+                none-some y (sym e ∙ ap (λ w. (row_of f t c).others w) (sym same) ∙ h.is))
           ])
       | Some y ↦ λ e.
           let n = laws.ends_open u y e in

@@ -3,10 +3,10 @@ use Rattle.std.proofs.Common.{◌≡◌, ℕ, ◌+◌, List, length, refl, arith
 use Rattle.std.specs.Prelude.{is_some}
 use Rattle.qtables.specs.Members.{member_at, IsRoster}
 use Rattle.qtables.specs.declared.member.Member.{Member}
-use Rattle.qrules.specs.Private.Answer.{Outcome}
-use Rattle.qrules.specs.Private.Lawful.{facts_of, IsLawful, with_event}
-use Rattle.qrules.specs.Private.Past.{refuses}
-use Rattle.qrules.specs.Private.Step.{Follows}
+use Rattle.qrules.specs.Outcome.{Outcome}
+use Rattle.qrules.proofs.Words.Lawful.{facts_of, IsLawful, with_event}
+use Rattle.qrules.proofs.Words.Past.{refuses}
+use Rattle.qrules.proofs.Words.Step.{Follows}
 use Rattle.qmodel.specs.Trace.{Event, Trace}
 use Rattle.qmodel.specs.declared.call.Call.{Call}
 use Rattle.qmodel.specs.declared.call.Completion.{Completion}

@@ -8,11 +8,11 @@ use Rattle.std.proofs.lemmas.Option.{same_Some, none-some}
 use Rattle.qqueue.specs.declared.item.Item.{Item}
 use Rattle.qqueue.specs.Best.{is_pulse}
 use Rattle.qtables.specs.declared.member.Member.{Member}
-use Rattle.qrules.specs.Private.Facts.{is_for_answer}
+use Rattle.qrules.proofs.Words.Facts.{is_for_answer}
 use Rattle.qrules.specs.Trace.{call_at}
-use Rattle.qrules.specs.Private.Lawful.{facts_of}
-use Rattle.qrules.specs.Private.Past.{items_by_now, is_accepted, item_of, items, item_among, priority_before, priority_of_made, priority_of_item, is_destroyed, is_gone, pending_items, current_priority, block}
-use Rattle.qrules.specs.Private.Effects.{asks, makes}
+use Rattle.qrules.proofs.Words.Lawful.{facts_of}
+use Rattle.qrules.proofs.Words.Past.{items_by_now, is_accepted, item_of, items, item_among, priority_before, priority_of_made, priority_of_item, is_destroyed, is_gone, pending_items, current_priority, block}
+use Rattle.qrules.proofs.Words.Effects.{asks, makes}
 use Rattle.qmodel.specs.Trace.{SentItem, Event, Trace}
 use Rattle.qmodel.specs.declared.call.Call.{Call}
 use Rattle.qmodel.specs.declared.open_call.OpenCall.{OpenCall}

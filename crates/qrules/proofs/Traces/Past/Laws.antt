@@ -5,13 +5,14 @@ use Rattle.qqueue.specs.Best.{best_of, is_pulse}
 use Rattle.qqueue.specs.declared.item.Item.{Item}
 use Rattle.qqueue.specs.declared.item.Kind.{Kind}
 use Rattle.qqueue.specs.declared.item.What.TheVariants as what
-use Rattle.qrules.specs.Private.Answer.{ending}
-use Rattle.qrules.specs.Private.Calls.{row_of}
-use Rattle.qrules.specs.Private.Facts.{Facts, sender, number_of, is_for_answer}
-use Rattle.qrules.specs.Private.Past.{is_failure, is_unblock_for}
-use Rattle.qrules.specs.Private.Receiving.{sender_for}
-use Rattle.qrules.specs.Private.Effects.{asks, makes, unblocks, writes}
-use Rattle.qrules.specs.Private.Rows.{Row, Received, item_in}
+use Rattle.qrules.specs.Outcome.{ending}
+use Rattle.qrules.proofs.Words.Items.{receipt_of}
+use Rattle.qrules.specs.Rules.{row_of}
+use Rattle.qrules.proofs.Words.Facts.{Facts, sender, number_of, is_for_answer}
+use Rattle.qrules.proofs.Words.Past.{is_failure, is_unblock_for}
+use Rattle.qrules.proofs.Words.Items.{sender_for}
+use Rattle.qrules.proofs.Words.Effects.{asks, makes, unblocks, writes}
+use Rattle.qrules.proofs.Words.Items.{Received, item_in}
 use Rattle.qmodel.specs.Trace.{SentItem}
 use Rattle.qmodel.specs.declared.call.Call.{Call}
 use Rattle.qmodel.specs.declared.call.Call.TheVariants.{ChannelDestroy, Shutdown, Unblock, ConnectDetach}
@@ -21,7 +22,7 @@ use Rattle.qmodel.specs.declared.open_call.OpenCall.TheVariants.{Receive, Send}
 use Rattle.qrules.specs.Rule.{Transfer}
 use Rattle.qrules.specs.Past.{ReceivedItem}
 use Rattle.qmodel.specs.OpenCalls.{thread_of}
-use Rattle.qrules.specs.Private.Cancelling.{is_on}
+use Rattle.qrules.specs.Delivery.{is_on}
 use Rattle.qmodel.specs.declared.open_call.OpenSend.{OpenSend}
 
 -- ---- a call by itself
@@ -91,10 +92,10 @@ pub record IsOfOpen (f : Facts) (u : ℕ) (y : Completion) : Type 0 where
 abbrev pub IsSettled : Option OpenCall → Type 0
 IsSettled o = (w : OpenCall) → o ≡ Some w → is_settled w ≡ true
 
--- thread u receives this, by what the row says
-pub record IsReceipt (row : Row) (u : ℕ) (p : ReceivedItem) : Type 0 where
+-- thread u receives this, by what the call causes
+pub record IsReceipt (caused : Option Received) (u : ℕ) (p : ReceivedItem) : Type 0 where
   pub receipt : Received
-  pub is : row.receipt ≡ Some receipt
+  pub is : caused ≡ Some receipt
   pub by : receipt.by ≡ u
   pub item : p.number ≡ receipt.item
   pub copied : p.copied ≡ receipt.kept.copied
@@ -123,11 +124,11 @@ pub record IsReceived (f : Facts) (t : ℕ) (c : Call) (r : Received) : Type 0 w
 
 pub record RowLaws (f : Facts) (t : ℕ) (c : Call) : Type 0 where
   pub owns : (y : Completion) → (row_of f t c).own ≡ Some y → IsOwn f.number t y
-  pub ends_open : (u : ℕ) (y : Completion) → (row_of f t c).ends u ≡ Some y → IsOfOpen f u y
-  pub ends_settled : is_forceful c ≡ false → (u : ℕ) (y : Completion) → (row_of f t c).ends u ≡ Some y → IsSettled (f.open_call u)
-  pub own_receives : (y : Completion) (p : ReceivedItem) → (row_of f t c).own ≡ Some y → item_in y.mark ≡ Some p → IsReceipt (row_of f t c) t p
-  pub ends_receives : (u : ℕ) (y : Completion) (p : ReceivedItem) → (row_of f t c).ends u ≡ Some y → item_in y.mark ≡ Some p → IsReceipt (row_of f t c) u p
-  pub receives : (r : Received) → (row_of f t c).receipt ≡ Some r → IsReceived f t c r
+  pub ends_open : (u : ℕ) (y : Completion) → (row_of f t c).others u ≡ Some y → IsOfOpen f u y
+  pub ends_settled : is_forceful c ≡ false → (u : ℕ) (y : Completion) → (row_of f t c).others u ≡ Some y → IsSettled (f.open_call u)
+  pub own_receives : (y : Completion) (p : ReceivedItem) → (row_of f t c).own ≡ Some y → item_in y.mark ≡ Some p → IsReceipt (receipt_of f t c) t p
+  pub ends_receives : (u : ℕ) (y : Completion) (p : ReceivedItem) → (row_of f t c).others u ≡ Some y → item_in y.mark ≡ Some p → IsReceipt (receipt_of f t c) u p
+  pub receives : (r : Received) → (receipt_of f t c) ≡ Some r → IsReceived f t c r
   pub sends : (m : SentItem) → makes f t c ≡ Some m → is_pulse m.item.what ≡ false → (row_of f t c).own ≡ None
   pub makes_open : (m : SentItem) → makes f t c ≡ Some m → is_some (f.channel m.channel) ≡ true
   pub writes_sent : (w : Transfer) → writes c ≡ Some w → (s : ℕ) × (sender f w.rcvid ≡ Some s)

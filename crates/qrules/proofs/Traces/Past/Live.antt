@@ -5,12 +5,12 @@ use Rattle.std.proofs.lemmas.Bool.{eqb-true, eqb-false, ne_eqb, or_cases, true�
 use Rattle.std.proofs.lemmas.Option.{none-some}
 use Rattle.qtables.specs.Members.{member_at}
 use Rattle.qtables.specs.declared.member.Member.{Member}
-use Rattle.qrules.specs.Private.Answer.{Outcome}
-use Rattle.qrules.specs.Private.Facts.{count_to}
-use Rattle.qrules.specs.Private.Lawful.{facts_of, IsLawful, with_event}
-use Rattle.qrules.specs.Private.Past.{is_accepted, accepted_at, refuses, was_done}
-use Rattle.qrules.specs.Private.Rows.{names}
-use Rattle.qrules.specs.Private.Step.{put_at, one_for}
+use Rattle.qrules.specs.Outcome.{Outcome}
+use Rattle.qrules.proofs.Words.Facts.{count_to}
+use Rattle.qrules.proofs.Words.Lawful.{facts_of, IsLawful, with_event}
+use Rattle.qrules.proofs.Words.Past.{is_accepted, accepted_at, refuses, was_done}
+use Rattle.qrules.proofs.Words.Items.{names}
+use Rattle.qrules.proofs.Words.Step.{put_at, one_for}
 use Rattle.qmodel.specs.Trace.{Event, Trace}
 use Rattle.qmodel.specs.declared.call.Call.{Call}
 use Rattle.qmodel.specs.declared.call.Completion.{Completion}
@@ -148,7 +148,7 @@ module _ {A : Type 0} (roster : List Member) (make : Option Member → Call → 
     -- what is ended has the number of an event
     pub gone_below : (past : Trace) (i : ℕ) → IsLawful roster past → is_gone past i ≡ true → i ≤ length past
     gone_below [] i l e = absurd (true≢false (sym e))
-    gone_below (e ∷ past) i l is = elim (l.2) [
+    gone_below (e ∷ past) i l is = elim (l.1.1) [
       | inl a ↦
           elim (or_cases (names (ends (effect_of e.call)) i) (is_gone past i) (sym (gone_accepted e past i (accepted roster past e.thread e.call e.endings a)) ∙ is)) [
             | inl now ↦

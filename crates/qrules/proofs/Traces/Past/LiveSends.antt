@@ -5,14 +5,15 @@ use Rattle.std.proofs.lemmas.Bool.{eqb-true, eq-eqb, true≢false}
 use Rattle.std.proofs.lemmas.Option.{none-some, same_Some}
 use Rattle.qtables.specs.Members.{member_at}
 use Rattle.qtables.specs.declared.member.Member.{Member}
-use Rattle.qrules.specs.Private.Calls.{row_of}
-use Rattle.qrules.specs.Private.Cancelling.{is_over}
-use Rattle.qrules.specs.Private.Facts.{Facts, is_for_answer}
-use Rattle.qrules.specs.Private.Effects.{asks, attaches, detaches, makes, unblocks, writes}
-use Rattle.qrules.specs.Private.Lawful.{facts_of, IsLawful}
-use Rattle.qrules.specs.Private.Past.{attached_connection, connection_at, open_call}
-use Rattle.qrules.specs.Private.Rows.{names}
-use Rattle.qrules.specs.Private.Step.{after_receipt, after_unblock, after_write, connection_after, open_call_after, put_at, unless, unblocked_call}
+use Rattle.qrules.specs.Rules.{row_of}
+use Rattle.qrules.specs.Delivery.{is_over}
+use Rattle.qrules.proofs.Words.Facts.{Facts, is_for_answer}
+use Rattle.qrules.proofs.Words.Effects.{asks, attaches, detaches, makes, unblocks, writes}
+use Rattle.qrules.proofs.Words.Lawful.{facts_of, IsLawful}
+use Rattle.qrules.proofs.Words.Past.{attached_connection, connection_at, open_call}
+use Rattle.qrules.proofs.Words.Items.{receipt_of, names}
+use Rattle.qrules.proofs.Words.Step.{after_receipt, after_unblock, after_write, connection_after, open_call_after, put_at, unless}
+use Rattle.qrules.specs.Records.{unblocked_call}
 use Rattle.qmodel.specs.Trace.{Trace}
 use Rattle.qmodel.specs.declared.call.Call.{Call}
 use Rattle.qmodel.specs.declared.call.Call.TheVariants.{ConnectDetach}
@@ -40,7 +41,7 @@ is_over_it k (Send s) e same = same
 is_over_it k (Receive r) e same = absurd (true≢false (sym e))
 
 -- it ends each Send over that connection
-detaching_ends : (f : Facts) (t : ℕ) (c : Call) (u : ℕ) (o : OpenCall) → f.open_call u ≡ Some o → is_for_answer o ≡ true → names (detaches c) (over o) ≡ true → is_some ((row_of f t c).ends u) ≡ true
+detaching_ends : (f : Facts) (t : ℕ) (c : Call) (u : ℕ) (o : OpenCall) → f.open_call u ≡ Some o → is_for_answer o ≡ true → names (detaches c) (over o) ≡ true → is_some ((row_of f t c).others u) ≡ true
 detaching_ends f t (ConnectDetach coid) u o is answer d =
     let over_it : is_over coid o ≡ true = is_over_it coid o answer (eq-eqb (over o) coid (sym (eqb-true coid (over o) d))) in
     rw (is, over_it) refl
@@ -78,17 +79,17 @@ live_after : (f : Facts) (t : ℕ) (c : Call) → Passes f t c → GoLive f → 
 live_after f t c p live u o is answer =
     let R = row_of f t c in
     let there = λ (k : ℕ) (some : is_some (f.connection k) ≡ true) (never : names (detaches c) k ≡ true → ⊥). stays_open (names (detaches c) k) (attaches (member_at f.roster t) c) f.number f.connection k some never in
-    elim (eqb u t) as (λ b. cond b (unless (is_some R.own) (after_receipt R.receipt u (asks f.number t (channel_of (makes f t c)) c))) (unless (is_some (R.ends u)) (after_unblock (makes f t c) (unblocks c) u (after_receipt R.receipt u (after_write f (writes c) u (f.open_call u))))) ≡ Some o
+    elim (eqb u t) as (λ b. cond b (unless (is_some R.own) (after_receipt (receipt_of f t c) u (asks f.number t (channel_of (makes f t c)) c))) (unless (is_some (R.others u)) (after_unblock (makes f t c) (unblocks c) u (after_receipt (receipt_of f t c) u (after_write f (writes c) u (f.open_call u))))) ≡ Some o
     → is_some (connection_after f t c (over o)) ≡ true) [
       | true ↦ λ e.
-          let x = unless_is (is_some R.own) (after_receipt R.receipt u (asks f.number t (channel_of (makes f t c)) c)) o e in
-          let b = before_receipt over held_over R.receipt u (asks f.number t (channel_of (makes f t c)) c) o x.1 in
-          let a = before_receipt is_for_answer held_for_answer R.receipt u (asks f.number t (channel_of (makes f t c)) c) o x.1 in
+          let x = unless_is (is_some R.own) (after_receipt (receipt_of f t c) u (asks f.number t (channel_of (makes f t c)) c)) o e in
+          let b = before_receipt over held_over (receipt_of f t c) u (asks f.number t (channel_of (makes f t c)) c) o x.1 in
+          let a = before_receipt is_for_answer held_for_answer (receipt_of f t c) u (asks f.number t (channel_of (makes f t c)) c) o x.1 in
           let began : is_for_answer b.call ≡ true = ap (λ (w : OpenCall). is_for_answer w) (same_Some b.call a.call (sym b.is ∙ a.is)) ∙ a.same ∙ answer in
           let s = sends_over f t (channel_of (makes f t c)) c b.call p b.is began in
           ap (λ k. is_some (connection_after f t c k)) (sym b.same) ∙ there (over b.call) (ap is_some s.is_connection) (λ d. detaches_only f.number t (channel_of (makes f t c)) c b.call (over b.call) d b.is)
       | false ↦ λ e.
-          let x = unless_is (is_some (R.ends u)) (after_unblock (makes f t c) (unblocks c) u (after_receipt R.receipt u (after_write f (writes c) u (f.open_call u)))) o e in
+          let x = unless_is (is_some (R.others u)) (after_unblock (makes f t c) (unblocks c) u (after_receipt (receipt_of f t c) u (after_write f (writes c) u (f.open_call u)))) o e in
           let d = before_other over lasts_over f t c u o x.1 in
           let a = before_other is_for_answer lasts_answer f t c u o x.1 in
           let waited : is_for_answer d.call ≡ true = ap (λ (w : OpenCall). is_for_answer w) (same_Some d.call a.call (sym d.is ∙ a.is)) ∙ a.same ∙ answer in
@@ -97,10 +98,10 @@ live_after f t c p live u o is answer =
 
 pub live_over : (roster : List Member) (past : Trace) → IsLawful roster past → GoLive (facts_of roster past)
 live_over roster [] l u o is answer = absurd (none-some o is)
-live_over roster (e ∷ past) l u o is answer = elim (l.2) [
+live_over roster (e ∷ past) l u o is answer = elim (l.1.1) [
   | inl a ↦
       ap is_some (connection_accepted roster past e.thread e.call e.endings (over o) l.0 a)
-      ∙ live_after (facts_of roster past) e.thread e.call (passes_of (facts_of roster past) e.thread e.call e.endings a) (live_over roster past l.0) u o (sym (open_accepted roster past e.thread e.call e.endings u l.0 l.1 a) ∙ is) answer
+      ∙ live_after (facts_of roster past) e.thread e.call (passes_of (facts_of roster past) e.thread e.call e.endings a) (live_over roster past l.0) u o (sym (open_accepted roster past e.thread e.call e.endings u l.0 l.1.0 a) ∙ is) answer
   | inr a ↦
       ap is_some (connection_refused roster e past (over o) (refused roster past e.thread e.call e.endings a))
       ∙ live_over roster past l.0 u o (sym (open_refused roster past e.thread e.call e.endings u a) ∙ is) answer

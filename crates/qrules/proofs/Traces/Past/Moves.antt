@@ -7,13 +7,14 @@ use Rattle.std.proofs.lemmas.List.{map-append}
 use Rattle.qqueue.specs.Best.{is_pulse, with_priority, without_item}
 use Rattle.qqueue.specs.declared.item.Item.{Item}
 use Rattle.qtables.specs.declared.member.Member.{Member}
-use Rattle.qrules.specs.Private.Answer.{Outcome}
-use Rattle.qrules.specs.Private.Facts.{Facts, number_of}
-use Rattle.qrules.specs.Private.Effects.{makes, sets}
-use Rattle.qrules.specs.Private.Lawful.{IsLawful, facts_of, with_event}
-use Rattle.qrules.specs.Private.Past.{is_gone, is_received, made_on, priority_set_by, current_priority}
-use Rattle.qrules.specs.Private.Rows.{Received}
-use Rattle.qrules.specs.Private.Step.{is_cancelled, uncut_items, items_with_priority_set, unreceived_items, is_unread_send}
+use Rattle.qrules.specs.Outcome.{Outcome}
+use Rattle.qrules.proofs.Words.Facts.{Facts, number_of}
+use Rattle.qrules.proofs.Words.Effects.{makes, sets}
+use Rattle.qrules.proofs.Words.Lawful.{IsLawful, facts_of, with_event}
+use Rattle.qrules.proofs.Words.Past.{is_gone, is_received, made_on, priority_set_by, current_priority}
+use Rattle.qrules.proofs.Words.Items.{Received}
+use Rattle.qrules.proofs.Words.Step.{is_cancelled, uncut_items, items_with_priority_set, unreceived_items}
+use Rattle.qrules.specs.Records.{is_unread_send}
 use Rattle.qmodel.specs.Trace.{Event, Trace}
 use Rattle.qmodel.specs.declared.call.Call.{Call}
 use Rattle.qmodel.specs.declared.call.Completion.{Completion}

@@ -4,10 +4,10 @@ use Rattle.std.specs.Prelude.{Option, None, Some, is_some, not, ◌&&◌}
 use Rattle.std.proofs.lemmas.Bool.{eqb-true, ne_eqb, and_parts}
 use Rattle.std.proofs.lemmas.Option.{none-some}
 use Rattle.qtables.specs.declared.member.Member.{Member}
-use Rattle.qrules.specs.Private.Past.{is_accepted, accepted_at, block, item_of}
-use Rattle.qrules.specs.Private.Facts.{is_for_answer}
+use Rattle.qrules.proofs.Words.Past.{is_accepted, accepted_at, block, item_of}
+use Rattle.qrules.proofs.Words.Facts.{is_for_answer}
 use Rattle.qrules.specs.Trace.{call_at}
-use Rattle.qrules.specs.Private.Effects.{asks}
+use Rattle.qrules.proofs.Words.Effects.{asks}
 use Rattle.qmodel.specs.Trace.{Event, Trace}
 use Rattle.qmodel.specs.declared.call.Call.{Call}
 use Rattle.qmodel.specs.declared.open_call.OpenCall.{OpenCall}

@@ -9,16 +9,18 @@ use Rattle.qqueue.specs.Best.{is_pulse}
 use Rattle.qqueue.specs.declared.item.Item.{Item}
 use Rattle.qtables.specs.Members.{member_at}
 use Rattle.qtables.specs.declared.member.Member.{Member}
-use Rattle.qrules.specs.Private.Answer.{Outcome}
-use Rattle.qrules.specs.Private.Calls.{row_of}
-use Rattle.qrules.specs.Private.Facts.{Facts, sender, threads_of, number_of}
-use Rattle.qrules.specs.Private.Lawful.{facts_of, IsLawful, with_event}
-use Rattle.qrules.specs.Private.Past.{refuses, has_ending_of, is_ended, is_received, item_of, copied_count_of, priority_of_item, unless_ended, open_call, unblocked_among, block, with_receipt, filled}
-use Rattle.qrules.specs.Private.Receiving.{sender_for}
-use Rattle.qrules.specs.Private.Effects.{asks, makes, unblocks, writes}
-use Rattle.qrules.specs.Private.Rows.{Received, buffer_after_write}
+use Rattle.qrules.specs.Outcome.{Outcome}
+use Rattle.qrules.proofs.Words.Items.{receipt_of}
+use Rattle.qrules.specs.Rules.{row_of}
+use Rattle.qrules.proofs.Words.Facts.{Facts, sender, threads_of, number_of}
+use Rattle.qrules.proofs.Words.Lawful.{facts_of, IsLawful, with_event}
+use Rattle.qrules.proofs.Words.Past.{refuses, has_ending_of, is_ended, is_received, item_of, copied_count_of, priority_of_item, unless_ended, open_call, unblocked_among, block, with_receipt, filled}
+use Rattle.qrules.proofs.Words.Items.{sender_for}
+use Rattle.qrules.proofs.Words.Effects.{asks, makes, unblocks, writes}
+use Rattle.qrules.proofs.Words.Items.{Received, buffer_after_write}
 use Rattle.qmodel.specs.Trace.{SentItem, Event, Trace}
-use Rattle.qrules.specs.Private.Step.{held_call, is_thread, after_receipt, after_unblock, after_write, unblocked_call, unless, written_call, open_call_after}
+use Rattle.qrules.proofs.Words.Step.{after_receipt, after_unblock, after_write, unless, open_call_after}
+use Rattle.qrules.specs.Records.{held_call, is_thread, unblocked_call, written_call}
 use Rattle.qmodel.specs.declared.call.Call.{Call}
 use Rattle.qmodel.specs.declared.call.Completion.{Completion}
 use Rattle.qmodel.specs.declared.open_call.OpenCall.{OpenCall}
@@ -214,11 +216,11 @@ unblock_none m (Some v) u = elim (eqb u v && is_some m) as (λ b. cond b (option
 
 -- what another thread waits for, unless its call ends
 abbrev other_after : Facts → ℕ → Call → ℕ → Option OpenCall → Option OpenCall
-other_after f t c u o = after_unblock (makes f t c) (unblocks c) u (after_receipt (row_of f t c).receipt u (after_write f (writes c) u o))
+other_after f t c u o = after_unblock (makes f t c) (unblocks c) u (after_receipt (receipt_of f t c) u (after_write f (writes c) u o))
 
 other_none : (f : Facts) (t : ℕ) (c : Call) (u : ℕ) → other_after f t c u None ≡ None
 other_none f t c u =
-    ap (λ o. after_unblock (makes f t c) (unblocks c) u (after_receipt (row_of f t c).receipt u o)) (write_none f (writes c) u) ∙ ap (after_unblock (makes f t c) (unblocks c) u) (after_none (row_of f t c).receipt u)
+    ap (λ o. after_unblock (makes f t c) (unblocks c) u (after_receipt (receipt_of f t c) u o)) (write_none f (writes c) u) ∙ ap (after_unblock (makes f t c) (unblocks c) u) (after_none (receipt_of f t c) u)
     ∙ unblock_none (makes f t c) (unblocks c) u
 
 some_later : (x y : Option ℕ) → is_some y ≡ true → is_some (option_or x y) ≡ true
@@ -231,16 +233,16 @@ receipt_priority p q unblocked None b same = refl
 receipt_priority p q unblocked (Some copied) b same = ap (λ i. with_receipt i unblocked (Some copied) b) (same copied refl)
 
 -- a message that is received by now was so before, or the call receives it
-received_before : (roster : List Member) (past : Trace) (t : ℕ) (c : Call) (i copied : ℕ) → option_or (copied_by (row_of (facts_of roster past) t c).receipt i) (copied_count_of past i) ≡ Some copied
-    → (is_received past i ≡ true) ⊎ (is_some (row_of (facts_of roster past) t c).receipt ≡ true)
+received_before : (roster : List Member) (past : Trace) (t : ℕ) (c : Call) (i copied : ℕ) → option_or (copied_by (receipt_of (facts_of roster past) t c) i) (copied_count_of past i) ≡ Some copied
+    → (is_received past i ≡ true) ⊎ (is_some (receipt_of (facts_of roster past) t c) ≡ true)
 received_before roster past t c i copied is =
-    elim ((row_of (facts_of roster past) t c).receipt) as (λ o. option_or (copied_by o i) (copied_count_of past i) ≡ Some copied → (is_received past i ≡ true) ⊎ (is_some o ≡ true)) [
+    elim ((receipt_of (facts_of roster past) t c)) as (λ o. option_or (copied_by o i) (copied_count_of past i) ≡ Some copied → (is_received past i ≡ true) ⊎ (is_some o ≡ true)) [
       | None ↦ λ s. inl (ap is_some s)
       | Some r ↦ λ s. inr refl
     ] is
 
 -- then no priority that is set is the message's
-held_priority : (roster : List Member) (past : Trace) (t : ℕ) (c : Call) (X : List Completion) (i : ℕ) → i ≤ length past → (is_received past i ≡ true) ⊎ (is_some (row_of (facts_of roster past) t c).receipt ≡ true)
+held_priority : (roster : List Member) (past : Trace) (t : ℕ) (c : Call) (X : List Completion) (i : ℕ) → i ≤ length past → (is_received past i ≡ true) ⊎ (is_some (receipt_of (facts_of roster past) t c) ≡ true)
     → priority_of_item roster (with_event t c X past) i ≡ priority_of_item roster past i
 held_priority roster past t c X i below received = priority_earlier roster (record { thread = t; call = c; endings = X }) past i below (elim received [
   | inl taken ↦ taken_sets_none (record { thread = t; call = c; endings = X }) past i taken
@@ -253,23 +255,23 @@ held_priority roster past t c X i below received = priority_earlier roster (reco
 -- of another thread
 open_other : (roster : List Member) (past : Trace) (t : ℕ) (c : Call) (X : List Completion) (u : ℕ) → IsLawful roster past → is_some (member_at roster t) ≡ true → Outcome true (facts_of roster past) t c X → eqb u t ≡ false
     → option_map (kept roster (with_event t c X past)) (unless_ended (with_event t c X past) (block roster past u))
-    ≡ unless (is_some ((row_of (facts_of roster past) t c).ends u)) (other_after (facts_of roster past) t c u (open_call roster past u))
+    ≡ unless (is_some ((row_of (facts_of roster past) t c).others u)) (other_after (facts_of roster past) t c u (open_call roster past u))
 open_other roster past t c X u l member a other =
     let R = row_of (facts_of roster past) t c in
     let M = makes (facts_of roster past) t c in
-    let nothing : unless (is_some (R.ends u)) (other_after (facts_of roster past) t c u None) ≡ None = ap (unless (is_some (R.ends u))) (other_none (facts_of roster past) t c u) ∙ unless_none (is_some (R.ends u)) in
+    let nothing : unless (is_some (R.others u)) (other_after (facts_of roster past) t c u None) ≡ None = ap (unless (is_some (R.others u))) (other_none (facts_of roster past) t c u) ∙ unless_none (is_some (R.others u)) in
     (elim (block roster past u) as (λ o. block roster past u ≡ o → option_map (kept roster (with_event t c X past)) (unless_ended (with_event t c X past) o)
-    ≡ unless (is_some (R.ends u)) (other_after (facts_of roster past) t c u (option_map (kept roster past) (unless_ended past o)))) [
+    ≡ unless (is_some (R.others u)) (other_after (facts_of roster past) t c u (option_map (kept roster past) (unless_ended past o)))) [
       | None ↦ λ e. sym nothing
       | Some b ↦ λ e.
           elim (is_ended past (number_of b)) as (λ d. is_ended past (number_of b) ≡ d → option_map (kept roster (with_event t c X past)) (cond (has_ending_of X (number_of b) || d) None (Some b))
-          ≡ unless (is_some (R.ends u)) (other_after (facts_of roster past) t c u (option_map (kept roster past) (cond d None (Some b))))) [
+          ≡ unless (is_some (R.others u)) (other_after (facts_of roster past) t c u (option_map (kept roster past) (cond d None (Some b))))) [
             | true ↦ λ gone. rw (or-true (has_ending_of X (number_of b))) (sym nothing)
             | false ↦ λ going.
                 let below : (number_of b) ≤ length past = block_below roster past u b e in
-                let ended : has_ending_of X (number_of b) ≡ is_some (R.ends u) =
+                let ended : has_ending_of X (number_of b) ≡ is_some (R.others u) =
                 ap (has_ending_of X) (sym (kept_number roster past b)) ∙ ends_other roster past t c X u (kept roster past b) l a other (open_from roster past u b e going) in
-                let receipt : copied_count_of (with_event t c X past) (number_of b) ≡ option_or (copied_by R.receipt (number_of b)) (copied_count_of past (number_of b)) = rw (accepted_receipts roster past t c X (number_of b) l member a) refl in
+                let receipt : copied_count_of (with_event t c X past) (number_of b) ≡ option_or (copied_by (receipt_of (facts_of roster past) t c) (number_of b)) (copied_count_of past (number_of b)) = rw (accepted_receipts roster past t c X (number_of b) l member a) refl in
                 let waits = open_from roster past u b e going in
                 let old : Bool = is_unblocked roster past (number_of b) in
                 let new : Bool = unblocked_among (option_to_list M) (number_of b) in
@@ -280,17 +282,17 @@ open_other roster past t c X u l member a other =
                 (λ copied some. held_priority roster past t c X (number_of b) below (received_before roster past t c (number_of b) copied (sym receipt ∙ some))))
                 ∙ ap (λ x. Some (with_receipt (priority_of_item roster past (number_of b)) x (copied_count_of (with_event t c X past) (number_of b)) (filled (with_event t c X past) b))) unblocked
                 ∙ ap (λ r. Some (with_receipt (priority_of_item roster past (number_of b)) (old || new) r (filled (with_event t c X past) b))) receipt
-                ∙ ap (λ w. Some (with_receipt (priority_of_item roster past (number_of b)) (old || new) (option_or (copied_by R.receipt (number_of b)) (copied_count_of past (number_of b))) w)) (filled_accepted (record { thread = t; call = c; endings = X }) past b (accepted roster past t c X a))
-                ∙ unblocked_after M (unblocks c) u old new (priority_of_item roster past (number_of b)) (option_or (copied_by R.receipt (number_of b)) (copied_count_of past (number_of b))) (changed (buffer_after_write (writes c) (number_of b)) (filled past b)) marked
-                (λ is. some_later (copied_by R.receipt (number_of b)) (copied_count_of past (number_of b)) (unblocked_now roster past t c (number_of b) is).taken)
-                ∙ ap (after_unblock M (unblocks c) u) (kept_after R.receipt u (number_of b) (priority_of_item roster past (number_of b)) old (copied_count_of past (number_of b)) (changed (buffer_after_write (writes c) (number_of b)) (filled past b))
+                ∙ ap (λ w. Some (with_receipt (priority_of_item roster past (number_of b)) (old || new) (option_or (copied_by (receipt_of (facts_of roster past) t c) (number_of b)) (copied_count_of past (number_of b))) w)) (filled_accepted (record { thread = t; call = c; endings = X }) past b (accepted roster past t c X a))
+                ∙ unblocked_after M (unblocks c) u old new (priority_of_item roster past (number_of b)) (option_or (copied_by (receipt_of (facts_of roster past) t c) (number_of b)) (copied_count_of past (number_of b))) (changed (buffer_after_write (writes c) (number_of b)) (filled past b)) marked
+                (λ is. some_later (copied_by (receipt_of (facts_of roster past) t c) (number_of b)) (copied_count_of past (number_of b)) (unblocked_now roster past t c (number_of b) is).taken)
+                ∙ ap (after_unblock M (unblocks c) u) (kept_after (receipt_of (facts_of roster past) t c) u (number_of b) (priority_of_item roster past (number_of b)) old (copied_count_of past (number_of b)) (changed (buffer_after_write (writes c) (number_of b)) (filled past b))
                 (λ r is. other_holds roster past t c u b r l other e going ((laws_of (facts_of roster past) t c X a).receives r is))
-                ∙ ap (after_receipt R.receipt u) (receipt_written (facts_of roster past) (writes c) u (number_of b) (priority_of_item roster past (number_of b)) old (copied_count_of past (number_of b)) (filled past b) (kept_number roster past b)
+                ∙ ap (after_receipt (receipt_of (facts_of roster past) t c) u) (receipt_written (facts_of roster past) (writes c) u (number_of b) (priority_of_item roster past (number_of b)) old (copied_count_of past (number_of b)) (filled past b) (kept_number roster past b)
                 (λ x is. written_sender roster past t c X u (kept roster past b) x a waits is ∙ ap (eqb x.rcvid) (kept_number roster past b)))) in
                 rw (or-false (has_ending_of X (number_of b)), ended) (
-                elim (is_some (R.ends u)) as (λ d. option_map (kept roster (with_event t c X past)) (cond d None (Some b)) ≡ unless d (other_after (facts_of roster past) t c u (Some (kept roster past b)))) [ true ↦ refl | false ↦ now ])
+                elim (is_some (R.others u)) as (λ d. option_map (kept roster (with_event t c X past)) (cond d None (Some b)) ≡ unless d (other_after (facts_of roster past) t c u (Some (kept roster past b)))) [ true ↦ refl | false ↦ now ])
           ] refl
-    ] refl) ∙ ap (λ o. unless (is_some ((row_of (facts_of roster past) t c).ends u)) (other_after (facts_of roster past) t c u o)) (sym (open_is roster past u))
+    ] refl) ∙ ap (λ o. unless (is_some ((row_of (facts_of roster past) t c).others u)) (other_after (facts_of roster past) t c u o)) (sym (open_is roster past u))
 
 -- a call that has ended stays ended
 still : (roster : List Member) (e : Event) (past : Trace) (o : Option OpenCall) → option_map (kept roster past) (unless_ended past o) ≡ None → option_map (kept roster (e ∷ past)) (unless_ended (e ∷ past) o) ≡ None
@@ -304,34 +306,34 @@ still roster e past (Some b) h =
 -- of the caller: it waits for what it asks
 caller_after : (roster : List Member) (past : Trace) (t : ℕ) (c : Call) (X : List Completion) → IsLawful roster past → is_some (member_at roster t) ≡ true → Outcome true (facts_of roster past) t c X
     → option_map (kept roster (with_event t c X past)) (unless_ended (with_event t c X past) (cond (is_some (asked_by roster past t c)) (asked_by roster past t c) (block roster past t)))
-    ≡ unless (is_some (row_of (facts_of roster past) t c).own) (after_receipt (row_of (facts_of roster past) t c).receipt t (asked_by roster past t c))
+    ≡ unless (is_some (row_of (facts_of roster past) t c).own) (after_receipt (receipt_of (facts_of roster past) t c) t (asked_by roster past t c))
 caller_after roster past t c X l member a =
     let R = row_of (facts_of roster past) t c in
     let n = length past + 1 in
     elim (asked_by roster past t c) as (λ z. asked_by roster past t c ≡ z
-    → option_map (kept roster (with_event t c X past)) (unless_ended (with_event t c X past) (cond (is_some z) z (block roster past t))) ≡ unless (is_some R.own) (after_receipt R.receipt t z)) [
+    → option_map (kept roster (with_event t c X past)) (unless_ended (with_event t c X past) (cond (is_some z) z (block roster past t))) ≡ unless (is_some R.own) (after_receipt (receipt_of (facts_of roster past) t c) t z)) [
       | None ↦ λ e. still roster (record { thread = t; call = c; endings = X }) past (block roster past t) (sym (open_is roster past t) ∙ (passes_of (facts_of roster past) t c X a).idle)
-          ∙ sym (ap (unless (is_some R.own)) (after_none R.receipt t) ∙ unless_none (is_some R.own))
+          ∙ sym (ap (unless (is_some R.own)) (after_none (receipt_of (facts_of roster past) t c) t) ∙ unless_none (is_some R.own))
       | Some o ↦ λ e.
           let number : (number_of o) ≡ length past + 1 = ((call_laws c).asks_one (length past + 1) t (channel_of (makes (facts_of roster past) t c)) o e).number in
           let ended : is_ended (with_event t c X past) (number_of o) ≡ is_some R.own =
           ap (is_ended (with_event t c X past)) number ∙ rw (ends_own roster past t c X member a, ended_below roster past (length past + 1) l (omega arith)) (or-false (is_some R.own)) in
-          let receipt : copied_count_of (with_event t c X past) (length past + 1) ≡ option_or (copied_by R.receipt (length past + 1)) None =
+          let receipt : copied_count_of (with_event t c X past) (length past + 1) ≡ option_or (copied_by (receipt_of (facts_of roster past) t c) (length past + 1)) None =
           rw (accepted_receipts roster past t c X (length past + 1) l member a, receipt_beyond roster past (length past + 1) l (omega arith)) refl in
           let unblocked : is_unblocked roster (with_event t c X past) (length past + 1) ≡ false =
           unblocked_by roster (record { thread = t; call = c; endings = X }) past (length past + 1) ∙ rw (unblocked_beyond roster past (length past + 1) (omega arith), accepted roster past t c X a) (fresh_unblocked roster past t c) in
-          let now : Some (kept roster (with_event t c X past) o) ≡ after_receipt R.receipt t (Some o) =
+          let now : Some (kept roster (with_event t c X past) o) ≡ after_receipt (receipt_of (facts_of roster past) t c) t (Some o) =
           ap (λ w. Some (with_receipt (priority_of_item roster (with_event t c X past) (number_of o)) (is_unblocked roster (with_event t c X past) (number_of o)) (copied_count_of (with_event t c X past) (number_of o)) w)) (filled_fresh roster past t (channel_of (makes (facts_of roster past) t c)) c X o l (accepted roster past t c X a) e number)
           ∙ ap (λ i. Some (with_receipt (priority_of_item roster (with_event t c X past) i) (is_unblocked roster (with_event t c X past) i) (copied_count_of (with_event t c X past) i) o)) number
           ∙ ap (λ x. Some (with_receipt (priority_of_item roster (with_event t c X past) (length past + 1)) x (copied_count_of (with_event t c X past) (length past + 1)) o)) unblocked
           ∙ ap (λ r. Some (with_receipt (priority_of_item roster (with_event t c X past) (length past + 1)) false r o)) receipt
-          ∙ kept_after R.receipt t (length past + 1) (priority_of_item roster (with_event t c X past) (length past + 1)) false None o
+          ∙ kept_after (receipt_of (facts_of roster past) t c) t (length past + 1) (priority_of_item roster (with_event t c X past) (length past + 1)) false None o
           (λ r is. own_holds roster past t (channel_of (makes (facts_of roster past) t c)) c X o r l a e ((laws_of (facts_of roster past) t c X a).receives r is)) in
           rw ended (
-          elim (is_some R.own) as (λ d. option_map (kept roster (with_event t c X past)) (cond d None (Some o)) ≡ unless d (after_receipt R.receipt t (Some o))) [ true ↦ refl | false ↦ now ])
+          elim (is_some R.own) as (λ d. option_map (kept roster (with_event t c X past)) (cond d None (Some o)) ≡ unless d (after_receipt (receipt_of (facts_of roster past) t c) t (Some o))) [ true ↦ refl | false ↦ now ])
     ] refl
 
-after_own : (f : Facts) (t : ℕ) (c : Call) → open_call_after f t c t ≡ unless (is_some (row_of f t c).own) (after_receipt (row_of f t c).receipt t (asks f.number t (channel_of (makes f t c)) c))
+after_own : (f : Facts) (t : ℕ) (c : Call) → open_call_after f t c t ≡ unless (is_some (row_of f t c).own) (after_receipt (receipt_of f t c) t (asks f.number t (channel_of (makes f t c)) c))
 after_own f t c = rw (eqb_same t) refl
 
 pub open_accepted : (roster : List Member) (past : Trace) (t : ℕ) (c : Call) (X : List Completion) (u : ℕ) → IsLawful roster past → is_some (member_at roster t) ≡ true → Outcome true (facts_of roster past) t c X

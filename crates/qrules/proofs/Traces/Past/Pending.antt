@@ -11,14 +11,16 @@ use Rattle.qqueue.specs.Best.{is_pulse, with_priority, without_item}
 use Rattle.qqueue.specs.declared.item.Item.{Item}
 use Rattle.qtables.specs.Members.{member_at}
 use Rattle.qtables.specs.declared.member.Member.{Member}
-use Rattle.qrules.specs.Private.Answer.{Outcome}
-use Rattle.qrules.specs.Private.Calls.{row_of}
-use Rattle.qrules.specs.Private.Lawful.{facts_of, IsLawful, with_event}
-use Rattle.qrules.specs.Private.Past.{channel_at, has_ending_of, is_destroyed, is_ended, is_received, is_gone, items, item_of, pending_items, copied_count_among, copied_count_of, open_call, made_on}
-use Rattle.qrules.specs.Private.Effects.{closes, makes, sets}
-use Rattle.qrules.specs.Private.Rows.{Received, names}
+use Rattle.qrules.specs.Outcome.{Outcome}
+use Rattle.qrules.proofs.Words.Items.{receipt_of}
+use Rattle.qrules.specs.Rules.{row_of}
+use Rattle.qrules.proofs.Words.Lawful.{facts_of, IsLawful, with_event}
+use Rattle.qrules.proofs.Words.Past.{channel_at, has_ending_of, is_destroyed, is_ended, is_received, is_gone, items, item_of, pending_items, copied_count_among, copied_count_of, open_call, made_on}
+use Rattle.qrules.proofs.Words.Effects.{closes, makes, sets}
+use Rattle.qrules.proofs.Words.Items.{Received, names}
 use Rattle.qmodel.specs.Trace.{SentItem, Event, Trace}
-use Rattle.qrules.specs.Private.Step.{is_cancelled, uncut_items, items_with_priority_set, unreceived_items, pending_after, is_unread_send}
+use Rattle.qrules.proofs.Words.Step.{is_cancelled, uncut_items, items_with_priority_set, unreceived_items, pending_after}
+use Rattle.qrules.specs.Records.{is_unread_send}
 use Rattle.qmodel.specs.declared.call.Call.{Call}
 use Rattle.qmodel.specs.declared.call.Completion.{Completion}
 use Rattle.qbase.proofs.Lists.{cond_same, eqb_either, none_of, all_append, all_filter, all_more, filter_same, filter_twice, filter_all, filter_whole, any_never}
@@ -32,7 +34,7 @@ use Rattle.qrules.proofs.Traces.Past.Moves.{left_map, moved_append, moved_left, 
 use Rattle.qrules.proofs.Traces.Past.CurrentPriority.{now, refused_sets_none, worth_newest, worth_stays}
 use Rattle.qrules.proofs.Traces.Past.Receipts.{copied_by, accepted_receipts, refused_receipts, best_pending, receipt_beyond}
 use Rattle.qrules.proofs.Traces.Past.Open.{open_below}
-use Rattle.qrules.specs.Private.Facts.{threads_of, number_of}
+use Rattle.qrules.proofs.Words.Facts.{threads_of, number_of}
 
 -- ---- the items of a channel
 
@@ -98,14 +100,14 @@ neither false false = refl
 -- an item that wasn't received is gone exactly where this event receives it, or ends its Send
 gone_now : (roster : List Member) (past : Trace) (t : ℕ) (c : Call) (X : List Completion) (item : Item) (cancel : Bool) → IsLawful roster past → is_some (member_at roster t) ≡ true → Outcome true (facts_of roster past) t c X
     → copied_count_of past item.number ≡ None → (not (is_pulse item.what) && is_ended (with_event t c X past) item.number) ≡ cancel
-    → not (is_gone (with_event t c X past) item) ≡ (not cancel && leaves (row_of (facts_of roster past) t c).receipt item)
+    → not (is_gone (with_event t c X past) item) ≡ (not cancel && leaves (receipt_of (facts_of roster past) t c) item)
 gone_now roster past t c X item cancel l member a fresh ended =
-    let taken : is_received (with_event t c X past) item.number ≡ is_some (copied_by (row_of (facts_of roster past) t c).receipt item.number) =
+    let taken : is_received (with_event t c X past) item.number ≡ is_some (copied_by (receipt_of (facts_of roster past) t c) item.number) =
     ap (λ r. is_some (option_or r (copied_count_of past item.number))) (accepted_receipts roster past t c X item.number l member a)
-    ∙ taken_now (copied_by (row_of (facts_of roster past) t c).receipt item.number) (copied_count_of past item.number) fresh in
+    ∙ taken_now (copied_by (receipt_of (facts_of roster past) t c) item.number) (copied_count_of past item.number) fresh in
     ap (λ b. not (is_received (with_event t c X past) item.number || b)) ended
     ∙ ap (λ b. not (b || cancel)) taken
-    ∙ neither (is_some (copied_by (row_of (facts_of roster past) t c).receipt item.number)) cancel
+    ∙ neither (is_some (copied_by (receipt_of (facts_of roster past) t c) item.number)) cancel
 
 -- what is gone stays gone
 pub stays_gone : (past : Trace) (t : ℕ) (c : Call) (X : List Completion) (item : Item) → is_gone past item ≡ true → is_gone (with_event t c X past) item ≡ true
@@ -122,17 +124,17 @@ stays_gone past t c X item e =
 
 -- of what stood on the channel, what was pending, isn't cancelled and isn't received
 pending_old : (roster : List Member) (past : Trace) (t : ℕ) (c : Call) (X : List Completion) (h : ℕ) → IsLawful roster past → is_some (member_at roster t) ≡ true → Outcome true (facts_of roster past) t c X
-    → filter (λ item. not (is_gone (with_event t c X past) item)) (items_on roster past h) ≡ filter (leaves (row_of (facts_of roster past) t c).receipt) (uncut_items (facts_of roster past) t c h (staying roster past h))
+    → filter (λ item. not (is_gone (with_event t c X past) item)) (items_on roster past h) ≡ filter (leaves (receipt_of (facts_of roster past) t c)) (uncut_items (facts_of roster past) t c h (staying roster past h))
 pending_old roster past t c X h l member a =
     let f = facts_of roster past in
     let R = row_of (facts_of roster past) t c in
     let stays = λ (item : Item). not (is_gone (with_event t c X past) item) in
     let goes_on = λ (item : Item). not (is_cancelled (facts_of roster past) t c h item.number) in
-    let stays_on = λ (item : Item). not (is_cancelled (facts_of roster past) t c h item.number) && leaves (row_of (facts_of roster past) t c).receipt item in
-    let both = λ (item : Item). not (is_gone past item) && (not (is_cancelled (facts_of roster past) t c h item.number) && leaves (row_of (facts_of roster past) t c).receipt item) in
+    let stays_on = λ (item : Item). not (is_cancelled (facts_of roster past) t c h item.number) && leaves (receipt_of (facts_of roster past) t c) item in
+    let both = λ (item : Item). not (is_gone past item) && (not (is_cancelled (facts_of roster past) t c h item.number) && leaves (receipt_of (facts_of roster past) t c) item) in
     filter_same stays both (items_on roster past h) (
     all_more (Stands roster past h) (λ item. stays item ≡ both item) (items_on roster past h) (stands_all roster past h) (λ item at.
-    elim (is_gone past item) as (λ b. is_gone past item ≡ b → stays item ≡ (not b && (goes_on item && leaves R.receipt item))) [
+    elim (is_gone past item) as (λ b. is_gone past item ≡ b → stays item ≡ (not b && (goes_on item && leaves (receipt_of (facts_of roster past) t c) item))) [
       | true ↦ λ e. ap not (stays_gone past t c X item e)
       | false ↦ λ e.
           let p = or_parts (is_received past item.number) (not (is_pulse item.what) && is_ended past item.number) e in
@@ -140,16 +142,16 @@ pending_old roster past t c X h l member a =
           (ended_is_cancelled roster past t c X h item l a (standing_is roster past h item at e))
     ] refl))
     ∙ sym (filter_twice (λ item. not (is_gone past item)) stays_on (items_on roster past h))
-    ∙ sym (filter_twice goes_on (leaves R.receipt) (staying roster past h))
+    ∙ sym (filter_twice goes_on (leaves (receipt_of (facts_of roster past) t c)) (staying roster past h))
 
 -- of what the event makes, what isn't received at once
 pending_new : (roster : List Member) (past : Trace) (t : ℕ) (c : Call) (X : List Completion) (h : ℕ) → IsLawful roster past → is_some (member_at roster t) ≡ true → Outcome true (facts_of roster past) t c X
     → let M = made_on h (makes (facts_of roster past) t c) in
-    filter (λ item. not (is_gone (with_event t c X past) item)) M ≡ filter (leaves (row_of (facts_of roster past) t c).receipt) M
+    filter (λ item. not (is_gone (with_event t c X past) item)) M ≡ filter (leaves (receipt_of (facts_of roster past) t c)) M
 pending_new roster past t c X h l member a =
     let f = facts_of roster past in
     let stays = λ (item : Item). not (is_gone (with_event t c X past) item) in
-    let left = λ (item : Item). leaves (row_of (facts_of roster past) t c).receipt item in
+    let left = λ (item : Item). leaves (receipt_of (facts_of roster past) t c) item in
     filter_same stays left (made_on h (makes f t c)) (
     made_all (λ item. stays item ≡ left item) h (makes f t c) (λ m is on.
     let number : m.item.number ≡ length past + 1 = ((call_laws c).makes_one f t m is).number in
@@ -226,7 +228,7 @@ made_uncut roster past t c h =
     filter_all (λ item. not (is_cancelled f t c h item.number)) (made_on h (makes f t c)) (made_all (λ item. not (is_cancelled f t c h item.number) ≡ true) h (makes f t c) (λ m is on.
     let number : m.item.number ≡ length past + 1 = ((call_laws c).makes_one f t m is).number in
     ap not (any_never _ (threads_of roster) (λ s.
-    elim (open_call roster past s) as (λ o. open_call roster past s ≡ o → (is_unread_send h m.item.number o && is_some ((row_of f t c).ends s)) ≡ false) [
+    elim (open_call roster past s) as (λ o. open_call roster past s ≡ o → (is_unread_send h m.item.number o && is_some ((row_of f t c).others s)) ≡ false) [
       | None ↦ λ none. refl
       | Some o ↦ λ some.
           let below : (number_of o) ≤ length past = open_below roster past s o some in
@@ -243,7 +245,7 @@ left_made roster past t c h items =
 -- what stays of a channel that isn't destroyed
 staying_accepted : (roster : List Member) (past : Trace) (t : ℕ) (c : Call) (X : List Completion) (h : ℕ) → IsLawful roster past → is_some (member_at roster t) ≡ true → Outcome true (facts_of roster past) t c X
     → staying roster (with_event t c X past) h
-    ≡ unreceived_items (row_of (facts_of roster past) t c).receipt h (uncut_items (facts_of roster past) t c h (staying roster past h ++ made_on h (makes (facts_of roster past) t c)))
+    ≡ unreceived_items (receipt_of (facts_of roster past) t c) h (uncut_items (facts_of roster past) t c h (staying roster past h ++ made_on h (makes (facts_of roster past) t c)))
 staying_accepted roster past t c X h l member a =
     let f = facts_of roster past in
     let e : Event = record { thread = t; call = c; endings = X } in
@@ -255,21 +257,21 @@ staying_accepted roster past t c X h l member a =
     ap (filter stays) (items_more roster e past h ∙ ap (λ o. items_on roster past h ++ made_on h o) made)
     ∙ filter-append stays (items_on roster past h) M
     ∙ ap (λ xs. xs ++ filter stays M) (pending_old roster past t c X h l member a)
-    ∙ ap (λ xs. filter (leaves R.receipt) L ++ xs) (pending_new roster past t c X h l member a)
-    ∙ sym (filter-append (leaves R.receipt) L M)
-    ∙ sym (taken_from R.receipt h (L ++ M) (λ r is.
+    ∙ ap (λ xs. filter (leaves (receipt_of (facts_of roster past) t c)) L ++ xs) (pending_new roster past t c X h l member a)
+    ∙ sym (filter-append (leaves (receipt_of (facts_of roster past) t c)) L M)
+    ∙ sym (taken_from (receipt_of (facts_of roster past) t c) h (L ++ M) (λ r is.
     elsewhere roster past t c X h r L (all_filter (IsPending roster past h) (λ item. not (is_cancelled f t c h item.number)) (staying roster past h)
     (all_more (λ item. Stands roster past h item × (is_gone past item ≡ false)) (IsPending roster past h) (staying roster past h) (staying_all roster past h) (λ item k. standing_is roster past h item k.0 k.1))) a ((laws_of f t c X a).receives r is)))
-    ∙ ap (unreceived_items R.receipt h) (sym (left_made roster past t c h (staying roster past h)))
+    ∙ ap (unreceived_items (receipt_of (facts_of roster past) t c) h) (sym (left_made roster past t c h (staying roster past h)))
 
 -- what stays, each item as it is after the event
 now_accepted : (roster : List Member) (past : Trace) (t : ℕ) (c : Call) (X : List Completion) (h : ℕ) → IsLawful roster past → is_some (member_at roster t) ≡ true → Outcome true (facts_of roster past) t c X
     → map (now (with_event t c X past)) (staying roster (with_event t c X past) h)
-    ≡ items_with_priority_set (facts_of roster past) h (sets c) (unreceived_items (row_of (facts_of roster past) t c).receipt h (uncut_items (facts_of roster past) t c h (map (now past) (staying roster past h) ++ made_on h (makes (facts_of roster past) t c))))
+    ≡ items_with_priority_set (facts_of roster past) h (sets c) (unreceived_items (receipt_of (facts_of roster past) t c) h (uncut_items (facts_of roster past) t c h (map (now past) (staying roster past h) ++ made_on h (makes (facts_of roster past) t c))))
 now_accepted roster past t c X h l member a =
     let f = facts_of roster past in
     let e : Event = record { thread = t; call = c; endings = X } in
-    let r = (row_of (facts_of roster past) t c).receipt in
+    let r = (receipt_of (facts_of roster past) t c) in
     let M = made_on h (makes (facts_of roster past) t c) in
     let S = staying roster past h in
     let after = now (e ∷ past) in
@@ -299,7 +301,7 @@ pending_accepted roster past t c X h l member a =
     let R = row_of (facts_of roster past) t c in
     let M = made_on h (makes f t c) in
     let S = map (now past) (staying roster past h) in
-    let after = λ (items : List Item). items_with_priority_set f h (sets c) (unreceived_items R.receipt h (uncut_items f t c h (items ++ M))) in
+    let after = λ (items : List Item). items_with_priority_set f h (sets c) (unreceived_items (receipt_of (facts_of roster past) t c) h (uncut_items f t c h (items ++ M))) in
     pending_is roster (e ∷ past) h
     ∙ ap (λ b. cond b [] (map (now (e ∷ past)) (staying roster (e ∷ past) h))) (closed_accepted roster e past h (accepted roster past t c X a)) ∙ (
     elim (names (closes c) h) as (λ d. cond (d || is_destroyed past h) [] (map (now (e ∷ past)) (staying roster (e ∷ past) h)) ≡ cond d [] (after (cond (is_destroyed past h) [] S))) [
@@ -307,8 +309,8 @@ pending_accepted roster past t c X h l member a =
       | false ↦
           elim (is_destroyed past h) as (λ b. is_destroyed past h ≡ b → cond b [] (map (now (e ∷ past)) (staying roster (e ∷ past) h)) ≡ after (cond b [] S)) [
             | true ↦ λ closed. sym (
-                ap (λ l. items_with_priority_set f h (sets c) (unreceived_items R.receipt h (uncut_items f t c h l))) (closed_makes roster past t c X h a closed)
-                ∙ ap (items_with_priority_set f h (sets c)) (none_out R.receipt h) ∙ moved_nothing f h (sets c))
+                ap (λ l. items_with_priority_set f h (sets c) (unreceived_items (receipt_of (facts_of roster past) t c) h (uncut_items f t c h l))) (closed_makes roster past t c X h a closed)
+                ∙ ap (items_with_priority_set f h (sets c)) (none_out (receipt_of (facts_of roster past) t c) h) ∙ moved_nothing f h (sets c))
             | false ↦ λ standing. now_accepted roster past t c X h l member a
           ] refl
     ])

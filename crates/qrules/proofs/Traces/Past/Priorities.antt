@@ -7,15 +7,15 @@ use Rattle.std.specs.Option.{option_map, option_or}
 use Rattle.qqueue.specs.declared.item.Item.{Item}
 use Rattle.qtables.specs.Members.{member_at}
 use Rattle.qtables.specs.declared.member.Member.{Member}
-use Rattle.qrules.specs.Private.Answer.{ending, Outcome}
-use Rattle.qrules.specs.Private.Calls.{row_of}
-use Rattle.qrules.specs.Private.Facts.{threads_of}
-use Rattle.qrules.specs.Private.Lawful.{facts_of, IsLawful, with_event}
-use Rattle.qrules.specs.Private.Past.{items_by_now, carried_priority, channel_at, first_among, priority_from_ending, item_of, items, item_among, priority_of_thread, refuses, current_priority}
-use Rattle.qrules.specs.Private.Effects.{sets}
-use Rattle.qrules.specs.Private.Rows.{Received, item_in, priority_set_for}
+use Rattle.qrules.specs.Outcome.{ending, Outcome}
+use Rattle.qrules.proofs.Words.Items.{receipt_of}
+use Rattle.qrules.proofs.Words.Facts.{threads_of}
+use Rattle.qrules.proofs.Words.Lawful.{facts_of, IsLawful, with_event}
+use Rattle.qrules.proofs.Words.Past.{items_by_now, carried_priority, channel_at, first_among, priority_from_ending, item_of, items, item_among, priority_of_thread, refuses, current_priority}
+use Rattle.qrules.proofs.Words.Effects.{sets}
+use Rattle.qrules.proofs.Words.Items.{Received, item_in, priority_set_for}
 use Rattle.qmodel.specs.Trace.{SentItem, Event, Trace}
-use Rattle.qrules.specs.Private.Step.{priority_taken, priority_after}
+use Rattle.qrules.proofs.Words.Step.{priority_taken, priority_after}
 use Rattle.qmodel.specs.declared.call.Call.{Call}
 use Rattle.qmodel.specs.declared.call.Completion.{Completion}
 use Rattle.qrules.proofs.Traces.Past.Ends.{accepted, ending_names, laws_of, refused}
@@ -80,17 +80,17 @@ module _ (roster : List Member) (past : Trace) (t : ℕ) (c : Call) (X : List Co
       ∙ ap (λ p. priority_taken (facts_of roster past) (Some (record { item = r.item; channel = r.channel; by = r.by; sender = r.sender; kept = record { priority = p; copied = r.kept.copied; unblocked = r.kept.unblocked } })) u) (at.is_worth ∙ k.priority)
 
   -- what an ending gives is what the row's receipt does
-  gives : (v : ℕ) (y : Completion) (q : ReceivedItem) → ending (facts_of roster past) t c v ≡ Some y → item_in y.mark ≡ Some q → priority_from_ending carries u y ≡ priority_taken (facts_of roster past) (row_of (facts_of roster past) t c).receipt u
+  gives : (v : ℕ) (y : Completion) (q : ReceivedItem) → ending (facts_of roster past) t c v ≡ Some y → item_in y.mark ≡ Some q → priority_from_ending carries u y ≡ priority_taken (facts_of roster past) (receipt_of (facts_of roster past) t c) u
   gives v y q e m =
-      let k : IsReceipt (row_of (facts_of roster past) t c) v q = ending_receives (facts_of roster past) t c v y q laws e m in
+      let k : IsReceipt (receipt_of (facts_of roster past) t c) v q = ending_receives (facts_of roster past) t c v y q laws e m in
       ap (λ o. cond (eqb y.thread u) (option_and_then (λ r. carries r.number) o) None) m
       ∙ ap (λ w. cond (eqb w u) (carries q.number) None) (ending_thread roster past t c v y laws e ∙ sym k.by)
       ∙ ap (λ i. cond (eqb k.receipt.by u) (carries i) None) k.item
       ∙ carries_it k.receipt (laws.receives k.receipt k.is)
       ∙ ap (λ o. priority_taken (facts_of roster past) o u) (sym k.is)
 
-  none_or_it : (v : ℕ) (y : Completion) → ending (facts_of roster past) t c v ≡ Some y → (priority_from_ending carries u y ≡ None) ⊎ (priority_from_ending carries u y ≡ priority_taken (facts_of roster past) (row_of (facts_of roster past) t c).receipt u)
-  none_or_it v y e = elim (item_in y.mark) as (λ o. item_in y.mark ≡ o → (priority_from_ending carries u y ≡ None) ⊎ (priority_from_ending carries u y ≡ priority_taken (facts_of roster past) (row_of (facts_of roster past) t c).receipt u)) [
+  none_or_it : (v : ℕ) (y : Completion) → ending (facts_of roster past) t c v ≡ Some y → (priority_from_ending carries u y ≡ None) ⊎ (priority_from_ending carries u y ≡ priority_taken (facts_of roster past) (receipt_of (facts_of roster past) t c) u)
+  none_or_it v y e = elim (item_in y.mark) as (λ o. item_in y.mark ≡ o → (priority_from_ending carries u y ≡ None) ⊎ (priority_from_ending carries u y ≡ priority_taken (facts_of roster past) (receipt_of (facts_of roster past) t c) u)) [
     | None ↦ λ m. inl (ap (λ o. cond (eqb y.thread u) (option_and_then (λ r. carries r.number) o) None) m ∙ nothing (eqb y.thread u))
     | Some q ↦ λ m. inr (gives v y q e m)
   ] refl where
@@ -98,12 +98,12 @@ module _ (roster : List Member) (past : Trace) (t : ℕ) (c : Call) (X : List Co
     nothing true = refl
     nothing false = refl
 
-  given_accepted : first_among (priority_from_ending carries u) X ≡ priority_taken (facts_of roster past) (row_of (facts_of roster past) t c).receipt u
-  given_accepted = ap (first_among (priority_from_ending carries u)) (a.1) ∙ by (priority_taken (facts_of roster past) (row_of (facts_of roster past) t c).receipt u) refl where
-    by : (o : Option ℕ) → priority_taken (facts_of roster past) (row_of (facts_of roster past) t c).receipt u ≡ o → first_among (priority_from_ending carries u) (filter_map (ending (facts_of roster past) t c) (threads_of roster)) ≡ o
+  given_accepted : first_among (priority_from_ending carries u) X ≡ priority_taken (facts_of roster past) (receipt_of (facts_of roster past) t c) u
+  given_accepted = ap (first_among (priority_from_ending carries u)) (a.1) ∙ by (priority_taken (facts_of roster past) (receipt_of (facts_of roster past) t c) u) refl where
+    by : (o : Option ℕ) → priority_taken (facts_of roster past) (receipt_of (facts_of roster past) t c) u ≡ o → first_among (priority_from_ending carries u) (filter_map (ending (facts_of roster past) t c) (threads_of roster)) ≡ o
     by None is = among_none (priority_from_ending carries u) (ending (facts_of roster past) t c) (threads_of roster) (λ v y e. elim (none_or_it v y e) [ inl h ↦ h | inr h ↦ h ∙ is ])
-    by (Some p) is = from (row_of (facts_of roster past) t c).receipt refl is where
-      from : (o : Option Received) → (row_of (facts_of roster past) t c).receipt ≡ o → priority_taken (facts_of roster past) o u ≡ Some p
+    by (Some p) is = from (receipt_of (facts_of roster past) t c) refl is where
+      from : (o : Option Received) → (receipt_of (facts_of roster past) t c) ≡ o → priority_taken (facts_of roster past) o u ≡ Some p
           → first_among (priority_from_ending carries u) (filter_map (ending (facts_of roster past) t c) (threads_of roster)) ≡ Some p
       from None e none = absurd (none-some p none)
       from (Some r) e some =
@@ -114,7 +114,7 @@ module _ (roster : List Member) (past : Trace) (t : ℕ) (c : Call) (X : List Co
   pub priority_accepted : priority_of_thread roster (with_event t c X past) u ≡ priority_after (facts_of roster past) t c u
   priority_accepted =
       ap (λ o. unwrap_or (option_or (cond (not (refuses X (length past + 1))) (priority_set_for (sets c) u) None) o) (priority_of_thread roster past u)) given_accepted
-      ∙ ap (λ b. unwrap_or (option_or (cond (not b) (priority_set_for (sets c) u) None) (priority_taken (facts_of roster past) (row_of (facts_of roster past) t c).receipt u)) (priority_of_thread roster past u)) (accepted roster past t c X a)
+      ∙ ap (λ b. unwrap_or (option_or (cond (not b) (priority_set_for (sets c) u) None) (priority_taken (facts_of roster past) (receipt_of (facts_of roster past) t c) u)) (priority_of_thread roster past u)) (accepted roster past t c X a)
 
 -- a refused call changes no priority
 pub priority_refused : (roster : List Member) (past : Trace) (t : ℕ) (c : Call) (X : List Completion) (u : ℕ) → Outcome false (facts_of roster past) t c X

@@ -9,12 +9,12 @@ use Rattle.qqueue.specs.declared.item.Kind.{Kind}
 use Rattle.qqueue.proofs.OrderLaws.{best-at}
 use Rattle.qtables.specs.Members.{member_at}
 use Rattle.qtables.specs.declared.member.Member.{Member}
-use Rattle.qrules.specs.Private.Answer.{ending, Outcome, Answers}
-use Rattle.qrules.specs.Private.Calls.{row_of}
-use Rattle.qrules.specs.Private.Facts.{Facts, threads_of}
-use Rattle.qrules.specs.Private.Lawful.{facts_of, IsLawful}
-use Rattle.qrules.specs.Private.Past.{copied_count_in, first_among, priority_of_item, copied_count_among, copied_count_of}
-use Rattle.qrules.specs.Private.Rows.{Received, item_in}
+use Rattle.qrules.specs.Outcome.{ending, Outcome, Answers}
+use Rattle.qrules.proofs.Words.Items.{receipt_of}
+use Rattle.qrules.proofs.Words.Facts.{Facts, threads_of}
+use Rattle.qrules.proofs.Words.Lawful.{facts_of, IsLawful}
+use Rattle.qrules.proofs.Words.Past.{copied_count_in, first_among, priority_of_item, copied_count_among, copied_count_of}
+use Rattle.qrules.proofs.Words.Items.{Received, item_in}
 use Rattle.qmodel.specs.Trace.{Trace}
 use Rattle.qmodel.specs.declared.call.Call.{Call}
 use Rattle.qmodel.specs.declared.call.Completion.{Completion}
@@ -53,9 +53,9 @@ among_one tell g (u ∷ us) k h v z m e q =
 
 -- ---- the receipt of an accepted call
 
-pub ending_receives : (f : Facts) (t : ℕ) (c : Call) (v : ℕ) (y : Completion) (p : ReceivedItem) → RowLaws f t c → ending f t c v ≡ Some y → item_in y.mark ≡ Some p → IsReceipt (row_of f t c) v p
+pub ending_receives : (f : Facts) (t : ℕ) (c : Call) (v : ℕ) (y : Completion) (p : ReceivedItem) → RowLaws f t c → ending f t c v ≡ Some y → item_in y.mark ≡ Some p → IsReceipt (receipt_of f t c) v p
 ending_receives f t c v y p laws e m = elim (ending_names f t c v y laws e) [
-  | inl h ↦ subst (λ u. IsReceipt (row_of f t c) u p) (sym h.thread) (laws.own_receives y p h.is m)
+  | inl h ↦ subst (λ u. IsReceipt (receipt_of f t c) u p) (sym h.thread) (laws.own_receives y p h.is m)
   | inr h ↦ laws.ends_receives v y p h.is m
 ]
 
@@ -64,15 +64,15 @@ abbrev pub copied_by : Option Received → ℕ → Option ℕ
 copied_by None i = None
 copied_by (Some r) i = cond (eqb r.item i) (Some r.kept.copied) None
 
-same_copied : (f : Facts) (t : ℕ) (c : Call) (v : ℕ) (p : ReceivedItem) (i : ℕ) → IsReceipt (row_of f t c) v p → copied_count_in i (Some p) ≡ copied_by (row_of f t c).receipt i
+same_copied : (f : Facts) (t : ℕ) (c : Call) (v : ℕ) (p : ReceivedItem) (i : ℕ) → IsReceipt (receipt_of f t c) v p → copied_count_in i (Some p) ≡ copied_by (receipt_of f t c) i
 same_copied f t c v p i k =
     ap (λ n. cond (eqb n i) (Some p.copied) None) k.item ∙ ap (λ n. cond (eqb k.receipt.item i) (Some n) None) k.copied ∙ ap (λ o. copied_by o i) (sym k.is)
 
 -- what an ending copies of item i is what the row's receipt does
 ending_copies : (f : Facts) (t : ℕ) (c : Call) (v : ℕ) (y : Completion) (i : ℕ) → RowLaws f t c → ending f t c v ≡ Some y
-    → (copied_count_in i (item_in y.mark) ≡ None) ⊎ (copied_count_in i (item_in y.mark) ≡ copied_by (row_of f t c).receipt i)
+    → (copied_count_in i (item_in y.mark) ≡ None) ⊎ (copied_count_in i (item_in y.mark) ≡ copied_by (receipt_of f t c) i)
 ending_copies f t c v y i laws e =
-    elim (item_in y.mark) as (λ o. item_in y.mark ≡ o → (copied_count_in i o ≡ None) ⊎ (copied_count_in i o ≡ copied_by (row_of f t c).receipt i)) [
+    elim (item_in y.mark) as (λ o. item_in y.mark ≡ o → (copied_count_in i o ≡ None) ⊎ (copied_count_in i o ≡ copied_by (receipt_of f t c) i)) [
       | None ↦ λ m. inl refl
       | Some p ↦ λ m. inr (same_copied f t c v p i (ending_receives f t c v y p laws e m))
     ] refl
@@ -86,23 +86,23 @@ given_known roster past t c v y l member laws e = elim (ending_names (facts_of r
 ]
 
 pub accepted_receipts : (roster : List Member) (past : Trace) (t : ℕ) (c : Call) (X : List Completion) (i : ℕ) → IsLawful roster past → is_some (member_at roster t) ≡ true
-    → Outcome true (facts_of roster past) t c X → copied_count_among X i ≡ copied_by (row_of (facts_of roster past) t c).receipt i
+    → Outcome true (facts_of roster past) t c X → copied_count_among X i ≡ copied_by (receipt_of (facts_of roster past) t c) i
 accepted_receipts roster past t c X i l member a =
     let f = facts_of roster past in
     let laws = laws_of (facts_of roster past) t c X a in
     let copies = λ (v : ℕ) (y : Completion) (e : ending (facts_of roster past) t c v ≡ Some y). ending_copies (facts_of roster past) t c v y i laws e in
     rw (a.1) (
-    elim ((row_of f t c).receipt) as (λ o. (row_of f t c).receipt ≡ o → copied_count_among (filter_map (ending f t c) (threads_of roster)) i ≡ copied_by o i) [
+    elim ((receipt_of f t c)) as (λ o. (receipt_of f t c) ≡ o → copied_count_among (filter_map (ending f t c) (threads_of roster)) i ≡ copied_by o i) [
       | None ↦ λ is. among_none (λ x. copied_count_in i (item_in x.mark)) (ending f t c) (threads_of roster) (λ v y e. elim (copies v y e) [ inl h ↦ h | inr h ↦ h ∙ ap (λ o. copied_by o i) is ])
       | Some r ↦ λ is.
           let k = laws.receives r is in
           elim (eqb r.item i) as (λ b. eqb r.item i ≡ b → copied_count_among (filter_map (ending f t c) (threads_of roster)) i ≡ cond b (Some r.kept.copied) None) [
             | true ↦ λ same.
-                let by : copied_by (row_of f t c).receipt i ≡ Some r.kept.copied = rw (is, same) refl in
+                let by : copied_by (receipt_of f t c) i ≡ Some r.kept.copied = rw (is, same) refl in
                 among_one (λ x. copied_count_in i (item_in x.mark)) (ending f t c) (threads_of roster) r.kept.copied (λ v y e. elim (copies v y e) [ inl h ↦ inl h | inr h ↦ inr (h ∙ by) ])
                 r.by k.given (known roster r.by (given_known roster past t c r.by k.given l member laws k.is_given)) k.is_given (rw (k.mark, same) refl)
             | false ↦ λ other.
-                let by : copied_by (row_of f t c).receipt i ≡ None = rw (is, other) refl in
+                let by : copied_by (receipt_of f t c) i ≡ None = rw (is, other) refl in
                 among_none (λ x. copied_count_in i (item_in x.mark)) (ending f t c) (threads_of roster) (λ v y e. elim (copies v y e) [ inl h ↦ h | inr h ↦ h ∙ by ])
           ] refl
     ] refl)
@@ -135,7 +135,7 @@ pub receipts_below : (roster : List Member) (past : Trace) (t : ℕ) (c : Call) 
     → Answers (facts_of roster past) t c X → length past + 1 < i → copied_count_among X i ≡ None
 receipts_below roster past t c X i l member a above = elim a [
   | inl a ↦ accepted_receipts roster past t c X i l member a ∙ (
-      elim ((row_of (facts_of roster past) t c).receipt) as (λ o. (row_of (facts_of roster past) t c).receipt ≡ o → copied_by o i ≡ None) [
+      elim ((receipt_of (facts_of roster past) t c)) as (λ o. (receipt_of (facts_of roster past) t c) ≡ o → copied_by o i ≡ None) [
         | None ↦ λ is. refl
         | Some r ↦ λ is.
             let below : r.item ≤ length past + 1 = received_below roster past t c r ((laws_of (facts_of roster past) t c X a).receives r is) in
@@ -147,4 +147,4 @@ receipts_below roster past t c X i l member a above = elim a [
 -- no item to come is received
 pub receipt_beyond : (roster : List Member) (past : Trace) (i : ℕ) → IsLawful roster past → length past < i → copied_count_of past i ≡ None
 receipt_beyond roster [] i l h = refl
-receipt_beyond roster (e ∷ past) i l h = rw (receipts_below roster past e.thread e.call e.endings i l.0 l.1 l.2 (omega arith)) (receipt_beyond roster past i l.0 (omega arith))
+receipt_beyond roster (e ∷ past) i l h = rw (receipts_below roster past e.thread e.call e.endings i l.0 l.1.0 l.1.1 (omega arith)) (receipt_beyond roster past i l.0 (omega arith))

@@ -7,7 +7,7 @@ use Rattle.qqueue.specs.Contents.{IsRising}
 use Rattle.qqueue.specs.declared.item.Item.{Item}
 use Rattle.qqueue.proofs.RisingLaws.{IsRising-push, IsRising-filter}
 use Rattle.qtables.specs.declared.member.Member.{Member}
-use Rattle.qrules.specs.Private.Past.{is_destroyed, is_gone, item_of, pending_items, made_on}
+use Rattle.qrules.proofs.Words.Past.{is_destroyed, is_gone, item_of, pending_items, made_on}
 use Rattle.qmodel.specs.Trace.{SentItem, Event, Trace}
 use Rattle.qbase.proofs.Lists.{all_map, all_more}
 use Rattle.qrules.proofs.Traces.Past.Items.{IsPending, Stands, items_on, stands_all, staying, pending_all, pending_is, item_below, made_by}

@@ -7,11 +7,12 @@ use Rattle.std.proofs.lemmas.List.Folds.{list_any-append}
 use Rattle.std.proofs.lemmas.Option.{same_Some}
 use Rattle.std.proofs.Math.Bool.{and-false, or-true, or-false}
 use Rattle.qtables.specs.declared.member.Member.{Member}
-use Rattle.qrules.specs.Private.Effects.{makes, unblocks}
-use Rattle.qrules.specs.Private.Lawful.{facts_of}
-use Rattle.qrules.specs.Private.Past.{is_received, is_unblock_for, item_of, items, open_call, copied_count_among, copied_count_of, unblocked_among, with_receipt}
+use Rattle.qrules.proofs.Words.Effects.{makes, unblocks}
+use Rattle.qrules.proofs.Words.Lawful.{facts_of}
+use Rattle.qrules.proofs.Words.Past.{is_received, is_unblock_for, item_of, items, open_call, copied_count_among, copied_count_of, unblocked_among, with_receipt}
 use Rattle.qmodel.specs.Trace.{SentItem, Event, Trace}
-use Rattle.qrules.specs.Private.Step.{after_unblock, unblocked_call, held_call}
+use Rattle.qrules.proofs.Words.Step.{after_unblock}
+use Rattle.qrules.specs.Records.{unblocked_call, held_call}
 use Rattle.qmodel.specs.declared.call.Call.{Call}
 use Rattle.qmodel.specs.declared.open_call.OpenCall.{OpenCall}
 use Rattle.qmodel.specs.declared.open_call.OpenCall.TheVariants.{Receive, Send}

@@ -6,9 +6,10 @@ use Rattle.std.proofs.lemmas.Bool.{true≢false}
 use Rattle.std.proofs.lemmas.Option.{none-some, same_Some}
 use Rattle.std.proofs.Math.Bool.{or-true}
 use Rattle.qtables.specs.Members.{member_at}
-use Rattle.qrules.specs.Private.Calls.{row_of}
-use Rattle.qrules.specs.Private.Calls.Info.{info_of}
-use Rattle.qrules.specs.Private.Facts.{Facts, is_send, sender, sender_among, threads_of}
+use Rattle.qrules.specs.Rules.{row_of}
+use Rattle.qrules.specs.Rules.Held.{info_of}
+use Rattle.qrules.proofs.Words.Facts.{Facts, is_send, sender, threads_of}
+use Rattle.qrules.specs.Records.{sender_among}
 use Rattle.qrules.specs.Rules.{effect_of}
 use Rattle.qmodel.specs.declared.call.Call.{Call}
 use Rattle.qmodel.specs.declared.call.Call.TheVariants.{Send, Receive, Info, ReceivePulse}

@@ -5,13 +5,15 @@ use Rattle.std.proofs.lemmas.Bool.{cases_Bool, eqb-true, eqb-false, ne_eqb}
 use Rattle.std.proofs.lemmas.Option.{same_Some}
 use Rattle.qbase.specs.Laying.{lay_over}
 use Rattle.qtables.specs.declared.member.Member.{Member}
-use Rattle.qrules.specs.Private.Answer.{Outcome}
-use Rattle.qrules.specs.Private.Facts.{Facts, sender, threads_of, number_of, with_buffer}
-use Rattle.qrules.specs.Private.Lawful.{facts_of, IsLawful, with_event}
-use Rattle.qrules.specs.Private.Past.{is_accepted, open_call, refuses, with_writes, filled, with_receipt}
-use Rattle.qrules.specs.Private.Effects.{asks, writes}
-use Rattle.qrules.specs.Private.Rows.{buffer_after_write}
-use Rattle.qrules.specs.Private.Step.{after_write, is_thread, written_call}
+use Rattle.qrules.specs.Outcome.{Outcome}
+use Rattle.qrules.proofs.Words.Facts.{Facts, sender, threads_of, number_of}
+use Rattle.qrules.specs.Records.{with_buffer}
+use Rattle.qrules.proofs.Words.Lawful.{facts_of, IsLawful, with_event}
+use Rattle.qrules.proofs.Words.Past.{is_accepted, open_call, refuses, with_writes, filled, with_receipt}
+use Rattle.qrules.proofs.Words.Effects.{asks, writes}
+use Rattle.qrules.proofs.Words.Items.{buffer_after_write}
+use Rattle.qrules.proofs.Words.Step.{after_write}
+use Rattle.qrules.specs.Records.{is_thread, written_call}
 use Rattle.qmodel.specs.Trace.{Event, Trace}
 use Rattle.qmodel.specs.declared.call.Call.{Call}
 use Rattle.qmodel.specs.declared.call.Completion.{Completion}
@@ -105,7 +107,7 @@ written_sender roster past t c X u o x a is written =
 -- nothing is written to a message to come
 pub writes_beyond : (roster : List Member) (past : Trace) (i : ℕ) (b : List ℕ) → IsLawful roster past → length past < i → with_writes past i b ≡ b
 writes_beyond roster [] i b l h = refl
-writes_beyond roster (e ∷ past) i b l h = elim l.2 [
+writes_beyond roster (e ∷ past) i b l h = elim l.1.1 [
   | inl a ↦
       let rest : with_writes past i b ≡ b = writes_beyond roster past i b l.0 (omega arith) in
       writes_accepted e past i b (accepted roster past e.thread e.call e.endings a) ∙ (elim (writes e.call) as (λ w. writes e.call ≡ w → buffer_after_write w i (with_writes past i b) ≡ b) [

@@ -2,7 +2,7 @@
 use Rattle.std.specs.Prelude.{List}
 use Rattle.qtables.specs.Members.{IsRoster}
 use Rattle.qtables.specs.declared.member.Member.{Member}
-use Rattle.qrules.specs.Private.Lawful.{IsLawful}
+use Rattle.qrules.proofs.Words.Lawful.{IsLawful}
 use Rattle.qrules.specs.Properties.{HasProperties}
 use Rattle.qmodel.specs.Trace.{Trace}
 use Rattle.qrules.proofs.Traces.Properties.AnsweredToSender.{answered_to_sender}

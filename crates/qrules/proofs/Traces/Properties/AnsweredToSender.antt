@@ -8,12 +8,12 @@ use Rattle.std.proofs.lemmas.List.Sums.{sum_by-cons}
 use Rattle.std.proofs.lemmas.Option.{none-some}
 use Rattle.qtables.specs.declared.member.Member.{Member}
 use Rattle.qtables.specs.Members.{IsRoster}
-use Rattle.qrules.specs.Private.Answer.{ending, Outcome, Answers}
-use Rattle.qrules.specs.Private.Facts.{is_for_answer, owns, threads_of, number_of}
+use Rattle.qrules.specs.Outcome.{ending, Outcome, Answers}
+use Rattle.qrules.proofs.Words.Facts.{is_for_answer, owns, threads_of, number_of}
 use Rattle.qrules.specs.Properties.{is_answer, items, AnsweredToSender, AnswersIts, AnswersOnce}
 use Rattle.qrules.specs.Past.{item_among}
-use Rattle.qrules.specs.Private.Lawful.{facts_of, IsLawful}
-use Rattle.qrules.specs.Private.Past.{is_ended, is_received, sender_of}
+use Rattle.qrules.proofs.Words.Lawful.{facts_of, IsLawful}
+use Rattle.qrules.proofs.Words.Past.{is_ended, is_received, sender_of}
 use Rattle.qmodel.specs.Trace.{Event, SentItem, Trace}
 use Rattle.qmodel.specs.declared.call.Completion.{Completion}
 use Rattle.qrules.proofs.Traces.Past.Ends.{open_known, passes_of}
@@ -26,7 +26,7 @@ use Rattle.qrules.proofs.Traces.Rosters.{known}
 use Rattle.qrules.proofs.Traces.Properties.Sends.{block_sender, open_keeps, open_over, block_on}
 use Rattle.qrules.proofs.Traces.Past.Open.{open_receipt, buffer_answer, held_for_answer, open_parts, held_on, buffer_on}
 use Rattle.qmodel.specs.declared.open_call.OpenCall.TheVariants.{Send as InSend}
-use Rattle.qrules.specs.Private.Cancelling.{is_on}
+use Rattle.qrules.specs.Delivery.{is_on}
 
 -- ---- each answer is one to the message that the call names
 
@@ -110,4 +110,4 @@ answers_once roster past e r l a i answered was =
 
 pub answered_to_sender : (roster : List Member) (past : Trace) → IsRoster roster → IsLawful roster past → AnsweredToSender roster past
 answered_to_sender roster [] r l = tt
-answered_to_sender roster (e ∷ past) r l = (answered_to_sender roster past r l.0, (each_answers_its roster past e l.0 l.2, answers_once roster past e r l.0 l.2))
+answered_to_sender roster (e ∷ past) r l = (answered_to_sender roster past r l.0, (each_answers_its roster past e l.0 l.1.1, answers_once roster past e r l.0 l.1.1))

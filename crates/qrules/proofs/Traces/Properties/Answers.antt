@@ -1,4 +1,5 @@
 -- An ending that answers a message: whose it is, by each call's row.
+use Rattle.qrules.proofs.Traces.Rows.{answer_same, pulse_same, sent_same, unblocked_same}
 use Rattle.std.proofs.Common.{◌≡◌, ◌∙◌, ℕ, List, [], cond, ap, refl, sym, subst, true, false, inl, inr}
 use Rattle.std.specs.Prelude.{ℤ, pos, Option, None, Some}
 use Rattle.std.specs.Option.{option_map}
@@ -6,25 +7,29 @@ use Rattle.std.specs.Ordering.{int_eq}
 use Rattle.std.proofs.lemmas.Bool.{true≢false}
 use Rattle.std.proofs.lemmas.Option.{none-some, same_Some}
 use Rattle.qbase.specs.declared.errno.Errno.TheVariants.{Srch}
-use Rattle.qrules.specs.Private.Answer.{ending}
-use Rattle.qrules.specs.Private.Calls.{row_of}
+use Rattle.qrules.specs.Outcome.{ending}
+use Rattle.qrules.specs.Rules.{row_of}
 use Rattle.qqueue.specs.declared.item.Item.{Item}
 use Rattle.qqueue.specs.declared.item.Kind.{Kind}
 use Rattle.qqueue.specs.declared.item.Kind.TheVariants.{Any, PulseOnly}
 use Rattle.qtables.specs.declared.connection.Connection.{Connection}
-use Rattle.qrules.specs.Private.Calls.Error.{error_finish, mark_of}
-use Rattle.qrules.specs.Private.Calls.Info.{info_of, info_ending}
-use Rattle.qrules.specs.Private.Calls.Reply.{reply_finish}
-use Rattle.qrules.specs.Private.Calls.Send.{item}
-use Rattle.qrules.specs.Private.Held.{Finish, ends_sender, refusal}
+use Rattle.qrules.proofs.Traces.Parts.{error_finish}
+use Rattle.qrules.specs.Records.{error_mark}
+use Rattle.qrules.specs.Rules.Held.{info_of}
+use Rattle.qrules.proofs.Words.Items.{info_ending}
+use Rattle.qrules.proofs.Traces.Parts.{reply_finish}
+use Rattle.qrules.proofs.Words.Items.{message_item}
+use Rattle.qrules.specs.Rules.Held.{refusal_unless_held}
+use Rattle.qrules.proofs.Words.Items.{Finish, ends_sender}
 use Rattle.qmodel.specs.declared.call.Info.{Info as Told}
 use Rattle.qmodel.specs.declared.call.Mark.TheVariants as mark
-use Rattle.qrules.specs.Private.Cancelling.{is_on}
-use Rattle.qrules.specs.Private.Facts.{Facts, is_for_answer, message, sender, threads_of, route, number_of}
-use Rattle.qrules.specs.Private.Effects.{asks, makes, thread_of_send}
+use Rattle.qrules.specs.Delivery.{is_on}
+use Rattle.qrules.proofs.Words.Facts.{Facts, is_for_answer, message, sender, threads_of, route, number_of}
+use Rattle.qrules.proofs.Words.Effects.{asks, makes, thread_of_send}
 use Rattle.qrules.specs.Properties.{is_answer}
 use Rattle.qrules.specs.Rules.{effect_of}
-use Rattle.qrules.specs.Private.Rows.{delivery_of, item_sent_over}
+use Rattle.qrules.specs.Delivery.{delivery_of}
+use Rattle.qrules.proofs.Words.Items.{item_sent_over}
 use Rattle.qmodel.specs.Trace.{SentItem}
 use Rattle.qmodel.specs.declared.call.Call.{Call}
 use Rattle.qmodel.specs.declared.call.Call.TheVariants.{Send, Receive, Reply, Error, Info, ReceivePulse, Pulse, ChannelDestroy, Shutdown, Unblock, ConnectDetach}
@@ -41,9 +46,9 @@ use Rattle.qrules.proofs.Traces.Calls.Taking.{given_is}
 use Rattle.qrules.proofs.Traces.Properties.Rows.Receiving.{ReceiveTakes, receive_takes}
 use Rattle.qrules.proofs.Traces.Properties.Rows.Delivering.{Delivers, delivery_meets}
 use Rattle.qrules.proofs.Traces.Routes.{has_way, leads_over}
-use Rattle.qrules.specs.Private.Calls.ConnectDetach as connect_detach
-use Rattle.qrules.specs.Private.Calls.Unblock as unblock
-use Rattle.qrules.specs.Private.Calls.Pulse as pulse
+use Rattle.qrules.specs.Rules.Connections as connect_detach
+use Rattle.qrules.specs.Rules.Unblock as unblock
+use Rattle.qrules.specs.Rules.Pulse as pulse
 use Rattle.qrules.proofs.Traces.Calls.ConnectDetach.{detach_ends}
 use Rattle.qrules.proofs.Traces.Properties.Rows.Telling.{told_meets, unblock_ends}
 
@@ -94,21 +99,21 @@ answers_by f t c rcvid finish u y named r =
       thread = sym (ap (λ x. x.thread) r.ending);
     }
 
-ends_answers : (f : Facts) (t : ℕ) (c : Call) (u : ℕ) (y : Completion) → Passes f t c → (row_of f t c).ends u ≡ Some y → is_answer y.mark ≡ true → AnswersHeld f t c u y
-ends_answers f t (Send coid message reply_buffer) u y p e is = met_no_answer f (route f t coid) (item f t) message u y (delivery_meets f (route f t coid) (item f t) message u y e) is
+ends_answers : (f : Facts) (t : ℕ) (c : Call) (u : ℕ) (y : Completion) → Passes f t c → (row_of f t c).others u ≡ Some y → is_answer y.mark ≡ true → AnswersHeld f t c u y
+ends_answers f t (Send coid message reply_buffer) u y p e is = met_no_answer f (route f t coid) (message_item f t) message u y (delivery_meets f (route f t coid) (message_item f t) message u y (sym (sent_same f t coid message reply_buffer u p.row) ∙ e)) is
 ends_answers f t (Pulse coid level code value) u y p e is =
-    let k = told_meets f (pulse.sent_pulse f coid level code value) u y e in met_no_answer f (Some k.made.channel) k.made.item [] u y k.delivers is
-ends_answers f t (Reply rcvid status bytes) u y p e is = answers_by f t (Reply rcvid status bytes) rcvid (reply_finish status bytes) u y refl (sender_ends f t rcvid (reply_finish status bytes) u y p.row e)
-ends_answers f t (Error rcvid code) u y p e is = answers_by f t (Error rcvid code) rcvid (error_finish code) u y refl (sender_ends f t rcvid (error_finish code) u y p.row e)
+    let k = told_meets f (pulse.pulse_over f coid level code value) u y (sym (pulse_same f (pulse.pulse_over f coid level code value) u) ∙ e) in met_no_answer f (Some k.made.channel) k.made.item [] u y k.delivers is
+ends_answers f t (Reply rcvid status bytes) u y p e is = answers_by f t (Reply rcvid status bytes) rcvid (reply_finish status bytes) u y refl (sender_ends f t rcvid (reply_finish status bytes) u y p.row (sym (answer_same f (reply_finish status bytes) (sender f rcvid) u) ∙ e))
+ends_answers f t (Error rcvid code) u y p e is = answers_by f t (Error rcvid code) rcvid (error_finish code) u y refl (sender_ends f t rcvid (error_finish code) u y p.row (sym (answer_same f (error_finish code) (sender f rcvid) u) ∙ e))
 ends_answers f t (ChannelDestroy chid) u y p e is = no_answer _ y (cancel_parts (is_on chid) Srch u (f.open_call u) y e).ending refl is
 ends_answers f t Shutdown u y p e is = no_answer _ y (cancel_parts (λ wait. true) Srch u (f.open_call u) y e).ending refl is
-ends_answers f t (Unblock thread) u y p e is = elim (unblock_ends f thread u y (unblock.due_pulse f thread) e) [
+ends_answers f t (Unblock thread) u y p e is = elim (unblock_ends f thread u y (unblock.unblock_pulse f thread) (sym (unblocked_same f t thread u) ∙ e)) [
   | inl cancel ↦ no_answer _ y cancel.ending refl is
   | inr k ↦ met_no_answer f (Some k.made.channel) k.made.item [] u y k.delivers is
 ]
-ends_answers f t (ConnectDetach coid) u y p e is = elim (detach_ends f coid (connect_detach.due_pulse f t coid) u y e) [
+ends_answers f t (ConnectDetach coid) u y p e is = elim (detach_ends f coid (connect_detach.disconnect_pulse f t coid) u y e) [
   | inl cancel ↦ no_answer _ y cancel.ending refl is
-  | inr s ↦ let k = told_meets f (connect_detach.due_pulse f t coid) u y s in met_no_answer f (Some k.made.channel) k.made.item [] u y k.delivers is
+  | inr s ↦ let k = told_meets f (connect_detach.disconnect_pulse f t coid) u y s in met_no_answer f (Some k.made.channel) k.made.item [] u y k.delivers is
 ]
 ends_answers f t c u y p e is = absurd (none-some y e)
 
@@ -126,12 +131,12 @@ pub record AnswersOne (f : Facts) (t : ℕ) (c : Call) (i : ℕ) : Type 0 where
   pub waiting : OpenCall
   pub is_open : f.open_call thread ≡ Some waiting
   pub given : Completion
-  pub is : (row_of f t c).ends thread ≡ Some given
+  pub is : (row_of f t c).others thread ≡ Some given
   pub call : given.call ≡ i
   pub answers : is_answer given.mark ≡ true
 
 -- a call that ends the sender of the message that it names ends it so
-ends_one : (f : Facts) (t : ℕ) (c : Call) (rcvid : ℕ) (finish : Finish) (i : ℕ) → refusal f t rcvid ≡ None → ((u : ℕ) → (row_of f t c).ends u ≡ ends_sender f finish (sender f rcvid) u)
+ends_one : (f : Facts) (t : ℕ) (c : Call) (rcvid : ℕ) (finish : Finish) (i : ℕ) → refusal_unless_held f t rcvid ≡ None → ((u : ℕ) → (row_of f t c).others u ≡ ends_sender f finish (sender f rcvid) u)
     → ((buffer : List ℕ) → is_answer (finish buffer).0 ≡ true) → rcvid ≡ i → AnswersOne f t c i
 ends_one f t c rcvid finish i passed ends marks same =
     let s = has_sender f t rcvid passed in
@@ -150,12 +155,12 @@ ends_one f t c rcvid finish i passed ends marks same =
     }
 
 -- an Error marks an answer
-error_answers : (code : ℤ) → is_answer (mark_of code) ≡ true
+error_answers : (code : ℤ) → is_answer (error_mark code) ≡ true
 error_answers code = elim (int_eq code (pos 0)) as (λ b. is_answer (cond b (mark.Replied (pos 0) 0) (mark.Errored code)) ≡ true) [ true ↦ refl | false ↦ refl ]
 
 pub answers_one : (f : Facts) (t : ℕ) (c : Call) (i : ℕ) → Passes f t c → (effect_of c).answers ≡ Some i → AnswersOne f t c i
-answers_one f t (Reply rcvid status bytes) i p e = ends_one f t (Reply rcvid status bytes) rcvid (reply_finish status bytes) i p.row (λ u. refl) (λ buffer. refl) (same_Some rcvid i e)
-answers_one f t (Error rcvid code) i p e = ends_one f t (Error rcvid code) rcvid (error_finish code) i p.row (λ u. refl) (λ buffer. error_answers code) (same_Some rcvid i e)
+answers_one f t (Reply rcvid status bytes) i p e = ends_one f t (Reply rcvid status bytes) rcvid (reply_finish status bytes) i p.row (λ u. answer_same f (reply_finish status bytes) (sender f rcvid) u) (λ buffer. refl) (same_Some rcvid i e)
+answers_one f t (Error rcvid code) i p e = ends_one f t (Error rcvid code) rcvid (error_finish code) i p.row (λ u. answer_same f (error_finish code) (sender f rcvid) u) (λ buffer. error_answers code) (same_Some rcvid i e)
 answers_one f t c i p e = absurd (none-some i e)
 
 -- ---- what waits for an answer
@@ -180,8 +185,8 @@ send_over f t coid message reply_buffer p =
     record {
       connection = l.connection;
       is_connection = l.is;
-      made = record { item = item f t; channel = l.connection.channel };
-      is_made = ap (λ o. item_sent_over o (item f t)) l.is;
+      made = record { item = message_item f t; channel = l.connection.channel };
+      is_made = ap (λ o. item_sent_over o (message_item f t)) l.is;
       channel = refl;
     }
 

@@ -10,13 +10,13 @@ use Rattle.qqueue.specs.declared.item.Item.{Item}
 use Rattle.qqueue.specs.declared.item.Kind.{Kind}
 use Rattle.qtables.specs.Members.{IsRoster}
 use Rattle.qtables.specs.declared.member.Member.{Member}
-use Rattle.qrules.specs.Private.Answer.{Outcome}
+use Rattle.qrules.specs.Outcome.{Outcome}
 use Rattle.qrules.specs.Properties.{request_of, takeable, BestFirst, TakesBest}
 use Rattle.qrules.specs.Rule.{ReceiveRequest}
 use Rattle.qrules.specs.Rules.{effect_of}
 use Rattle.qrules.specs.Trace.{call_at}
-use Rattle.qrules.specs.Private.Lawful.{facts_of, IsLawful}
-use Rattle.qrules.specs.Private.Past.{pending_items, made_on}
+use Rattle.qrules.proofs.Words.Lawful.{facts_of, IsLawful}
+use Rattle.qrules.proofs.Words.Past.{pending_items, made_on}
 use Rattle.qmodel.specs.Trace.{Event, Trace}
 use Rattle.qmodel.specs.declared.call.Call.{Call}
 use Rattle.qmodel.specs.declared.call.Completion.{Completion}
@@ -86,7 +86,7 @@ pub best_first : (roster : List Member) (past : Trace) → IsRoster roster → I
 best_first roster [] r l = tt
 best_first roster (e ∷ past) r l = (
   best_first roster past r l.0,
-  each_received (λ x i. TakesBest roster past e x i) roster past e.thread e.call e.endings l.2 (λ u y i a k.
+  each_received (λ x i. TakesBest roster past e x i) roster past e.thread e.call e.endings l.1.1 (λ u y i a k.
       elim k as (λ _. TakesBest roster past e y i) [
         | inl k ↦ takes_pending roster past e u y i k
         | inr k ↦ takes_made roster past e u y i r l.0 a k

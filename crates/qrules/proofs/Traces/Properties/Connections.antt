@@ -9,10 +9,10 @@ use Rattle.qtables.specs.declared.connection.Connection.{Connection}
 use Rattle.qtables.specs.declared.member.Member.{Member}
 use Rattle.qrules.specs.Properties.{connection_of, takeable}
 use Rattle.qrules.specs.Trace.{call_at}
-use Rattle.qrules.specs.Private.Effects.{makes}
+use Rattle.qrules.proofs.Words.Effects.{makes}
 use Rattle.qrules.specs.Rules.{effect_of}
-use Rattle.qrules.specs.Private.Past.{item_of, pending_items, priority_before, attached_connection, made_on}
-use Rattle.qrules.specs.Private.Rows.{message_item, pulse_item, item_sent_over}
+use Rattle.qrules.proofs.Words.Past.{item_of, pending_items, priority_before, attached_connection, made_on}
+use Rattle.qrules.proofs.Words.Items.{message_numbered, pulse_item, item_sent_over}
 use Rattle.qmodel.specs.Trace.{SentItem, Event, Trace}
 use Rattle.qmodel.specs.declared.call.Call.{Call}
 use Rattle.qmodel.specs.declared.call.Call.TheVariants.{Send, Pulse}
@@ -20,8 +20,8 @@ use Rattle.qrules.proofs.Traces.Past.Items.{before_earlier, before_newest, item_
 use Rattle.qbase.proofs.Lists.{all_append, all_more}
 use Rattle.qrules.proofs.Traces.Past.Pending.{made_all}
 use Rattle.qrules.proofs.Traces.Properties.Sends.{made_stays}
-use Rattle.qrules.specs.Private.Facts.{Facts}
-use Rattle.qrules.specs.Private.Lawful.{facts_of}
+use Rattle.qrules.proofs.Words.Facts.{Facts}
+use Rattle.qrules.proofs.Words.Lawful.{facts_of}
 use Rattle.qrules.proofs.Traces.Past.Connections.{live_attached}
 
 -- ---- each is an item of the channel
@@ -71,7 +71,7 @@ sent_is_over connection k item m e =
 makes_over : (f : Facts) (t : ℕ) (c : Call) (m : SentItem) (k : ℕ) → makes f t c ≡ Some m → sends_over c ≡ Some k → IsOver f.connection k m
 makes_over f t (Pulse coid level code value) m k e s = subst (λ i. IsOver f.connection i m) (same_Some coid k s) (sent_is_over f.connection coid (pulse_item f.number level code value) m e)
 makes_over f t (Send coid message reply_buffer) m k e s =
-    subst (λ i. IsOver f.connection i m) (same_Some coid k s) (sent_is_over f.connection coid (message_item f.number (f.priority t)) m e)
+    subst (λ i. IsOver f.connection i m) (same_Some coid k s) (sent_is_over f.connection coid (message_numbered f.number (f.priority t)) m e)
 makes_over f t c m k e s = absurd (none-some k s)
 
 pub item_over : (roster : List Member) (past : Trace) (i k : ℕ) (m : SentItem) → item_at roster past i ≡ Some m → connection_of past i ≡ Some k → IsOver (attached_connection roster past) k m

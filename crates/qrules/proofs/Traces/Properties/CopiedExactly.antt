@@ -1,4 +1,5 @@
 -- Every buffer and every count is what was to be copied.
+use Rattle.qrules.proofs.Traces.Rows.{answer_same, pulse_same, sent_same, unblocked_same}
 use Rattle.std.proofs.Common.{◌≡◌, ◌∙◌, ℕ, ◌+◌, ◌≤◌, List, [], ◌∷◌, length, refl, ap, sym, subst, cond, arith, Bool, true, false, inl, inr}
 use Rattle.std.specs.Prelude.{ℤ, pos, Option, None, Some}
 use Rattle.std.specs.List.{AllByRecursion}
@@ -14,23 +15,29 @@ use Rattle.qqueue.specs.declared.item.Kind.{Kind}
 use Rattle.qqueue.specs.declared.item.Kind.TheVariants.{Any, PulseOnly}
 use Rattle.qbase.specs.Laying.{laid_count, lay_over}
 use Rattle.qtables.specs.declared.member.Member.{Member}
-use Rattle.qrules.specs.Private.Answer.{ending, Answers}
-use Rattle.qrules.specs.Private.Calls.{row_of}
+use Rattle.qrules.specs.Outcome.{ending, Answers}
+use Rattle.qrules.specs.Rules.{row_of}
 use Rattle.qmodel.specs.Buffers.{buffer_of}
-use Rattle.qrules.specs.Private.Effects.{writes}
-use Rattle.qrules.specs.Private.Calls.Error.{error_finish}
-use Rattle.qrules.specs.Private.Calls.Info.{info_of, info_ending}
-use Rattle.qrules.specs.Private.Calls.Reply.{reply_finish}
-use Rattle.qrules.specs.Private.Calls.Send as send
-use Rattle.qrules.specs.Private.Cancelling.{cancel_call, is_on, is_over}
-use Rattle.qrules.specs.Private.Facts.{Facts, message, message_in, sender, threads_of, route, number_of}
-use Rattle.qrules.specs.Private.Held.{Finish, refusal, reply_buffer, reply_buffer_in}
+use Rattle.qrules.proofs.Words.Effects.{writes}
+use Rattle.qrules.proofs.Traces.Parts.{error_finish}
+use Rattle.qrules.specs.Rules.Held.{info_of}
+use Rattle.qrules.proofs.Words.Items.{info_ending}
+use Rattle.qrules.proofs.Traces.Parts.{reply_finish}
+use Rattle.qrules.proofs.Words.Items.{message_item}
+use Rattle.qrules.specs.Delivery.{cancel_call, is_on, is_over}
+use Rattle.qrules.proofs.Words.Facts.{Facts, message, sender, threads_of, route, number_of}
+use Rattle.qrules.specs.Records.{message_in}
+use Rattle.qrules.specs.Rules.Held.{refusal_unless_held}
+use Rattle.qrules.proofs.Words.Items.{Finish}
+use Rattle.qrules.proofs.Words.Facts.{reply_buffer}
+use Rattle.qrules.specs.Records.{reply_buffer_in}
+use Rattle.qrules.proofs.Messages.{message_same, reply_buffer_same}
 use Rattle.qrules.specs.Properties.{buffer_at, message_at, CopiedExactly, IsCopied}
 use Rattle.qrules.specs.Rules.{effect_of}
 use Rattle.qrules.specs.Trace.{call_at}
-use Rattle.qrules.specs.Private.Lawful.{facts_of, IsLawful}
-use Rattle.qrules.specs.Private.Past.{open_call, refuses}
-use Rattle.qrules.specs.Private.Rows.{receipt_ending}
+use Rattle.qrules.proofs.Words.Lawful.{facts_of, IsLawful}
+use Rattle.qrules.proofs.Words.Past.{open_call, refuses}
+use Rattle.qrules.specs.Delivery.{receipt_ending}
 use Rattle.qmodel.specs.Trace.{SentItem, Event, Trace}
 use Rattle.qmodel.specs.declared.call.Call.{Call}
 use Rattle.qmodel.specs.declared.call.Call.TheVariants.{Send, Receive, Reply, Error, Read, Write, Info, ReceivePulse, Pulse, ChannelDestroy, Shutdown, Unblock, ConnectDetach}
@@ -56,9 +63,9 @@ use Rattle.qrules.proofs.Traces.Calls.Cancelling.{IsCutCall, cancel_parts}
 use Rattle.qrules.proofs.Traces.Calls.Held.{IsHeldFor, SenderEnds, answering, has_sender, held_for, sender_ends}
 use Rattle.qrules.proofs.Traces.Properties.Rows.Delivering.{Delivers, delivery_meets}
 use Rattle.qrules.proofs.Traces.Properties.Rows.Telling.{Tells, told_meets, unblock_ends}
-use Rattle.qrules.specs.Private.Calls.ConnectDetach as connect_detach
-use Rattle.qrules.specs.Private.Calls.Unblock as unblock
-use Rattle.qrules.specs.Private.Calls.Pulse as pulse
+use Rattle.qrules.specs.Rules.Connections as connect_detach
+use Rattle.qrules.specs.Rules.Unblock as unblock
+use Rattle.qrules.specs.Rules.Pulse as pulse
 use Rattle.qrules.proofs.Traces.Calls.Pulse.{sent_is_pulse}
 use Rattle.qrules.proofs.Traces.Calls.ConnectDetach as detaching
 use Rattle.qrules.proofs.Traces.Calls.ConnectDetach.{detach_ends}
@@ -107,19 +114,19 @@ held_number f t rcvid s is h =
     sym (ap number_of (same_Some k.waiting (InSend h.send) (sym k.is ∙ h.is_open))) ∙ k.number
 
 -- its message is that of the call of its number, and its buffer that call's so far
-held_message : (roster : List Member) (past : Trace) (t rcvid : ℕ) → refusal (facts_of roster past) t rcvid ≡ None → message (facts_of roster past) rcvid ≡ message_at past rcvid
+held_message : (roster : List Member) (past : Trace) (t rcvid : ℕ) → refusal_unless_held (facts_of roster past) t rcvid ≡ None → message (facts_of roster past) rcvid ≡ message_at past rcvid
 held_message roster past t rcvid passed =
     let f = facts_of roster past in
     let s = has_sender f t rcvid passed in
     let h = held_for f t rcvid s.0 passed s.1 in
-    ap message_in (held_call_is f t rcvid s.0 s.1 h) ∙ sym (open_message roster past s.0 (InSend h.send) h.is_open) ∙ ap (message_at past) (held_number f t rcvid s.0 s.1 h)
+    message_same f rcvid ∙ ap message_in (held_call_is f t rcvid s.0 s.1 h) ∙ sym (open_message roster past s.0 (InSend h.send) h.is_open) ∙ ap (message_at past) (held_number f t rcvid s.0 s.1 h)
 
-held_buffer : (roster : List Member) (past : Trace) (t rcvid : ℕ) → refusal (facts_of roster past) t rcvid ≡ None → reply_buffer (facts_of roster past) rcvid ≡ buffer_at past rcvid
+held_buffer : (roster : List Member) (past : Trace) (t rcvid : ℕ) → refusal_unless_held (facts_of roster past) t rcvid ≡ None → reply_buffer (facts_of roster past) rcvid ≡ buffer_at past rcvid
 held_buffer roster past t rcvid passed =
     let f = facts_of roster past in
     let s = has_sender f t rcvid passed in
     let h = held_for f t rcvid s.0 passed s.1 in
-    ap reply_buffer_in (held_call_is f t rcvid s.0 s.1 h) ∙ sym (open_buffer roster past s.0 (InSend h.send) h.is_open) ∙ ap (buffer_at past) (held_number f t rcvid s.0 s.1 h)
+    reply_buffer_same f rcvid ∙ ap reply_buffer_in (held_call_is f t rcvid s.0 s.1 h) ∙ sym (open_buffer roster past s.0 (InSend h.send) h.is_open) ∙ ap (buffer_at past) (held_number f t rcvid s.0 s.1 h)
 
 -- ---- the forms of an ending
 
@@ -207,31 +214,31 @@ told_now : (roster : List Member) (past : Trace) (t : ℕ) (c : Call) (X : List 
 told_now roster past t c X u y o none pulse k =
     met_copied roster past t c X u y (Some k.made.channel) k.made.item [] none (λ message. absurd (true≢false (sym (pulse k.made k.is_due) ∙ message))) k.delivers
 
-ends_copied : (roster : List Member) (past : Trace) (t : ℕ) (c : Call) (X : List Completion) (u : ℕ) (y : Completion) → Passes (facts_of roster past) t c → (row_of (facts_of roster past) t c).ends u ≡ Some y
+ends_copied : (roster : List Member) (past : Trace) (t : ℕ) (c : Call) (X : List Completion) (u : ℕ) (y : Completion) → Passes (facts_of roster past) t c → (row_of (facts_of roster past) t c).others u ≡ Some y
     → IsCopied past (event t c X) y y.mark
 ends_copied roster past t (ChannelDestroy chid) X u y p e = cancel_copied roster past t (ChannelDestroy chid) X u y (is_on chid) Srch refl (cancel_parts (is_on chid) Srch u (open_call roster past u) y e)
 ends_copied roster past t Shutdown X u y p e = cancel_copied roster past t Shutdown X u y (λ o. true) Srch refl (cancel_parts (λ o. true) Srch u (open_call roster past u) y e)
-ends_copied roster past t (Unblock thread) X u y p e = elim (unblock_ends (facts_of roster past) thread u y (unblock.due_pulse (facts_of roster past) thread) e) [
+ends_copied roster past t (Unblock thread) X u y p e = elim (unblock_ends (facts_of roster past) thread u y (unblock.unblock_pulse (facts_of roster past) thread) (sym (unblocked_same (facts_of roster past) t thread u) ∙ e)) [
   | inl cancel ↦ cancel_copied roster past t (Unblock thread) X u y (is_cancelled (facts_of roster past) thread u) Intr refl cancel
-  | inr k ↦ told_now roster past t (Unblock thread) X u y (unblock.due_pulse (facts_of roster past) thread) refl (λ m is. unblocking.due_is_pulse (facts_of roster past) thread m is) k
+  | inr k ↦ told_now roster past t (Unblock thread) X u y (unblock.unblock_pulse (facts_of roster past) thread) refl (λ m is. unblocking.due_is_pulse (facts_of roster past) thread m is) k
 ]
-ends_copied roster past t (ConnectDetach coid) X u y p e = elim (detach_ends (facts_of roster past) coid (connect_detach.due_pulse (facts_of roster past) t coid) u y e) [
+ends_copied roster past t (ConnectDetach coid) X u y p e = elim (detach_ends (facts_of roster past) coid (connect_detach.disconnect_pulse (facts_of roster past) t coid) u y e) [
   | inl cancel ↦ cancel_copied roster past t (ConnectDetach coid) X u y (is_over coid) Badf refl cancel
-  | inr s ↦ told_now roster past t (ConnectDetach coid) X u y (connect_detach.due_pulse (facts_of roster past) t coid) refl (λ m is. detaching.due_is_pulse (facts_of roster past) t coid m is)
-      (told_meets (facts_of roster past) (connect_detach.due_pulse (facts_of roster past) t coid) u y s)
+  | inr s ↦ told_now roster past t (ConnectDetach coid) X u y (connect_detach.disconnect_pulse (facts_of roster past) t coid) refl (λ m is. detaching.due_is_pulse (facts_of roster past) t coid m is)
+      (told_meets (facts_of roster past) (connect_detach.disconnect_pulse (facts_of roster past) t coid) u y s)
 ]
 ends_copied roster past t (Send coid sent reply_buffer) X u y p e =
-    met_copied roster past t (Send coid sent reply_buffer) X u y (route (facts_of roster past) t coid) (send.item (facts_of roster past) t) sent refl (λ message. message_newest (event t (Send coid sent reply_buffer) X) past)
-    (delivery_meets (facts_of roster past) (route (facts_of roster past) t coid) (send.item (facts_of roster past) t) sent u y e)
+    met_copied roster past t (Send coid sent reply_buffer) X u y (route (facts_of roster past) t coid) (message_item (facts_of roster past) t) sent refl (λ message. message_newest (event t (Send coid sent reply_buffer) X) past)
+    (delivery_meets (facts_of roster past) (route (facts_of roster past) t coid) (message_item (facts_of roster past) t) sent u y (sym (sent_same (facts_of roster past) t coid sent reply_buffer u p.row) ∙ e))
 ends_copied roster past t (Pulse coid level code value) X u y p e =
-    let o = pulse.sent_pulse (facts_of roster past) coid level code value in
-    told_now roster past t (Pulse coid level code value) X u y o refl (λ m is. sent_is_pulse (facts_of roster past) coid level code value m is) (told_meets (facts_of roster past) o u y e)
+    let o = pulse.pulse_over (facts_of roster past) coid level code value in
+    told_now roster past t (Pulse coid level code value) X u y o refl (λ m is. sent_is_pulse (facts_of roster past) coid level code value m is) (told_meets (facts_of roster past) o u y (sym (pulse_same (facts_of roster past) o u) ∙ e))
 ends_copied roster past t (Reply rcvid status bytes) X u y p e =
-    let r = sender_ends (facts_of roster past) t rcvid (reply_finish status bytes) u y p.row e in
+    let r = sender_ends (facts_of roster past) t rcvid (reply_finish status bytes) u y p.row (sym (answer_same (facts_of roster past) (reply_finish status bytes) (sender (facts_of roster past) rcvid) u) ∙ e) in
     let v = event t (Reply rcvid status bytes) X in
     replied_copied past v rcvid u status bytes r.held.send.reply_buffer y refl (answered_buffer roster past v t rcvid (reply_finish status bytes) u y refl r) r.ending
 ends_copied roster past t (Error rcvid code) X u y p e =
-    let r = sender_ends (facts_of roster past) t rcvid (error_finish code) u y p.row e in
+    let r = sender_ends (facts_of roster past) t rcvid (error_finish code) u y p.row (sym (answer_same (facts_of roster past) (error_finish code) (sender (facts_of roster past) rcvid) u) ∙ e) in
     let v = event t (Error rcvid code) X in
     errored_copied past v rcvid u code r.held.send.reply_buffer y refl (answered_buffer roster past v t rcvid (error_finish code) u y refl r) r.ending
 ends_copied roster past t c X u y p e = absurd (none-some y e)
@@ -262,4 +269,4 @@ all_copied roster past t c X l a = elim a [
 
 pub copied_exactly : (roster : List Member) (past : Trace) → IsLawful roster past → CopiedExactly past
 copied_exactly roster [] l = tt
-copied_exactly roster (e ∷ past) l = (copied_exactly roster past l.0, all_copied roster past e.thread e.call e.endings l.0 l.2)
+copied_exactly roster (e ∷ past) l = (copied_exactly roster past l.0, all_copied roster past e.thread e.call e.endings l.0 l.1.1)

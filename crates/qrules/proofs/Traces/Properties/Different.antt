@@ -6,7 +6,7 @@ use Rattle.std.specs.Option.{option_and_then}
 use Rattle.qtables.specs.declared.member.Member.{Member}
 use Rattle.qtables.specs.Members.{IsRoster}
 use Rattle.qmodel.specs.declared.call.Completion.{Completion}
-use Rattle.qrules.specs.Private.Facts.{threads_of}
+use Rattle.qrules.proofs.Words.Facts.{threads_of}
 use Rattle.qrules.specs.Properties.{AllDifferent}
 use Rattle.qbase.proofs.Lists.{all_append}
 

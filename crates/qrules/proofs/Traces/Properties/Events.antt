@@ -5,12 +5,12 @@ use Rattle.std.specs.List.{AllByRecursion}
 use Rattle.std.proofs.lemmas.Bool.{true≢false}
 use Rattle.std.proofs.lemmas.Option.{none-some}
 use Rattle.qtables.specs.declared.member.Member.{Member}
-use Rattle.qrules.specs.Private.Answer.{ending, Outcome, Answers}
-use Rattle.qrules.specs.Private.Facts.{Facts, threads_of}
+use Rattle.qrules.specs.Outcome.{ending, Outcome, Answers}
+use Rattle.qrules.proofs.Words.Facts.{Facts, threads_of}
 use Rattle.qrules.specs.Properties.{number_received}
-use Rattle.qrules.specs.Private.Lawful.{facts_of}
-use Rattle.qrules.specs.Private.Past.{is_accepted, item_of}
-use Rattle.qrules.specs.Private.Effects.{makes}
+use Rattle.qrules.proofs.Words.Lawful.{facts_of}
+use Rattle.qrules.proofs.Words.Past.{is_accepted, item_of}
+use Rattle.qrules.proofs.Words.Effects.{makes}
 use Rattle.qmodel.specs.Trace.{SentItem, Event, Trace}
 use Rattle.qmodel.specs.declared.call.Call.{Call}
 use Rattle.qmodel.specs.declared.call.Completion.{Completion}

@@ -7,14 +7,16 @@ use Rattle.std.proofs.lemmas.Option.{none-some, same_Some}
 use Rattle.qqueue.specs.Best.{is_pulse}
 use Rattle.qqueue.specs.declared.item.Item.{Item}
 use Rattle.qtables.specs.declared.member.Member.{Member}
-use Rattle.qrules.specs.Private.Facts.{is_for_answer, message, message_in, message_of, sender, threads_of, is_send, Facts, number_of, held_call, with_buffer}
+use Rattle.qrules.proofs.Messages.{message_same}
+use Rattle.qrules.proofs.Words.Facts.{is_for_answer, message, sender, threads_of, is_send, Facts, number_of}
+use Rattle.qrules.specs.Records.{message_in, message_of, held_call, with_buffer}
 use Rattle.qrules.specs.Properties.{buffer_at, message_at}
 use Rattle.qrules.specs.Rule.{buffer_of}
 use Rattle.qrules.specs.Rules.{effect_of}
-use Rattle.qrules.specs.Private.Lawful.{facts_of, IsLawful}
-use Rattle.qrules.specs.Private.Past.{has_ending_of, is_ended, item_of, open_call, with_writes, block, filled}
-use Rattle.qrules.specs.Private.Effects.{asks, makes}
-use Rattle.qrules.specs.Private.Rows.{pulse_item}
+use Rattle.qrules.proofs.Words.Lawful.{facts_of, IsLawful}
+use Rattle.qrules.proofs.Words.Past.{has_ending_of, is_ended, item_of, open_call, with_writes, block, filled}
+use Rattle.qrules.proofs.Words.Effects.{asks, makes}
+use Rattle.qrules.proofs.Words.Items.{pulse_item}
 use Rattle.qmodel.specs.Trace.{SentItem, Event, Trace}
 use Rattle.qmodel.specs.declared.call.Call.{Call}
 use Rattle.qmodel.specs.declared.call.Call.TheVariants.{Send, Receive, ReceivePulse, Pulse, Unblock, ConnectDetach}
@@ -33,7 +35,6 @@ use Rattle.qrules.proofs.Traces.Properties.Sends.{open_filled, open_keeps}
 use Rattle.qrules.proofs.Traces.Calls.ConnectDetach as detaching
 use Rattle.qrules.proofs.Traces.Calls.Unblock.{due_is_pulse}
 use Rattle.qrules.proofs.Traces.Rosters.{known}
-use Rattle.qrules.proofs.Traces.Due.{unblock_same}
 use Rattle.qrules.proofs.Traces.Past.Open.{open_from, filled_answer, open_parts, open_thread, receipt_for_answer, kept, kept_number}
 use Rattle.qrules.specs.Past.{channel_of}
 use Rattle.qmodel.specs.OpenCalls.{buffer_in}
@@ -46,7 +47,7 @@ message_sent c = option_map_or (λ s. s.message) (effect_of c).sends []
 
 -- the buffer of call i, where it is this call
 abbrev pub buffer_by : Trace → ℕ → Call → List ℕ
-buffer_by past i c = cond (is_some (effect_of c).sends) (with_writes past i (buffer_of (effect_of c))) (buffer_of (effect_of c))
+buffer_by past i c = cond (is_some (effect_of c).sends) (with_writes past i (buffer_of c)) (buffer_of c)
 
 -- a call that begins to wait keeps its buffer, which is written over, and its message
 pub record Keeps (past : Trace) (n : ℕ) (c : Call) (b : OpenCall) : Type 0 where
@@ -94,7 +95,7 @@ pub record IsMessage (n t : ℕ) (c : Call) (m : SentItem) : Type 0 where
   pub answer : is_for_answer begins ≡ true
 
 pub makes_message : (f : Facts) (t : ℕ) (c : Call) (m : SentItem) → makes f t c ≡ Some m → is_pulse m.item.what ≡ false → IsMessage f.number t c m
-makes_message f t (Unblock thread) m e message = absurd (true≢false (sym (due_is_pulse f thread m (sym (unblock_same f thread) ∙ e)) ∙ message))
+makes_message f t (Unblock thread) m e message = absurd (true≢false (sym (due_is_pulse f thread m (e)) ∙ message))
 makes_message f t (ConnectDetach coid) m e message = absurd (true≢false (sym (detaching.due_is_pulse f t coid m e) ∙ message))
 makes_message f t (Pulse coid level code value) m e message =
     absurd (true≢false (ap (λ x. is_pulse x.what) (sym (sent_item (f.connection coid) (pulse_item f.number level code value) m e)) ∙ message))
@@ -121,7 +122,7 @@ pub block_stays : (roster : List Member) (e : Event) (past : Trace) (u : ℕ) (b
 block_stays roster e past u b l is going =
     elim (blocks roster e past u) as (λ t. blocks roster e past u ≡ t → cond t (asks (length past + 1) u (channel_of (item_of roster e past)) e.call) (block roster past u) ≡ Some b) [
       | true ↦ λ h.
-          let a = outcome_of roster e past l.2 (and_parts _ _ (and_parts _ _ h).0).1 in
+          let a = outcome_of roster e past l.1.1 (and_parts _ _ (and_parts _ _ h).0).1 in
           let idle : open_call roster past e.thread ≡ None = (passes_of (facts_of roster past) e.thread e.call e.endings a).idle in
           absurd (none-some _ (sym idle ∙ ap (open_call roster past) (blocks_thread roster e past u h) ∙ open_from roster past u b is going))
       | false ↦ λ h. is
@@ -171,4 +172,5 @@ pending_message roster past h item l p sent =
     sender_found (open_call roster past) item.number (threads_of roster) w.thread (known roster w.thread (open_known roster past w.thread o l is)) sends (λ v e.
     let s = send_parts item.number (open_call roster past v) e in
     open_thread roster past v w.thread s.waiting o s.is is (s.number ∙ sym number)) in
-    ap (λ s. message_in (option_and_then (open_call roster past) s)) found ∙ ap message_in is ∙ sym (open_message roster past w.thread o is) ∙ ap (message_at past) number
+    message_same (facts_of roster past) item.number
+    ∙ ap (λ s. message_in (option_and_then (open_call roster past) s)) found ∙ ap message_in is ∙ sym (open_message roster past w.thread o is) ∙ ap (message_at past) number

@@ -1,4 +1,5 @@
 -- An ending that receives an item: the caller's own of what was pending, or of a thread that waited for what the call makes.
+use Rattle.qrules.proofs.Traces.Rows.{answer_same, pulse_same, sent_same, unblocked_same}
 use Rattle.std.proofs.Common.{◌≡◌, ◌∙◌, ℕ, List, [], ap, refl, sym, cond, eqb, true, false, inl, inr, ◌⊎◌}
 use Rattle.std.specs.Prelude.{Option, None, Some}
 use Rattle.std.specs.Option.{option_map}
@@ -9,19 +10,19 @@ use Rattle.qqueue.specs.Best.{best_of, may_take}
 use Rattle.qqueue.specs.declared.item.Item.{Item}
 use Rattle.qqueue.specs.declared.item.Kind.{Kind}
 use Rattle.qqueue.specs.declared.item.Kind.TheVariants.{Any, PulseOnly}
-use Rattle.qrules.specs.Private.Answer.{ending}
-use Rattle.qrules.specs.Private.Calls.{row_of}
-use Rattle.qrules.specs.Private.Calls.Error.{error_finish}
-use Rattle.qrules.specs.Private.Calls.Info.{info_of}
-use Rattle.qrules.specs.Private.Calls.Reply.{reply_finish}
-use Rattle.qrules.specs.Private.Calls.Send.{item}
-use Rattle.qrules.specs.Private.Cancelling.{is_on}
-use Rattle.qrules.specs.Private.Facts.{Facts, message, sender, route, number_of}
-use Rattle.qrules.specs.Private.Effects.{makes}
+use Rattle.qrules.specs.Outcome.{ending}
+use Rattle.qrules.specs.Rules.{row_of}
+use Rattle.qrules.proofs.Traces.Parts.{error_finish}
+use Rattle.qrules.specs.Rules.Held.{info_of}
+use Rattle.qrules.proofs.Traces.Parts.{reply_finish}
+use Rattle.qrules.proofs.Words.Items.{message_item}
+use Rattle.qrules.specs.Delivery.{is_on}
+use Rattle.qrules.proofs.Words.Facts.{Facts, message, sender, route, number_of}
+use Rattle.qrules.proofs.Words.Effects.{makes}
 use Rattle.qrules.specs.Rule.{ReceiveRequest}
 use Rattle.qrules.specs.Rules.{effect_of}
 use Rattle.qrules.specs.Properties.{number_received}
-use Rattle.qrules.specs.Private.Rows.{item_in}
+use Rattle.qrules.proofs.Words.Items.{item_in}
 use Rattle.qmodel.specs.Trace.{SentItem}
 use Rattle.qmodel.specs.declared.call.Call.{Call}
 use Rattle.qmodel.specs.declared.call.Call.TheVariants.{Send, Receive, Reply, Error, Info, ReceivePulse, Pulse, ChannelDestroy, Shutdown, Unblock, ConnectDetach}
@@ -36,21 +37,20 @@ use Rattle.qrules.proofs.Traces.Calls.Cancelling.{cancel_parts}
 use Rattle.qrules.proofs.Traces.Calls.Error.{no_receipt}
 use Rattle.qrules.proofs.Traces.Calls.Held.{sender_ends}
 use Rattle.qrules.proofs.Traces.Calls.Info.{plain}
-use Rattle.qrules.specs.Private.Calls.ConnectDetach as connect_detach
-use Rattle.qrules.specs.Private.Calls.Unblock as unblock
-use Rattle.qrules.specs.Private.Calls.Pulse as pulse
+use Rattle.qrules.specs.Rules.Connections as connect_detach
+use Rattle.qrules.specs.Rules.Unblock as unblock
+use Rattle.qrules.specs.Rules.Pulse as pulse
 use Rattle.qrules.proofs.Traces.Calls.ConnectDetach.{detach_ends}
 use Rattle.qrules.proofs.Traces.Properties.Rows.Telling.{Tells, told_meets, unblock_ends}
 use Rattle.qrules.proofs.Traces.Calls.Delivering.{sent_way}
 use Rattle.qrules.specs.Past.{ReceivedItem}
-use Rattle.qrules.proofs.Traces.Due.{unblock_same}
 
 -- ---- whose ending it is
 
 pub ending_of : (f : Facts) (t : ℕ) (c : Call) (u : ℕ) (y : Completion) → ending f t c u ≡ Some y
-    → ((u ≡ t) × ((row_of f t c).own ≡ Some y)) ⊎ ((eqb u t ≡ false) × ((row_of f t c).ends u ≡ Some y))
+    → ((u ≡ t) × ((row_of f t c).own ≡ Some y)) ⊎ ((eqb u t ≡ false) × ((row_of f t c).others u ≡ Some y))
 ending_of f t c u y e =
-    elim (eqb u t) as (λ b. eqb u t ≡ b → cond b (row_of f t c).own ((row_of f t c).ends u) ≡ Some y → ((u ≡ t) × ((row_of f t c).own ≡ Some y)) ⊎ ((eqb u t ≡ false) × ((row_of f t c).ends u ≡ Some y))) [
+    elim (eqb u t) as (λ b. eqb u t ≡ b → cond b (row_of f t c).own ((row_of f t c).others u) ≡ Some y → ((u ≡ t) × ((row_of f t c).own ≡ Some y)) ⊎ ((eqb u t ≡ false) × ((row_of f t c).others u ≡ Some y))) [
       | true ↦ λ same s. inl (eqb-true u t same, s)
       | false ↦ λ other s. inr (other, s)
     ] refl e
@@ -137,24 +137,24 @@ takes_told : (f : Facts) (t : ℕ) (c : Call) (o : Option SentItem) (u : ℕ) (y
 takes_told f t c o u y p made k m =
     takes_met f t c (Some k.made.channel) k.made.item [] u y p k.delivers (λ h s. made ∙ k.is_due ∙ ap (λ n. Some (record { item = k.made.item; channel = n })) (same_Some k.made.channel h s)) m
 
-ends_takes : (f : Facts) (t : ℕ) (c : Call) (u : ℕ) (y : Completion) (p : ReceivedItem) → (row_of f t c).refusal ≡ None → (row_of f t c).ends u ≡ Some y → item_in y.mark ≡ Some p → TakesOne f t c u y p.number
+ends_takes : (f : Facts) (t : ℕ) (c : Call) (u : ℕ) (y : Completion) (p : ReceivedItem) → (row_of f t c).refusal ≡ None → (row_of f t c).others u ≡ Some y → item_in y.mark ≡ Some p → TakesOne f t c u y p.number
 ends_takes f t (Reply rcvid status bytes) u y p r e m =
-    absurd (none-some p (sym (answer_receives f t rcvid (reply_finish status bytes) u y (λ buffer. refl) (sender_ends f t rcvid (reply_finish status bytes) u y r e)) ∙ m))
-ends_takes f t (Error rcvid code) u y p r e m = absurd (none-some p (sym (answer_receives f t rcvid (error_finish code) u y (λ buffer. no_receipt code) (sender_ends f t rcvid (error_finish code) u y r e)) ∙ m))
+    absurd (none-some p (sym (answer_receives f t rcvid (reply_finish status bytes) u y (λ buffer. refl) (sender_ends f t rcvid (reply_finish status bytes) u y r (sym (answer_same f (reply_finish status bytes) (sender f rcvid) u) ∙ e))) ∙ m))
+ends_takes f t (Error rcvid code) u y p r e m = absurd (none-some p (sym (answer_receives f t rcvid (error_finish code) u y (λ buffer. no_receipt code) (sender_ends f t rcvid (error_finish code) u y r (sym (answer_same f (error_finish code) (sender f rcvid) u) ∙ e))) ∙ m))
 ends_takes f t (ChannelDestroy chid) u y p r e m = absurd (none-some p (ap (λ x. item_in x.mark) (cancel_parts (is_on chid) Srch u (f.open_call u) y e).ending ∙ m))
 ends_takes f t Shutdown u y p r e m = absurd (none-some p (ap (λ x. item_in x.mark) (cancel_parts (λ wait. true) Srch u (f.open_call u) y e).ending ∙ m))
-ends_takes f t (Unblock thread) u y p r e m = elim (unblock_ends f thread u y (unblock.due_pulse f thread) e) [
+ends_takes f t (Unblock thread) u y p r e m = elim (unblock_ends f thread u y (unblock.unblock_pulse f thread) (sym (unblocked_same f t thread u) ∙ e)) [
   | inl cancel ↦ absurd (none-some p (ap (λ x. item_in x.mark) cancel.ending ∙ m))
-  | inr k ↦ takes_told f t (Unblock thread) (unblock.due_pulse f thread) u y p (unblock_same f thread) k m
+  | inr k ↦ takes_told f t (Unblock thread) (unblock.unblock_pulse f thread) u y p refl k m
 ]
-ends_takes f t (ConnectDetach coid) u y p r e m = elim (detach_ends f coid (connect_detach.due_pulse f t coid) u y e) [
+ends_takes f t (ConnectDetach coid) u y p r e m = elim (detach_ends f coid (connect_detach.disconnect_pulse f t coid) u y e) [
   | inl cancel ↦ absurd (none-some p (ap (λ x. item_in x.mark) cancel.ending ∙ m))
-  | inr s ↦ takes_told f t (ConnectDetach coid) (connect_detach.due_pulse f t coid) u y p refl (told_meets f (connect_detach.due_pulse f t coid) u y s) m
+  | inr s ↦ takes_told f t (ConnectDetach coid) (connect_detach.disconnect_pulse f t coid) u y p refl (told_meets f (connect_detach.disconnect_pulse f t coid) u y s) m
 ]
 ends_takes f t (Send coid message reply_buffer) u y p r e m =
-    takes_met f t (Send coid message reply_buffer) (route f t coid) (item f t) message u y p (delivery_meets f (route f t coid) (item f t) message u y e) (sent_way f t coid (item f t)) m
+    takes_met f t (Send coid message reply_buffer) (route f t coid) (message_item f t) message u y p (delivery_meets f (route f t coid) (message_item f t) message u y (sym (sent_same f t coid message reply_buffer u r) ∙ e)) (sent_way f t coid (message_item f t)) m
 ends_takes f t (Pulse coid level code value) u y p r e m =
-    takes_told f t (Pulse coid level code value) (pulse.sent_pulse f coid level code value) u y p refl (told_meets f (pulse.sent_pulse f coid level code value) u y e) m
+    takes_told f t (Pulse coid level code value) (pulse.pulse_over f coid level code value) u y p refl (told_meets f (pulse.pulse_over f coid level code value) u y (sym (pulse_same f (pulse.pulse_over f coid level code value) u) ∙ e)) m
 ends_takes f t c u y p r e m = absurd (none-some y e)
 
 -- each ending that receives an item takes it so

@@ -9,14 +9,14 @@ use Rattle.std.proofs.lemmas.List.Elements.{filter_map-append}
 use Rattle.std.proofs.lemmas.Option.{same_Some, option_and_then_some}
 use Rattle.qtables.specs.declared.member.Member.{Member}
 use Rattle.qtables.specs.Members.{IsRoster}
-use Rattle.qrules.specs.Private.Answer.{ending, Answers, Outcome}
-use Rattle.qrules.specs.Private.Facts.{Facts, threads_of}
+use Rattle.qrules.specs.Outcome.{ending, Answers, Outcome}
+use Rattle.qrules.proofs.Words.Facts.{Facts, threads_of}
 use Rattle.qrules.specs.Properties.{AllDifferent, ReceivedOnce, items, number_received}
 use Rattle.qrules.specs.Past.{item_among}
 use Rattle.qrules.specs.Trace.{InEachEvent, endings_of}
-use Rattle.qrules.specs.Private.Lawful.{facts_of, IsLawful}
-use Rattle.qrules.specs.Private.Past.{copied_count_in, has_ending_of, is_ended, is_received, copied_count_among, copied_count_of}
-use Rattle.qrules.specs.Private.Rows.{item_in}
+use Rattle.qrules.proofs.Words.Lawful.{facts_of, IsLawful}
+use Rattle.qrules.proofs.Words.Past.{copied_count_in, has_ending_of, is_ended, is_received, copied_count_among, copied_count_of}
+use Rattle.qrules.proofs.Words.Items.{item_in}
 use Rattle.qmodel.specs.Trace.{SentItem, Event, Trace}
 use Rattle.qmodel.specs.declared.call.Call.{Call}
 use Rattle.qmodel.specs.declared.call.Completion.{Completion}
@@ -82,11 +82,11 @@ each_call roster [] r l = tt
 each_call roster (e ∷ past) r l =
     rw (map-append (λ (x : Completion). x.call) e.endings (endings_of past))
     (different_append (map (λ x. x.call) e.endings) (map (λ x. x.call) (endings_of past))
-    (event_calls roster past e.thread e.call e.endings r l.2)
+    (event_calls roster past e.thread e.call e.endings r l.1.1)
     (each_call roster past r l.0)
     (all_map (λ i. IsNoneOf i (map (λ x. x.call) (endings_of past))) (λ x. x.call) e.endings
     (all_more (λ x. is_ended past x.call ≡ false) (λ x. IsNoneOf x.call (map (λ x. x.call) (endings_of past))) e.endings
-    (not_ended roster past e.thread e.call e.endings l.0 l.2) (λ x is. unended past x.call is))))
+    (not_ended roster past e.thread e.call e.endings l.0 l.1.1) (λ x is. unended past x.call is))))
 
 -- ---- no item is received twice
 
@@ -157,10 +157,10 @@ each_item roster [] r l = tt
 each_item roster (e ∷ past) r l =
     rw (filter_map-append number_received e.endings (endings_of past))
     (different_append (filter_map number_received e.endings) (filter_map number_received (endings_of past))
-    (event_items roster past e.thread e.call e.endings r l.2)
+    (event_items roster past e.thread e.call e.endings r l.1.1)
     (each_item roster past r l.0)
     (all_more (λ i. is_received past i ≡ false) (λ i. IsNoneOf i (filter_map number_received (endings_of past))) (filter_map number_received e.endings)
-    (untaken_yet roster past e.thread e.call e.endings l.0 l.2) (λ i is. untaken past i is)))
+    (untaken_yet roster past e.thread e.call e.endings l.0 l.1.1) (λ i is. untaken past i is)))
 
 -- ---- none before it was made
 
@@ -189,7 +189,7 @@ early roster past e a =
 none_early : (roster : List Member) (past : Trace) → IsLawful roster past
     → InEachEvent (λ past e. AllByRecursion (λ i. is_some (item_among (items roster (e ∷ past)) i) ≡ true) (filter_map number_received e.endings)) past
 none_early roster [] l = tt
-none_early roster (e ∷ past) l = (none_early roster past l.0, early roster past e l.2)
+none_early roster (e ∷ past) l = (none_early roster past l.0, early roster past e l.1.1)
 
 pub received_once : (roster : List Member) (past : Trace) → IsRoster roster → IsLawful roster past → ReceivedOnce roster past
 received_once roster past r l = record { each_item = each_item roster past r l; none_early = none_early roster past l; each_call = each_call roster past r l }

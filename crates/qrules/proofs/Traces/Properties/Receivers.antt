@@ -10,8 +10,11 @@ use Rattle.qqueue.specs.Best.{may_take}
 use Rattle.qqueue.specs.declared.item.Item.{Item}
 use Rattle.qmodel.specs.declared.open_call.OpenCall.{OpenCall}
 use Rattle.qmodel.specs.declared.open_call.OpenCall.TheVariants.{Receive, Send}
-use Rattle.qrules.specs.Private.Facts.{Facts, threads_of, first_where}
-use Rattle.qrules.specs.Private.Receivers.{is_after, is_last_wait, is_newest, newest_receiver, newest_receiver_among, wait_on}
+use Rattle.qrules.proofs.Words.Facts.{Facts, threads_of}
+use Rattle.std.specs.Prelude.{find}
+use Rattle.qrules.specs.Records.{is_after, is_last_wait, is_newest, newest_receiver_among}
+use Rattle.qrules.specs.Delivery.{newest_receiver}
+use Rattle.qrules.specs.Records.{wait_on}
 use Rattle.qbase.proofs.Lists.{eqb_same, is_among}
 use Rattle.qmodel.specs.declared.open_call.OpenReceive.{OpenReceive}
 
@@ -32,27 +35,27 @@ wait_on_is h item (Some (Receive r)) k e =
     ] refl e
 
 -- the first number of which this is so is one of which it is so
-first_is : (p : ℕ → Bool) (ns : List ℕ) (u : ℕ) → first_where p ns ≡ Some u → p u ≡ true
+first_is : (p : ℕ → Bool) (ns : List ℕ) (u : ℕ) → find p ns ≡ Some u → p u ≡ true
 first_is p [] u e = absurd (none-some u e)
-first_is p (v ∷ ns) u e = elim (p v) as (λ b. p v ≡ b → cond b (Some v) (first_where p ns) ≡ Some u → p u ≡ true) [
+first_is p (v ∷ ns) u e = elim (p v) as (λ b. p v ≡ b → cond b (Some v) (find p ns) ≡ Some u → p u ≡ true) [
   | true ↦ λ is s. subst (λ w. p w ≡ true) (same_Some v u s) is
   | false ↦ λ _ s. first_is p ns u s
 ] refl e
 
 -- it is among them
-first_among_them : (p : ℕ → Bool) (ns : List ℕ) (u : ℕ) → first_where p ns ≡ Some u → is_among ns u ≡ true
+first_among_them : (p : ℕ → Bool) (ns : List ℕ) (u : ℕ) → find p ns ≡ Some u → is_among ns u ≡ true
 first_among_them p [] u e = absurd (none-some u e)
-first_among_them p (v ∷ ns) u e = elim (p v) as (λ b. cond b (Some v) (first_where p ns) ≡ Some u → is_among (v ∷ ns) u ≡ true) [
+first_among_them p (v ∷ ns) u e = elim (p v) as (λ b. cond b (Some v) (find p ns) ≡ Some u → is_among (v ∷ ns) u ≡ true) [
   | true ↦ λ s. rw (same_Some v u s, eqb_same u) refl
   | false ↦ λ s. rw (first_among_them p ns u s) (or-true (eqb v u))
 ] e
 
 -- where it is so of one of them, there is a first
-first_there : (p : ℕ → Bool) (ns : List ℕ) (u : ℕ) → is_among ns u ≡ true → p u ≡ true → is_some (first_where p ns) ≡ true
+first_there : (p : ℕ → Bool) (ns : List ℕ) (u : ℕ) → is_among ns u ≡ true → p u ≡ true → is_some (find p ns) ≡ true
 first_there p [] u a is = absurd (true≢false (sym a))
 first_there p (v ∷ ns) u a is = elim (cases_Bool (eqb v u)) [
   | inl same ↦ let here : p v ≡ true = ap p (eqb-true v u same) ∙ is in rw here refl
-  | inr other ↦ elim (p v) as (λ b. is_some (cond b (Some v) (first_where p ns)) ≡ true) [ true ↦ refl | false ↦ first_there p ns u (rw other at a) is ]
+  | inr other ↦ elim (p v) as (λ b. is_some (cond b (Some v) (find p ns)) ≡ true) [ true ↦ refl | false ↦ first_there p ns u (rw other at a) is ]
 ]
 
 -- ---- calls that wait, by the number of each thread's, if it waits

@@ -5,10 +5,11 @@ use Rattle.std.proofs.lemmas.Bool.{ne_eqb, and_parts}
 use Rattle.std.proofs.lemmas.Option.{none-some}
 use Rattle.qtables.specs.declared.connection.Connection.{Connection}
 use Rattle.qtables.specs.declared.member.Member.{Member}
-use Rattle.qrules.specs.Private.Facts.{is_for_answer, number_of, held_call, with_buffer}
-use Rattle.qrules.specs.Private.Lawful.{facts_of, IsLawful}
-use Rattle.qrules.specs.Private.Effects.{asks, thread_of_send}
-use Rattle.qrules.specs.Private.Past.{is_accepted, accepted_at, priority_of_item, copied_count_of, sender_of, with_receipt, with_writes, attached_connection, block, filled, item_of, open_call}
+use Rattle.qrules.proofs.Words.Facts.{is_for_answer, number_of}
+use Rattle.qrules.specs.Records.{held_call, with_buffer}
+use Rattle.qrules.proofs.Words.Lawful.{facts_of, IsLawful}
+use Rattle.qrules.proofs.Words.Effects.{asks, thread_of_send}
+use Rattle.qrules.proofs.Words.Past.{is_accepted, accepted_at, priority_of_item, copied_count_of, sender_of, with_receipt, with_writes, attached_connection, block, filled, item_of, open_call}
 use Rattle.qmodel.specs.Trace.{SentItem, Event, Trace}
 use Rattle.qmodel.specs.declared.open_call.OpenCall.{OpenCall}
 use Rattle.qmodel.specs.declared.open_call.Receipt.{Receipt}
@@ -23,7 +24,7 @@ use Rattle.qrules.proofs.Traces.Properties.Events.{made_now, outcome_of}
 use Rattle.qrules.proofs.Traces.Past.Connections.{live_attached}
 use Rattle.qrules.proofs.Traces.Past.Open.{IsOpen, buffer_answer, held_for_answer, is_unblocked, open_parts, held_on, buffer_on}
 use Rattle.qrules.specs.Past.{channel_of}
-use Rattle.qrules.specs.Private.Cancelling.{is_on}
+use Rattle.qrules.specs.Delivery.{is_on}
 
 -- ---- what events made
 
@@ -82,7 +83,7 @@ pub block_over : (roster : List Member) (past : Trace) (u : ℕ) (b : OpenCall) 
 block_over roster [] u b l is w = absurd (none-some b is)
 block_over roster (e ∷ past) u b l is w = elim (begins_now roster e past u b is) [
   | inl h ↦
-      let a = outcome_of roster e past l.2 h.accepted in
+      let a = outcome_of roster e past l.1.1 h.accepted in
       let s = sends_over (facts_of roster past) e.thread (channel_of (item_of roster e past)) e.call b (passes_of (facts_of roster past) e.thread e.call e.endings a) (subst (λ v. asks (length past + 1) v (channel_of (item_of roster e past)) e.call ≡ Some b) (sym h.thread) h.asked) w in
       record {
         connection = s.connection;

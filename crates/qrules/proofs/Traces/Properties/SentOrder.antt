@@ -14,8 +14,8 @@ use Rattle.qtables.specs.Members.{IsRoster}
 use Rattle.qtables.specs.declared.member.Member.{Member}
 use Rattle.qrules.specs.Properties.{connection_of, number_received, takeable, BestFirst, IsEarliest, SentOrder, TakesBest, TakesSent}
 use Rattle.qrules.specs.Rule.{ReceiveRequest}
-use Rattle.qrules.specs.Private.Lawful.{IsLawful}
-use Rattle.qrules.specs.Private.Past.{priority_before}
+use Rattle.qrules.proofs.Words.Lawful.{IsLawful}
+use Rattle.qrules.proofs.Words.Past.{priority_before}
 use Rattle.qmodel.specs.Trace.{Event, Trace}
 use Rattle.qmodel.specs.declared.call.Completion.{Completion}
 use Rattle.qrules.proofs.Traces.Past.Best.{best_earliest, some_number}

@@ -6,23 +6,24 @@ use Rattle.std.specs.Option.{option_and_then, option_map}
 use Rattle.std.proofs.lemmas.Bool.{eq-eqb, eqb-true, or_cases, true≢false}
 use Rattle.std.proofs.lemmas.Option.{none-some, same_Some}
 use Rattle.qbase.specs.declared.errno.Errno.TheVariants.{Srch}
-use Rattle.qbase.proofs.Lists.{all_filter_map}
 use Rattle.qqueue.specs.Best.{best_of}
 use Rattle.qtables.specs.Members.{IsRoster}
 use Rattle.qtables.specs.declared.member.Member.{Member}
-use Rattle.qrules.specs.Private.Answer.{Outcome}
-use Rattle.qrules.specs.Private.Calls.{row_of}
-use Rattle.qrules.specs.Private.Cancelling.{is_on}
-use Rattle.qrules.specs.Private.Facts.{Facts, owns}
+use Rattle.qrules.specs.Outcome.{Outcome}
+use Rattle.qrules.proofs.Words.Items.{receipt_of}
+use Rattle.qrules.specs.Rules.{row_of}
+use Rattle.qrules.specs.Delivery.{is_on}
+use Rattle.qrules.proofs.Words.Facts.{Facts, owns}
 use Rattle.qrules.specs.Past.{item_among, channel_of}
-use Rattle.qrules.specs.Private.Effects.{asks, closes, makes, unblocks, writes}
-use Rattle.qrules.specs.Facts.{receive_in, receive_of, send_in, send_of, threads_of, OpenReceive, OpenSend}
+use Rattle.qrules.proofs.Words.Effects.{asks, closes, makes, unblocks, writes}
+use Rattle.qrules.specs.Facts.{receive_in, send_in, OpenReceive, OpenSend}
 use Rattle.qrules.specs.Properties.{number_received, IsShut, ShutForGood}
-use Rattle.qrules.specs.Private.Lawful.{facts_of, IsLawful}
+use Rattle.qrules.proofs.Words.Lawful.{facts_of, IsLawful}
 use Rattle.qrules.specs.Rules.{effect_of}
-use Rattle.qrules.specs.Private.Past.{attached_connection, is_destroyed, items, open_call}
-use Rattle.qrules.specs.Private.Rows.{names}
-use Rattle.qrules.specs.Private.Step.{after_receipt, after_write, channel_after, open_call_after, unless, after_unblock, unblocked_call}
+use Rattle.qrules.proofs.Words.Past.{attached_connection, is_destroyed, items, open_call}
+use Rattle.qrules.proofs.Words.Items.{names}
+use Rattle.qrules.proofs.Words.Step.{after_receipt, after_write, channel_after, open_call_after, unless, after_unblock}
+use Rattle.qrules.specs.Records.{unblocked_call}
 use Rattle.qmodel.specs.Trace.{Event, Trace}
 use Rattle.qmodel.specs.declared.call.Call.{Call}
 use Rattle.qmodel.specs.declared.call.Call.TheVariants.{Send, Receive, ReceivePulse, ChannelDestroy}
@@ -43,8 +44,8 @@ use Rattle.qmodel.specs.declared.open_call.OpenCall.TheVariants.{Receive as InRe
 use Rattle.qrules.proofs.Traces.Calls.Delivering.{sent_way, goes_to_open}
 use Rattle.qrules.proofs.Traces.Past.Open.{held_on, buffer_on}
 use Rattle.qrules.proofs.Traces.Properties.Sends.{open_on}
-use Rattle.qrules.specs.Private.Calls.Send as send
-use Rattle.qrules.specs.Private.Calls.Send.{item}
+use Rattle.qrules.proofs.Words.Items.{message_item}
+use Rattle.qrules.proofs.Words.Items.{message_item}
 
 -- ---- by each call's row
 
@@ -59,7 +60,7 @@ destroys_alone (ChannelDestroy chid) h e = record { asks_none = λ n t h. refl; 
 destroys_alone c h e = absurd (true≢false (sym e))
 
 -- a call that destroys a channel ends each call that is blocked on it
-closing_ends : (f : Facts) (t : ℕ) (c : Call) (h u : ℕ) (o : OpenCall) → names (closes c) h ≡ true → f.open_call u ≡ Some o → is_on h o ≡ true → is_some ((row_of f t c).ends u) ≡ true
+closing_ends : (f : Facts) (t : ℕ) (c : Call) (h u : ℕ) (o : OpenCall) → names (closes c) h ≡ true → f.open_call u ≡ Some o → is_on h o ≡ true → is_some ((row_of f t c).others u) ≡ true
 closing_ends f t (ChannelDestroy chid) h u o e is on =
     let on_it : is_on chid o ≡ true = ap (λ k. is_on k o) (eqb-true chid h e) ∙ on in
     rw (is, on_it) refl
@@ -77,9 +78,9 @@ own_open f t chid h r on =
 begins_on_open : (f : Facts) (t : ℕ) (c : Call) (b : OpenCall) (h : ℕ) → (row_of f t c).refusal ≡ None → asks f.number t (channel_of (makes f t c)) c ≡ Some b → is_on h b ≡ true → is_some (f.channel h) ≡ true
 begins_on_open f t (Send coid message reply_buffer) b h r e on =
     let w = has_way f t coid r in
-    let made = sent_way f t coid (send.item f t) w.0 w.1 in
+    let made = sent_way f t coid (message_item f t) w.0 w.1 in
     let at : w.0 ≡ h = sym (ap channel_of made) ∙ eqb-true (channel_of (makes f t (Send coid message reply_buffer))) h (ap (is_on h) (same_Some _ b e) ∙ on) in
-    subst (λ k. is_some (f.channel k) ≡ true) at (goes_to_open f t (f.connection coid) w.0 (send.item f t) (record { item = item f t; channel = w.0 }) w.1 made)
+    subst (λ k. is_some (f.channel k) ≡ true) at (goes_to_open f t (f.connection coid) w.0 (message_item f t) (record { item = message_item f t; channel = w.0 }) w.1 made)
 begins_on_open f t (Receive chid buffer) b h r e on = own_open f t chid h r (ap (is_on h) (same_Some _ b e) ∙ on)
 begins_on_open f t (ReceivePulse chid) b h r e on = own_open f t chid h r (ap (is_on h) (same_Some _ b e) ∙ on)
 begins_on_open f t c b h r e on = absurd (none-some b e)
@@ -101,15 +102,15 @@ lasts_on h = record { held = held_on h; buffer = buffer_on h; unblocked = unbloc
 waits_after : (f : Facts) (t : ℕ) (c : Call) → Passes f t c → WaitsOnOpen f → (u : ℕ) (o : OpenCall) (h : ℕ) → open_call_after f t c u ≡ Some o → is_on h o ≡ true → is_some (channel_after f t c h) ≡ true
 waits_after f t c p waits u o h is on =
     let R = row_of f t c in
-    elim (eqb u t) as (λ b. cond b (unless (is_some (row_of f t c).own) (after_receipt (row_of f t c).receipt u (asks f.number t (channel_of (makes f t c)) c))) (unless (is_some ((row_of f t c).ends u)) (after_unblock (makes f t c) (unblocks c) u (after_receipt (row_of f t c).receipt u (after_write f (writes c) u (f.open_call u))))) ≡ Some o
+    elim (eqb u t) as (λ b. cond b (unless (is_some (row_of f t c).own) (after_receipt (receipt_of f t c) u (asks f.number t (channel_of (makes f t c)) c))) (unless (is_some ((row_of f t c).others u)) (after_unblock (makes f t c) (unblocks c) u (after_receipt (receipt_of f t c) u (after_write f (writes c) u (f.open_call u))))) ≡ Some o
     → is_some (channel_after f t c h) ≡ true) [
       | true ↦ λ e.
-          let x = unless_is (is_some R.own) (after_receipt R.receipt u (asks f.number t (channel_of (makes f t c)) c)) o e in
-          let b = before_receipt (is_on h) (held_on h) R.receipt u (asks f.number t (channel_of (makes f t c)) c) o x.1 in
+          let x = unless_is (is_some R.own) (after_receipt (receipt_of f t c) u (asks f.number t (channel_of (makes f t c)) c)) o e in
+          let b = before_receipt (is_on h) (held_on h) (receipt_of f t c) u (asks f.number t (channel_of (makes f t c)) c) o x.1 in
           stays_open (names (closes c) h) _ f.number f.channel h (begins_on_open f t c b.call h p.row b.is (b.same ∙ on))
           (λ d. none-some b.call (sym ((destroys_alone c h d).asks_none f.number t (channel_of (makes f t c))) ∙ b.is))
       | false ↦ λ e.
-          let x = unless_is (is_some (R.ends u)) (after_unblock (makes f t c) (unblocks c) u (after_receipt R.receipt u (after_write f (writes c) u (f.open_call u)))) o e in
+          let x = unless_is (is_some (R.others u)) (after_unblock (makes f t c) (unblocks c) u (after_receipt (receipt_of f t c) u (after_write f (writes c) u (f.open_call u)))) o e in
           let d = before_other (is_on h) (lasts_on h) f t c u o x.1 in
           stays_open (names (closes c) h) _ f.number f.channel h (waits u d.call h d.is (d.same ∙ on))
           (λ destroyed. true≢false (sym (closing_ends f t c h u d.call destroyed d.is (d.same ∙ on)) ∙ x.0))
@@ -119,12 +120,12 @@ pub waits_on_open : (roster : List Member) (past : Trace) → IsRoster roster �
 waits_on_open roster [] r l u o h is on = absurd (none-some o is)
 waits_on_open roster (e ∷ past) r l u o h is on =
     let f = facts_of roster past in
-    elim (l.2) as (λ _. is_some ((facts_of roster (e ∷ past)).channel h) ≡ true) [
+    elim (l.1.1) as (λ _. is_some ((facts_of roster (e ∷ past)).channel h) ≡ true) [
       | inl a ↦
-          let k = past_follows true roster past e.thread e.call e.endings r l.0 l.1 a in
+          let k = past_follows true roster past e.thread e.call e.endings r l.0 l.1.0 a in
           ap is_some (k.channel h) ∙ waits_after f e.thread e.call (passes_of f e.thread e.call e.endings a) (waits_on_open roster past r l.0) u o h (sym (k.open_call u) ∙ is) on
       | inr a ↦
-          let k = past_follows false roster past e.thread e.call e.endings r l.0 l.1 a in
+          let k = past_follows false roster past e.thread e.call e.endings r l.0 l.1.0 a in
           ap is_some (k.channel h) ∙ waits_on_open roster past r l.0 u o h (sym (k.open_call u) ∙ is) on
     ]
 
@@ -162,7 +163,7 @@ taken_is_open roster e past u i h y a k is closed =
 none_received : (roster : List Member) (e : Event) (past : Trace) (h : ℕ) → IsLawful roster (e ∷ past) → is_destroyed (e ∷ past) h ≡ true
     → AllByRecursion (λ x. (i : ℕ) → number_received x ≡ Some i → option_map (λ m. m.channel) (item_among (items roster (e ∷ past)) i) ≡ Some h → ⊥) e.endings
 none_received roster e past h l closed =
-    each_received (λ x i. option_map (λ m. m.channel) (item_among (items roster (e ∷ past)) i) ≡ Some h → ⊥) roster past e.thread e.call e.endings l.2
+    each_received (λ x i. option_map (λ m. m.channel) (item_among (items roster (e ∷ past)) i) ≡ Some h → ⊥) roster past e.thread e.call e.endings l.1.1
     (λ u y i a k is. taken_is_open roster e past u i h y a k is (sym (closed_accepted roster e past h (accepted roster past e.thread e.call e.endings a)) ∙ closed))
 
 -- ---- what is open
@@ -195,8 +196,8 @@ is_shut roster e past h r l closed =
     let f = facts_of roster (e ∷ past) in
     record {
       none_received = none_received roster e past h l closed;
-      no_send = all_filter_map (λ s. end_of roster (e ∷ past) h s ≡ Some h → ⊥) (send_of f) (threads_of roster) (λ u s is. no_send roster (e ∷ past) h r l closed u s (f.open_call u) refl is);
-      no_receive = all_filter_map (λ r. r.channel ≡ h → ⊥) (receive_of f) (threads_of roster) (λ u s is. no_receive roster (e ∷ past) h r l closed u s (f.open_call u) refl is);
+      no_send = λ u s is. no_send roster (e ∷ past) h r l closed u s (f.open_call u) refl is;
+      no_receive = λ u s is. no_receive roster (e ∷ past) h r l closed u s (f.open_call u) refl is;
     }
 
 pub shut_for_good : (roster : List Member) (past : Trace) → IsRoster roster → IsLawful roster past → ShutForGood roster past

@@ -12,20 +12,26 @@ use Rattle.qqueue.specs.declared.item.Kind.TheVariants.{Any, PulseOnly}
 use Rattle.qqueue.proofs.OrderLaws.{none-may}
 use Rattle.qtables.specs.Members.{IsRoster}
 use Rattle.qtables.specs.declared.member.Member.{Member}
-use Rattle.qrules.specs.Private.Calls.{row_of}
-use Rattle.qrules.specs.Private.Calls.Send.{item}
-use Rattle.qrules.specs.Private.Delivering.{receiver, receipt_when_sent}
-use Rattle.qrules.specs.Private.Receiving.{own_receipt}
-use Rattle.qrules.specs.Private.Facts.{Facts, sender, threads_of, route, held_call, with_buffer}
-use Rattle.qrules.specs.Private.Effects.{asks, closes, makes, sets, unblocks, writes}
-use Rattle.qrules.specs.Private.Lawful.{facts_of, IsLawful}
+use Rattle.qrules.proofs.Words.Items.{receipt_of}
+use Rattle.qrules.specs.Rules.{row_of}
+use Rattle.qrules.proofs.Words.Items.{message_item}
+use Rattle.qrules.proofs.Words.Items.{receiver}
+use Rattle.qrules.proofs.Words.Items.{receipt_when_sent}
+use Rattle.qrules.proofs.Words.Items.{own_receipt}
+use Rattle.qrules.proofs.Words.Facts.{Facts, sender, threads_of, route}
+use Rattle.qrules.specs.Records.{held_call, with_buffer}
+use Rattle.qrules.proofs.Words.Effects.{asks, closes, makes, sets, unblocks, writes}
+use Rattle.qrules.proofs.Words.Lawful.{facts_of, IsLawful}
 use Rattle.qrules.specs.Rule.{ReceiveRequest}
 use Rattle.qrules.specs.Rules.{effect_of}
-use Rattle.qrules.specs.Private.Past.{made_on}
-use Rattle.qrules.specs.Private.Receivers.{newest_receiver}
-use Rattle.qrules.specs.Private.Rows.{Received, names, item_sent_over, takes, receipt_ending}
+use Rattle.qrules.proofs.Words.Past.{made_on}
+use Rattle.qrules.specs.Delivery.{newest_receiver}
+use Rattle.qrules.proofs.Words.Items.{Received, names, item_sent_over}
+use Rattle.qrules.specs.Records.{takes}
+use Rattle.qrules.specs.Delivery.{receipt_ending}
 use Rattle.qmodel.specs.Trace.{SentItem, Trace}
-use Rattle.qrules.specs.Private.Step.{after_receipt, after_write, is_cancelled, uncut_items, items_with_priority_set, open_call_after, pending_after, unreceived_items, unless, after_unblock, unblocked_call}
+use Rattle.qrules.proofs.Words.Step.{after_receipt, after_write, is_cancelled, uncut_items, items_with_priority_set, open_call_after, pending_after, unreceived_items, unless, after_unblock}
+use Rattle.qrules.specs.Records.{unblocked_call}
 use Rattle.qmodel.specs.declared.call.Call.{Call}
 use Rattle.qmodel.specs.declared.call.Call.TheVariants.{Send, Receive, ReceivePulse, Pulse, Unblock, ConnectDetach}
 use Rattle.qmodel.specs.declared.open_call.OpenCall.{OpenCall}
@@ -43,8 +49,7 @@ use Rattle.qrules.proofs.Traces.Properties.Receivers.{WaitsOn, newest_some, newe
 use Rattle.qrules.proofs.Traces.Routes.{has_way}
 use Rattle.qrules.proofs.Traces.Rosters.{known}
 use Rattle.qrules.proofs.Traces.Calls.Delivering.{sent_way}
-use Rattle.qrules.specs.Private.Pulses.{pulse_receipt}
-use Rattle.qrules.proofs.Traces.Due.{unblock_same}
+use Rattle.qrules.proofs.Words.Items.{pulse_receipt}
 use Rattle.qrules.specs.Past.{channel_of}
 use Rattle.qmodel.specs.declared.open_call.OpenReceive.{OpenReceive}
 
@@ -95,7 +100,7 @@ begins_with_none f t h c b p e w own = absurd (none-some b e)
 -- an item that a thread waits for is received at once
 pub record IsReceivedAtOnce (f : Facts) (t : ℕ) (c : Call) (m : SentItem) : Type 0 where
   pub receipt : Received
-  pub is : (row_of f t c).receipt ≡ Some receipt
+  pub is : (receipt_of f t c) ≡ Some receipt
   pub channel : receipt.channel ≡ m.channel
   pub item : receipt.item ≡ m.item.number
 
@@ -108,7 +113,7 @@ delivered_receipt f sender item message w h r v is_way is_newest =
     ∙ receipt_in_at h sender item.priority (takes item message r (f.open_call r)) (receipt_ending item message r v.receive.number v.receive.buffer) (record { number = item.number; copied = (given_received item message v.receive.buffer).0 }) takes_it (given_received item message v.receive.buffer).1
 
 delivered_at_once : (f : Facts) (t : ℕ) (c : Call) (w : Option ℕ) (item : Item) (message : List ℕ) (sender : Option ℕ) (m : SentItem) (u : ℕ) (o : OpenCall) (kind : Kind) → w ≡ Some m.channel → m.item ≡ item
-    → (row_of f t c).receipt ≡ receipt_when_sent f sender item message w (receiver f item w) → is_among (threads_of f.roster) u ≡ true → f.open_call u ≡ Some o
+    → (receipt_of f t c) ≡ receipt_when_sent f sender item message w (receiver f item w) → is_among (threads_of f.roster) u ≡ true → f.open_call u ≡ Some o
     → waits_for o ≡ Some (m.channel, kind) → may_take kind m.item ≡ true → IsReceivedAtOnce f t c m
 delivered_at_once f t c w item message sender m u o kind is_way it receipt among is waits may =
     let b = waits_for_is o m.channel kind waits in
@@ -133,11 +138,11 @@ received_at_once : (f : Facts) (t : ℕ) (c : Call) (m : SentItem) (u : ℕ) (o 
 received_at_once f t (ConnectDetach coid) m u o kind p made among is waits may =
     delivered_at_once f t (ConnectDetach coid) (Some m.channel) m.item [] None m u o kind refl refl (ap (pulse_receipt f) made) among is waits may
 received_at_once f t (Unblock thread) m u o kind p made among is waits may =
-    delivered_at_once f t (Unblock thread) (Some m.channel) m.item [] None m u o kind refl refl (ap (pulse_receipt f) (sym (unblock_same f thread) ∙ made)) among is waits may
+    delivered_at_once f t (Unblock thread) (Some m.channel) m.item [] None m u o kind refl refl (ap (pulse_receipt f) (made)) among is waits may
 received_at_once f t (Send coid message reply_buffer) m u o kind p made among is waits may =
     let h = has_way f t coid p.row in
-    let s = sent_is f t coid (item f t) m h.0 h.1 made in
-    delivered_at_once f t (Send coid message reply_buffer) (route f t coid) (item f t) message (Some t) m u o kind s.0 s.1 refl among is waits may
+    let s = sent_is f t coid (message_item f t) m h.0 h.1 made in
+    delivered_at_once f t (Send coid message reply_buffer) (route f t coid) (message_item f t) message (Some t) m u o kind s.0 s.1 refl among is waits may
 received_at_once f t (Pulse coid level code value) m u o kind p made among is waits may =
     delivered_at_once f t (Pulse coid level code value) (Some m.channel) m.item [] None m u o kind refl refl (ap (pulse_receipt f) made) among is waits may
 received_at_once f t c m u o kind p made among is waits may = absurd (none-some m made)
@@ -172,11 +177,11 @@ abbrev pub NothingFor : Facts → Type 0
 NothingFor f = (u : ℕ) (o : OpenCall) (h : ℕ) (kind : Kind) → f.open_call u ≡ Some o → waits_for o ≡ Some (h, kind) → AllByRecursion (λ w. may_take kind w ≡ false) (f.pending h)
 
 -- what is so of all that isn't destroyed is so of what is pending afterwards
-all_after : (kind : Kind) (f : Facts) (t : ℕ) (c : Call) (h : ℕ) → AllByRecursion (λ w. may_take kind w ≡ false) (unreceived_items (row_of f t c).receipt h (uncut_items f t c h (f.pending h ++ made_on h (makes f t c))))
+all_after : (kind : Kind) (f : Facts) (t : ℕ) (c : Call) (h : ℕ) → AllByRecursion (λ w. may_take kind w ≡ false) (unreceived_items (receipt_of f t c) h (uncut_items f t c h (f.pending h ++ made_on h (makes f t c))))
     → AllByRecursion (λ w. may_take kind w ≡ false) (pending_after f t c h)
 all_after kind f t c h all =
     let P = λ (w : Item). may_take kind w ≡ false in
-    let L = unreceived_items (row_of f t c).receipt h (uncut_items f t c h (f.pending h ++ made_on h (makes f t c))) in
+    let L = unreceived_items (receipt_of f t c) h (uncut_items f t c h (f.pending h ++ made_on h (makes f t c))) in
     elim (names (closes c) h) as (λ b. AllByRecursion P (cond b [] (items_with_priority_set f h (sets c) L))) [
       | true ↦ tt
       | false ↦ all_moved P f h (sets c) L (λ priority x none. same_kind kind priority x ∙ none) all
@@ -187,17 +192,17 @@ all_after kind f t c h all =
     same_kind PulseOnly priority x = refl
 
 -- the caller begins to wait: nothing was pending, and nothing is made
-caller_finds_none : (f : Facts) (t : ℕ) (c : Call) (o : OpenCall) (h : ℕ) (kind : Kind) → unless (is_some (row_of f t c).own) (after_receipt (row_of f t c).receipt t (asks f.number t (channel_of (makes f t c)) c)) ≡ Some o
+caller_finds_none : (f : Facts) (t : ℕ) (c : Call) (o : OpenCall) (h : ℕ) (kind : Kind) → unless (is_some (row_of f t c).own) (after_receipt (receipt_of f t c) t (asks f.number t (channel_of (makes f t c)) c)) ≡ Some o
     → waits_for o ≡ Some (h, kind) → AllByRecursion (λ w. may_take kind w ≡ false) (pending_after f t c h)
 caller_finds_none f t c o h kind is waits =
-    let x = unless_is (is_some (row_of f t c).own) (after_receipt (row_of f t c).receipt t (asks f.number t (channel_of (makes f t c)) c)) o is in
-    let b = before_receipt waits_for held_waits_for (row_of f t c).receipt t (asks f.number t (channel_of (makes f t c)) c) o x.1 in
+    let x = unless_is (is_some (row_of f t c).own) (after_receipt (receipt_of f t c) t (asks f.number t (channel_of (makes f t c)) c)) o is in
+    let b = before_receipt waits_for held_waits_for (receipt_of f t c) t (asks f.number t (channel_of (makes f t c)) c) o x.1 in
     let k = begins_with_none f t (channel_of (makes f t c)) c b.call (h, kind) b.is (b.same ∙ waits) (none_of (row_of f t c).own x.0) in
     let P = λ (w : Item). may_take kind w ≡ false in
     let none : AllByRecursion (λ (w : Item). may_take kind w ≡ false) (f.pending h) = none-may kind (f.pending h) k.0 in
-    let Q = λ (w : Item). ((r : Received) → (row_of f t c).receipt ≡ Some r → r.channel ≡ h → eqb w.number r.item ≡ false) → may_take kind w ≡ false in
+    let Q = λ (w : Item). ((r : Received) → (receipt_of f t c) ≡ Some r → r.channel ≡ h → eqb w.number r.item ≡ false) → may_take kind w ≡ false in
     let left = λ (w : Item). not (is_cancelled f t c h w.number) in
-    all_after kind f t c h (rw (k.1) (all_left P (row_of f t c).receipt h (uncut_items f t c h (f.pending h ++ []))
+    all_after kind f t c h (rw (k.1) (all_left P (receipt_of f t c) h (uncut_items f t c h (f.pending h ++ []))
     (all_filter Q left (f.pending h ++ []) (all_append Q (f.pending h) [] (all_more P Q (f.pending h) none (λ w m _. m)) tt))))
 
 -- another thread that waits on: what it may take is received at once
@@ -205,9 +210,9 @@ other_finds_none : (f : Facts) (t : ℕ) (c : Call) (u : ℕ) (o : OpenCall) (h 
     → waits_for o ≡ Some (h, kind) → AllByRecursion (λ w. may_take kind w ≡ false) (pending_after f t c h)
 other_finds_none f t c u o h kind p nothing among is waits =
     let P = λ (w : Item). may_take kind w ≡ false in
-    let Q = λ (w : Item). ((r : Received) → (row_of f t c).receipt ≡ Some r → r.channel ≡ h → eqb w.number r.item ≡ false) → may_take kind w ≡ false in
+    let Q = λ (w : Item). ((r : Received) → (receipt_of f t c) ≡ Some r → r.channel ≡ h → eqb w.number r.item ≡ false) → may_take kind w ≡ false in
     let left = λ (w : Item). not (is_cancelled f t c h w.number) in
-    all_after kind f t c h (all_left P (row_of f t c).receipt h (uncut_items f t c h (f.pending h ++ made_on h (makes f t c)))
+    all_after kind f t c h (all_left P (receipt_of f t c) h (uncut_items f t c h (f.pending h ++ made_on h (makes f t c)))
     (all_filter Q left (f.pending h ++ made_on h (makes f t c)) (all_append Q (f.pending h) (made_on h (makes f t c))
     (all_more P Q (f.pending h) (nothing u o h kind is waits) (λ w m _. m))
     (elim (makes f t c) as (λ x. makes f t c ≡ x → AllByRecursion Q (made_on h x)) [
@@ -241,13 +246,13 @@ nothing_after : (f : Facts) (t : ℕ) (c : Call) → Passes f t c → NothingFor
     → (u : ℕ) (o : OpenCall) (h : ℕ) (kind : Kind) → open_call_after f t c u ≡ Some o → waits_for o ≡ Some (h, kind) → AllByRecursion (λ w. may_take kind w ≡ false) (pending_after f t c h)
 nothing_after f t c p nothing among u o h kind is waits =
     elim (eqb u t) as (λ b. eqb u t ≡ b
-    → cond b (unless (is_some (row_of f t c).own) (after_receipt (row_of f t c).receipt u (asks f.number t (channel_of (makes f t c)) c))) (unless (is_some ((row_of f t c).ends u)) (after_unblock (makes f t c) (unblocks c) u (after_receipt (row_of f t c).receipt u (after_write f (writes c) u (f.open_call u))))) ≡ Some o
+    → cond b (unless (is_some (row_of f t c).own) (after_receipt (receipt_of f t c) u (asks f.number t (channel_of (makes f t c)) c))) (unless (is_some ((row_of f t c).others u)) (after_unblock (makes f t c) (unblocks c) u (after_receipt (receipt_of f t c) u (after_write f (writes c) u (f.open_call u))))) ≡ Some o
     → AllByRecursion (λ w. may_take kind w ≡ false) (pending_after f t c h)) [
       | true ↦ λ same e.
           caller_finds_none f t c o h kind
-          (subst (λ v. unless (is_some (row_of f t c).own) (after_receipt (row_of f t c).receipt v (asks f.number t (channel_of (makes f t c)) c)) ≡ Some o) (eqb-true u t same) e) waits
+          (subst (λ v. unless (is_some (row_of f t c).own) (after_receipt (receipt_of f t c) v (asks f.number t (channel_of (makes f t c)) c)) ≡ Some o) (eqb-true u t same) e) waits
       | false ↦ λ other e.
-          let x = unless_is (is_some ((row_of f t c).ends u)) (after_unblock (makes f t c) (unblocks c) u (after_receipt (row_of f t c).receipt u (after_write f (writes c) u (f.open_call u)))) o e in
+          let x = unless_is (is_some ((row_of f t c).others u)) (after_unblock (makes f t c) (unblocks c) u (after_receipt (receipt_of f t c) u (after_write f (writes c) u (f.open_call u)))) o e in
           let d = before_other waits_for lasts_waits_for f t c u o x.1 in
           other_finds_none f t c u d.call h kind p nothing (among u d.call d.is) d.is (d.same ∙ waits)
     ] refl is
@@ -256,13 +261,13 @@ pub nothing_for : (roster : List Member) (past : Trace) → IsRoster roster → 
 nothing_for roster [] r l u o h kind is waits = absurd (none-some o is)
 nothing_for roster (e ∷ past) r l u o h kind is waits =
     let f = facts_of roster past in
-    elim (l.2) as (λ _. AllByRecursion (λ w. may_take kind w ≡ false) ((facts_of roster (e ∷ past)).pending h)) [
+    elim (l.1.1) as (λ _. AllByRecursion (λ w. may_take kind w ≡ false) ((facts_of roster (e ∷ past)).pending h)) [
       | inl a ↦
-          let k = past_follows true roster past e.thread e.call e.endings r l.0 l.1 a in
+          let k = past_follows true roster past e.thread e.call e.endings r l.0 l.1.0 a in
           subst (AllByRecursion (λ w. may_take kind w ≡ false)) (sym (k.pending h))
           (nothing_after (facts_of roster past) e.thread e.call (passes_of (facts_of roster past) e.thread e.call e.endings a) (nothing_for roster past r l.0)
           (λ v x open_v. known roster v (open_known roster past v x l.0 open_v)) u o h kind (sym (k.open_call u) ∙ is) waits)
       | inr a ↦
-          let k = past_follows false roster past e.thread e.call e.endings r l.0 l.1 a in
+          let k = past_follows false roster past e.thread e.call e.endings r l.0 l.1.0 a in
           subst (AllByRecursion (λ w. may_take kind w ≡ false)) (sym (k.pending h)) (nothing_for roster past r l.0 u o h kind (sym (k.open_call u) ∙ is) waits)
     ]

@@ -8,16 +8,18 @@ use Rattle.std.proofs.lemmas.Option.{none-some}
 use Rattle.std.proofs.Math.Bool.{or-true}
 use Rattle.qtables.specs.Members.{member_at, IsRoster}
 use Rattle.qtables.specs.declared.member.Member.{Member}
-use Rattle.qrules.specs.Private.Answer.{ending}
-use Rattle.qrules.specs.Private.Calls.{row_of}
+use Rattle.qrules.specs.Outcome.{ending}
+use Rattle.qrules.proofs.Words.Items.{receipt_of}
+use Rattle.qrules.specs.Rules.{row_of}
 use Rattle.qrules.specs.Trace.{gets, AreApart}
-use Rattle.qrules.specs.Private.Facts.{Facts, sender, threads_of}
-use Rattle.qrules.specs.Private.Effects.{asks, makes, unblocks, writes}
-use Rattle.qrules.specs.Private.Lawful.{facts_of, IsLawful}
-use Rattle.qrules.specs.Private.Past.{has_ending_of, open_call}
-use Rattle.qrules.specs.Private.Rows.{Received}
+use Rattle.qrules.proofs.Words.Facts.{Facts, sender, threads_of}
+use Rattle.qrules.proofs.Words.Effects.{asks, makes, unblocks, writes}
+use Rattle.qrules.proofs.Words.Lawful.{facts_of, IsLawful}
+use Rattle.qrules.proofs.Words.Past.{has_ending_of, open_call}
+use Rattle.qrules.proofs.Words.Items.{Received}
 use Rattle.qmodel.specs.Trace.{SentItem, Event, Trace}
-use Rattle.qrules.specs.Private.Step.{after_receipt, after_unblock, after_write, held_call, is_thread, open_call_after, unblocked_call, unless, written_call}
+use Rattle.qrules.proofs.Words.Step.{after_receipt, after_unblock, after_write, open_call_after, unless}
+use Rattle.qrules.specs.Records.{held_call, is_thread, unblocked_call, written_call}
 use Rattle.qmodel.specs.declared.call.Call.{Call}
 use Rattle.qmodel.specs.declared.call.Completion.{Completion}
 use Rattle.qmodel.specs.declared.open_call.OpenCall.{OpenCall}
@@ -64,7 +66,7 @@ module _ (g : ℕ → Option Completion) (names : (u : ℕ) (y : Completion) →
 pub endings_are_apart : (roster : List Member) (past : Trace) (e : Event) → IsRoster roster → IsLawful roster (e ∷ past) → AreApart e.endings
 endings_are_apart roster past e r l =
     let f = facts_of roster past in
-    elim (l.2) [
+    elim (l.1.1) [
       | inl a ↦ subst AreApart (sym a.1) (apart_by (ending f e.thread e.call) (ending_thread f e.thread e.call (laws_of f e.thread e.call e.endings a)) (threads_of roster) (rises roster r))
       | inr a ↦ subst AreApart (sym a.2) (refl, tt)
     ]
@@ -85,16 +87,16 @@ own_due roster past t y member e = record { known = subst (λ u. is_some (member
 pub endings_go_to_blocked : (roster : List Member) (past : Trace) (e : Event) → IsRoster roster → IsLawful roster (e ∷ past) → AllByRecursion (GoesToBlocked roster past e.thread) e.endings
 endings_go_to_blocked roster past e r l =
     let f = facts_of roster past in
-    elim (l.2) [
+    elim (l.1.1) [
       | inl a ↦ subst (AllByRecursion (GoesToBlocked roster past e.thread)) (sym a.1) (all_filter_map (GoesToBlocked roster past e.thread) (ending f e.thread e.call) (threads_of roster) (λ v y is.
           elim (ending_names f e.thread e.call v y (laws_of f e.thread e.call e.endings a) is) [
-            | inl own ↦ own_due roster past e.thread y l.1 own.names.thread
+            | inl own ↦ own_due roster past e.thread y l.1.0 own.names.thread
             | inr other ↦ record {
               known = subst (λ u. is_some (member_at roster u) ≡ true) (sym other.names.thread) (open_known roster past v other.names.waiting l.0 other.names.is);
               may = rw (other.names.thread, ap is_some other.names.is) (or-true (eqb v e.thread));
             }
           ]))
-      | inr a ↦ subst (AllByRecursion (GoesToBlocked roster past e.thread)) (sym a.2) (own_due roster past e.thread _ l.1 refl, tt)
+      | inr a ↦ subst (AllByRecursion (GoesToBlocked roster past e.thread)) (sym a.2) (own_due roster past e.thread _ l.1.0 refl, tt)
     ]
 
 -- ---- who is blocked after an event
@@ -116,10 +118,10 @@ some_unless true o = refl
 some_unless false o = refl
 
 -- the caller is blocked unless its call ended
-own_blocked : (f : Facts) (t : ℕ) (c : Call) → Passes f t c → is_some (unless (is_some (row_of f t c).own) (after_receipt (row_of f t c).receipt t (asks f.number t (channel_of (makes f t c)) c))) ≡ cond (is_some (row_of f t c).own) false true
+own_blocked : (f : Facts) (t : ℕ) (c : Call) → Passes f t c → is_some (unless (is_some (row_of f t c).own) (after_receipt (receipt_of f t c) t (asks f.number t (channel_of (makes f t c)) c))) ≡ cond (is_some (row_of f t c).own) false true
 own_blocked f t c p =
-    elim (row_of f t c).own as (λ o. (row_of f t c).own ≡ o → is_some (unless (is_some o) (after_receipt (row_of f t c).receipt t (asks f.number t (channel_of (makes f t c)) c))) ≡ cond (is_some o) false true) [
-      | None ↦ λ e. some_receipt (row_of f t c).receipt t (asks f.number t (channel_of (makes f t c)) c) ∙ asks_any f.number t (channel_of (makes f t c)) c ∙ waits_or_ends f t c p e
+    elim (row_of f t c).own as (λ o. (row_of f t c).own ≡ o → is_some (unless (is_some o) (after_receipt (receipt_of f t c) t (asks f.number t (channel_of (makes f t c)) c))) ≡ cond (is_some o) false true) [
+      | None ↦ λ e. some_receipt (receipt_of f t c) t (asks f.number t (channel_of (makes f t c)) c) ∙ asks_any f.number t (channel_of (makes f t c)) c ∙ waits_or_ends f t c p e
       | Some y ↦ λ e. refl
     ] refl
 
@@ -133,8 +135,8 @@ refused_blocked o own t u same idle = elim (cases_Bool (eqb u t)) [
 accepted_blocked : (f : Facts) (t : ℕ) (c : Call) (u : ℕ) → Passes f t c → is_some (open_call_after f t c u) ≡ cond (is_some (ending f t c u)) false (eqb u t || is_some (f.open_call u))
 accepted_blocked f t c u p = elim (cases_Bool (eqb u t)) [
   | inl e ↦ rw (e, eqb-true u t e) (own_blocked f t c p)
-  | inr e ↦ rw e (some_unless (is_some ((row_of f t c).ends u)) _ ∙ ap (λ b. cond (is_some ((row_of f t c).ends u)) false b)
-      (some_unblock (makes f t c) (unblocks c) u _ ∙ some_receipt (row_of f t c).receipt u _ ∙ some_write f (writes c) u (f.open_call u)))
+  | inr e ↦ rw e (some_unless (is_some ((row_of f t c).others u)) _ ∙ ap (λ b. cond (is_some ((row_of f t c).others u)) false b)
+      (some_unblock (makes f t c) (unblocks c) u _ ∙ some_receipt (receipt_of f t c) u _ ∙ some_write f (writes c) u (f.open_call u)))
 ]
 
 -- no thread outside the roster is blocked
@@ -152,10 +154,10 @@ member_blocked roster past e l idle u member =
     let f = facts_of roster past in
     let t = e.thread in
     let c = e.call in
-    elim (l.2) [
+    elim (l.1.1) [
       | inl a ↦
           let got : gets e.endings u ≡ is_some (ending f t c u) = rw (a.1) (gets_by (ending f t c) (ending_thread f t c (laws_of f t c e.endings a)) (threads_of roster) u (known roster u member)) in
-          ap is_some (open_accepted roster past t c e.endings u l.0 l.1 a) ∙ accepted_blocked f t c u (passes_of f t c e.endings a) ∙ ap (λ b. cond b false (may_end roster past t u)) (sym got)
+          ap is_some (open_accepted roster past t c e.endings u l.0 l.1.0 a) ∙ accepted_blocked f t c u (passes_of f t c e.endings a) ∙ ap (λ b. cond b false (may_end roster past t u)) (sym got)
       | inr a ↦ ap is_some (open_refused roster past t c e.endings u a) ∙ rw (a.2) (refused_blocked (open_call roster past u) (open_call roster past t) t u (λ s. ap (open_call roster past) (eqb-true u t s)) idle)
     ]
 
@@ -164,7 +166,7 @@ pub blocked_unless_ended : (roster : List Member) (past : Trace) (e : Event) →
 blocked_unless_ended roster past e r l idle u = elim (cases_Bool (is_some (member_at roster u))) [
   | inl member ↦ member_blocked roster past e l idle u member
   | inr none ↦
-      let caller : eqb u e.thread ≡ false = ne_eqb u e.thread (λ s. true≢false (sym (subst (λ v. is_some (member_at roster v) ≡ true) (sym s) l.1) ∙ none)) in
+      let caller : eqb u e.thread ≡ false = ne_eqb u e.thread (λ s. true≢false (sym (subst (λ v. is_some (member_at roster v) ≡ true) (sym s) l.1.0) ∙ none)) in
       let free : may_end roster past e.thread u ≡ false = rw caller (stranger_free roster past u l.0 none) in
       stranger_free roster (e ∷ past) u l none ∙ sym (ap (cond (gets e.endings u) false) free ∙ cond_same (gets e.endings u) false)
 ]
@@ -176,9 +178,9 @@ caller_gets_its_own roster past e r l =
     let f = facts_of roster past in
     let t = e.thread in
     let c = e.call in
-    elim (l.2) [
+    elim (l.1.1) [
       | inl a ↦
-          let got : gets e.endings t ≡ is_some (ending f t c t) = rw (a.1) (gets_by (ending f t c) (ending_thread f t c (laws_of f t c e.endings a)) (threads_of roster) t (known roster t l.1)) in
-          got ∙ rw (eqb_same t) refl ∙ sym (ends_own roster past t c e.endings l.1 a)
+          let got : gets e.endings t ≡ is_some (ending f t c t) = rw (a.1) (gets_by (ending f t c) (ending_thread f t c (laws_of f t c e.endings a)) (threads_of roster) t (known roster t l.1.0)) in
+          got ∙ rw (eqb_same t) refl ∙ sym (ends_own roster past t c e.endings l.1.0 a)
       | inr a ↦ rw (a.2, eqb_same t, eqb_same (length past + 1)) refl
     ]

@@ -4,11 +4,11 @@ use Rattle.std.specs.Prelude.{Some}
 use Rattle.std.specs.List.{AllByRecursion}
 use Rattle.std.proofs.lemmas.Bool.{ne_eqb}
 use Rattle.std.proofs.lemmas.Option.{none-some}
-use Rattle.qrules.specs.Private.Answer.{ending}
-use Rattle.qrules.specs.Private.Facts.{Facts, threads_of, number_of}
+use Rattle.qrules.specs.Outcome.{ending}
+use Rattle.qrules.proofs.Words.Facts.{Facts, threads_of, number_of}
 use Rattle.qrules.specs.Trace.{thread_at}
 use Rattle.qtables.specs.Members.{IsRoster}
-use Rattle.qrules.specs.Private.Lawful.{IsLawful, facts_of}
+use Rattle.qrules.proofs.Words.Lawful.{IsLawful, facts_of}
 use Rattle.qmodel.specs.Trace.{Event, Trace}
 use Rattle.qmodel.specs.declared.call.Call.{Call}
 use Rattle.qmodel.specs.declared.call.Completion.{Completion}
@@ -19,7 +19,7 @@ use Rattle.qbase.proofs.Lists.{all_filter_map, eqb_same}
 use Rattle.qrules.proofs.Traces.Past.Numbers.{block_below}
 use Rattle.qrules.proofs.Traces.Past.Open.{open_parts}
 use Rattle.qrules.proofs.Traces.Properties.Sends.{begins_now}
-use Rattle.qrules.specs.Private.Past.{block}
+use Rattle.qrules.proofs.Words.Past.{block}
 use Rattle.qtables.specs.declared.member.Member.{Member}
 
 -- an accepted call's endings go to the threads that get them
@@ -49,7 +49,7 @@ pub endings_name_own_calls : (roster : List Member) (past : Trace) (e : Event) �
 endings_name_own_calls roster past e r l =
     let f = facts_of roster past in
     let P = λ (x : Completion). thread_at (e ∷ past) x.call ≡ Some x.thread in
-    elim (l.2) [
+    elim (l.1.1) [
       | inl a ↦ subst (AllByRecursion P) (sym a.1) (all_filter_map P (ending f e.thread e.call) (threads_of roster) (λ v y is.
           elim (ending_names f e.thread e.call v y (laws_of f e.thread e.call e.endings a) is) [
             | inl own ↦ ap (thread_at (e ∷ past)) own.names.call ∙ thread_newest e past ∙ ap Some (sym own.names.thread)

@@ -7,14 +7,14 @@ use Rattle.std.proofs.lemmas.Bool.{and_parts, eqb-true, not-true, or_parts, true
 use Rattle.std.proofs.lemmas.Option.{none-some, same_Some}
 use Rattle.qtables.specs.Members.{IsRoster}
 use Rattle.qtables.specs.declared.member.Member.{Member}
-use Rattle.qrules.specs.Private.Calls.{row_of}
-use Rattle.qrules.specs.Private.Facts.{is_for_answer, is_send, sender, threads_of, number_of}
+use Rattle.qrules.specs.Rules.{row_of}
+use Rattle.qrules.proofs.Words.Facts.{is_for_answer, is_send, sender, threads_of, number_of}
 use Rattle.qrules.specs.Properties.{number_received, TakesBest, takeable}
 use Rattle.qrules.specs.Past.{waiter, ReceivedItem}
 use Rattle.qrules.proofs.Traces.Past.Waits.{may_wait, waits_or_ends}
-use Rattle.qrules.specs.Private.Lawful.{IsLawful, facts_of}
-use Rattle.qrules.specs.Private.Past.{copied_count_in, has_ending_of, is_ended, is_received, item_of, accepted_at, open_call, copied_count_among, copied_count_of, filled}
-use Rattle.qrules.specs.Private.Rows.{item_in}
+use Rattle.qrules.proofs.Words.Lawful.{IsLawful, facts_of}
+use Rattle.qrules.proofs.Words.Past.{copied_count_in, has_ending_of, is_ended, is_received, item_of, accepted_at, open_call, copied_count_among, copied_count_of, filled}
+use Rattle.qrules.proofs.Words.Items.{item_in}
 use Rattle.qmodel.specs.Trace.{SentItem, Trace, Event}
 use Rattle.qmodel.specs.declared.call.Completion.{Completion}
 use Rattle.qmodel.specs.declared.open_call.OpenCall.{OpenCall}
@@ -93,8 +93,8 @@ made_waits roster (e ∷ past) i m l is going =
     now number at unended =
         let f = facts_of roster past in
         let a = item_accepted roster e past m at in
-        let o = outcome_of roster e past l.2 a.0 in
-        let none : (row_of f e.thread e.call).own ≡ None = no_own ((row_of f e.thread e.call).own) (sym (ends_own roster past e.thread e.call e.endings l.1 o) ∙ unended) in
+        let o = outcome_of roster e past l.1.1 a.0 in
+        let none : (row_of f e.thread e.call).own ≡ None = no_own ((row_of f e.thread e.call).own) (sym (ends_own roster past e.thread e.call e.endings l.1.0 o) ∙ unended) in
         let waits : may_wait e.call ≡ true = waits_or_ends f e.thread e.call (passes_of f e.thread e.call e.endings o) none in
         (e.thread, subst (λ j. accepted_at waiter (e ∷ past) j ≡ Some e.thread) (sym number) (made_newest waiter e past a.0 ∙ rw waits refl))
 

@@ -1,4 +1,5 @@
 -- How long the buffers are that endings give back.
+use Rattle.qrules.proofs.Traces.Rows.{answer_same, pulse_same, sent_same, unblocked_same}
 use Rattle.std.proofs.Common.{◌≡◌, ℕ, ◌≤◌, List, [], ◌∷◌, length, refl, ap, sym, subst, ◌∙◌, cond, Bool, true, false, eqb, arith, inl, inr}
 use Rattle.std.specs.Prelude.{Option, None, Some, is_some, ◌&&◌}
 use Rattle.std.specs.List.{AllByRecursion}
@@ -11,24 +12,29 @@ use Rattle.qbase.specs.declared.errno.Errno.TheVariants.{Srch}
 use Rattle.qqueue.specs.Best.{is_pulse}
 use Rattle.qqueue.specs.declared.item.Item.{Item}
 use Rattle.qqueue.specs.declared.item.Kind.TheVariants.{Any, PulseOnly}
-use Rattle.qrules.specs.Private.Answer.{ending}
-use Rattle.qrules.specs.Private.Calls.{row_of}
+use Rattle.qrules.specs.Outcome.{ending}
+use Rattle.qrules.specs.Rules.{row_of}
 use Rattle.qmodel.specs.Buffers.{buffer_of}
-use Rattle.qrules.specs.Private.Effects.{asks, makes, unblocks, writes}
-use Rattle.qrules.specs.Private.Calls.ConnectDetach as connect_detach
-use Rattle.qrules.specs.Private.Calls.Error.{error_finish}
-use Rattle.qrules.specs.Private.Calls.Reply.{reply_finish}
-use Rattle.qrules.specs.Private.Calls.Send.{item}
-use Rattle.qrules.specs.Private.Calls.Unblock as unblock
-use Rattle.qrules.specs.Private.Calls.Info.{info_of, info_ending}
-use Rattle.qrules.specs.Private.Calls.Pulse as pulse
-use Rattle.qrules.specs.Private.Cancelling.{is_on}
-use Rattle.qrules.specs.Private.Facts.{buffer_of_open, Facts, message, sender, threads_of, route, number_of, with_buffer}
-use Rattle.qrules.specs.Private.Held.{Finish, ends_sender, refusal}
-use Rattle.qrules.specs.Private.Rows.{Received, receipt_ending, buffer_after_write}
+use Rattle.qrules.proofs.Words.Effects.{asks, makes, unblocks, writes}
+use Rattle.qrules.specs.Rules.Connections as connect_detach
+use Rattle.qrules.proofs.Traces.Parts.{error_finish}
+use Rattle.qrules.proofs.Traces.Parts.{reply_finish}
+use Rattle.qrules.proofs.Words.Items.{message_item}
+use Rattle.qrules.specs.Rules.Unblock as unblock
+use Rattle.qrules.specs.Rules.Held.{info_of}
+use Rattle.qrules.proofs.Words.Items.{receipt_of, info_ending}
+use Rattle.qrules.specs.Rules.Pulse as pulse
+use Rattle.qrules.specs.Delivery.{is_on}
+use Rattle.qrules.proofs.Words.Facts.{Facts, message, sender, threads_of, route, number_of}
+use Rattle.qrules.specs.Records.{buffer_of_open, with_buffer}
+use Rattle.qrules.specs.Rules.Held.{refusal_unless_held}
+use Rattle.qrules.proofs.Words.Items.{Finish, ends_sender}
+use Rattle.qrules.proofs.Words.Items.{Received, buffer_after_write}
+use Rattle.qrules.specs.Delivery.{receipt_ending}
 use Rattle.qmodel.specs.Trace.{SentItem, Event, Trace}
-use Rattle.qrules.specs.Private.Step.{after_receipt, after_unblock, after_write, held_call, is_thread, open_call_after, unblocked_call, unless, written_call}
-use Rattle.qrules.specs.Private.Past.{is_accepted, with_writes, open_call, filled, with_receipt}
+use Rattle.qrules.proofs.Words.Step.{after_receipt, after_unblock, after_write, open_call_after, unless}
+use Rattle.qrules.specs.Records.{held_call, is_thread, unblocked_call, written_call}
+use Rattle.qrules.proofs.Words.Past.{is_accepted, with_writes, open_call, filled, with_receipt}
 use Rattle.qmodel.specs.declared.call.Call.{Call}
 use Rattle.qmodel.specs.declared.call.Call.TheVariants.{Send, Receive, Reply, Error, Read, Info, ReceivePulse, Pulse, ChannelDestroy, Shutdown, Unblock, ConnectDetach}
 use Rattle.qmodel.specs.declared.call.Completion.{Completion}
@@ -50,7 +56,7 @@ use Rattle.qrules.proofs.Traces.Properties.Rows.Telling.{told_meets, unblock_end
 use Rattle.qtables.specs.Members.{IsRoster}
 use Rattle.qtables.specs.declared.member.Member.{Member}
 use Rattle.qrules.specs.Trace.{call_at}
-use Rattle.qrules.specs.Private.Lawful.{facts_of, IsLawful}
+use Rattle.qrules.proofs.Words.Lawful.{facts_of, IsLawful}
 use Rattle.qbase.proofs.Lengths.{lay_length}
 use Rattle.qbase.proofs.Lists.{all_filter_map, all_more, eqb_same}
 use Rattle.qrules.proofs.Traces.Past.Ends.{ending_names, laws_of, passes_of}
@@ -89,26 +95,26 @@ met_length f o item message u y k = ap (λ x. length x.buffer) (sym k.ending) �
 cancel_length : (is_cancelled : OpenCall → Bool) (e : Errno) (u : ℕ) (o : Option OpenCall) (y : Completion) → IsCutCall is_cancelled e u o y → length y.buffer ≡ length (buffer_of_open o)
 cancel_length is_cancelled e u o y k = ap (λ x. length x.buffer) (sym k.ending) ∙ ap (λ x. length (buffer_of_open x)) (sym k.is)
 
-answered_length : (f : Facts) (t rcvid : ℕ) (finish : Finish) (u : ℕ) (y : Completion) → ((b : List ℕ) → length (finish b).1 ≡ length b) → refusal f t rcvid ≡ None → ends_sender f finish (sender f rcvid) u ≡ Some y → length y.buffer ≡ length (buffer_of_open (f.open_call u))
+answered_length : (f : Facts) (t rcvid : ℕ) (finish : Finish) (u : ℕ) (y : Completion) → ((b : List ℕ) → length (finish b).1 ≡ length b) → refusal_unless_held f t rcvid ≡ None → ends_sender f finish (sender f rcvid) u ≡ Some y → length y.buffer ≡ length (buffer_of_open (f.open_call u))
 answered_length f t rcvid finish u y keeps r e =
     let k = sender_ends f t rcvid finish u y r e in
     ap (λ x. length x.buffer) (sym k.ending) ∙ keeps k.held.send.reply_buffer ∙ ap (λ x. length (buffer_of_open x)) (sym k.held.is_open)
 
-ends_length : (f : Facts) (t : ℕ) (c : Call) (u : ℕ) (y : Completion) → Passes f t c → (row_of f t c).ends u ≡ Some y → length y.buffer ≡ length (buffer_of_open (f.open_call u))
-ends_length f t (Send coid message reply_buffer) u y p e = met_length f (route f t coid) (item f t) message u y (delivery_meets f (route f t coid) (item f t) message u y e)
-ends_length f t (Reply rcvid status bytes) u y p e = answered_length f t rcvid (reply_finish status bytes) u y (λ b. lay_length b 0 bytes) p.row e
-ends_length f t (Error rcvid code) u y p e = answered_length f t rcvid (error_finish code) u y (λ b. refl) p.row e
+ends_length : (f : Facts) (t : ℕ) (c : Call) (u : ℕ) (y : Completion) → Passes f t c → (row_of f t c).others u ≡ Some y → length y.buffer ≡ length (buffer_of_open (f.open_call u))
+ends_length f t (Send coid message reply_buffer) u y p e = met_length f (route f t coid) (message_item f t) message u y (delivery_meets f (route f t coid) (message_item f t) message u y (sym (sent_same f t coid message reply_buffer u p.row) ∙ e))
+ends_length f t (Reply rcvid status bytes) u y p e = answered_length f t rcvid (reply_finish status bytes) u y (λ b. lay_length b 0 bytes) p.row (sym (answer_same f (reply_finish status bytes) (sender f rcvid) u) ∙ e)
+ends_length f t (Error rcvid code) u y p e = answered_length f t rcvid (error_finish code) u y (λ b. refl) p.row (sym (answer_same f (error_finish code) (sender f rcvid) u) ∙ e)
 ends_length f t (Pulse coid priority code value) u y p e =
-    let k = told_meets f (pulse.sent_pulse f coid priority code value) u y e in met_length f (Some k.made.channel) k.made.item [] u y k.delivers
+    let k = told_meets f (pulse.pulse_over f coid priority code value) u y (sym (pulse_same f (pulse.pulse_over f coid priority code value) u) ∙ e) in met_length f (Some k.made.channel) k.made.item [] u y k.delivers
 ends_length f t (ChannelDestroy chid) u y p e = cancel_length (is_on chid) Srch u (f.open_call u) y (cancel_parts (is_on chid) Srch u (f.open_call u) y e)
 ends_length f t Shutdown u y p e = cancel_length (λ o. true) Srch u (f.open_call u) y (cancel_parts (λ o. true) Srch u (f.open_call u) y e)
-ends_length f t (Unblock thread) u y p e = elim (unblock_ends f thread u y (unblock.due_pulse f thread) e) [
+ends_length f t (Unblock thread) u y p e = elim (unblock_ends f thread u y (unblock.unblock_pulse f thread) (sym (unblocked_same f t thread u) ∙ e)) [
   | inl cancel ↦ cancel_length _ _ u (f.open_call u) y cancel
   | inr k ↦ met_length f (Some k.made.channel) k.made.item [] u y k.delivers
 ]
-ends_length f t (ConnectDetach coid) u y p e = elim (detach_ends f coid (connect_detach.due_pulse f t coid) u y e) [
+ends_length f t (ConnectDetach coid) u y p e = elim (detach_ends f coid (connect_detach.disconnect_pulse f t coid) u y e) [
   | inl cancel ↦ cancel_length _ _ u (f.open_call u) y cancel
-  | inr s ↦ let k = told_meets f (connect_detach.due_pulse f t coid) u y s in met_length f (Some k.made.channel) k.made.item [] u y k.delivers
+  | inr s ↦ let k = told_meets f (connect_detach.disconnect_pulse f t coid) u y s in met_length f (Some k.made.channel) k.made.item [] u y k.delivers
 ]
 ends_length f t c u y p e = absurd (none-some y e)
 
@@ -122,7 +128,7 @@ pub endings_keep_length : (roster : List Member) (past : Trace) (e : Event) → 
 endings_keep_length roster past e r l =
     let f = facts_of roster past in
     let P = λ (x : Completion). length x.buffer ≡ length (buffer_brought roster past e.thread e.call x.thread) in
-    elim (l.2) [
+    elim (l.1.1) [
       | inl a ↦ subst (AllByRecursion P) (sym a.1) (all_filter_map P (ending f e.thread e.call) (threads_of roster) (λ v y is.
           elim (ending_names f e.thread e.call v y (laws_of f e.thread e.call e.endings a) is) [
             | inl own ↦ rw (own.names.thread, eqb_same e.thread) (own_length f e.thread e.call y own.is)
@@ -175,24 +181,24 @@ left_open false o x e = e
 after_length : (f : Facts) (t : ℕ) (c : Call) (u : ℕ) (x : OpenCall) → open_call_after f t c u ≡ Some x → length (buffer_in x) ≡ length (cond (eqb u t) (buffer_of c) (buffer_of_open (f.open_call u)))
 after_length f t c u x e =
     let R = row_of f t c in
-    let mine = after_receipt R.receipt u (asks f.number t (channel_of (makes f t c)) c) in
+    let mine = after_receipt (receipt_of f t c) u (asks f.number t (channel_of (makes f t c)) c) in
     let written = after_write f (writes c) u (f.open_call u) in
-    let received = after_receipt R.receipt u written in
+    let received = after_receipt (receipt_of f t c) u written in
     let others = after_unblock (makes f t c) (unblocks c) u received in
-    elim (eqb u t) as (λ b. cond b (unless (is_some R.own) mine) (unless (is_some (R.ends u)) others) ≡ Some x → length (buffer_in x) ≡ length (cond b (buffer_of c) (buffer_of_open (f.open_call u)))) [
+    elim (eqb u t) as (λ b. cond b (unless (is_some R.own) mine) (unless (is_some (R.others u)) others) ≡ Some x → length (buffer_in x) ≡ length (cond b (buffer_of c) (buffer_of_open (f.open_call u)))) [
       | true ↦ λ is.
           let left = left_open (is_some R.own) mine x is in
-          let asked : is_some (asks f.number t (channel_of (makes f t c)) c) ≡ true = sym (some_receipt R.receipt u (asks f.number t (channel_of (makes f t c)) c)) ∙ ap is_some left in
-          ap (λ o. length (buffer_of_open o)) (sym left) ∙ receipt_length R.receipt u (asks f.number t (channel_of (makes f t c)) c) ∙ asked_length f.number t (channel_of (makes f t c)) c asked
+          let asked : is_some (asks f.number t (channel_of (makes f t c)) c) ≡ true = sym (some_receipt (receipt_of f t c) u (asks f.number t (channel_of (makes f t c)) c)) ∙ ap is_some left in
+          ap (λ o. length (buffer_of_open o)) (sym left) ∙ receipt_length (receipt_of f t c) u (asks f.number t (channel_of (makes f t c)) c) ∙ asked_length f.number t (channel_of (makes f t c)) c asked
       | false ↦ λ is.
-          let left = left_open (is_some (R.ends u)) others x is in
-          ap (λ o. length (buffer_of_open o)) (sym left) ∙ unblock_length (makes f t c) (unblocks c) u received ∙ receipt_length R.receipt u written ∙ write_length f (writes c) u (f.open_call u)
+          let left = left_open (is_some (R.others u)) others x is in
+          ap (λ o. length (buffer_of_open o)) (sym left) ∙ unblock_length (makes f t c) (unblocks c) u received ∙ receipt_length (receipt_of f t c) u written ∙ write_length f (writes c) u (f.open_call u)
     ] e
 
 open_keeps_length : (roster : List Member) (past : Trace) (e : Event) → IsLawful roster (e ∷ past) → is_some (open_call roster past e.thread) ≡ false
     → (u : ℕ) (x : OpenCall) → open_call roster (e ∷ past) u ≡ Some x → length (buffer_in x) ≡ length (buffer_brought roster past e.thread e.call u)
-open_keeps_length roster past e l idle u x is = elim (l.2) [
-  | inl a ↦ after_length (facts_of roster past) e.thread e.call u x (sym (open_accepted roster past e.thread e.call e.endings u l.0 l.1 a) ∙ is)
+open_keeps_length roster past e l idle u x is = elim (l.1.1) [
+  | inl a ↦ after_length (facts_of roster past) e.thread e.call u x (sym (open_accepted roster past e.thread e.call e.endings u l.0 l.1.0 a) ∙ is)
   | inr a ↦
       let before : open_call roster past u ≡ Some x = sym (open_refused roster past e.thread e.call e.endings u a) ∙ is in
       let other : eqb u e.thread ≡ false = ne_eqb u e.thread (λ s. true≢false (sym (ap is_some before) ∙ ap (λ v. is_some (open_call roster past v)) s ∙ idle)) in

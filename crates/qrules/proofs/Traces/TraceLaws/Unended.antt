@@ -6,9 +6,9 @@ use Rattle.std.proofs.lemmas.Option.{none-some, same_Some}
 use Rattle.qtables.specs.declared.member.Member.{Member}
 use Rattle.qrules.specs.Past.{waiter, channel_of}
 use Rattle.qrules.proofs.Traces.Past.Waits.{may_wait}
-use Rattle.qrules.specs.Private.Lawful.{IsLawful}
-use Rattle.qrules.specs.Private.Past.{has_ending_of, is_accepted, is_ended, accepted_at, block, item_of}
-use Rattle.qrules.specs.Private.Effects.{asks}
+use Rattle.qrules.proofs.Words.Lawful.{IsLawful}
+use Rattle.qrules.proofs.Words.Past.{has_ending_of, is_accepted, is_ended, accepted_at, block, item_of}
+use Rattle.qrules.proofs.Words.Effects.{asks}
 use Rattle.qmodel.specs.Trace.{Event, Trace}
 use Rattle.qmodel.specs.declared.call.Call.{Call}
 use Rattle.qmodel.specs.declared.call.Call.TheVariants.{Shutdown}

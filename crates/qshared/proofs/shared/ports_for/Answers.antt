@@ -7,7 +7,7 @@ use lib.ListN.{get_elem?}
 use lib.Seq.{get_or-append_seam}
 use Rattle.std.specs.Prelude.{Some}
 use Rattle.std.proofs.lemmas.Option.{same_Some, none-some}
-use Rattle.qrules.specs.Private.Facts.{threads_of}
+use Rattle.qrules.proofs.Words.Facts.{threads_of}
 use Rattle.qrules.proofs.Traces.Rosters.{rises}
 use Rattle.atomic_table.proofs.Lists.{at_index}
 use Rattle.qhandoff.specs.Words.{taken, thread_of, took}

@@ -1,7 +1,7 @@
 use Rattle.std.proofs.Common.{◌+◌, ap, refl, sym, ◌∙◌, cond}
 use Rattle.std.proofs.lemmas.Result.{err_from_is_err_and}
 use Rattle.std.specs.Prelude.{None, Some, is_some}
-use Rattle.qrules.specs.Private.Rows.{disconnect_item}
+use Rattle.qrules.specs.Records.{disconnect_item}
 use Rattle.qkernel.proofs.Steps.Common.{up_to_below}
 use Rattle.qstate.specs.Endings.{with_ending_if}
 use Rattle.qmodel.specs.declared.call.Call.TheVariants.{ConnectDetach}

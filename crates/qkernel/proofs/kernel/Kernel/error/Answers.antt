@@ -2,7 +2,7 @@ use Rattle.std.proofs.Common.{refl, w32}
 use Rattle.std.proofs.lemmas.Result.{err_from_is_err_and}
 use Rattle.std.proofs.lemmas.Int.{to_z-of_z}
 use Rattle.qmodel.specs.declared.call.Call.TheVariants.{Error}
-use Rattle.qrules.specs.Private.Calls.Error.{error_finish}
+use Rattle.qrules.proofs.Traces.Parts.{error_finish}
 use Rattle.qstate.specs.Thread.{open_in}
 use Rattle.qstate.proofs.Senders.{answered_by}
 use Rattle.qkernel.proofs.Steps.Held.{step_unheld}

@@ -2,7 +2,7 @@ use Rattle.std.proofs.Common.{◌+◌, refl, sym, ◌∙◌, w8, w32}
 use Rattle.std.proofs.lemmas.Result.{err_from_is_err_and}
 use Rattle.std.proofs.lemmas.Int.{to_z-of_z}
 use Rattle.std.specs.Prelude.{Some}
-use Rattle.qrules.specs.Private.Rows.{pulse_item}
+use Rattle.qrules.proofs.Words.Items.{pulse_item}
 use Rattle.qmodel.specs.declared.call.Call.TheVariants.{Pulse}
 use Rattle.qkernel.specs.Kernel.{State}
 use Rattle.qkernel.proofs.Steps.Pulse.{natural, pulse_full, pulse_memory, tells_pulse}

@@ -1,5 +1,5 @@
 use Rattle.std.proofs.Common.{◌≡◌, refl, sym, ap, ◌∙◌}
-use Rattle.qrules.specs.Private.Facts.{message_in}
+use Rattle.qrules.specs.Records.{message_in}
 use Rattle.qstate.specs.Thread.{message_from}
 use Rattle.qstate.proofs.Senders.{message_sent}
 use Rattle.qmodel.specs.declared.call.Call.TheVariants.{Read}

@@ -4,7 +4,7 @@ use Rattle.std.specs.Option.{option_copied_mut, option_map}
 use Rattle.std.proofs.lemmas.Bool.{not-false, not-true}
 use Rattle.qstate.proofs.Seats.{seat_kept}
 use Rattle.qstate.proofs.ChannelWrites.{sets_queue}
-use Rattle.qrules.specs.Private.Facts.{is_fixed}
+use Rattle.qrules.specs.Records.{is_fixed}
 use Rattle.qstate.specs.Channel.{is_of}
 use Rattle.qstate.specs.Kept.{items_waiting_on, open_channel_of}
 use Rattle.qqueue.specs.Best.{best_of, is_pulse, without_item}

@@ -2,7 +2,7 @@ use Rattle.std.proofs.Common.{refl, w64}
 use Rattle.std.proofs.lemmas.Result.{err_from_is_err_and}
 use Rattle.std.proofs.lemmas.Int.{to_z-of_z}
 use Rattle.qmodel.specs.declared.call.Call.TheVariants.{Reply}
-use Rattle.qrules.specs.Private.Calls.Reply.{reply_finish}
+use Rattle.qrules.proofs.Traces.Parts.{reply_finish}
 use Rattle.qstate.specs.Thread.{open_in}
 use Rattle.qstate.proofs.Senders.{answered_by}
 use Rattle.qkernel.proofs.Steps.Held.{step_unheld}

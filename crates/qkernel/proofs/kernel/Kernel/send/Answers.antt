@@ -7,7 +7,7 @@ use Rattle.qstate.proofs.Seats.{seat_kept}
 use Rattle.qstate.proofs.Receivers.{newest_receives, taken_by, waits_among}
 use Rattle.qkernel.proofs.Steps.Delivering.{sound_with_item, sound_threads}
 use Rattle.qstate.specs.Kept.{items_waiting_on, open_channel_of}
-use Rattle.qrules.specs.Private.Facts.{is_fixed}
+use Rattle.qrules.specs.Records.{is_fixed}
 use Rattle.qkernel.proofs.Steps.Receiving.{sound_kept}
 use Rattle.qkernel.proofs.Steps.Send.{step_send_no_memory, step_send_nowhere, step_send_waits, step_send_met}
 use Rattle.qkernel.proofs.kernel.Kernel.send.Goals as goal

@@ -1,7 +1,7 @@
 use Rattle.std.proofs.Common.{ap, refl, sym, ◌∙◌}
 use Rattle.qbase.specs.Laying.{laid_count}
-use Rattle.qrules.specs.Private.Held.{reply_buffer_in}
-use Rattle.qrules.specs.Private.Step.{written_call}
+use Rattle.qrules.specs.Records.{reply_buffer_in}
+use Rattle.qrules.specs.Records.{written_call}
 use Rattle.qstate.proofs.Senders.{call_sent, changes_sender}
 use Rattle.std.proofs.lemmas.Result.{err_from_is_err_and}
 use Rattle.qmodel.specs.declared.call.Call.TheVariants.{Write}

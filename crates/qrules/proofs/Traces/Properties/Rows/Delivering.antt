@@ -4,9 +4,9 @@ use Rattle.std.specs.Prelude.{Option, None, Some}
 use Rattle.std.proofs.lemmas.Option.{none-some, same_Some}
 use Rattle.qqueue.specs.Best.{may_take}
 use Rattle.qqueue.specs.declared.item.Item.{Item}
-use Rattle.qrules.specs.Private.Delivering.{delivers, receiver}
-use Rattle.qrules.specs.Private.Facts.{Facts, number_of}
-use Rattle.qrules.specs.Private.Rows.{receipt_ending}
+use Rattle.qrules.proofs.Words.Items.{delivers, receiver}
+use Rattle.qrules.proofs.Words.Facts.{Facts, number_of}
+use Rattle.qrules.specs.Delivery.{receipt_ending}
 use Rattle.qmodel.specs.declared.call.Completion.{Completion}
 use Rattle.qmodel.specs.declared.open_call.OpenCall.{OpenCall}
 use Rattle.qmodel.specs.declared.open_call.OpenCall.TheVariants.{Receive}

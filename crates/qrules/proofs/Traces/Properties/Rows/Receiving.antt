@@ -5,9 +5,9 @@ use Rattle.std.proofs.lemmas.Option.{none-some, same_Some}
 use Rattle.qqueue.specs.Best.{best_of}
 use Rattle.qqueue.specs.declared.item.Item.{Item}
 use Rattle.qqueue.specs.declared.item.Kind.{Kind}
-use Rattle.qrules.specs.Private.Receiving.{own_receipt}
-use Rattle.qrules.specs.Private.Rows.{receipt_ending}
-use Rattle.qrules.specs.Private.Facts.{Facts, message}
+use Rattle.qrules.proofs.Words.Items.{own_receipt}
+use Rattle.qrules.specs.Delivery.{receipt_ending}
+use Rattle.qrules.proofs.Words.Facts.{Facts, message}
 use Rattle.qmodel.specs.declared.call.Completion.{Completion}
 
 pub record ReceiveTakes (f : Facts) (t chid : ℕ) (kind : Kind) (buffer : List ℕ) (y : Completion) : Type 0 where

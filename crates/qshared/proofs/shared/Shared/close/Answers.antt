@@ -2,7 +2,7 @@ use Rattle.std.proofs.Common.{◌≡◌, ℕ, [], refl, sym, subst, ap, ◌∙�
 use Rattle.std.specs.Prelude.{Some}
 use Rattle.std.proofs.lemmas.List.{length-map}
 use lib.ListN.{get_elem?}
-use Rattle.qrules.specs.Private.Facts.{threads_of}
+use Rattle.qrules.proofs.Words.Facts.{threads_of}
 use Rattle.qrules.proofs.Traces.Rosters.{rises}
 use Rattle.qhandoff.specs.Words.{cells_id, count, taken, took, left_for, AreBelow, IsRow}
 use Rattle.qshared.specs.Asking.{calls_of}

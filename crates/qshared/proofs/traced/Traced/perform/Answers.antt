@@ -1,6 +1,6 @@
 use Rattle.std.proofs.Common.{◌≡◌, length, sym, ◌∙◌, ap, refl, subst, inl, inr, arith}
 use Rattle.std.specs.Prelude.{Some}
-use Rattle.qrules.specs.Private.Lawful.{with_event}
+use Rattle.qrules.proofs.Words.Lawful.{with_event}
 use Rattle.qhandoff.specs.Words.{desk}
 use Rattle.qrules.specs.Facts.{threads_of}
 use Rattle.qstate.proofs.Seats.{seat_kept}

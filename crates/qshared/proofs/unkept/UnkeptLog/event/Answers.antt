@@ -1,6 +1,6 @@
 use Rattle.std.proofs.Common.{◌≡◌, ◌∙◌, ap, sym, subst, true, inl, inr, arith}
 use Rattle.std.proofs.lemmas.Bool.{cases_Bool, true≢false}
-use Rattle.qrules.specs.Private.Lawful.{with_event}
+use Rattle.qrules.proofs.Words.Lawful.{with_event}
 use Rattle.qrules.specs.Lawful.{facts_of}
 use Rattle.qrules.specs.Outcome.{Answers}
 use Rattle.qrules.specs.Rules.{effect_of}

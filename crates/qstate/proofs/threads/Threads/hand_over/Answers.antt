@@ -1,8 +1,8 @@
 use Rattle.std.proofs.Common.{◌≡◌, ap, get_or, sym, ◌∙◌, false}
 use Rattle.std.specs.Option.{option_map}
 use Rattle.qbase.specs.Laying.{laid_count, lay_over}
-use Rattle.qrules.specs.Private.Facts.{message_in}
-use Rattle.qrules.specs.Private.Step.{held_call}
+use Rattle.qrules.specs.Records.{message_in}
+use Rattle.qrules.specs.Records.{held_call}
 use Rattle.qmodel.specs.declared.open_call.Receipt.{Receipt}
 use Rattle.qstate.specs.Thread.{open_in}
 use Rattle.qstate.proofs.Indexing.{indexed_changed, keeps_held}

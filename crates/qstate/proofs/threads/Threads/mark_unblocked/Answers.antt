@@ -1,6 +1,6 @@
 use Rattle.std.proofs.Common.{ap, ◌∙◌}
 use Rattle.std.specs.Option.{option_map}
-use Rattle.qrules.specs.Private.Step.{unblocked_call}
+use Rattle.qrules.specs.Records.{unblocked_call}
 use Rattle.qstate.proofs.Indexing.{indexed_changed, keeps_unblocked}
 use Rattle.qstate.proofs.Seats.{changes_open, first_at}
 use Rattle.qstate.proofs.threads.Threads.mark_unblocked.Goals as goal

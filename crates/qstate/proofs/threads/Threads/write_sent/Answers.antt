@@ -1,8 +1,8 @@
 use Rattle.std.proofs.Common.{ap, sym, ◌∙◌}
 use Rattle.std.specs.Option.{option_map}
 use Rattle.qbase.specs.Laying.{laid_count}
-use Rattle.qrules.specs.Private.Held.{reply_buffer_in}
-use Rattle.qrules.specs.Private.Step.{written_call}
+use Rattle.qrules.specs.Records.{reply_buffer_in}
+use Rattle.qrules.specs.Records.{written_call}
 use Rattle.qstate.proofs.Indexing.{indexed_changed, keeps_written}
 use Rattle.qstate.proofs.Seats.{changes_open, first_at, first_open}
 use Rattle.qstate.proofs.threads.Threads.write_sent.Goals as goal

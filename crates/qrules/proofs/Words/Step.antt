@@ -1,28 +1,25 @@
 -- One call: the facts after it, given the facts before it.
-use Rattle.std.specs.Prelude.{◌≡◌, ℕ, ◌+◌, ◌==◌, ◌&&◌, ◌||◌, not, filter, Bool, true, false, is_some, List}
+pub use Rattle.qrules.specs.Records.{is_thread, written_call, unblocked_call, is_unread_send}
+use Rattle.std.specs.Prelude.{◌≡◌, ℕ, ◌+◌, ◌==◌, ◌&&◌, ◌||◌, not, filter, Bool, is_some, List}
 use Rattle.std.specs.Prelude.{[], ◌++◌, map, Option, None, Some, if◌then◌else◌, unwrap_or}
 use Rattle.std.specs.List.{list_any}
-use Rattle.std.specs.Option.{option_map, option_or, option_map_or}
-use Rattle.qbase.specs.Laying.{lay_over}
+use Rattle.std.specs.Option.{option_map, option_or}
 use Rattle.qqueue.specs.Best.{with_priority, without_item}
 use Rattle.qqueue.specs.declared.item.Item.{Item}
 use Rattle.qtables.specs.Members.{member_at}
 use Rattle.qtables.specs.declared.connection.Connection.{Connection}
 use Rattle.qmodel.specs.declared.call.Call.{Call}
 use Rattle.qmodel.specs.declared.open_call.OpenCall.{OpenCall}
-use Rattle.qmodel.specs.declared.open_call.Receipt.{Receipt}
-use Rattle.qmodel.specs.declared.open_call.OpenCall.TheVariants.{Send, Receive}
 use Rattle.qmodel.specs.Trace.{ChannelId, ConnectionId, Priority, ReceiveId, ThreadNo, OpenChannel, SentItem}
-pub use Rattle.qrules.specs.Private.Facts.{held_call, with_buffer}
-use Rattle.qrules.specs.Private.Facts.{Facts, sender, is_fixed, threads_of, number_of, is_for_receipt}
-use Rattle.qrules.specs.Private.Effects.{asks, attaches, closes, creates, detaches, makes, sets, shuts_down}
-use Rattle.qrules.specs.Private.Effects.{unblocks, writes}
-use Rattle.qrules.specs.Private.Rows.{Received, Row, names, priority_set_for}
-use Rattle.qrules.specs.Private.Calls.{row_of}
-use Rattle.qrules.specs.Private.Past.{made_on}
+pub use Rattle.qrules.proofs.Words.Facts.{held_call, with_buffer}
+use Rattle.qrules.proofs.Words.Facts.{Facts, sender, is_fixed, threads_of}
+use Rattle.qrules.proofs.Words.Effects.{asks, attaches, closes, creates, detaches, makes, sets, shuts_down}
+use Rattle.qrules.proofs.Words.Effects.{unblocks, writes}
+use Rattle.qrules.proofs.Words.Items.{names, priority_set_for, receipt_of, Received}
+use Rattle.qrules.specs.Rules.{row_of}
+use Rattle.qrules.proofs.Words.Past.{made_on}
 use Rattle.qrules.specs.Rule.{PriorityChange, Transfer}
 use Rattle.qrules.specs.Past.{channel_of}
-use Rattle.qrules.specs.Private.Cancelling.{is_on}
 
 -- a look-up with one more record at n
 abbrev pub put_at : {A : Type 0} → Option A → ℕ → (ℕ → Option A) → ℕ → Option A
@@ -44,31 +41,16 @@ abbrev pub connection_after : Facts → ThreadNo → Call → ConnectionId → O
 connection_after f t c k = if names (detaches c) k then None
     else put_at (attaches (member_at f.roster t) c) f.number f.connection k
 
--- the thread is this one
-abbrev pub is_thread : Option ThreadNo → ThreadNo → Bool
-is_thread None u = false
-is_thread (Some s) u = u == s
-
 -- what thread u waits for after a receipt
 abbrev pub after_receipt : Option Received → ThreadNo → Option OpenCall → Option OpenCall
 after_receipt None u o = o
 after_receipt (Some r) u o = if is_thread r.sender u then option_map (held_call r.kept) o else o
-
--- an open call whose reply buffer is written over
-abbrev pub written_call : ℕ → List ℕ → OpenCall → OpenCall
-written_call offset bytes o = with_buffer (λ b. lay_over b offset bytes) o
 
 -- what thread u waits for after a write
 abbrev pub after_write : Facts → Option Transfer → ThreadNo → Option OpenCall → Option OpenCall
 after_write f None u o = o
 after_write f (Some w) u o =
     if is_thread (sender f w.rcvid) u then option_map (written_call w.offset w.bytes) o else o
-
--- an open call for whose message an unblock pulse is made
-abbrev pub unblocked_call : OpenCall → OpenCall
-unblocked_call (Send s) =
-    Send (record s { receipt = option_map (λ (r : Receipt). record r { unblocked = true }) s.receipt })
-unblocked_call (Receive r) = Receive r
 
 -- what thread u waits for after a call that unblocks a thread and makes this item
 abbrev pub after_unblock : Option SentItem → Option ThreadNo → ThreadNo → Option OpenCall → Option OpenCall
@@ -79,30 +61,24 @@ after_unblock m (Some thread) u o = if (u == thread) && is_some m then option_ma
 abbrev pub unless : Bool → Option OpenCall → Option OpenCall
 unless b o = if b then None else o
 
--- what the caller t, which is thread u, waits for after its call with this row: its request, with the receipt
--- if the message is received at once; nothing if the call has ended
-abbrev pub own_call_after : Facts → ThreadNo → Call → Row → ThreadNo → Option OpenCall
-own_call_after f t c row u =
-    unless (is_some row.own) (after_receipt row.receipt u (asks f.number t (channel_of (makes f t c)) c))
+-- what the caller t, which is thread u, waits for after its call: its request, with the receipt if the message
+-- is received at once; nothing if the call has ended
+abbrev pub own_call_after : Facts → ThreadNo → Call → ThreadNo → Option OpenCall
+own_call_after f t c u = unless (is_some (row_of f t c).own)
+    (after_receipt (receipt_of f t c) u (asks f.number t (channel_of (makes f t c)) c))
 
 -- what another thread u waited for as the call leaves it: written over, received, unblocked
-abbrev pub call_left_by : Facts → ThreadNo → Call → Row → ThreadNo → Option OpenCall
-call_left_by f t c row u = after_unblock (makes f t c) (unblocks c) u
-    (after_receipt row.receipt u (after_write f (writes c) u (f.open_call u)))
+abbrev pub call_left_by : Facts → ThreadNo → Call → ThreadNo → Option OpenCall
+call_left_by f t c u = after_unblock (makes f t c) (unblocks c) u
+    (after_receipt (receipt_of f t c) u (after_write f (writes c) u (f.open_call u)))
 
 -- what another thread u waits for after the call; nothing if the call ends it
-abbrev pub other_call_after : Facts → ThreadNo → Call → Row → ThreadNo → Option OpenCall
-other_call_after f t c row u = unless (is_some (row.ends u)) (call_left_by f t c row u)
+abbrev pub other_call_after : Facts → ThreadNo → Call → ThreadNo → Option OpenCall
+other_call_after f t c u = unless (is_some ((row_of f t c).others u)) (call_left_by f t c u)
 
 -- what thread u waits for after the call
 abbrev pub open_call_after : Facts → ThreadNo → Call → ThreadNo → Option OpenCall
-open_call_after f t c u = if u == t then own_call_after f t c (row_of f t c) u
-    else other_call_after f t c (row_of f t c) u
-
--- the open call is the Send of number i, blocked on channel h, and not received
-abbrev pub is_unread_send : ChannelId → ReceiveId → Option OpenCall → Bool
-is_unread_send h i call =
-    option_map_or (λ o. (number_of o == i) && is_for_receipt o && is_on h o) call false
+open_call_after f t c u = if u == t then own_call_after f t c u else other_call_after f t c u
 
 -- the items of channel h without the one that was received from it
 abbrev pub unreceived_items : Option Received → ChannelId → List Item → List Item
@@ -112,7 +88,7 @@ unreceived_items (Some r) h items = if r.channel == h then without_item r.item i
 -- the call ends a Send of number i that is blocked on channel h and not received
 abbrev pub is_cancelled : Facts → ThreadNo → Call → ChannelId → ReceiveId → Bool
 is_cancelled f t c h i = list_any (λ s. is_unread_send h i (f.open_call s)
-    && is_some ((row_of f t c).ends s)) (threads_of f.roster)
+    && is_some ((row_of f t c).others s)) (threads_of f.roster)
 
 -- the items of channel h without the messages whose Sends the call ends
 abbrev pub uncut_items : Facts → ThreadNo → Call → ChannelId → List Item → List Item
@@ -132,7 +108,7 @@ abbrev pub pending_after : Facts → ThreadNo → Call → ChannelId → List It
 pending_after f t c h =
     if names (closes c) h then []
     else items_with_priority_set f h (sets c)
-    (unreceived_items (row_of f t c).receipt h
+    (unreceived_items (receipt_of f t c) h
     (uncut_items f t c h (f.pending h ++ made_on h (makes f t c))))
 
 -- the priority that thread u takes by a receipt: the item's, unless the channel leaves priorities as they are
@@ -145,7 +121,7 @@ priority_taken f (Some r) u =
 -- receipt, or else its present one
 abbrev pub priority_after : Facts → ThreadNo → Call → ThreadNo → Priority
 priority_after f t c u = unwrap_or
-    (option_or (priority_set_for (sets c) u) (priority_taken f (row_of f t c).receipt u)) (f.priority u)
+    (option_or (priority_set_for (sets c) u) (priority_taken f (receipt_of f t c) u)) (f.priority u)
 
 -- g are the facts after the call
 pub record Follows (f : Facts) (t : ThreadNo) (c : Call) (accepted : Bool) (g : Facts) : Type 0 where

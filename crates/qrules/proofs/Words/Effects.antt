@@ -8,7 +8,7 @@ use Rattle.qmodel.specs.declared.call.Call.TheVariants as calls
 use Rattle.qmodel.specs.Trace.{ChannelId, ConnectionId, OpenChannel, SentItem, ThreadNo}
 use Rattle.qrules.specs.Rule.{PriorityChange, Transfer}
 use Rattle.qrules.specs.Rules.{effect_of}
-use Rattle.qrules.specs.Private.Facts.{Facts}
+use Rattle.qrules.proofs.Words.Facts.{Facts}
 pub use Rattle.qrules.specs.Past.{asks}
 
 -- ---- channels and connections

@@ -9,8 +9,8 @@ use Rattle.qmodel.specs.declared.call.Completion.{Completion}
 use Rattle.qmodel.specs.declared.open_call.OpenCall.{OpenCall}
 use Rattle.qmodel.specs.Trace.{CallNo, ChannelId, Priority, ThreadNo, Event, Trace, OpenChannel, SentItem}
 use Rattle.qmodel.specs.Trace.{ReceiveId}
-use Rattle.qrules.specs.Private.Facts.{count_to, is_fixed, with_buffer, held_call}
-use Rattle.qrules.specs.Private.Rows.{item_in}
+use Rattle.qrules.proofs.Words.Facts.{count_to, is_fixed, with_buffer, held_call}
+use Rattle.qrules.proofs.Words.Items.{item_in}
 pub use Rattle.qrules.specs.Past.{accepted_at, attached_connection, channel_at, connection_at}
 pub use Rattle.qrules.specs.Past.{is_accepted, is_destroyed, is_ended, is_failure, is_unblock_for}
 pub use Rattle.qrules.specs.Past.{item_among, priority_set_by, sender_of, was_done, with_writes}

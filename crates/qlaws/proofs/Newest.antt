@@ -1,0 +1,163 @@
+-- The receive that takes an item: the newest of those that may.
+use Rattle.std.proofs.Common.{◌≡◌, ◌∙◌, ◌⊎◌, inl, inr, ℕ, List, [], ◌∷◌, ap, refl, sym, subst, cond, eqb, arith, Bool, true, false, ◌<◌, ◌≤◌}
+use Rattle.std.specs.Prelude.{Option, None, Some, find, filter_map, nat_lt, not, option_and_then, ◌&&◌, ◌||◌}
+use Rattle.std.specs.List.{AllByRecursion, cons_option, list_any}
+use Rattle.std.specs.Option.{option_map_or}
+use Rattle.std.proofs.lemmas.Bool.{eqb-true, le-ltb, ltb-false, ltb-true, not-true, or_parts, true≢false}
+use Rattle.std.proofs.lemmas.Option.{none-some, same_Some}
+use Rattle.qbase.proofs.Lists.{eqb_same, is_among}
+use Rattle.qmodel.specs.declared.open_call.OpenCall.{OpenCall}
+use Rattle.qmodel.specs.declared.open_call.OpenCall.TheVariants.{Receive, Send}
+use Rattle.qmodel.specs.Trace.{SentItem}
+use Rattle.qrules.specs.Delivery.{is_last_wait, newest_receiver, wait_for}
+use Rattle.qrules.specs.Facts.{open_receives, receive_in, receive_of, threads_of, Facts, OpenReceive}
+use Rattle.qlaws.specs.OpenCalls as laws
+
+-- ---- the greatest of some numbers
+
+-- a thread's number is greater than n
+abbrev is_later : (ℕ → Option ℕ) → ℕ → ℕ → Bool
+is_later w n v = option_map_or (λ m. nat_lt n m) (w v) false
+
+-- the number of thread u is k, and none of these threads has a greater one
+record Latest (w : ℕ → Option ℕ) (ts : List ℕ) : Type 0 where
+  u : ℕ
+  k : ℕ
+  among : is_among ts u ≡ true
+  is : w u ≡ Some k
+  last : list_any (is_later w k) ts ≡ false
+
+none_later : (w : ℕ → Option ℕ) (n : ℕ) (ts : List ℕ) → AllByRecursion (λ v. w v ≡ None) ts → list_any (is_later w n) ts ≡ false
+none_later w n [] h = refl
+none_later w n (t ∷ ts) h = rw (h.0) (none_later w n ts h.1)
+
+later_less : (w : ℕ → Option ℕ) (k n : ℕ) (ts : List ℕ) → k ≤ n → list_any (is_later w k) ts ≡ false → list_any (is_later w n) ts ≡ false
+later_less w k n [] le h = refl
+later_less w k n (t ∷ ts) le h =
+    let parts = or_parts (is_later w k t) (list_any (is_later w k) ts) h in
+    let here : is_later w n t ≡ false = elim (w t) as (λ o. option_map_or (λ m. nat_lt k m) o false ≡ false → option_map_or (λ m. nat_lt n m) o false ≡ false) [
+      | None ↦ λ e. refl
+      | Some m ↦ λ e. let most : m ≤ k = ltb-false _ _ e in le-ltb _ _ (omega (arith, le, most))
+    ] parts.0 in
+    rw here (later_less w k n ts le parts.1)
+
+latest : (w : ℕ → Option ℕ) (ts : List ℕ) → AllByRecursion (λ v. w v ≡ None) ts ⊎ Latest w ts
+latest w [] = inl tt
+latest w (t ∷ ts) = elim (w t) as (λ o. w t ≡ o → AllByRecursion (λ v. w v ≡ None) (t ∷ ts) ⊎ Latest w (t ∷ ts)) [
+  | None ↦ λ e. elim (latest w ts) [
+    | inl none ↦ inl (e, none)
+    | inr l ↦ inr (record { u = l.u; k = l.k; among = rw (l.among) (or_true (eqb t l.u)); is = l.is; last = rw e l.last })
+  ]
+  | Some n ↦ λ e. elim (latest w ts) [
+    | inl none ↦ inr (record { u = t; k = n; among = rw (eqb_same t) refl; is = e; last = rw (e, not_less n) (none_later w n ts none) })
+    | inr l ↦ elim (nat_lt l.k n) as (λ b. nat_lt l.k n ≡ b → AllByRecursion (λ v. w v ≡ None) (t ∷ ts) ⊎ Latest w (t ∷ ts)) [
+      | true ↦ λ less. let more : l.k < n = ltb-true _ _ less in inr (record { u = t; k = n; among = rw (eqb_same t) refl; is = e; last = rw (e, not_less n) (later_less w l.k n ts (omega (arith, more)) l.last) })
+      | false ↦ λ less. inr (record { u = l.u; k = l.k; among = rw (l.among) (or_true (eqb t l.u)); is = l.is; last = rw (e, less) l.last })
+    ] refl
+  ]
+] refl
+  where
+    or_true : (b : Bool) → (b || true) ≡ true
+    or_true true = refl
+    or_true false = refl
+
+    not_less : (n : ℕ) → nat_lt n n ≡ false
+    not_less n = le-ltb _ _ (omega arith)
+
+-- ---- what is found
+
+found_is : (p : ℕ → Bool) (ts : List ℕ) (u : ℕ) → find p ts ≡ Some u → p u ≡ true
+found_is p [] u e = absurd (none-some u e)
+found_is p (t ∷ ts) u e = elim (p t) as (λ b. p t ≡ b → cond b (Some t) (find p ts) ≡ Some u → p u ≡ true) [
+  | true ↦ λ is e. ap p (sym (same_Some t u e)) ∙ is
+  | false ↦ λ is e. found_is p ts u e
+] refl e
+
+none_found : (p : ℕ → Bool) (ts : List ℕ) (u : ℕ) → find p ts ≡ None → is_among ts u ≡ true → p u ≡ false
+none_found p [] u e among = absurd (true≢false (sym among))
+none_found p (t ∷ ts) u e among = elim (p t) as (λ b. p t ≡ b → cond b (Some t) (find p ts) ≡ None → p u ≡ false) [
+  | true ↦ λ is e. absurd (none-some t (sym e))
+  | false ↦ λ is e. elim (eqb t u) as (λ b. eqb t u ≡ b → (b || is_among ts u) ≡ true → p u ≡ false) [
+    | true ↦ λ same among. ap p (sym (eqb-true t u same)) ∙ is
+    | false ↦ λ other among. none_found p ts u e among
+  ] refl among
+] refl e
+
+-- ---- receives
+
+module _ (f : Facts) (m : SentItem) where
+  -- the number of a thread's receive that may take the item
+  abbrev waits : ℕ → Option ℕ
+  waits v = option_and_then (wait_for m.channel m.item) (f.open_call v)
+
+  -- what the threads' open calls wait for, and what their receives may take
+  may_by : (r : OpenReceive) → wait_for m.channel m.item (Receive r) ≡ None → laws.may_receive m r ≡ false
+  may_by r e = elim (laws.may_receive m r) as (λ b. cond b (Some r.number) None ≡ None → b ≡ false) [
+    | true ↦ λ e. absurd (none-some r.number (sym e))
+    | false ↦ λ e. refl
+  ] e
+
+  none_may : (ts : List ℕ) → AllByRecursion (λ v. waits v ≡ None) ts → AllByRecursion (λ r. laws.may_receive m r ≡ false) (filter_map (receive_of f) ts)
+  none_may [] h = tt
+  none_may (t ∷ ts) h = elim (f.open_call t) as (λ o. option_and_then (wait_for m.channel m.item) o ≡ None → AllByRecursion (λ r. laws.may_receive m r ≡ false) (cons_option (option_and_then receive_in o) (filter_map (receive_of f) ts))) [
+    | None ↦ λ e. none_may ts h.1
+    | Some o ↦ λ e. by_call (none_may ts h.1) o e
+  ] h.0
+    where
+      by_call : AllByRecursion (λ r. laws.may_receive m r ≡ false) (filter_map (receive_of f) ts) → (o : OpenCall) → wait_for m.channel m.item o ≡ None
+          → AllByRecursion (λ r. laws.may_receive m r ≡ false) (cons_option (receive_in o) (filter_map (receive_of f) ts))
+      by_call rest (Send s) e = rest
+      by_call rest (Receive r) e = (may_by r e, rest)
+
+  all_before : (n : ℕ) (ts : List ℕ) → list_any (is_later waits n) ts ≡ false → AllByRecursion (λ s. laws.may_receive m s ≡ true → s.number ≤ n) (filter_map (receive_of f) ts)
+  all_before n [] h = tt
+  all_before n (t ∷ ts) h =
+      let parts = or_parts (is_later waits n t) (list_any (is_later waits n) ts) h in
+      elim (f.open_call t) as (λ o. option_map_or (λ m. nat_lt n m) (option_and_then (wait_for m.channel m.item) o) false ≡ false → AllByRecursion (λ s. laws.may_receive m s ≡ true → s.number ≤ n) (cons_option (option_and_then receive_in o) (filter_map (receive_of f) ts))) [
+        | None ↦ λ e. all_before n ts parts.1
+        | Some o ↦ λ e. by_call (all_before n ts parts.1) o e
+      ] parts.0
+    where
+      by_call : AllByRecursion (λ s. laws.may_receive m s ≡ true → s.number ≤ n) (filter_map (receive_of f) ts) → (o : OpenCall) → option_map_or (λ m. nat_lt n m) (wait_for m.channel m.item o) false ≡ false
+          → AllByRecursion (λ s. laws.may_receive m s ≡ true → s.number ≤ n) (cons_option (receive_in o) (filter_map (receive_of f) ts))
+      by_call rest (Send s) e = rest
+      by_call rest (Receive r) e = (λ may. ltb-false _ _ (subst (λ b. option_map_or (λ m. nat_lt n m) (cond b (Some r.number) None) false ≡ false) may e), rest)
+
+  newest_parts : (u : ℕ) (o : Option OpenCall) → f.open_call u ≡ o → option_map_or (is_last_wait f m.channel m.item) (option_and_then (wait_for m.channel m.item) o) false ≡ true → laws.IsNewest f m u
+  newest_parts u None is e = absurd (true≢false (sym e))
+  newest_parts u (Some (Send s)) is e = absurd (true≢false (sym e))
+  newest_parts u (Some (Receive r)) is e = elim (laws.may_receive m r) as (λ b. laws.may_receive m r ≡ b → option_map_or (is_last_wait f m.channel m.item) (cond b (Some r.number) None) false ≡ true → laws.IsNewest f m u) [
+    | true ↦ λ may e. record { receive = r; is_open = rw is refl; may = may; last = all_before r.number (threads_of f.roster) (not-true _ e) }
+    | false ↦ λ may e. absurd (true≢false (sym e))
+  ] refl e
+
+  pub newest_is_last : (u : ℕ) → newest_receiver f m.channel m.item ≡ Some u → laws.IsNewest f m u
+  newest_is_last u e = newest_parts u (f.open_call u) refl (found_is _ (threads_of f.roster) u e)
+
+  pub nobody_may : newest_receiver f m.channel m.item ≡ None → AllByRecursion (λ r. laws.may_receive m r ≡ false) (open_receives f)
+  nobody_may e = elim (latest waits (threads_of f.roster)) [
+    | inl none ↦ none_may (threads_of f.roster) none
+    | inr l ↦
+        let missed = none_found _ (threads_of f.roster) l.u e l.among in
+        let found : option_map_or (is_last_wait f m.channel m.item) (waits l.u) false ≡ true = rw (l.is, l.last) refl in
+        absurd (true≢false (sym found ∙ missed))
+  ]
+
+  none_waits : (ts : List ℕ) → AllByRecursion (λ r. laws.may_receive m r ≡ false) (filter_map (receive_of f) ts) → AllByRecursion (λ v. waits v ≡ None) ts
+  none_waits [] h = tt
+  none_waits (t ∷ ts) h = elim (f.open_call t) as (λ o. AllByRecursion (λ r. laws.may_receive m r ≡ false) (cons_option (option_and_then receive_in o) (filter_map (receive_of f) ts)) → (option_and_then (wait_for m.channel m.item) o ≡ None) × AllByRecursion (λ v. waits v ≡ None) ts) [
+    | None ↦ λ h. (refl, none_waits ts h)
+    | Some o ↦ λ h. by_call (none_waits ts) o h
+  ] h
+    where
+      by_call : (AllByRecursion (λ r. laws.may_receive m r ≡ false) (filter_map (receive_of f) ts) → AllByRecursion (λ v. waits v ≡ None) ts) → (o : OpenCall)
+          → AllByRecursion (λ r. laws.may_receive m r ≡ false) (cons_option (receive_in o) (filter_map (receive_of f) ts)) → (wait_for m.channel m.item o ≡ None) × AllByRecursion (λ v. waits v ≡ None) ts
+      by_call rest (Send s) h = (refl, rest h)
+      by_call rest (Receive r) h = (rw (h.0) refl, rest h.1)
+
+  none_of : (p : ℕ → Bool) (ts : List ℕ) → ((u : ℕ) → waits u ≡ None → p u ≡ false) → AllByRecursion (λ v. waits v ≡ None) ts → find p ts ≡ None
+  none_of p [] h all = refl
+  none_of p (t ∷ ts) h all = rw (h t all.0) (none_of p ts h all.1)
+
+  pub nobody_takes : AllByRecursion (λ r. laws.may_receive m r ≡ false) (open_receives f) → newest_receiver f m.channel m.item ≡ None
+  nobody_takes h = none_of _ (threads_of f.roster) (λ u e. rw e refl) (none_waits (threads_of f.roster) h)

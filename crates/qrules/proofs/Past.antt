@@ -1,2 +1,0 @@
--- Searches in the past.
-pub mod Facts

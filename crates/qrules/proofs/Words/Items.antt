@@ -1,0 +1,194 @@
+-- Items, and the receipt that a call causes, which isn't part of its answer: the facts after the call depend on
+-- it.
+pub use Rattle.qrules.specs.Records.{disconnect_item, pulses_among, wait_on, is_after, is_last_wait}
+pub use Rattle.qrules.specs.Records.{is_newest, newest_receiver_among, takes_into, takes, cancel_where}
+pub use Rattle.qrules.specs.Records.{error_mark, receive_of}
+use Rattle.std.specs.Option.{option_and_then, option_map, option_map_or}
+use Rattle.std.specs.Prelude.{ℕ, ℤ, ◌&&◌, ◌==◌, Bool, false, List, not, Option, None, Some}
+use Rattle.std.specs.Prelude.{if◌then◌else◌, []}
+use Rattle.qqueue.specs.declared.item.Item.{Item}
+use Rattle.qqueue.specs.declared.item.Kind.{Kind}
+use Rattle.qqueue.specs.declared.item.Kind.TheVariants.{Any, PulseOnly}
+use Rattle.qqueue.specs.Best.{best_of, is_pulse}
+use Rattle.qqueue.specs.declared.item.What.TheVariants.{Message, User}
+use Rattle.qqueue.specs.declared.item.What.TheVariants as what
+use Rattle.qtables.specs.declared.connection.Connection.{Connection}
+use Rattle.qmodel.specs.declared.call.Call.{Call}
+use Rattle.qmodel.specs.declared.call.Call.TheVariants as calls
+use Rattle.qmodel.specs.declared.call.Completion.{Completion}
+use Rattle.qmodel.specs.declared.call.Info.{Info}
+use Rattle.qmodel.specs.declared.call.Mark.{Mark}
+use Rattle.qmodel.specs.declared.call.Mark.TheVariants as mark
+use Rattle.qmodel.specs.declared.open_call.Receipt.{Receipt}
+use Rattle.qmodel.specs.declared.open_call.OpenCall.{OpenCall}
+use Rattle.qmodel.specs.Trace.{SentItem, CallNo, ChannelId, Priority, ReceiveId, ThreadNo}
+use Rattle.qrules.specs.Rule.{PriorityChange}
+use Rattle.qrules.proofs.Words.Facts.{Facts, message, route, sender}
+use Rattle.qbase.specs.declared.errno.Errno.{Errno}
+use Rattle.qbase.specs.declared.errno.Errno.TheVariants.{Intr}
+use Rattle.qmodel.specs.declared.open_call.OpenCall.TheVariants.{Receive, Send}
+use Rattle.qrules.specs.Rule.{buffer_of, own_ending}
+use Rattle.qrules.specs.Delivery.{newest_receiver, receipt_ending}
+use Rattle.qrules.specs.Rules.Connections.{disconnect_pulse}
+use Rattle.qrules.specs.Rules.Pulse.{pulse_over}
+use Rattle.qrules.specs.Rules.Unblock.{guards, unblock_pulse}
+pub use Rattle.qrules.specs.Past.{buffer_after_write, item_in}
+
+-- ---- items
+
+-- the item that is sent over a connection, to its channel
+abbrev pub item_sent_over : Option Connection → Item → Option SentItem
+item_sent_over connection item = option_map (λ c. record { item = item; channel = c.channel }) connection
+
+-- a message of this number and priority
+abbrev pub message_numbered : CallNo → Priority → Item
+message_numbered n priority = record { number = n; priority = priority; what = Message }
+
+-- a user's pulse of this number and priority
+abbrev pub pulse_item : CallNo → Priority → ℤ → ℤ → Item
+pulse_item n priority code value = record { number = n; priority = priority; what = User code value }
+
+-- the unblock pulse of this number and priority for message i
+abbrev pub unblock_item : CallNo → Priority → ReceiveId → Item
+unblock_item n priority i = record { number = n; priority = priority; what = what.Unblock i }
+
+-- the message of thread t, with its priority
+abbrev pub message_item : Facts → ThreadNo → Item
+message_item f t = message_numbered f.number (f.priority t)
+
+-- ---- what a call sets and names
+
+-- the priority that is set for thread u
+abbrev pub priority_set_for : Option PriorityChange → ThreadNo → Option Priority
+priority_set_for setting u = option_and_then (λ s. if s.thread == u then Some s.priority else None) setting
+
+-- the number is this one
+abbrev pub names : Option ℕ → ℕ → Bool
+names number h = option_map_or (λ k. k == h) number false
+
+-- ---- receivers
+
+-- the receiver of the item, if it is sent to a channel
+abbrev pub receiver : Facts → Item → Option ChannelId → Option ThreadNo
+receiver f item channel = option_and_then (λ h. newest_receiver f h item) channel
+
+-- ---- how open calls end
+
+-- how that receiver's call ends
+abbrev pub receipt_by : Facts → Item → List ℕ → ThreadNo → Option Completion
+receipt_by f item message r = takes item message r (f.open_call r)
+
+-- the receiver's call ends, and no other
+abbrev pub delivers : Facts → Item → List ℕ → Option ThreadNo → ThreadNo → Option Completion
+delivers f item message receiver u =
+    option_and_then (λ r. if u == r then receipt_by f item message u else None) receiver
+
+-- ends the call of the receiver that takes the pulse
+abbrev pub ends_receiver : Facts → Option SentItem → ThreadNo → Option Completion
+ends_receiver f pulse u = option_and_then (λ m. delivers f m.item [] (receiver f m.item (Some m.channel)) u)
+    pulse
+
+-- a call that isn't guarded is cancelled; if a pulse must be sent, its receiver's call ends
+abbrev pub ends_unblocked : Facts → ThreadNo → Option SentItem → ThreadNo → Option Completion
+ends_unblocked f thread None u =
+    cancel_where (λ o. (u == thread) && not (guards f o)) Intr u (f.open_call u)
+ends_unblocked f thread (Some m) u = ends_receiver f (Some m) u
+
+-- an answer: from the reply buffer to the mark of the Send's ending and the buffer that it gives back
+abbrev pub Finish : Type 0
+Finish = List ℕ → Mark × List ℕ
+
+-- the ending of thread u's open call with this answer, if it is a Send
+abbrev pub answer_ending_of : Finish → ThreadNo → OpenCall → Option Completion
+answer_ending_of finish u (Send s) = Some (record {
+  call = s.number;
+  thread = u;
+  mark = (finish s.reply_buffer).0;
+  buffer = (finish s.reply_buffer).1;
+})
+answer_ending_of finish u (Receive r) = None
+
+-- the same of an open call, if there is one
+abbrev pub answer_ending : Finish → ThreadNo → Option OpenCall → Option Completion
+answer_ending finish u call = option_and_then (answer_ending_of finish u) call
+
+-- ends the sender's call, and no other
+abbrev pub ends_sender : Facts → Finish → Option ThreadNo → ThreadNo → Option Completion
+ends_sender f finish sender u =
+    option_and_then (λ s. if u == s then answer_ending finish u (f.open_call u) else None) sender
+
+-- a refused call ends in its own event, with its buffer as it was
+abbrev pub refusal_ending : Facts → ThreadNo → Call → Errno → Completion
+refusal_ending f t c e = own_ending f t (mark.Failed e) (buffer_of c)
+
+-- ---- receipts
+
+-- a receipt: the item's number and channel, the thread that takes it, the thread that waits for its answer,
+-- and what is kept of the receipt
+pub record Received : Type 0 where
+  pub item : CallNo
+  pub channel : ChannelId
+  pub by : ThreadNo
+  pub sender : Option ThreadNo
+  pub kept : Receipt
+
+-- the receipt in an ending, of an item of this channel, sender and priority
+abbrev pub receipt_in : ChannelId → Option ThreadNo → Priority → Option Completion → Option Received
+receipt_in h sender priority ending =
+    option_and_then (λ y. option_map (λ r. record {
+      item = r.number;
+      channel = h;
+      by = y.thread;
+      sender = sender;
+      kept = record { priority = priority; copied = r.copied; unblocked = false };
+    }) (item_in y.mark)) ending
+
+-- the receipt of what is sent to channel h; a message has a sender that waits for its answer
+abbrev pub receipt_when_sent : Facts → Option ThreadNo → Item → List ℕ → Option ChannelId → Option ThreadNo
+    → Option Received
+receipt_when_sent f sender item message channel receiver =
+    option_and_then (λ h. receipt_in h sender item.priority
+    (option_and_then (receipt_by f item message) receiver)) channel
+
+-- the receipt of a pulse that is made, if a receiver takes it
+abbrev pub pulse_receipt : Facts → Option SentItem → Option Received
+pulse_receipt f pulse = option_and_then
+    (λ m. receipt_when_sent f None m.item [] (Some m.channel) (receiver f m.item (Some m.channel))) pulse
+
+-- the ending of the call that takes the item into its buffer
+abbrev pub own_receipt : Facts → ThreadNo → List ℕ → Option Item → Option Completion
+own_receipt f t buffer item = option_map (λ i. receipt_ending i (message f i.number) t f.number buffer) item
+
+-- the thread that waits for the answer to an item; None for a pulse
+abbrev pub sender_for : Facts → Item → Option ThreadNo
+sender_for f item = if is_pulse item.what then None else sender f item.number
+
+-- the receipt of the item that the call takes, by its ending
+abbrev pub receipt_when_taken : Facts → ChannelId → Option Completion → Option Item → Option Received
+receipt_when_taken f h ending item =
+    option_and_then (λ i. receipt_in h (sender_for f i) i.priority ending) item
+
+-- the receipt of the best item that the kind may take
+abbrev pub receipt_of_best : Facts → ThreadNo → ChannelId → Kind → List ℕ → Option Received
+receipt_of_best f t chid kind buffer = receipt_when_taken f chid
+    (own_receipt f t buffer (best_of kind (f.pending chid))) (best_of kind (f.pending chid))
+
+-- the receipt that a call of thread t causes
+abbrev pub receipt_of : Facts → ThreadNo → Call → Option Received
+receipt_of f t (calls.Send coid message reply_buffer) = receipt_when_sent f (Some t) (message_item f t) message
+    (route f t coid) (receiver f (message_item f t) (route f t coid))
+receipt_of f t (calls.Receive chid buffer) = receipt_of_best f t chid Any buffer
+receipt_of f t (calls.ReceivePulse chid) = receipt_of_best f t chid PulseOnly []
+receipt_of f t (calls.Pulse coid priority code value) =
+    pulse_receipt f (pulse_over f coid priority code value)
+receipt_of f t (calls.Unblock thread) = pulse_receipt f (unblock_pulse f thread)
+receipt_of f t (calls.ConnectDetach coid) = pulse_receipt f (disconnect_pulse f t coid)
+receipt_of f t c = None
+
+-- the ending of a call with this mark and no buffer
+abbrev pub ends_with : CallNo → ThreadNo → Mark → Completion
+ends_with n t mark = record { call = n; thread = t; mark = mark; buffer = [] }
+
+-- the ending of the Info
+abbrev pub info_ending : CallNo → ThreadNo → Info → Completion
+info_ending n t info = ends_with n t (mark.Info info)

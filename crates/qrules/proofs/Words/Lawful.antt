@@ -1,0 +1,11 @@
+-- A past with one more event.
+use Rattle.std.specs.Prelude.{List, ◌∷◌}
+use Rattle.qmodel.specs.declared.call.Call.{Call}
+use Rattle.qmodel.specs.declared.call.Completion.{Completion}
+use Rattle.qmodel.specs.Trace.{ThreadNo, Trace}
+pub use Rattle.qrules.specs.Lawful.{facts_of, IsLawful}
+pub use Rattle.qrules.specs.Trace.{followed_by}
+
+-- the past with one more event
+abbrev pub with_event : ThreadNo → Call → List Completion → Trace → Trace
+with_event t c endings past = record { thread = t; call = c; endings = endings } ∷ past
