@@ -1,6 +1,6 @@
 -- The thread whose open call is a Send, by its place and by its number.
 use Rattle.std.proofs.Common.{◌≡◌, ℕ, suc, zero, ◌+◌, ◌<◌, List, [], ◌∷◌, length, get_or, refl, ap, sym, subst, ◌∙◌, cond, arith, true, false, eqb, option_and_then}
-use Rattle.std.specs.Prelude.{Option, None, Some, Result, is_some, position, ◌&&◌}
+use Rattle.std.specs.Prelude.{Option, None, Some, Result, Bool, is_some, find, position, ◌&&◌}
 use Rattle.std.specs.List.{position_from, AllByRecursion}
 use Rattle.std.specs.Option.{ok_or, option_map, IfNone, IfSome, option_map_or}
 use Rattle.std.specs.Result.{IfErr, IfOk}
@@ -19,7 +19,7 @@ use Rattle.qstate.specs.declared.thread.Thread.{Thread}
 use Rattle.qrules.proofs.Words.Facts.{threads_of, is_send}
 use Rattle.qrules.specs.Records.{sender_among, message_in}
 use Rattle.qstate.specs.Held.{is_held_in, is_held_of}
-use Rattle.qstate.specs.Thread.{open_in, seat_in, sender_in, sent_call, message_from, ChangesOpen, ChangesSender}
+use Rattle.qstate.specs.Thread.{is_sending, open_in, seat_in, sender_in, sent_call, message_from, ChangesOpen, ChangesSender}
 use Rattle.qstate.specs.Kept.{members_of, channel_in}
 use Rattle.qstate.specs.Threads.{number_at}
 use Rattle.qstate.proofs.Seats.{call_here, first_at, first_number, IsFirstAt, first_open}
@@ -219,3 +219,21 @@ pub answered_by : (finish : Finish) (u : ℕ) (o : Option OpenCall) (s : OpenSen
 answered_by finish u None s e = absurd (none-some s e)
 answered_by finish u (Some (Receive r)) s e = absurd (none-some s e)
 answered_by finish u (Some (Send x)) s e = ap (λ (x : OpenSend). Some (record { call = x.number; thread = u; mark = (finish x.reply_buffer).0; buffer = (finish x.reply_buffer).1 })) (same_Some _ s e)
+
+-- ---- the sender is blocked in a Send
+
+found_passes : (p : ℕ → Bool) (us : List ℕ) (u : ℕ) → find p us ≡ Some u → p u ≡ true
+found_passes p [] u e = absurd (none-some u e)
+found_passes p (v ∷ us) u e =
+    elim (p v) as (λ b. p v ≡ b → cond b (Some v) (find p us) ≡ Some u → p u ≡ true) [
+      | true ↦ λ passes e. ap p (sym (same_Some v u e)) ∙ passes
+      | false ↦ λ _ e. found_passes p us u e
+    ] refl e
+
+is_sent : (i : ℕ) (o : Option OpenCall) → is_send i o ≡ true → is_sending o ≡ true
+is_sent i None e = absurd (true≢false (sym e))
+is_sent i (Some (Send s)) e = refl
+is_sent i (Some (Receive r)) e = absurd (true≢false (sym (and_parts (eqb r.number i) false e).1))
+
+pub sender_sends : (i u : ℕ) (threads : List Thread) → sender_in threads i ≡ Some u → is_sending (open_in threads u) ≡ true
+sender_sends i u threads e = is_sent i (open_in threads u) (found_passes (λ v. is_send i (open_in threads v)) (threads_of (members_of threads)) u e)

@@ -6,6 +6,7 @@ use Rattle.qqueue.specs.declared.item.Item.{Item}
 use Rattle.qtables.specs.declared.member.Member.{Member}
 use Rattle.qmodel.specs.declared.open_call.OpenCall.{OpenCall}
 use Rattle.qmodel.specs.declared.open_call.Receipt.{Receipt}
+use Rattle.qmodel.specs.OpenCalls.{send_in}
 use Rattle.qstate.specs.declared.thread.Thread.{Thread}
 use Rattle.qstate.specs.Kept.{members_of, thread_priority}
 use Rattle.qrules.specs.Records.{sender_among, message_in}
@@ -17,6 +18,10 @@ use Rattle.qrules.specs.Records.{held_call, is_thread}
 abbrev pub open_in : List Thread → ℕ → Option OpenCall
 open_in [] u = None
 open_in (t ∷ threads) u = if t.member.thread == u then t.open_call else open_in threads u
+
+-- the open call is a Send
+abbrev pub is_sending : Option OpenCall → Bool
+is_sending call = is_some (option_and_then send_in call)
 
 -- the number of threads that are blocked
 abbrev pub blocked_count : List Thread → ℕ

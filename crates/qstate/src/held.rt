@@ -3,12 +3,9 @@
 ghost use Rattle.std.specs.Prelude.{◌≡◌, None, Some, true, false, option_and_then, option_map, IfOk, IfErr, OnErr};
 ghost use Rattle.qbase.specs.Laying.{laid_count};
 ghost use Rattle.qmodel.specs.OpenCalls.{send_in};
-ghost use Rattle.qrules.specs.Records.{info_of_open};
-ghost use Rattle.qrules.specs.Records.{message_in};
-ghost use Rattle.qrules.specs.Records.{reply_buffer_in, reply_buffer_of};
-ghost use Rattle.qrules.specs.Records.{unblocked_call, written_call};
+ghost use Rattle.qrules.specs.Records.{info_of_open, message_in, reply_buffer_in, unblocked_call, written_call};
 ghost use Rattle.qstate.specs.Held.{guarded_message_in, is_held_in};
-ghost use Rattle.qstate.specs.Thread.{open_in, sender_in, ChangesOpen, SetsOpen};
+ghost use Rattle.qstate.specs.Thread.{is_sending, open_in, sender_in, ChangesOpen, SetsOpen};
 ghost use Rattle.qstate.specs.Threads.{IsSeatIn};
 
 use crate::objects::Objects;
@@ -56,6 +53,7 @@ impl Objects {
         ensures held { IfOk result (λ seat. is_held_in self.now.threads self.now.channels process rcvid ≡ true) }
         ensures seat { IfOk result (λ seat. IsSeatIn self.now.threads seat) }
         ensures sender { IfOk result (λ seat. sender_in self.now.threads rcvid ≡ Some seat.thread) }
+        ensures sends { IfOk result (λ seat. is_sending (open_in self.now.threads seat.thread) ≡ true) }
         ensures none { IfErr result (λ e. is_held_in self.now.threads self.now.channels process rcvid ≡ false) }
         ensures error { IfErr result (λ e. e ≡ Errno.Srch) }
     {
@@ -102,24 +100,13 @@ impl Threads {
     /// Copies bytes into the reply buffer of the Send that the thread at a seat is blocked in, from the offset on, and
     /// returns the number of bytes copied.
     pub fn write_sent(&mut self, seat: &Seat, offset: usize, bytes: &[u8]) -> usize
-        requires { IsSeatIn self.old seat.now }
+        requires seat { IsSeatIn self.old seat.now }
+        requires sends { is_sending (open_in self.old seat.now.thread) ≡ true }
         ensures after { ChangesOpen seat.now.thread (written_call offset bytes.now) self.old self.new }
         ensures count { result ≡ laid_count (reply_buffer_in (open_in self.old seat.now.thread)) offset bytes.now }
     {
         let sender = &mut self.records[seat.index];
         sender.write(offset, bytes)
-    }
-}
-
-/// Copies bytes into the reply buffer of a Send, from the offset on, and returns the number of bytes copied; 0 if the call
-/// isn't a Send.
-fn write_over(call: &mut OpenCall, offset: usize, bytes: &[u8]) -> usize
-    ensures after { call.new ≡ written_call offset bytes.now call.old }
-    ensures count { result ≡ laid_count (reply_buffer_of call.old) offset bytes.now }
-{
-    match call {
-        OpenCall::Send(send) => send.reply_buffer.lay(offset, bytes),
-        OpenCall::Receive(_) => 0,
     }
 }
 
@@ -137,12 +124,13 @@ impl Thread {
         }
     }
 
-    /// Returns the message of the Send that the thread is blocked in; no bytes if it is blocked in no Send.
+    /// Returns the message of the Send that the thread is blocked in.
     pub fn message(&self) -> &[u8]
+        requires { is_sending self.now.open_call ≡ true }
         ensures { result.now ≡ message_in self.now.open_call }
     {
         match self.send() {
-            None => &[],
+            None => unreachable!(),
             Some(send) => send.message.as_slice(),
         }
     }
@@ -150,14 +138,15 @@ impl Thread {
     /// Copies bytes into the reply buffer of the Send that the thread is blocked in, from the offset on, and returns
     /// the number of bytes copied.
     fn write(&mut self, offset: usize, bytes: &[u8]) -> usize
+        requires { is_sending self.old.open_call ≡ true }
         ensures member { self.new.member ≡ self.old.member }
         ensures priority { self.new.priority ≡ self.old.priority }
         ensures after { self.new.open_call ≡ option_map (written_call offset bytes.now) self.old.open_call }
         ensures count { result ≡ laid_count (reply_buffer_in self.old.open_call) offset bytes.now }
     {
         match &mut self.open_call {
-            None => 0,
-            Some(call) => write_over(call, offset, bytes),
+            Some(OpenCall::Send(send)) => send.reply_buffer.lay(offset, bytes),
+            _ => unreachable!(),
         }
     }
 

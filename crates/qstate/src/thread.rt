@@ -1,11 +1,11 @@
 //! The record of a thread.
 
-ghost use Rattle.std.specs.Prelude.{◌≡◌, false, option_and_then, option_copied, option_map};
+ghost use Rattle.std.specs.Prelude.{◌≡◌, false, true, option_and_then, option_copied, option_map};
 ghost use Rattle.qmodel.specs.OpenCalls.{receive_in, send_in};
 ghost use Rattle.qbase.specs.Laying.{laid_count, lay_over};
-ghost use Rattle.qrules.specs.Records.{held_call, message_in, message_of};
+ghost use Rattle.qrules.specs.Records.{held_call, message_in, wait_on};
 ghost use Rattle.qrules.specs.Facts.{is_send};
-ghost use Rattle.qrules.specs.Records.{wait_on};
+ghost use Rattle.qstate.specs.Thread.{is_sending};
 
 use qbase::bytes::Bytes;
 use qbase::ids::ChannelId;
@@ -25,27 +25,6 @@ pub struct Thread {
     pub open_call: Option<OpenCall>,
     /// The key of its message in the queue of the channel, if it is SEND-blocked; any number otherwise.
     pub key: usize,
-}
-
-/// Copies the message of a Send to the front of a buffer, records the receipt, and returns the number of bytes copied; 0
-/// if the call isn't a Send.
-fn receive_into(call: &mut OpenCall, priority: Priority, buffer: &mut Bytes) -> usize
-    ensures kept { call.new ≡ held_call (record { priority = priority; copied = result; unblocked = false }) call.old }
-    ensures buffer { buffer.new ≡ lay_over buffer.old 0 (message_of call.old) }
-    ensures count { result ≡ laid_count buffer.old 0 (message_of call.old) }
-{
-    match call {
-        OpenCall::Receive(_) => 0,
-        OpenCall::Send(send) => {
-            let copied = buffer.lay(0, send.message.as_slice());
-            send.receipt = Some(Receipt {
-                priority,
-                copied,
-                unblocked: false,
-            });
-            copied
-        }
-    }
 }
 
 impl Thread {
@@ -85,9 +64,10 @@ impl Thread {
         }
     }
 
-    /// Copies the thread's message to the front of a buffer, records the receipt, and returns the number of bytes
-    /// copied; 0 if the thread is blocked in no Send.
+    /// Copies the message of the Send that the thread is blocked in to the front of a buffer, records the receipt, and
+    /// returns the number of bytes copied.
     pub fn hand_over(&mut self, priority: Priority, buffer: &mut Bytes) -> usize
+        requires { is_sending self.old.open_call ≡ true }
         ensures member { self.new.member ≡ self.old.member }
         ensures priority { self.new.priority ≡ self.old.priority }
         ensures kept { self.new.open_call ≡ option_map (held_call (record { priority = priority; copied = result; unblocked = false })) self.old.open_call }
@@ -95,8 +75,16 @@ impl Thread {
         ensures count { result ≡ laid_count buffer.old 0 (message_in self.old.open_call) }
     {
         match &mut self.open_call {
-            None => 0,
-            Some(call) => receive_into(call, priority, buffer),
+            Some(OpenCall::Send(send)) => {
+                let copied = buffer.lay(0, send.message.as_slice());
+                send.receipt = Some(Receipt {
+                    priority,
+                    copied,
+                    unblocked: false,
+                });
+                copied
+            }
+            _ => unreachable!(),
         }
     }
 }

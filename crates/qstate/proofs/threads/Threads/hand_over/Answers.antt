@@ -4,10 +4,10 @@ use Rattle.qbase.specs.Laying.{laid_count, lay_over}
 use Rattle.qrules.specs.Records.{message_in}
 use Rattle.qrules.specs.Records.{held_call}
 use Rattle.qmodel.specs.declared.open_call.Receipt.{Receipt}
-use Rattle.qstate.specs.Thread.{open_in}
+use Rattle.qstate.specs.Thread.{is_sending, open_in}
 use Rattle.qstate.proofs.Indexing.{indexed_changed, keeps_held}
 use Rattle.qstate.proofs.Seats.{changes_open, first_at, first_open}
-use Rattle.qstate.proofs.Senders.{changes_none, changes_sender, message_none, message_sent}
+use Rattle.qstate.proofs.Senders.{changes_none, changes_sender, message_none, message_sent, sender_sends}
 use Rattle.qrules.proofs.Traces.Laying.{lay_nothing, count_nothing}
 use Rattle.qstate.proofs.threads.Threads.hand_over.Goals as goal
 
@@ -19,6 +19,13 @@ returns-in-None-clause-buffer c = lay_nothing c.args.buffer.now ∙ ap (lay_over
 
 pub returns-in-None-clause-count : goal.returns-in-None-clause-count
 returns-in-None-clause-count c = count_nothing c.args.buffer.now ∙ ap (laid_count c.args.buffer.now 0) (sym (message_none c.args.number c.args.self.now (sym c.in-None.ensures.sender)))
+
+pub hand_over-requires : goal.hand_over-requires
+hand_over-requires c =
+    let at = rw (← c.self.view_is) at c.in-Some.ensures.seat in
+    let sends = rw (← c.self.view_is) at (sender_sends c.args.number c.in-Some.seat.thread c.args.self.now (sym c.in-Some.ensures.sender)) in
+    ap (λ t. is_sending t.open_call) c.index_mut-sender.ensures.value
+    ∙ ap is_sending (sym (first_open c.in-Some.seat.thread c.self.inside.records.items c.in-Some.seat.index c.index_mut-sender.result.now (first_at _ _ _ at))) ∙ sends
 
 pub invariant_of-self : goal.invariant_of-self
 invariant_of-self c =
