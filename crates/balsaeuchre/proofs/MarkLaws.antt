@@ -14,14 +14,14 @@ use Rattle.qqueue.specs.declared.item.Item.{Item}
 use Rattle.qqueue.specs.declared.item.Kind.{Kind}
 use Rattle.qqueue.specs.declared.item.Kind.TheVariants.{Any, PulseOnly}
 use Rattle.qqueue.proofs.OrderLaws.{best-may}
-use Rattle.qrules.specs.Outcome.{ending}
-use Rattle.qrules.proofs.Words.Items.{refusal_ending}
+use Rattle.qrules.specs.Outcome.{completion_to}
+use Rattle.qrules.proofs.Words.Items.{refusal_completion}
 use Rattle.qrules.specs.Rules.{row_of}
 use Rattle.qrules.specs.Rules.Connections as connect_detach
 use Rattle.qrules.proofs.Traces.Parts.{error_finish}
 use Rattle.qrules.specs.Records.{error_mark}
 use Rattle.qrules.specs.Rules.Held.{info_of}
-use Rattle.qrules.proofs.Words.Items.{info_ending}
+use Rattle.qrules.proofs.Words.Items.{info_completion}
 use Rattle.qrules.specs.Rules.Pulse as pulse
 use Rattle.qrules.proofs.Traces.Parts.{reply_finish}
 use Rattle.qrules.proofs.Words.Items.{message_item}
@@ -46,7 +46,7 @@ use Rattle.qmodel.specs.declared.open_call.OpenCall.TheVariants.{Receive as InRe
 use Rattle.qrules.proofs.Traces.Calls.Cancelling.{cancel_parts}
 use Rattle.qrules.proofs.Traces.Calls.ConnectDetach.{detach_ends}
 use Rattle.qrules.proofs.Traces.Calls.Held.{SenderEnds, sender_ends}
-use Rattle.qrules.proofs.Traces.Past.Ends.{ending_names, laws_of, passes_of}
+use Rattle.qrules.proofs.Traces.Past.Ends.{completion_names, laws_of, passes_of}
 use Rattle.qrules.proofs.Traces.Past.Laws.{Passes}
 use Rattle.qrules.proofs.Traces.Past.Numbers.{block_asked, block_below, call_earlier, call_newest}
 use Rattle.qrules.proofs.Traces.Past.Open.{open_parts}
@@ -77,11 +77,11 @@ taking_fits taken bytes buffer PulseOnly chid b may = rw may refl
 own_fits : (f : Facts) (t : ℕ) (c : Call) (y : Completion) → (row_of f t c).own ≡ Some y → fits c y.mark ≡ true
 own_fits f t (Send coid message reply_buffer) y e = absurd (none-some y e)
 own_fits f t (Receive chid buffer) y e = let k = receive_takes f t chid Any buffer y e in
-    ap (λ x. fits (Receive chid buffer) x.mark) (sym k.ending) ∙ taking_fits k.item _ buffer Any chid buffer refl
+    ap (λ x. fits (Receive chid buffer) x.mark) (sym k.completion) ∙ taking_fits k.item _ buffer Any chid buffer refl
 own_fits f t (ReceivePulse chid) y e = let k = receive_takes f t chid PulseOnly [] y e in
-    ap (λ x. fits (ReceivePulse chid) x.mark) (sym k.ending) ∙ taking_fits k.item _ [] PulseOnly chid [] (best-may PulseOnly (f.pending chid) k.item k.best)
+    ap (λ x. fits (ReceivePulse chid) x.mark) (sym k.completion) ∙ taking_fits k.item _ [] PulseOnly chid [] (best-may PulseOnly (f.pending chid) k.item k.best)
 own_fits f t (Info rcvid) y e = told (info_of f (sender f rcvid)) e where
-  told : (o : Option Told) → option_map (info_ending f.number t) o ≡ Some y → fits (Info rcvid) y.mark ≡ true
+  told : (o : Option Told) → option_map (info_completion f.number t) o ≡ Some y → fits (Info rcvid) y.mark ≡ true
   told None e = absurd (none-some y e)
   told (Some info) e = ap (λ x. fits (Info rcvid) x.mark) (sym (same_Some _ y e))
 own_fits f t c y e = ap (λ x. fits c x.mark) (sym (same_Some _ y e))
@@ -94,7 +94,7 @@ FitsOpen f u y = (o : OpenCall) → f.open_call u ≡ Some o → fits (call_in o
 
 met_fits : (f : Facts) (o : Option ℕ) (taken : Item) (bytes : List ℕ) (u : ℕ) (y : Completion) → Delivers f o taken bytes u y → FitsOpen f u y
 met_fits f o taken bytes u y k w is =
-    ap (λ x. fits (call_in w) x.mark) (sym k.ending)
+    ap (λ x. fits (call_in w) x.mark) (sym k.completion)
     ∙ ap (λ v. fits (call_in v) (delivery_of taken bytes k.receive.buffer).0) (same_Some _ _ (sym is ∙ k.is_open))
     ∙ taking_fits taken bytes k.receive.buffer k.receive.kind k.receive.channel k.receive.buffer k.may
 
@@ -103,7 +103,7 @@ failed_fits w m errno e = ap (fits (call_in w)) (sym e)
 
 answered_fits : (f : Facts) (t rcvid : ℕ) (finish : Finish) (u : ℕ) (y : Completion) → ((coid : ℕ) (m b : List ℕ) → fits (Send coid m b) (finish b).0 ≡ true) → SenderEnds f t rcvid finish u y → FitsOpen f u y
 answered_fits f t rcvid finish u y any k w is =
-    ap (λ x. fits (call_in w) x.mark) (sym k.ending)
+    ap (λ x. fits (call_in w) x.mark) (sym k.completion)
     ∙ ap (λ v. fits (call_in v) (finish k.held.send.reply_buffer).0) (same_Some _ _ (sym is ∙ k.held.is_open))
     ∙ any k.held.send.connection k.held.send.message k.held.send.reply_buffer
 
@@ -116,14 +116,14 @@ ends_fits f t (Reply rcvid status bytes) u y p e = answered_fits f t rcvid (repl
 ends_fits f t (Error rcvid code) u y p e = answered_fits f t rcvid (error_finish code) u y (error_fits code) (sender_ends f t rcvid (error_finish code) u y p.row (sym (answer_same f (error_finish code) (sender f rcvid) u) ∙ e))
 ends_fits f t (Pulse coid priority code value) u y p e =
     let k = told_meets f (pulse.pulse_over f coid priority code value) u y (sym (pulse_same f (pulse.pulse_over f coid priority code value) u) ∙ e) in met_fits f (Some k.made.channel) k.made.item [] u y k.delivers
-ends_fits f t (ChannelDestroy chid) u y p e = λ w is. failed_fits w y.mark _ (ap (λ x. x.mark) (cancel_parts (is_on chid) Srch u (f.open_call u) y e).ending)
-ends_fits f t Shutdown u y p e = λ w is. failed_fits w y.mark _ (ap (λ x. x.mark) (cancel_parts (λ wait. true) Srch u (f.open_call u) y e).ending)
+ends_fits f t (ChannelDestroy chid) u y p e = λ w is. failed_fits w y.mark _ (ap (λ x. x.mark) (cancel_parts (is_on chid) Srch u (f.open_call u) y e).completion)
+ends_fits f t Shutdown u y p e = λ w is. failed_fits w y.mark _ (ap (λ x. x.mark) (cancel_parts (λ wait. true) Srch u (f.open_call u) y e).completion)
 ends_fits f t (Unblock thread) u y p e = elim (unblock_ends f thread u y (unblock.unblock_pulse f thread) (sym (unblocked_same f t thread u) ∙ e)) [
-  | inl cut ↦ λ w is. failed_fits w y.mark _ (ap (λ x. x.mark) cut.ending)
+  | inl cut ↦ λ w is. failed_fits w y.mark _ (ap (λ x. x.mark) cut.completion)
   | inr k ↦ met_fits f (Some k.made.channel) k.made.item [] u y k.delivers
 ]
 ends_fits f t (ConnectDetach coid) u y p e = elim (detach_ends f coid (connect_detach.disconnect_pulse f t coid) u y e) [
-  | inl cut ↦ λ w is. failed_fits w y.mark _ (ap (λ x. x.mark) cut.ending)
+  | inl cut ↦ λ w is. failed_fits w y.mark _ (ap (λ x. x.mark) cut.completion)
   | inr s ↦ let k = told_meets f (connect_detach.disconnect_pulse f t coid) u y s in met_fits f (Some k.made.channel) k.made.item [] u y k.delivers
 ]
 ends_fits f t c u y p e = absurd (none-some y e)
@@ -154,8 +154,8 @@ endings_fit roster past e r l =
     let f = facts_of roster past in
     let P = λ (x : Completion). option_map (λ c. fits c x.mark) (call_at (e ∷ past) x.call) ≡ Some true in
     elim (l.1.1) [
-      | inl a ↦ subst (AllByRecursion P) (sym a.1) (all_filter_map P (ending f e.thread e.call) (threads_of roster) (λ v y is.
-          elim (ending_names f e.thread e.call v y (laws_of f e.thread e.call e.endings a) is) [
+      | inl a ↦ subst (AllByRecursion P) (sym a.1) (all_filter_map P (completion_to f e.thread e.call) (threads_of roster) (λ v y is.
+          elim (completion_names f e.thread e.call v y (laws_of f e.thread e.call e.endings a) is) [
             | inl own ↦ of_call (e ∷ past) y (length past + 1) e.call own.names.call (call_newest e past) (own_fits f e.thread e.call y own.is)
             | inr other ↦
                 let k = open_parts roster past v other.names.waiting other.names.is in
@@ -165,7 +165,7 @@ endings_fit roster past e r l =
                 ∙ filled_fits _ k.block y.mark ∙ received_fits _ _ _ (filled past k.block) y.mark ∙ ap (λ o. fits (call_in o) y.mark) (sym k.same)
                 ∙ ends_fits f e.thread e.call v y (passes_of f e.thread e.call e.endings a) other.is other.names.waiting other.names.is)
           ]))
-      | inr a ↦ subst (AllByRecursion P) (sym a.2) (of_call (e ∷ past) (refusal_ending f e.thread e.call a.0) (length past + 1) e.call refl (call_newest e past) refl, tt)
+      | inr a ↦ subst (AllByRecursion P) (sym a.2) (of_call (e ∷ past) (refusal_completion f e.thread e.call a.0) (length past + 1) e.call refl (call_newest e past) refl, tt)
     ]
 
 -- ---- what is read off an ending

@@ -14,7 +14,7 @@ use Rattle.qqueue.specs.declared.item.Kind.{Kind}
 use Rattle.qqueue.specs.declared.item.Kind.TheVariants.{Any, PulseOnly}
 use Rattle.qtables.specs.Members.{IsRoster, member_at}
 use Rattle.qtables.specs.declared.member.Member.{Member}
-use Rattle.qrules.specs.Outcome.{Answers, Outcome, ending}
+use Rattle.qrules.specs.Outcome.{Answers, Outcome, completion_to}
 use Rattle.qrules.specs.Rules.{row_of}
 use Rattle.qrules.specs.Rules.Connections as connect_detach
 use Rattle.qrules.proofs.Traces.Parts.{error_finish}
@@ -28,9 +28,9 @@ use Rattle.qrules.specs.Delivery.{is_on}
 use Rattle.qrules.proofs.Words.Effects.{makes}
 use Rattle.qrules.proofs.Words.Facts.{Facts, is_for_answer, message, sender, threads_of, route}
 use Rattle.qrules.proofs.Words.Lawful.{IsLawful, facts_of, with_event}
-use Rattle.qrules.proofs.Words.Past.{copied_count_among, copied_count_of, filled, has_ending_of, is_ended, open_call, priority_of_item, with_receipt}
+use Rattle.qrules.proofs.Words.Past.{copied_count_among, copied_count_of, filled, has_completion_of, is_ended, open_call, priority_of_item, with_receipt}
 use Rattle.qrules.proofs.Words.Items.{item_in}
-use Rattle.qrules.specs.Delivery.{receipt_ending}
+use Rattle.qrules.specs.Delivery.{receipt_completion}
 use Rattle.qmodel.specs.Trace.{SentItem}
 use Rattle.qmodel.specs.Trace.{Trace}
 use Rattle.qmodel.specs.declared.call.Call.{Call}
@@ -53,10 +53,10 @@ use Rattle.qrules.proofs.Traces.Calls.Held.{sender_ends}
 use Rattle.qrules.proofs.Traces.Calls.Info.{plain}
 use Rattle.qrules.proofs.Traces.Past.Ends.{ended_below, ends_other, ends_own, laws_of, open_known, passes_of}
 use Rattle.qrules.proofs.Traces.Past.Open.{is_unblocked, kept, kept_number, open_from, open_parts, receipt_for_answer}
-use Rattle.qrules.proofs.Traces.Past.Receipts.{accepted_receipts, best_pending, ending_receives}
+use Rattle.qrules.proofs.Traces.Past.Receipts.{accepted_receipts, best_pending, completion_receives}
 use Rattle.qrules.proofs.Traces.Past.Senders.{sender_sends}
 use Rattle.qrules.proofs.Traces.Properties.Messages.{item_waits, pending_going}
-use Rattle.qrules.proofs.Traces.Properties.Receipts.{ending_of}
+use Rattle.qrules.proofs.Traces.Properties.Receipts.{completion_of}
 use Rattle.qrules.proofs.Traces.Properties.Rows.Delivering.{Delivers, delivery_meets}
 use Rattle.qrules.proofs.Traces.Properties.Rows.Receiving.{receive_takes}
 use Rattle.qrules.proofs.Traces.Properties.Rows.Telling.{Tells, told_meets, unblock_ends}
@@ -79,7 +79,7 @@ record TakesMessage (x : Item) (i : ℕ) : Type 0 where
   pub message : is_pulse x.what ≡ false
   pub number : x.number ≡ i
 
-message_taken : (x : Item) (sent : List ℕ) (u m : ℕ) (buffer : List ℕ) (y : Completion) (i copied : ℕ) → receipt_ending x sent u m buffer ≡ y → y.mark ≡ mark.Message i copied → TakesMessage x i
+message_taken : (x : Item) (sent : List ℕ) (u m : ℕ) (buffer : List ℕ) (y : Completion) (i copied : ℕ) → receipt_completion x sent u m buffer ≡ y → y.mark ≡ mark.Message i copied → TakesMessage x i
 message_taken x sent u m buffer y i copied e is = by_kind (is_pulse x.what) refl (ap (λ (z : Completion). z.mark) e ∙ is) where
   by_kind : (b : Bool) → is_pulse x.what ≡ b → (cond {A = Mark × List ℕ} b (mark.Pulse x.number x.priority x.what, buffer) (mark.Message x.number (laid_count buffer 0 sent), lay_over buffer 0 sent)).0 ≡ mark.Message i copied → TakesMessage x i
   by_kind true kind given = absurd (true≢false (sym (ap is_message given)))
@@ -101,10 +101,10 @@ own_message f t (Send coid sent reply_buffer) y i copied e m = absurd (none-some
 own_message f t (Info rcvid) y i copied e m = absurd (no_message y i copied m (plain f.number t (info_of f (sender f rcvid)) y e).mark)
 own_message f t (Receive chid buffer) y i copied e m =
     let r = receive_takes f t chid Any buffer y e in
-    record { channel = chid; kind = Any; best_item = r.item; best = r.best; takes = message_taken r.item (message f r.item.number) t f.number buffer y i copied r.ending m; alone = λ u. refl }
+    record { channel = chid; kind = Any; best_item = r.item; best = r.best; takes = message_taken r.item (message f r.item.number) t f.number buffer y i copied r.completion m; alone = λ u. refl }
 own_message f t (ReceivePulse chid) y i copied e m =
     let r = receive_takes f t chid PulseOnly [] y e in
-    record { channel = chid; kind = PulseOnly; best_item = r.item; best = r.best; takes = message_taken r.item (message f r.item.number) t f.number [] y i copied r.ending m; alone = λ u. refl }
+    record { channel = chid; kind = PulseOnly; best_item = r.item; best = r.best; takes = message_taken r.item (message f r.item.number) t f.number [] y i copied r.completion m; alone = λ u. refl }
 own_message f t c y i copied e m = absurd (no_message y i copied m (ap (λ x. item_in x.mark) (sym (same_Some _ y e))))
 
 -- ---- an ending of another thread
@@ -118,7 +118,7 @@ record TakesMade (f : Facts) (t : ℕ) (c : Call) (i : ℕ) : Type 0 where
 met_message : (f : Facts) (t : ℕ) (c : Call) (o : Option ℕ) (x : Item) (sent : List ℕ) (u : ℕ) (y : Completion) (i copied : ℕ) → Delivers f o x sent u y → ((h : ℕ) → o ≡ Some h → makes f t c ≡ Some (record { item = x; channel = h }))
     → y.mark ≡ mark.Message i copied → TakesMade f t c i
 met_message f t c o x sent u y i copied s made m =
-    record { made = record { item = x; channel = s.channel }; is_made = made s.channel s.leads; takes = message_taken x sent u s.receive.number s.receive.buffer y i copied s.ending m }
+    record { made = record { item = x; channel = s.channel }; is_made = made s.channel s.leads; takes = message_taken x sent u s.receive.number s.receive.buffer y i copied s.completion m }
 
 told_message : (f : Facts) (t : ℕ) (c : Call) (o : Option SentItem) (u : ℕ) (y : Completion) (i copied : ℕ) → makes f t c ≡ o → Tells f o u y → y.mark ≡ mark.Message i copied → TakesMade f t c i
 told_message f t c o u y i copied made k m =
@@ -129,14 +129,14 @@ ends_message f t (Reply rcvid status bytes) u y i copied r e m =
     absurd (no_message y i copied m (answer_receives f t rcvid (reply_finish status bytes) u y (λ buffer. refl) (sender_ends f t rcvid (reply_finish status bytes) u y r (sym (answer_same f (reply_finish status bytes) (sender f rcvid) u) ∙ e))))
 ends_message f t (Error rcvid code) u y i copied r e m =
     absurd (no_message y i copied m (answer_receives f t rcvid (error_finish code) u y (λ buffer. no_receipt code) (sender_ends f t rcvid (error_finish code) u y r (sym (answer_same f (error_finish code) (sender f rcvid) u) ∙ e))))
-ends_message f t (ChannelDestroy chid) u y i copied r e m = absurd (no_message y i copied m (ap (λ x. item_in x.mark) (sym (cancel_parts (is_on chid) Srch u (f.open_call u) y e).ending)))
-ends_message f t Shutdown u y i copied r e m = absurd (no_message y i copied m (ap (λ x. item_in x.mark) (sym (cancel_parts (λ o. true) Srch u (f.open_call u) y e).ending)))
+ends_message f t (ChannelDestroy chid) u y i copied r e m = absurd (no_message y i copied m (ap (λ x. item_in x.mark) (sym (cancel_parts (is_on chid) Srch u (f.open_call u) y e).completion)))
+ends_message f t Shutdown u y i copied r e m = absurd (no_message y i copied m (ap (λ x. item_in x.mark) (sym (cancel_parts (λ o. true) Srch u (f.open_call u) y e).completion)))
 ends_message f t (Unblock thread) u y i copied r e m = elim (unblock_ends f thread u y (unblock.unblock_pulse f thread) (sym (unblocked_same f t thread u) ∙ e)) [
-  | inl cancel ↦ absurd (no_message y i copied m (ap (λ x. item_in x.mark) (sym cancel.ending)))
+  | inl cancel ↦ absurd (no_message y i copied m (ap (λ x. item_in x.mark) (sym cancel.completion)))
   | inr k ↦ told_message f t (Unblock thread) (unblock.unblock_pulse f thread) u y i copied refl k m
 ]
 ends_message f t (ConnectDetach coid) u y i copied r e m = elim (detach_ends f coid (connect_detach.disconnect_pulse f t coid) u y e) [
-  | inl cancel ↦ absurd (no_message y i copied m (ap (λ x. item_in x.mark) (sym cancel.ending)))
+  | inl cancel ↦ absurd (no_message y i copied m (ap (λ x. item_in x.mark) (sym cancel.completion)))
   | inr s ↦ told_message f t (ConnectDetach coid) (connect_detach.disconnect_pulse f t coid) u y i copied refl (told_meets f (connect_detach.disconnect_pulse f t coid) u y s) m
 ]
 ends_message f t (Send coid sent reply_buffer) u y i copied r e m =
@@ -161,26 +161,26 @@ module _ (roster : List Member) (past : Trace) (t : ℕ) (c : Call) (X : List Co
       let is_open = open_from roster past w.thread w.block w.is unended in
       let here = kept_number roster past w.block in
       let other : eqb w.thread t ≡ false = ne_eqb w.thread t (λ same. none-some _ (sym (passes_of f t c X a).idle ∙ ap (open_call roster past) (sym same) ∙ is_open)) in
-      let kept : has_ending_of X (number_of w.block) ≡ false =
-      ap (has_ending_of X) (sym here) ∙ ends_other roster past t c X w.thread _ l a other is_open ∙ ap is_some (k.alone w.thread) in
+      let kept : has_completion_of X (number_of w.block) ≡ false =
+      ap (has_completion_of X) (sym here) ∙ ends_other roster past t c X w.thread _ l a other is_open ∙ ap is_some (k.alone w.thread) in
       subst (λ j. is_ended (with_event t c X past) j ≡ false) (w.number ∙ k.takes.number) (rw (kept, unended) refl)
 
   made_going : (i : ℕ) → TakesMade f t c i → is_ended (with_event t c X past) i ≡ false
   made_going i k =
       let number : k.made.item.number ≡ length past + 1 = ((call_laws c).makes_one f t k.made k.is_made).number in
-      let none : has_ending_of X (length past + 1) ≡ false = ends_own roster past t c X member a ∙ ap is_some ((laws_of f t c X a).sends k.made k.is_made k.takes.message) in
+      let none : has_completion_of X (length past + 1) ≡ false = ends_own roster past t c X member a ∙ ap is_some ((laws_of f t c X a).sends k.made k.is_made k.takes.message) in
       subst (λ j. is_ended (with_event t c X past) j ≡ false) (sym number ∙ k.takes.number) (rw (none, ended_below roster past (length past + 1) l (omega arith)) refl)
 
-  going_after : (v : ℕ) (y : Completion) (i copied : ℕ) → ending f t c v ≡ Some y → y.mark ≡ mark.Message i copied → is_ended (with_event t c X past) i ≡ false
-  going_after v y i copied given m = elim (ending_of f t c v y given) [
+  going_after : (v : ℕ) (y : Completion) (i copied : ℕ) → completion_to f t c v ≡ Some y → y.mark ≡ mark.Message i copied → is_ended (with_event t c X past) i ≡ false
+  going_after v y i copied given m = elim (completion_of f t c v y given) [
     | inl own ↦ best_going i (own_message f t c y i copied own.1 m)
     | inr other ↦ made_going i (ends_message f t c v y i copied (passes_of f t c X a).row other.1 m)
   ]
 
   -- and it is counted as it was copied
-  counted_after : (v : ℕ) (y : Completion) (i copied : ℕ) → ending f t c v ≡ Some y → y.mark ≡ mark.Message i copied → copied_count_of (with_event t c X past) i ≡ Some copied
+  counted_after : (v : ℕ) (y : Completion) (i copied : ℕ) → completion_to f t c v ≡ Some y → y.mark ≡ mark.Message i copied → copied_count_of (with_event t c X past) i ≡ Some copied
   counted_after v y i copied given m =
-      let r = ending_receives f t c v y (record { number = i; copied = copied }) (laws_of f t c X a) given (ap item_in m) in
+      let r = completion_receives f t c v y (record { number = i; copied = copied }) (laws_of f t c X a) given (ap item_in m) in
       let now : copied_count_among X i ≡ Some copied = accepted_receipts roster past t c X i l member a ∙ rw (r.is, eq-eqb r.receipt.item i (sym r.item)) (ap Some (sym r.copied)) in
       rw now refl
 
@@ -224,7 +224,7 @@ pub received_told : (roster : List Member) (past : Trace) (t : ℕ) (c : Call) (
     → Answers (facts_of roster past) t c X → AllByRecursion (IsHeldAfter roster (with_event t c X past)) X
 received_told roster past t c X rises l member answers = let lawful : IsLawful roster (with_event t c X past) = (l, (member, answers)) in elim answers [
   | inl a ↦ subst (AllByRecursion (IsHeldAfter roster (with_event t c X past))) (sym a.1)
-      (all_filter_map (IsHeldAfter roster (with_event t c X past)) (ending (facts_of roster past) t c) (threads_of roster) (λ v y given i copied m.
+      (all_filter_map (IsHeldAfter roster (with_event t c X past)) (completion_to (facts_of roster past) t c) (threads_of roster) (λ v y given i copied m.
       held_told roster (with_event t c X past) i copied rises lawful (going_after roster past t c X l member a v y i copied given m) (counted_after roster past t c X l member a v y i copied given m)))
   | inr a ↦ subst (AllByRecursion (IsHeldAfter roster (with_event t c X past))) (sym a.2) ((λ i copied m. absurd (none-some _ (ap item_in m))), tt)
 ]

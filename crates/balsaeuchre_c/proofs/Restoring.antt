@@ -18,7 +18,7 @@ use Rattle.qmodel.specs.declared.call.Mark.{Mark}
 use Rattle.qmodel.specs.declared.call.Mark.TheVariants as mark
 use Rattle.qrules.specs.Facts.{Facts, threads_of}
 use Rattle.qrules.specs.Lawful.{facts_of}
-use Rattle.qrules.specs.Outcome.{ending, Answers}
+use Rattle.qrules.specs.Outcome.{completion_to, Answers}
 use Rattle.qrules.specs.Past.{item_in, with_writes}
 use Rattle.qrules.proofs.Traces.TraceLaws.Lengths.{writes_length}
 use Rattle.qrules.specs.Properties.{buffer_at, message_at, request_of, HasProperties, IsCopied, IsCounted, IsLaid, TakesBest}
@@ -80,7 +80,7 @@ buffer_brought past i r is = by_call (call_at past i) is where
 -- a call that ends no other's has only its own ending
 ended_alone : (f : Facts) (t : ℕ) (c : Call) (X : List Completion) (own : Completion) → (row_of f t c).own ≡ Some own → ((u : ℕ) → (row_of f t c).others u ≡ None) → own.call ≡ f.number → Answers f t c X → AllByRecursion (λ y. y.call ≡ f.number) X
 ended_alone f t c X own is alone same answers = elim answers [
-  | inl a ↦ subst (AllByRecursion (λ y. y.call ≡ f.number)) (sym a.1) (all_filter_map _ (ending f t c) (threads_of f.roster) (λ u y e.
+  | inl a ↦ subst (AllByRecursion (λ y. y.call ≡ f.number)) (sym a.1) (all_filter_map _ (completion_to f t c) (threads_of f.roster) (λ u y e.
       elim (eqb u t) as (λ b. cond b (row_of f t c).own ((row_of f t c).others u) ≡ Some y → y.call ≡ f.number) [
         | true ↦ λ e. ap (λ x. x.call) (sym (same_Some own y (sym is ∙ e))) ∙ same
         | false ↦ λ e. absurd (none-some y (sym (alone u) ∙ e))

@@ -9,7 +9,7 @@ use Rattle.qmodel.specs.declared.call.Call.{Call}
 use Rattle.qmodel.specs.declared.call.Completion.{Completion}
 use Rattle.qmodel.specs.declared.open_call.OpenCall.{OpenCall}
 use Rattle.qstate.specs.declared.thread.Thread.{Thread}
-use Rattle.qrules.specs.Outcome.{ending, Outcome}
+use Rattle.qrules.specs.Outcome.{completion_to, Outcome}
 use Rattle.qrules.proofs.Words.Items.{receipt_of}
 use Rattle.qrules.specs.Rules.{row_of}
 use Rattle.qrules.proofs.Words.Facts.{Facts, sender, threads_of}
@@ -123,12 +123,12 @@ module _ (old : State) (t : ℕ) (c : Call) (X : List Completion) (new : State) 
       let passes = row_passes (facts_in old) t c answer.0 in
       let laws = row_laws (facts_in old) t c passes in
       let apart = λ (u : ℕ) (other : eqb u t ≡ false). one_apart u other laws follows in
-      let own : one (ending (facts_in old) t c t) + one (open_in new.threads t) ≤ 1 = rw (follows.open_call t, eq-eqb t t refl) (one-unless (row_of (facts_in old) t c).own _) in
-      let sum : length (filter_map (ending (facts_in old) t c) (threads_of (members_of old.threads))) + opens (open_in new.threads) (threads_of (members_of old.threads)) ≤ opens (open_in old.threads) (threads_of (members_of old.threads)) + 1
-      = sum_all (ending (facts_in old) t c) (open_in old.threads) (open_in new.threads) t (threads_of (members_of old.threads)) apart own (rises (members_of old.threads) roster) in
+      let own : one (completion_to (facts_in old) t c t) + one (open_in new.threads t) ≤ 1 = rw (follows.open_call t, eq-eqb t t refl) (one-unless (row_of (facts_in old) t c).own _) in
+      let sum : length (filter_map (completion_to (facts_in old) t c) (threads_of (members_of old.threads))) + opens (open_in new.threads) (threads_of (members_of old.threads)) ≤ opens (open_in old.threads) (threads_of (members_of old.threads)) + 1
+      = sum_all (completion_to (facts_in old) t c) (open_in old.threads) (open_in new.threads) t (threads_of (members_of old.threads)) apart own (rises (members_of old.threads) roster) in
       rw (answer.1, ← before, ← after follows.roster) sum
     where
-      one_apart : (u : ℕ) → eqb u t ≡ false → RowLaws (facts_in old) t c → Follows (facts_in old) t c true (facts_in new) → one (ending (facts_in old) t c u) + one (open_in new.threads u) ≤ one (open_in old.threads u)
+      one_apart : (u : ℕ) → eqb u t ≡ false → RowLaws (facts_in old) t c → Follows (facts_in old) t c true (facts_in new) → one (completion_to (facts_in old) t c u) + one (open_in new.threads u) ≤ one (open_in old.threads u)
       one_apart u other laws follows = rw (follows.open_call u, other) (
           elim ((row_of (facts_in old) t c).others u) as (λ y. (row_of (facts_in old) t c).others u ≡ y → one y + one (unless (is_some y) (after_unblock (makes (facts_in old) t c) (unblocks c) u (after_receipt (receipt_of (facts_in old) t c) u (after_write (facts_in old) (writes c) u (open_in old.threads u))))) ≤ one (open_in old.threads u)) [
             | None ↦ λ e. rw (one-unblock (makes (facts_in old) t c) (unblocks c) u (after_receipt (receipt_of (facts_in old) t c) u (after_write (facts_in old) (writes c) u (open_in old.threads u))), one-receipt (receipt_of (facts_in old) t c) u (after_write (facts_in old) (writes c) u (open_in old.threads u)), one-write (facts_in old) (writes c) u (open_in old.threads u)) (omega arith)

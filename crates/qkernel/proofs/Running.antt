@@ -49,10 +49,10 @@ pub record Running (old : State) (calls : List (ℕ × Call)) (now : State) (log
   pub members : members_of now.threads ≡ members_of old.threads
   pub known : AllKnown (members_of old.threads) todo
   pub limit : now.made + length todo ≤ 2 ^ 40
-  pub room : length todo + blocked_count now.threads ≤ log.ending_room
+  pub room : length todo + blocked_count now.threads ≤ log.completion_room
 
 pub running_at_start : (old : State) (calls : List (ℕ × Call)) (log : Logged) → AllKnown (members_of old.threads) calls → old.made + length calls ≤ 2 ^ 40 → log.noted ≡ calls → log.events ≡ [] → log.endings ≡ []
-    → length calls + blocked_count old.threads ≤ log.ending_room → Running old calls old log calls
+    → length calls + blocked_count old.threads ≤ log.completion_room → Running old calls old log calls
 running_at_start old calls log known limit noted events none room = record {
   ran = rw events (runs_none old);
   told = rw events refl;
@@ -76,16 +76,16 @@ module _ (old : State) (calls : List (ℕ × Call)) (now : State) (log : Logged)
   next_noted = rw (r.noted) (omega arith)
 
   module _ (new : State) (X : List Completion) (step : AnswersAtTraces now q.0 q.1 X new) (members : members_of new.threads ≡ members_of now.threads) (made : new.made ≡ now.made + 1) (few : length X + blocked_count new.threads ≤ blocked_count now.threads + 1) where
-    pub next_room : length X ≤ log.ending_room
-    next_room = let room : suc (length todo) + blocked_count now.threads ≤ log.ending_room = r.room in omega arith
+    pub next_room : length X ≤ log.completion_room
+    next_room = let room : suc (length todo) + blocked_count now.threads ≤ log.completion_room = r.room in omega arith
 
-    pub running_more : Running old calls new (with_next (record log { endings = log.endings ++ X; ending_room = log.ending_room - length X })) todo
+    pub running_more : Running old calls new (with_next (record log { endings = log.endings ++ X; completion_room = log.completion_room - length X })) todo
     running_more =
         let limit : now.made + suc (length todo) ≤ 2 ^ 40 = r.limit in
-        let room : suc (length todo) + blocked_count now.threads ≤ log.ending_room = r.room in
+        let room : suc (length todo) + blocked_count now.threads ≤ log.completion_room = r.room in
         let mine : log.endings ++ X ≡ X = ap (λ ys. ys ++ X) r.none in
-        let next : with_next (record log { endings = log.endings ++ X; ending_room = log.ending_room - length X })
-        ≡ record { events = log.events ++ as_event q X ∷ []; noted = todo; endings = []; call_room = log.call_room; ending_room = log.ending_room - length X } = rw (r.noted, mine) refl in
+        let next : with_next (record log { endings = log.endings ++ X; completion_room = log.completion_room - length X })
+        ≡ record { events = log.events ++ as_event q X ∷ []; noted = todo; endings = []; call_room = log.call_room; completion_room = log.completion_room - length X } = rw (r.noted, mine) refl in
         rw next (record {
           ran = runs_more old now new log.events (as_event q X) r.ran next_known step;
           told = told_push log.events q X todo ∙ r.told;

@@ -9,8 +9,8 @@ use Rattle.qtables.specs.Members.{member_at, IsRoster}
 use Rattle.qtables.specs.declared.member.Member.{Member}
 use Rattle.qmodel.specs.declared.call.Call.{Call}
 use Rattle.qmodel.specs.declared.call.Completion.{Completion}
-use Rattle.qrules.specs.Outcome.{Answers, Outcome, ending}
-use Rattle.qrules.proofs.Words.Items.{refusal_ending}
+use Rattle.qrules.specs.Outcome.{Answers, Outcome, completion_to}
+use Rattle.qrules.proofs.Words.Items.{refusal_completion}
 use Rattle.qrules.proofs.Words.Facts.{Facts, threads_of}
 use Rattle.qrules.proofs.Words.Lawful.{facts_of, with_event}
 use Rattle.qrules.proofs.Words.Past.{is_failure, priority_in}
@@ -21,7 +21,7 @@ use Rattle.qrules.proofs.Words.Step.{Follows}
 use Rattle.qstate.specs.Thread.{open_in, ready_thread}
 use Rattle.qstate.specs.Kept.{members_of, thread_priority}
 use Rattle.qbase.proofs.Lists.{all_filter_map}
-use Rattle.qrules.proofs.Traces.Past.Ends.{ending_names, laws_of}
+use Rattle.qrules.proofs.Traces.Past.Ends.{completion_names, laws_of}
 use Rattle.qrules.proofs.Traces.Past.Follows.{past_follows}
 use Rattle.qrules.proofs.Traces.TraceLaws.Refused.{only_counted}
 use Rattle.qrules.proofs.Once.{follows_once, one_facts}
@@ -47,16 +47,16 @@ step_at_traces old t c X new rises known step roster past lawful stands =
     follows_once _ _ _ t c accept now (past_follows accept roster past t c X is_roster (lawful) is_known outcome) in
     (answers_of accept _ t c X outcome, after)
 
--- the ending is no failure of thread t
+-- the completion is no failure of thread t
 abbrev IsNoFailureOf : ℕ → Completion → Type 0
 IsNoFailureOf t x = x.thread ≡ t → is_failure x.mark ≡ true → ⊥
 
--- an accepted call's own ending is no failure, and its others go to other threads
-passed_unfailed : (f : Facts) (t : ℕ) (c : Call) (X : List Completion) → Outcome true f t c X → (e : Errno) → X ≡ refusal_ending f t c e ∷ [] → ⊥
+-- an accepted call's own completion is no failure, and its others go to other threads
+passed_unfailed : (f : Facts) (t : ℕ) (c : Call) (X : List Completion) → Outcome true f t c X → (e : Errno) → X ≡ refusal_completion f t c e ∷ [] → ⊥
 passed_unfailed f t c X a e is = (subst (AllByRecursion (IsNoFailureOf t)) (sym a.1 ∙ is) others).0 refl refl where
-  others : AllByRecursion (IsNoFailureOf t) (filter_map (ending f t c) (threads_of f.roster))
-  others = all_filter_map (IsNoFailureOf t) (ending f t c) (threads_of f.roster) (λ v y given.
-      elim (ending_names f t c v y (laws_of f t c X a) given) [
+  others : AllByRecursion (IsNoFailureOf t) (filter_map (completion_to f t c) (threads_of f.roster))
+  others = all_filter_map (IsNoFailureOf t) (completion_to f t c) (threads_of f.roster) (λ v y given.
+      elim (completion_names f t c v y (laws_of f t c X a) given) [
         | inl own ↦ λ _ failure. true≢false (sym failure ∙ own.names.mark)
         | inr other ↦ λ at _. eqb-false v t other.thread (sym other.names.thread ∙ at)
       ])
@@ -66,7 +66,7 @@ abbrev counted : Facts → Facts
 counted f = record f { number = f.number + 1 }
 
 -- what is refused leaves all but the count
-refused_counts : (old : State) (t : ℕ) (c : Call) (X : List Completion) (new : State) → Steps old t c X new → (e : Errno) → X ≡ refusal_ending (facts_in old) t c e ∷ [] → facts_in new ≡ counted (facts_in old)
+refused_counts : (old : State) (t : ℕ) (c : Call) (X : List Completion) (new : State) → Steps old t c X new → (e : Errno) → X ≡ refusal_completion (facts_in old) t c e ∷ [] → facts_in new ≡ counted (facts_in old)
 refused_counts old t c X new step e is = by_case step.0 step.1 where
   by_case : (accepted : Bool) → Step old t c accepted X new → facts_in new ≡ counted (facts_in old)
   by_case true k = absurd (passed_unfailed (facts_in old) t c X k.answer e is)

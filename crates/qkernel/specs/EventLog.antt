@@ -12,7 +12,7 @@ pub record Logged : Type 0 where
   pub noted : List (ℕ × Call)
   pub endings : List Completion
   pub call_room : ℕ
-  pub ending_room : ℕ
+  pub completion_room : ℕ
 
 -- the log after the first of its noted calls, which are these, became an event
 abbrev pub with_first : Logged → List (ℕ × Call) → Logged
@@ -23,7 +23,7 @@ with_first l (q ∷ noted) =
       noted = noted;
       endings = [];
       call_room = l.call_room;
-      ending_room = l.ending_room;
+      completion_room = l.completion_room;
     }
 
 -- the log after the next of its noted calls became an event, with the endings that were added

@@ -26,13 +26,13 @@ entry_call e = (e.thread, e.call)
 -- the log of these entries, the first made of which are events, and of these endings; those from start on are
 -- of the next call
 abbrev pub logged_by : List Entry → List Completion → ℕ → ℕ → ℕ → ℕ → Logged
-logged_by entries endings made start call_room ending_room =
+logged_by entries endings made start call_room completion_room =
     record {
       events = events_of endings (take made entries);
       noted = map entry_call (drop made entries);
       endings = drop start endings;
       call_room = call_room;
-      ending_room = ending_room;
+      completion_room = completion_room;
     }
 
 -- the invariant of an event log

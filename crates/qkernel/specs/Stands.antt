@@ -7,7 +7,7 @@ use Rattle.qbase.specs.declared.errno.Errno.TheVariants.{Exhausted, NoThread}
 use Rattle.qrules.specs.Facts.{sender}
 use Rattle.qrules.specs.Lawful.{facts_of, IsLawful}
 use Rattle.qrules.specs.Outcome.{Answers}
-use Rattle.qrules.specs.Rule.{buffer_of, own_ending}
+use Rattle.qrules.specs.Rule.{buffer_of, own_completion}
 use Rattle.qrules.specs.Rules.Held.{info_of}
 use Rattle.qrules.specs.Trace.{ReceiveId, ThreadNo, Trace}
 use Rattle.qstate.specs.Kept.{members_of}
@@ -31,10 +31,10 @@ InfoAtTraces s i info =
     (roster : List Member) (past : Trace) → StandsAt roster s past
     → info ≡ info_of (facts_of roster past) (sender (facts_of roster past) i)
 
--- a refused call, whose only ending is its own failure, changes nothing but the number of calls made
+-- a refused call, whose only completion is its own failure, changes nothing but the number of calls made
 abbrev pub LeavesIfRefused : State → ThreadNo → Call → List Completion → State → Type 0
 LeavesIfRefused old t c endings new = (e : Errno)
-    → endings ≡ own_ending (facts_in old) t (mark.Failed e) (buffer_of c) ∷ []
+    → endings ≡ own_completion (facts_in old) t (mark.Failed e) (buffer_of c) ∷ []
     → facts_in new ≡ record (facts_in old) { number = (facts_in old).number + 1 }
 
 -- the error of a call that is no event: its thread isn't in the roster, or else the kernel has made all the

@@ -64,7 +64,7 @@ impl EventLog {
     /// Makes an empty log with room for these numbers of calls and endings.
     pub fn with_room(alloc: Global, calls: usize, endings: usize) -> Result<EventLog, AllocError>
         ensures empty { IfOk result (λ log. (log.events ≡ []) × (log.noted ≡ []) × (log.endings ≡ [])) }
-        ensures room { IfOk result (λ log. (log.call_room ≡ calls) × (log.ending_room ≡ endings)) }
+        ensures room { IfOk result (λ log. (log.call_room ≡ calls) × (log.completion_room ≡ endings)) }
     {
         let entries = Vec::with_capacity(alloc, calls)?;
         let endings = Vec::with_capacity(alloc, endings)?;
@@ -78,10 +78,10 @@ impl EventLog {
 
     /// Makes room for these numbers of further calls and endings.
     pub fn reserve(&mut self, calls: usize, endings: usize) -> Result<(), AllocError>
-        ensures same { self.new ≡ record self.old { call_room = self.new.call_room; ending_room = self.new.ending_room } }
-        ensures kept { (self.old.call_room ≤ self.new.call_room) × (self.old.ending_room ≤ self.new.ending_room) }
-        ensures room { OnOk result ((calls ≤ self.new.call_room) × (endings ≤ self.new.ending_room)) }
-        ensures succeeds { (calls ≤ self.old.call_room) × (endings ≤ self.old.ending_room) → IsOk result }
+        ensures same { self.new ≡ record self.old { call_room = self.new.call_room; completion_room = self.new.completion_room } }
+        ensures kept { (self.old.call_room ≤ self.new.call_room) × (self.old.completion_room ≤ self.new.completion_room) }
+        ensures room { OnOk result ((calls ≤ self.new.call_room) × (endings ≤ self.new.completion_room)) }
+        ensures succeeds { (calls ≤ self.old.call_room) × (endings ≤ self.old.completion_room) → IsOk result }
     {
         self.entries.reserve(calls)?;
         self.endings.reserve(endings)
@@ -100,18 +100,18 @@ impl EventLog {
         });
     }
 
-    /// Adds an ending to those of the next call. There must be room for it.
-    pub fn push_ending(&mut self, ending: Completion)
-        requires { 0 < self.old.ending_room }
-        ensures { self.new ≡ record self.old { endings = self.old.endings ++ ending ∷ []; ending_room = self.old.ending_room - 1 } }
+    /// Adds a completion to those of the next call. There must be room for it.
+    pub fn push_ending(&mut self, completion: Completion)
+        requires { 0 < self.old.completion_room }
+        ensures { self.new ≡ record self.old { endings = self.old.endings ++ completion ∷ []; completion_room = self.old.completion_room - 1 } }
     {
-        self.endings.push_reserved(ending);
+        self.endings.push_reserved(completion);
     }
 
     /// Adds endings to those of the next call, and empties the list that they are in. There must be room for them.
     pub fn append(&mut self, endings: &mut Endings)
-        requires { length endings.old.items ≤ self.old.ending_room }
-        ensures logged { self.new ≡ record self.old { endings = self.old.endings ++ endings.old.items; ending_room = self.old.ending_room - length endings.old.items } }
+        requires { length endings.old.items ≤ self.old.completion_room }
+        ensures logged { self.new ≡ record self.old { endings = self.old.endings ++ endings.old.items; completion_room = self.old.completion_room - length endings.old.items } }
         ensures emptied { endings.new.items ≡ [] }
     {
         append(&mut self.endings, endings);

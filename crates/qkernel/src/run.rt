@@ -23,7 +23,7 @@ fn log_for(alloc: Global, calls: &[(ThreadNo, Call)]) -> Result<EventLog, AllocE
     requires { length calls.now ≤ 2 ^ 40 }
     ensures none { IfOk result (λ log. (log.events ≡ []) × (log.endings ≡ [])) }
     ensures noted { IfOk result (λ log. log.noted ≡ calls.now) }
-    ensures room { IfOk result (λ log. log.ending_room ≡ length calls.now + 64) }
+    ensures room { IfOk result (λ log. log.completion_room ≡ length calls.now + 64) }
 {
     let mut log = EventLog::with_room(alloc, calls.len(), calls.len() + THREAD_LIMIT)?;
     for (thread, call) in calls {
@@ -59,7 +59,7 @@ fn run_all(kernel: &mut Kernel, log: &mut EventLog, mut calls: Vec<(ThreadNo, Ca
     requires none { (log.old.events ≡ []) × (log.old.endings ≡ []) }
     requires known { AllKnown (members_of kernel.old.threads) calls.items }
     requires limit { kernel.old.made + length calls.items ≤ 2 ^ 40 }
-    requires room { length calls.items + blocked_count kernel.old.threads ≤ log.old.ending_room }
+    requires room { length calls.items + blocked_count kernel.old.threads ≤ log.old.completion_room }
     ensures ran { RunsAtTraces kernel.old log.new.events kernel.new }
     ensures told { map event_call log.new.events ≡ calls.items }
     ensures all { log.new.noted ≡ [] }

@@ -5,11 +5,11 @@ use Rattle.std.specs.List.{AllByRecursion, cons_option, filter_map, list_any}
 use Rattle.qbase.proofs.Lists.{all_more, none_of, eqb_same}
 use Rattle.qtables.specs.declared.member.Member.{Member}
 use Rattle.qrules.proofs.Words.Lawful as old
-use Rattle.qrules.proofs.Words.Past.{has_ending_of, is_accepted, is_ended, item_of, items}
+use Rattle.qrules.proofs.Words.Past.{has_completion_of, is_accepted, is_ended, item_of, items}
 use Rattle.qmodel.specs.Trace.{Trace, SentItem, Event}
 use Rattle.qmodel.specs.declared.call.Completion.{Completion}
 use Rattle.qrules.proofs.Traces.TraceLaws.Blocked as blocked
-use Rattle.qrules.proofs.Traces.TraceLaws.Ending.{ending_thread, endings_name_own_calls as names}
+use Rattle.qrules.proofs.Traces.TraceLaws.Ending.{completion_thread, endings_name_own_calls as names}
 use Rattle.qrules.proofs.Traces.TraceLaws.Lengths.{endings_keep_length as keep_length}
 use Rattle.qrules.proofs.Traces.TraceLaws.Refused.{only_counted}
 use Rattle.qrules.proofs.Traces.TraceLaws.Held.{taken_stands}
@@ -22,7 +22,7 @@ use Rattle.qrules.proofs.Traces.Past.Ends.{accepted, ended_below, ends_own, laws
 use Rattle.qrules.proofs.Traces.Properties.ShutForGood.{shut_for_good}
 use Rattle.qrules.proofs.Traces.Properties.Sends.{made_newest}
 use Rattle.qrules.proofs.Traces.Rosters.{Rises, rises}
-use Rattle.qrules.specs.Outcome.{ending}
+use Rattle.qrules.specs.Outcome.{completion_to}
 use Rattle.qrules.specs.Rules.{row_of}
 use Rattle.qrules.specs.Trace.{RiseByThread}
 use Rattle.std.specs.Option.{option_map, option_to_list}
@@ -63,7 +63,7 @@ endings_rise_by_thread roster past e r lawful =
     let l = lawful in
     let f = old.facts_of roster past in
     elim (l.1.1) [
-      | inl a ↦ subst RiseByThread (sym a.1) (given_rise (ending f e.thread e.call) (threads_of roster) (ending_thread f e.thread e.call (laws_of f e.thread e.call e.endings a)) (rises roster r))
+      | inl a ↦ subst RiseByThread (sym a.1) (given_rise (completion_to f e.thread e.call) (threads_of roster) (completion_thread f e.thread e.call (laws_of f e.thread e.call e.endings a)) (rises roster r))
       | inr a ↦ subst RiseByThread (sym a.2) (tt, tt)
     ]
 
@@ -85,7 +85,7 @@ record Waits (e : Event) (past : Trace) : Type 0 where
   pub accepted : is_accepted e past ≡ true
   pub waits : waiter e ≡ Some e.thread
 
-waits : (roster : List Member) (past : Trace) (e : Event) → old.IsLawful roster (e ∷ past) → has_ending_of e.endings (length past + 1) ≡ false → Waits e past
+waits : (roster : List Member) (past : Trace) (e : Event) → old.IsLawful roster (e ∷ past) → has_completion_of e.endings (length past + 1) ≡ false → Waits e past
 waits roster past e l none =
     let f = old.facts_of roster past in
     elim (l.1.1) [
@@ -94,7 +94,7 @@ waits roster past e l none =
           let may : may_wait e.call ≡ true = waits_or_ends f e.thread e.call (passes_of f e.thread e.call e.endings a) own in
           record { accepted = rw (accepted roster past e.thread e.call e.endings a) refl; waits = rw may refl }
       | inr a ↦
-          let own : has_ending_of e.endings (length past + 1) ≡ true = rw (a.2, eqb_same (length past + 1)) refl in
+          let own : has_completion_of e.endings (length past + 1) ≡ true = rw (a.2, eqb_same (length past + 1)) refl in
           absurd (true≢false (sym own ∙ none))
     ]
 
@@ -106,7 +106,7 @@ ends_or_waits roster past e r lawful = let l = lawful in (
       (open_is_unended roster (e ∷ past) r lawful e.thread (length past + 1)).1 (record { waits = made_newest waiter e past w.accepted ∙ w.waits; going = going }),
   λ is.
       let u = (open_is_unended roster (e ∷ past) r lawful e.thread (length past + 1)).0 is in
-      (or_parts (has_ending_of e.endings (length past + 1)) (is_ended past (length past + 1)) u.going).0,
+      (or_parts (has_completion_of e.endings (length past + 1)) (is_ended past (length past + 1)) u.going).0,
 )
 
 pub caller_gets_its_own : Endings.CallerGetsItsOwn

@@ -16,12 +16,12 @@ use Rattle.qqueue.specs.declared.item.Kind.{Kind}
 use Rattle.qqueue.specs.declared.item.Kind.TheVariants.{Any, PulseOnly}
 use Rattle.qtables.specs.Members.{IsRoster, member_at}
 use Rattle.qtables.specs.declared.member.Member.{Member}
-use Rattle.qrules.specs.Outcome.{ending, Answers}
+use Rattle.qrules.specs.Outcome.{completion_to, Answers}
 use Rattle.qrules.specs.Rules.{row_of}
 use Rattle.qrules.specs.Rules.Connections as connect_detach
 use Rattle.qrules.proofs.Traces.Parts.{error_finish}
 use Rattle.qrules.specs.Rules.Held.{info_of}
-use Rattle.qrules.proofs.Words.Items.{info_ending}
+use Rattle.qrules.proofs.Words.Items.{info_completion}
 use Rattle.qrules.specs.Rules.Pulse as pulse
 use Rattle.qrules.proofs.Traces.Parts.{reply_finish}
 use Rattle.qrules.proofs.Words.Items.{message_item}
@@ -51,7 +51,7 @@ use Rattle.qrules.proofs.Traces.Past.Follows.{past_follows}
 use Rattle.qrules.proofs.Traces.Past.Laws.{Passes}
 use Rattle.qrules.proofs.Traces.Past.Live.{count_less, gone_below, live, live_parts, made_above}
 use Rattle.qrules.proofs.Traces.Past.Numbers.{made_below}
-use Rattle.qrules.proofs.Traces.Properties.Receipts.{ending_of}
+use Rattle.qrules.proofs.Traces.Properties.Receipts.{completion_of}
 use Rattle.qrules.proofs.Traces.Properties.Rows.Delivering.{delivery_meets, Delivers}
 use Rattle.qrules.proofs.Traces.Properties.Rows.Receiving.{receive_takes, ReceiveTakes}
 use Rattle.qrules.proofs.Traces.Properties.Rows.Telling.{told_meets, unblock_ends}
@@ -137,7 +137,7 @@ pub connections_are_limited : laws.ConnectionsAreLimited
 connections_are_limited roster past r l =
     at_most roster attaches (λ f. f.detaches) past 1024 (are_few roster past r l).1
 
--- ---- an id that an ending gives is the number of its call
+-- ---- an id that a completion gives is the number of its call
 
 -- the id of the new channel or connection in a mark
 abbrev id_in : Mark → Option ℕ
@@ -150,29 +150,29 @@ module _ (i : ℕ) {P : Type 0} where
   no_id x y same none e = absurd (none-some i (sym none ∙ ap (λ z. id_in z.mark) same ∙ e))
 
   takes_no_id : (f : Facts) (t chid : ℕ) (kind : Kind) (buffer : List ℕ) (y : Completion) → ReceiveTakes f t chid kind buffer y → id_in y.mark ≡ Some i → P
-  takes_no_id f t chid kind buffer y r = no_id _ y r.ending (given_is id_in None (λ i n. refl) r.item (message f r.item.number) buffer refl)
+  takes_no_id f t chid kind buffer y r = no_id _ y r.completion (given_is id_in None (λ i n. refl) r.item (message f r.item.number) buffer refl)
 
   met_no_id : (f : Facts) (o : Option ℕ) (item : Item) (sent : List ℕ) (u : ℕ) (y : Completion) → Delivers f o item sent u y → id_in y.mark ≡ Some i → P
-  met_no_id f o item sent u y s = no_id _ y s.ending (given_is id_in None (λ i n. refl) item sent s.receive.buffer refl)
+  met_no_id f o item sent u y s = no_id _ y s.completion (given_is id_in None (λ i n. refl) item sent s.receive.buffer refl)
 
-  told_no_id : (n t : ℕ) (o : Option Told) (y : Completion) → option_map (info_ending n t) o ≡ Some y → id_in y.mark ≡ Some i → P
+  told_no_id : (n t : ℕ) (o : Option Told) (y : Completion) → option_map (info_completion n t) o ≡ Some y → id_in y.mark ≡ Some i → P
   told_no_id n t None y e is = absurd (none-some y e)
   told_no_id n t (Some told) y e is = no_id _ y (same_Some _ y e) refl is
 
   ends_no_id : (f : Facts) (t : ℕ) (c : Call) (u : ℕ) (y : Completion) → Passes f t c → (row_of f t c).others u ≡ Some y → id_in y.mark ≡ Some i → P
   ends_no_id f t (calls.Send coid message reply_buffer) u y p e is = met_no_id f (route f t coid) (message_item f t) message u y (delivery_meets f (route f t coid) (message_item f t) message u y (sym (sent_same f t coid message reply_buffer u p.row) ∙ e)) is
   ends_no_id f t (calls.Pulse coid level code value) u y p e is = let k = told_meets f (pulse.pulse_over f coid level code value) u y (sym (pulse_same f (pulse.pulse_over f coid level code value) u) ∙ e) in met_no_id f (Some k.made.channel) k.made.item [] u y k.delivers is
-  ends_no_id f t (calls.Reply rcvid status bytes) u y p e is = no_id _ y (sender_ends f t rcvid (reply_finish status bytes) u y p.row (sym (answer_same f (reply_finish status bytes) (sender f rcvid) u) ∙ e)).ending refl is
+  ends_no_id f t (calls.Reply rcvid status bytes) u y p e is = no_id _ y (sender_ends f t rcvid (reply_finish status bytes) u y p.row (sym (answer_same f (reply_finish status bytes) (sender f rcvid) u) ∙ e)).completion refl is
   ends_no_id f t (calls.Error rcvid code) u y p e is =
-      no_id _ y (sender_ends f t rcvid (error_finish code) u y p.row (sym (answer_same f (error_finish code) (sender f rcvid) u) ∙ e)).ending (elim (int_eq code (pos 0)) as (λ b. id_in (cond b (mark.Replied (pos 0) 0) (mark.Errored code)) ≡ None) [ true ↦ refl | false ↦ refl ]) is
-  ends_no_id f t (calls.ChannelDestroy chid) u y p e is = no_id _ y (cancel_parts (is_on chid) Srch u (f.open_call u) y e).ending refl is
-  ends_no_id f t calls.Shutdown u y p e is = no_id _ y (cancel_parts (λ wait. true) Srch u (f.open_call u) y e).ending refl is
+      no_id _ y (sender_ends f t rcvid (error_finish code) u y p.row (sym (answer_same f (error_finish code) (sender f rcvid) u) ∙ e)).completion (elim (int_eq code (pos 0)) as (λ b. id_in (cond b (mark.Replied (pos 0) 0) (mark.Errored code)) ≡ None) [ true ↦ refl | false ↦ refl ]) is
+  ends_no_id f t (calls.ChannelDestroy chid) u y p e is = no_id _ y (cancel_parts (is_on chid) Srch u (f.open_call u) y e).completion refl is
+  ends_no_id f t calls.Shutdown u y p e is = no_id _ y (cancel_parts (λ wait. true) Srch u (f.open_call u) y e).completion refl is
   ends_no_id f t (calls.Unblock thread) u y p e is = elim (unblock_ends f thread u y (unblock.unblock_pulse f thread) (sym (unblocked_same f t thread u) ∙ e)) [
-    | inl cancel ↦ no_id _ y cancel.ending refl is
+    | inl cancel ↦ no_id _ y cancel.completion refl is
     | inr k ↦ met_no_id f (Some k.made.channel) k.made.item [] u y k.delivers is
   ]
   ends_no_id f t (calls.ConnectDetach coid) u y p e is = elim (detach_ends f coid (connect_detach.disconnect_pulse f t coid) u y e) [
-    | inl cancel ↦ no_id _ y cancel.ending refl is
+    | inl cancel ↦ no_id _ y cancel.completion refl is
     | inr s ↦ let k = told_meets f (connect_detach.disconnect_pulse f t coid) u y s in met_no_id f (Some k.made.channel) k.made.item [] u y k.delivers is
   ]
   ends_no_id f t c u y p e is = absurd (none-some y e)
@@ -187,7 +187,7 @@ own_id f t (calls.Info rcvid) i y e is = told_no_id i f.number t (info_of f (sen
 own_id f t c i y e is = no_id i _ y (same_Some _ y e) refl is
 
 ids_given : (f : Facts) (t : ℕ) (c : Call) (X : List Completion) (i : ℕ) → Answers f t c X → AllByRecursion (λ x. id_in x.mark ≡ Some i → f.number ≡ i) X
-ids_given f t c X i (inl a) = subst (AllByRecursion (λ x. id_in x.mark ≡ Some i → f.number ≡ i)) (sym a.1) (all_filter_map (λ x. id_in x.mark ≡ Some i → f.number ≡ i) (ending f t c) (threads_of f.roster) (λ u y is id. elim (ending_of f t c u y is) [
+ids_given f t c X i (inl a) = subst (AllByRecursion (λ x. id_in x.mark ≡ Some i → f.number ≡ i)) (sym a.1) (all_filter_map (λ x. id_in x.mark ≡ Some i → f.number ≡ i) (completion_to f t c) (threads_of f.roster) (λ u y is id. elim (completion_of f t c u y is) [
   | inl h ↦ own_id f t c i y h.1 id
   | inr h ↦ ends_no_id i f t c u y (passes_of f t c X a) h.1 id
 ]))

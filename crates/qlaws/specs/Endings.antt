@@ -7,7 +7,7 @@ use Rattle.qrules.specs.Words.{Member, Some}
 use Rattle.qrules.specs.Words.mark
 use Rattle.qrules.specs.Trace.{Bytes, CallNo, ChannelId, ConnectionId, Event, ThreadNo, Trace}
 use Rattle.qrules.specs.Facts.{buffer_in, is_blocked, Facts}
-use Rattle.qrules.specs.Rule.{buffer_of, own_ending, ReceiveRequest}
+use Rattle.qrules.specs.Rule.{buffer_of, own_completion, ReceiveRequest}
 use Rattle.qrules.specs.Past.{attached_connection, is_accepted, is_destroyed, item_among, was_done}
 use Rattle.qrules.specs.Lawful.{facts_of}
 use Rattle.qrules.specs.Properties.{connection_of, items, number_received, request_of}
@@ -15,13 +15,13 @@ use Rattle.qlaws.specs.Lawful.{InEachNewest}
 use Rattle.qlaws.specs.OpenCalls.{waiting_number}
 pub use Rattle.qrules.specs.Trace.{thread_at, AreApart, gets, RiseByThread}
 
--- P holds of each ending of each event
+-- P holds of each completion of each event
 abbrev pub OfEachEnding : (List Member → Trace → Event → Completion → Type 0) → Type 0
 OfEachEnding P = InEachNewest (λ roster past e. AllByRecursion (P roster past e) e.endings)
 
 -- ---- the threads that get them
 
--- each ending goes to the thread that made the call that it ends
+-- each completion goes to the thread that made the call that it ends
 abbrev pub EndingsNameOwnCalls : Type 0
 EndingsNameOwnCalls = OfEachEnding (λ roster past e x. thread_at (e ∷ past) x.call ≡ Some x.thread)
 
@@ -29,7 +29,7 @@ EndingsNameOwnCalls = OfEachEnding (λ roster past e x. thread_at (e ∷ past) x
 abbrev pub EndingsRiseByThread : Type 0
 EndingsRiseByThread = InEachNewest (λ roster past e. RiseByThread e.endings)
 
--- in each event, each ending goes to a different thread
+-- in each event, each completion goes to a different thread
 abbrev pub EndingsAreApart : Type 0
 EndingsAreApart = InEachNewest (λ roster past e. AreApart e.endings)
 
@@ -37,7 +37,7 @@ EndingsAreApart = InEachNewest (λ roster past e. AreApart e.endings)
 abbrev pub may_end : Facts → ThreadNo → ThreadNo → Bool
 may_end f t u = (u == t) || is_blocked f u
 
--- each ending goes to a thread of the roster whose call may end
+-- each completion goes to a thread of the roster whose call may end
 abbrev pub EndingsGoToBlocked : Type 0
 EndingsGoToBlocked = OfEachEnding (λ roster past e x.
     (is_some (member_at roster x.thread) ≡ true) × (may_end (facts_of roster past) e.thread x.thread ≡ true))
@@ -60,7 +60,7 @@ abbrev pub EndsOrWaits : Type 0
 EndsOrWaits = InEachNewest (λ roster past e. (ends_itself past e ≡ false)
     ↔ (waiting_number (facts_of roster (e ∷ past)) e.thread ≡ Some (length past + 1)))
 
--- the caller gets an ending exactly if its call ends in its own event
+-- the caller gets a completion exactly if its call ends in its own event
 abbrev pub CallerGetsItsOwn : Type 0
 CallerGetsItsOwn = InEachNewest (λ roster past e. gets e.endings e.thread ≡ ends_itself past e)
 
@@ -70,8 +70,8 @@ CallerGetsItsOwn = InEachNewest (λ roster past e. gets e.endings e.thread ≡ e
 abbrev pub waiting_buffer : Facts → ThreadNo → Bytes
 waiting_buffer f u = option_map_or buffer_in (f.open_call u) []
 
--- each ending's buffer is as long as the one that its thread passed in, with this call or with the one that
--- it waits in
+-- each completion's buffer is as long as the one that its thread passed in, with this call or with the one
+-- that it waits in
 abbrev pub EndingsKeepLength : Type 0
 EndingsKeepLength = OfEachEnding (λ roster past e x. length x.buffer
     ≡ length (if x.thread == e.thread then buffer_of e.call
@@ -83,8 +83,8 @@ EndingsKeepLength = OfEachEnding (λ roster past e x. length x.buffer
 abbrev pub LeadsTo : List Member → Trace → ConnectionId → ChannelId → Type 0
 LeadsTo roster past k h = option_map (λ c. c.channel) (attached_connection roster past k) ≡ Some h
 
--- item i, which the ending receives, was made by then on the channel on which the ended call receives; if it
--- was sent over a connection, that leads to this channel
+-- item i, which the completion receives, was made by then on the channel on which the ended call receives; if
+-- it was sent over a connection, that leads to this channel
 pub record WasSent (roster : List Member) (past : Trace) (x : Completion) (i : CallNo) : Type 0 where
   pub request : ReceiveRequest
   pub call : request_of past x.call ≡ Some request
@@ -114,5 +114,5 @@ RefusedChangesNothing = InEachNewest (λ roster past e. is_accepted e past ≡ f
 -- after an accepted Shutdown each call is refused with Down, gets its buffer back, and ends no other
 abbrev pub OnlyRefusedWhenDown : Type 0
 OnlyRefusedWhenDown = InEachNewest (λ roster past e. was_done (λ f. f.shuts_down) past ≡ true
-    → e.endings ≡ own_ending (facts_of roster past) e.thread (mark.Failed Down) (buffer_of e.call)
+    → e.endings ≡ own_completion (facts_of roster past) e.thread (mark.Failed Down) (buffer_of e.call)
     ∷ [])

@@ -30,7 +30,7 @@ ConnectionsAreLimited = AfterEach (λ roster past. AtMost 1024 (facts_of roster 
 abbrev pub is_detached : Trace → ConnectionId → Bool
 is_detached past k = was_done (λ e. is_number e.detaches k) past
 
--- an id that is gone never has a value again, and no later ending has the mark that gives it
+-- an id that is gone never has a value again, and no later completion has the mark that gives it
 abbrev pub StaysGone : {A : Type 0} → (Trace → ℕ → Bool) → (Facts → ℕ → Option A) → (ℕ → Mark) → Type 0
 StaysGone is_gone at given = (past later : Trace) (i : ℕ) → is_gone past i ≡ true
     → AfterEach (λ roster after. after ≡ later ++ past → (at (facts_of roster after) i ≡ None)

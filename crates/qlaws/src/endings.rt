@@ -5,7 +5,7 @@ ghost use Rattle.qlaws.specs.Endings.{EndingsKeepLength, EndingsNameOwnCalls, En
 ghost use Rattle.qlaws.specs.Endings.{NothingFromDestroyed, OnlyRefusedWhenDown, ReceivedWasSent};
 ghost use Rattle.qlaws.specs.Endings.{RefusedChangesNothing};
 
-/// Each ending goes to the thread that made the call that it ends.
+/// Each completion goes to the thread that made the call that it ends.
 pub fn endings_name_own_calls()
     ensures { EndingsNameOwnCalls }
 {}
@@ -21,19 +21,19 @@ pub fn endings_go_to_blocked()
     ensures blocked { EndingsGoToBlocked }
 {}
 
-/// The threads that wait after an event are those that waited before it or made its call, and got no ending in it.
+/// The threads that wait after an event are those that waited before it or made its call, and got no completion in it.
 pub fn blocked_unless_ended()
     ensures { BlockedUnlessEnded }
 {}
 
-/// Either a call ends in its own event, or its thread waits in it afterwards. The caller gets an ending exactly if its
+/// Either a call ends in its own event, or its thread waits in it afterwards. The caller gets a completion exactly if its
 /// call ends.
 pub fn ends_or_waits()
     ensures waits { EndsOrWaits }
     ensures gets { CallerGetsItsOwn }
 {}
 
-/// The buffer of each ending is as long as the one that its thread passed in.
+/// The buffer of each completion is as long as the one that its thread passed in.
 pub fn endings_keep_length()
     ensures { EndingsKeepLength }
 {}

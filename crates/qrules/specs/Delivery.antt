@@ -20,9 +20,9 @@ delivery_of item message buffer =
     if is_pulse item.what then (mark.Pulse item.number item.priority item.what, buffer)
     else (mark.Message item.number (laid_count buffer 0 message), lay_over buffer 0 message)
 
--- the ending of call n of thread u, which takes the item into this buffer
-abbrev pub receipt_ending : Item → Bytes → ThreadNo → CallNo → Bytes → Completion
-receipt_ending item message u n buffer = record {
+-- the completion of call n of thread u, which takes the item into this buffer
+abbrev pub receipt_completion : Item → Bytes → ThreadNo → CallNo → Bytes → Completion
+receipt_completion item message u n buffer = record {
   call = n;
   thread = u;
   mark = (delivery_of item message buffer).0;
@@ -46,12 +46,12 @@ abbrev pub is_over : ConnectionId → OpenCall → Bool
 is_over k (Send s) = s.connection == k
 is_over k (Receive r) = false
 
--- the ending of thread u's cancelled call: it fails, and gives its buffer back in its present state
+-- the completion of thread u's cancelled call: it fails, and gives its buffer back in its present state
 abbrev pub cancel_call : Errno → ThreadNo → OpenCall → Completion
 cancel_call e u o = record { call = number_of o; thread = u; mark = mark.Failed e; buffer = buffer_in o }
 
 module _ (f : Facts) where
-  -- the ending of thread u's open call, if the condition is true of both: the call is cancelled
+  -- the completion of thread u's open call, if the condition is true of both: the call is cancelled
   abbrev pub cancels : (ThreadNo → OpenCall → Bool) → Errno → ThreadNo → Option Completion
   cancels is_cancelled e u =
       option_and_then (λ o. if is_cancelled u o then Some (cancel_call e u o) else None) (f.open_call u)
@@ -66,10 +66,10 @@ module _ (f : Facts) where
   newest_receiver h item = find (λ u. option_map_or (is_last_wait h item)
       (option_and_then (wait_for h item) (f.open_call u)) false) (threads_of f.roster)
 
-  -- the ending of thread u's open call, if u takes the item that is sent
+  -- the completion of thread u's open call, if u takes the item that is sent
   abbrev pub deliver : Option SentItem → Bytes → ThreadNo → Option Completion
   deliver sent message u = option_and_then (λ m. option_and_then (λ r. if u == r
-      then option_map (λ x. receipt_ending m.item message u x.number x.buffer) (receive_of f u) else None)
+      then option_map (λ x. receipt_completion m.item message u x.number x.buffer) (receive_of f u) else None)
       (newest_receiver m.channel m.item)) sent
 
   -- an item is sent and no thread takes it, so it needs memory to wait in

@@ -5,7 +5,7 @@ use Rattle.qrules.specs.Words.{Errno}
 use Rattle.qrules.specs.Words.{List, NoMemory, None, Option, Some}
 use Rattle.qrules.specs.Trace.{ThreadNo}
 use Rattle.qrules.specs.Facts.{threads_of, Facts}
-use Rattle.qrules.specs.Rule.{buffer_of, own_ending}
+use Rattle.qrules.specs.Rule.{buffer_of, own_completion}
 use Rattle.qrules.specs.Rules.{row_of}
 use Rattle.qrules.specs.Words.mark
 
@@ -21,17 +21,17 @@ module _ (f : Facts) (t : ThreadNo) (c : Call) where
   MayRefuse e = (refusal_of ≡ Some e)
       ⊎ ((refusal_of ≡ None) × ((row_of f t c).takes_memory ≡ true) × (e ≡ NoMemory))
 
-  -- the ending that thread u gets if the call is accepted
-  abbrev pub ending : ThreadNo → Option Completion
-  ending u = if u == t then (row_of f t c).own else (row_of f t c).others u
+  -- the completion that thread u gets if the call is accepted
+  abbrev pub completion_to : ThreadNo → Option Completion
+  completion_to u = if u == t then (row_of f t c).own else (row_of f t c).others u
 
--- accepted: the endings are those of the row, in rising thread number; refused: only the caller gets an
--- ending, with its buffer
+-- accepted: the endings are those of the row, in rising thread number; refused: only the caller gets a
+-- completion, with its buffer
 abbrev pub Outcome : Bool → Facts → ThreadNo → Call → List Completion → Type 0
 Outcome true f t c endings =
-    (refusal_of f t c ≡ None) × (endings ≡ filter_map (ending f t c) (threads_of f.roster))
+    (refusal_of f t c ≡ None) × (endings ≡ filter_map (completion_to f t c) (threads_of f.roster))
 Outcome false f t c endings = (e : Errno) × MayRefuse f t c e
-    × (endings ≡ own_ending f t (mark.Failed e) (buffer_of c) ∷ [])
+    × (endings ≡ own_completion f t (mark.Failed e) (buffer_of c) ∷ [])
 
 -- these endings answer the call
 abbrev pub Answers : Facts → ThreadNo → Call → List Completion → Type 0

@@ -50,7 +50,7 @@ pub record ReceivedItem : Type 0 where
   pub number : CallNo
   pub copied : ℕ
 
--- the item that an ending with this mark receives
+-- the item that a completion with this mark receives
 abbrev pub item_in : Mark → Option ReceivedItem
 item_in (mark.Message rcvid copied) = Some (record { number = rcvid; copied = copied })
 item_in (mark.Pulse item priority what) = Some (record { number = item; copied = 0 })

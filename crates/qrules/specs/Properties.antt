@@ -14,7 +14,7 @@ use Rattle.qrules.specs.Past.{item_among, item_in, items_by_now, priority_of_ite
 use Rattle.qrules.specs.Lawful.{facts_of, item_made_by, items_and_priorities}
 use Rattle.qrules.specs.Words.mark
 
--- P holds of each ending of each event, together with the event and the events before it
+-- P holds of each completion of each event, together with the event and the events before it
 abbrev pub InEachEnding : (Trace → Event → Completion → Type 0) → Trace → Type 0
 InEachEnding P = InEachEvent (λ past e. AllByRecursion (P past e) e.endings)
 
@@ -25,7 +25,7 @@ abbrev pub AllDifferent : List ℕ → Type 0
 AllDifferent [] = Unit {0}
 AllDifferent (n ∷ ns) = AllByRecursion (λ m. (n == m) ≡ false) ns × AllDifferent ns
 
--- the number of the item that an ending receives
+-- the number of the item that a completion receives
 abbrev pub number_received : Completion → Option CallNo
 number_received x = option_map (λ r. r.number) (item_in x.mark)
 
@@ -49,8 +49,8 @@ is_answer (mark.Replied status copied) = true
 is_answer (mark.Errored code) = true
 is_answer other = false
 
--- the ending answers the message that the event's call names, while the message was held; the caller's
--- process owns the message's channel, and the ending goes to the thread that sent it
+-- the completion answers the message that the event's call names, while the message was held; the caller's
+-- process owns the message's channel, and the completion goes to the thread that sent it
 pub record AnswersIts (roster : List Member) (past : Trace) (e : Event) (x : Completion) : Type 0 where
   pub named : (effect_of e.call).answers ≡ Some x.call
   pub accepted : is_accepted e past ≡ true
@@ -59,12 +59,12 @@ pub record AnswersIts (roster : List Member) (past : Trace) (e : Event) (x : Com
       (item_among (items roster past) x.call) false ≡ true
   pub sender : sender_of past x.call ≡ Some x.thread
 
--- an accepted call that answers a message has exactly one ending of that message's Send
+-- an accepted call that answers a message has exactly one completion of that message's Send
 abbrev pub AnswersOnce : Trace → Event → Type 0
 AnswersOnce past e = (i : ReceiveId) → (effect_of e.call).answers ≡ Some i → is_accepted e past ≡ true
     → count_by (λ x. x.call == i) e.endings ≡ 1
 
--- each ending that is an answer meets AnswersIts, and each accepted call that answers has exactly one
+-- each completion that is an answer meets AnswersIts, and each accepted call that answers has exactly one
 abbrev pub AnsweredToSender : List Member → Trace → Type 0
 AnsweredToSender roster = InEachEvent (λ past e.
     AllByRecursion (λ x. is_answer x.mark ≡ true → AnswersIts roster past e x) e.endings × AnswersOnce past e)
@@ -96,8 +96,8 @@ IsCounted past None (Some w) x copied =
 IsCounted past None None x copied = ⊥
 
 -- a receipt copies the message over the front of the receiver's buffer, and a reply its bytes over the
--- sender's; a Read and a Write copy as many bytes as they count; any other ending returns the buffer in its
--- present state
+-- sender's; a Read and a Write copy as many bytes as they count; any other completion returns the buffer in
+-- its present state
 abbrev pub IsCopied : Trace → Event → Completion → Mark → Type 0
 IsCopied past e x (mark.Message rcvid copied) =
     IsLaid (buffer_at (e ∷ past) x.call) 0 (message_at (e ∷ past) rcvid) x.buffer copied
@@ -108,7 +108,7 @@ IsCopied past e x (mark.Count copied) =
     IsCounted past (effect_of e.call).reads (effect_of e.call).writes x copied
 IsCopied past e x other = x.buffer ≡ buffer_at (e ∷ past) x.call
 
--- the bytes of each ending are copied in this way
+-- the bytes of each completion are copied in this way
 abbrev pub CopiedExactly : Trace → Type 0
 CopiedExactly = InEachEnding (λ past e x. IsCopied past e x x.mark)
 
@@ -125,7 +125,7 @@ takeable roster past e h = (facts_of roster past).pending h
 abbrev pub request_of : Trace → CallNo → Option ReceiveRequest
 request_of past i = option_and_then (λ c. (effect_of c).receives) (call_at past i)
 
--- the ending receives item i, which is the best that its call may take
+-- the completion receives item i, which is the best that its call may take
 pub record TakesBest
     (roster : List Member) (past : Trace) (e : Event) (x : Completion) (i : CallNo) : Type 0 where
   pub request : ReceiveRequest
@@ -146,7 +146,7 @@ connection_of past i = option_and_then
     (λ c. option_or (option_map (λ s. s.connection) (effect_of c).sends) (effect_of c).pulses_over)
     (call_at past i)
 
--- the ending is one of a Receive, and takes item j, which was sent over connection k
+-- the completion is one of a Receive, and takes item j, which was sent over connection k
 pub record TakesSent (past : Trace) (x : Completion) (j : CallNo) (k : ConnectionId) : Type 0 where
   pub request : ReceiveRequest
   pub call : request_of past x.call ≡ Some request

@@ -25,7 +25,7 @@ use Rattle.qmodel.specs.declared.open_call.OpenCall.{OpenCall}
 use Rattle.qmodel.specs.declared.open_call.OpenCall.TheVariants.{Send, Receive}
 use Rattle.qmodel.specs.declared.open_call.Receipt.{Receipt}
 use Rattle.qmodel.specs.Trace.{CallNo, ChannelId, OpenChannel, Priority, ProcessNo, ReceiveId, ThreadNo}
-use Rattle.qrules.specs.Delivery.{cancel_call, is_on, receipt_ending, wait_for}
+use Rattle.qrules.specs.Delivery.{cancel_call, is_on, receipt_completion, wait_for}
 use Rattle.qrules.specs.Facts.{buffer_in, has_flag, is_send, number_of}
 use Rattle.qrules.specs.Rules.Held.{info_of_call}
 use Rattle.qrules.specs.Rules.Threads.{state_in}
@@ -150,16 +150,16 @@ receive_of PulseOnly chid buffer = calls.ReceivePulse chid
 abbrev pub buffer_of_open : Option OpenCall → List ℕ
 buffer_of_open call = option_map_or buffer_in call []
 
--- the ending of an open call that takes the item, if it is a receive
+-- the completion of an open call that takes the item, if it is a receive
 abbrev pub takes_into : Item → List ℕ → ThreadNo → OpenCall → Option Completion
 takes_into item message u (Send s) = None
-takes_into item message u (Receive r) = Some (receipt_ending item message u r.number r.buffer)
+takes_into item message u (Receive r) = Some (receipt_completion item message u r.number r.buffer)
 
--- the ending of thread u's open call, which takes the item
+-- the completion of thread u's open call, which takes the item
 abbrev pub takes : Item → List ℕ → ThreadNo → Option OpenCall → Option Completion
 takes item message u call = option_and_then (takes_into item message u) call
 
--- the ending of thread u's open call, if it is one that is cancelled
+-- the completion of thread u's open call, if it is one that is cancelled
 abbrev pub cancel_where : (OpenCall → Bool) → Errno → ThreadNo → Option OpenCall → Option Completion
 cancel_where is_cancelled e u call =
     option_and_then (λ o. if is_cancelled o then Some (cancel_call e u o) else None) call

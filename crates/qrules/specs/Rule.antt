@@ -10,12 +10,12 @@ pub use Rattle.qmodel.specs.Trace.{SentItem}
 pub record Row : Type 0 where
   pub refusal : Option Errno  -- the first of its own refusals that applies
   pub takes_memory : Bool  -- it may also be refused for want of memory
-  pub own : Option Completion  -- the ending of the call; None if it waits
-  pub others : ThreadNo → Option Completion  -- the ending of the call that another thread waits in
+  pub own : Option Completion  -- the completion of the call; None if it waits
+  pub others : ThreadNo → Option Completion  -- the completion of the call that another thread waits in
 
--- the ending of the call that is answered: it is thread t's, and has this mark and this buffer
-abbrev pub own_ending : Facts → ThreadNo → Mark → Bytes → Completion
-own_ending f t mark buffer = record { call = f.number; thread = t; mark = mark; buffer = buffer }
+-- the completion of the call that is answered: it is thread t's, and has this mark and this buffer
+abbrev pub own_completion : Facts → ThreadNo → Mark → Bytes → Completion
+own_completion f t mark buffer = record { call = f.number; thread = t; mark = mark; buffer = buffer }
 
 -- the row of a call that ends in its own event, with this mark and this buffer, and ends no other call
 abbrev pub own_row : Facts → ThreadNo → Option Errno → Mark → Bytes → Row
@@ -23,7 +23,7 @@ own_row f t refusal mark buffer =
     record {
       refusal = refusal;
       takes_memory = false;
-      own = Some (own_ending f t mark buffer);
+      own = Some (own_completion f t mark buffer);
       others = λ u. None;
     }
 

@@ -15,7 +15,7 @@ use Rattle.qmodel.specs.declared.call.Completion.{Completion}
 use Rattle.qrules.specs.Outcome.{Answers, refusal_of}
 use Rattle.qrules.specs.Trace.{AreApart, gets, followed_by, Event, Trace}
 use Rattle.qrules.proofs.Traces.TraceLaws.Blocked.{GoesToBlocked, blocked_unless_ended, endings_are_apart, endings_go_to_blocked}
-use Rattle.qrules.proofs.Traces.TraceLaws.Lengths.{buffer_brought, after_fits, ending_fits}
+use Rattle.qrules.proofs.Traces.TraceLaws.Lengths.{buffer_brought, after_fits, completion_fits}
 use Rattle.qrules.proofs.Words.Facts.{threads_of}
 use Rattle.qrules.proofs.Words.Lawful.{IsLawful, facts_of, with_event}
 use Rattle.qrules.proofs.Words.Past.{open_call}
@@ -154,7 +154,7 @@ module _ (roster : List Member) (limit : ℕ) (threads rooms : List ℕ) (log : 
     -- each ending may be copied
     pub all_may_copy : AllByRecursion (MayCopy threads (set rooms i room)) X
     all_may_copy = subst (λ ts. AllByRecursion (MayCopy ts (set rooms i room)) X) (sym f.kept.threads_are)
-        (both X (endings_go_to_blocked roster past e f.kept.rises lawful_next) (ending_fits roster past e f.kept.rises lawful_next)) where
+        (both X (endings_go_to_blocked roster past e f.kept.rises lawful_next) (completion_fits roster past e f.kept.rises lawful_next)) where
           both : (Y : List Completion) → AllByRecursion (GoesToBlocked roster past t) Y → AllByRecursion (λ x. length x.buffer ≤ length (buffer_brought roster past t c x.thread)) Y
               → AllByRecursion (MayCopy (threads_of roster) (set rooms i room)) Y
           both [] a b = tt

@@ -15,7 +15,7 @@ use Rattle.qrules.proofs.Words.Facts.{threads_of}
 use Rattle.std.specs.Prelude.{find}
 use Rattle.qrules.specs.Records.{is_after}
 use Rattle.qrules.specs.Records.{wait_on}
-use Rattle.qrules.specs.Delivery.{receipt_ending}
+use Rattle.qrules.specs.Delivery.{receipt_completion}
 use Rattle.qrules.specs.Records.{takes}
 use Rattle.qmodel.specs.declared.open_call.OpenReceive.{OpenReceive}
 use Rattle.qmodel.specs.OpenCalls.{receive_in}
@@ -132,7 +132,7 @@ receive_own u o None P had own each = tt
 receive_own u o (Some r) P had own each = each r own (sym had)
 
 -- how it ends that takes an item
-pub taken_by : (item : Item) (message : List ℕ) (u : ℕ) (o : Option OpenCall) (r : OpenReceive) → option_and_then receive_in o ≡ Some r → takes item message u o ≡ Some (receipt_ending item message u r.number r.buffer)
+pub taken_by : (item : Item) (message : List ℕ) (u : ℕ) (o : Option OpenCall) (r : OpenReceive) → option_and_then receive_in o ≡ Some r → takes item message u o ≡ Some (receipt_completion item message u r.number r.buffer)
 taken_by item message u None r e = absurd (none-some r e)
 taken_by item message u (Some (Send s)) r e = absurd (none-some r e)
-taken_by item message u (Some (Receive x)) r e = ap (λ (x : OpenReceive). Some (receipt_ending item message u x.number x.buffer)) (same_Some _ r e)
+taken_by item message u (Some (Receive x)) r e = ap (λ (x : OpenReceive). Some (receipt_completion item message u x.number x.buffer)) (same_Some _ r e)

@@ -12,7 +12,7 @@ use Rattle.qstate.specs.declared.channel.Channel.{Channel}
 use Rattle.qmodel.specs.declared.open_call.OpenCall.{OpenCall}
 use Rattle.qmodel.specs.declared.open_call.OpenCall.TheVariants.{Receive, Send}
 use Rattle.qrules.proofs.Words.Items.{Finish}
-use Rattle.qrules.proofs.Words.Items.{answer_ending}
+use Rattle.qrules.proofs.Words.Items.{answer_completion}
 use Rattle.qmodel.specs.declared.open_call.OpenSend.{OpenSend}
 use Rattle.qmodel.specs.OpenCalls.{send_in, number_of}
 use Rattle.qstate.specs.declared.thread.Thread.{Thread}
@@ -215,7 +215,7 @@ never_err None e r P is some = absurd (true≢false (sym some))
 never_err (Some x) e r P is some = rw is tt
 
 -- how it ends that is answered
-pub answered_by : (finish : Finish) (u : ℕ) (o : Option OpenCall) (s : OpenSend) → option_and_then send_in o ≡ Some s → answer_ending finish u o ≡ Some (record { call = s.number; thread = u; mark = (finish s.reply_buffer).0; buffer = (finish s.reply_buffer).1 })
+pub answered_by : (finish : Finish) (u : ℕ) (o : Option OpenCall) (s : OpenSend) → option_and_then send_in o ≡ Some s → answer_completion finish u o ≡ Some (record { call = s.number; thread = u; mark = (finish s.reply_buffer).0; buffer = (finish s.reply_buffer).1 })
 answered_by finish u None s e = absurd (none-some s e)
 answered_by finish u (Some (Receive r)) s e = absurd (none-some s e)
 answered_by finish u (Some (Send x)) s e = ap (λ (x : OpenSend). Some (record { call = x.number; thread = u; mark = (finish x.reply_buffer).0; buffer = (finish x.reply_buffer).1 })) (same_Some _ s e)

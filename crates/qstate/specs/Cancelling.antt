@@ -27,9 +27,9 @@ is_cancelled_by (Over coid) u o = is_over coid o
 
 -- the completion of the call of thread u: own for the caller; for another thread, that of its open call if it
 -- is cancelled
-abbrev pub ending_for : CancelSet → Errno → Completion → ℕ → Option OpenCall
+abbrev pub completion_for : CancelSet → Errno → Completion → ℕ → Option OpenCall
     → Option Completion
-ending_for cancel e own u o =
+completion_for cancel e own u o =
     if u == own.thread then Some own else cancel_where (is_cancelled_by cancel u) e u o
 
 -- each thread whose call is cancelled has no open call any more, and nothing else changes
@@ -67,9 +67,9 @@ unread_on_by (Send s) = if is_some s.receipt then None else Some s.channel
 unread_on_by (Receive r) = None
 
 -- the endings, followed by one more if there is one
-abbrev pub with_ending : List Completion → Option Completion → List Completion
-with_ending endings None = endings
-with_ending endings (Some ending) = endings ++ ending ∷ []
+abbrev pub with_completion : List Completion → Option Completion → List Completion
+with_completion endings None = endings
+with_completion endings (Some completion) = endings ++ completion ∷ []
 
 -- true if there is an open call and it is cancelled
 abbrev pub is_cancelled_open : (OpenCall → Bool) → Option OpenCall → Bool

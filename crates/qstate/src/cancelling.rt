@@ -6,7 +6,7 @@ ghost use Rattle.qrules.specs.Delivery.{is_on, cancel_call};
 ghost use Rattle.qrules.specs.Records.{cancel_where};
 ghost use Rattle.qrules.specs.Records.{is_unread_send};
 ghost use Rattle.qrules.specs.Facts.{threads_of};
-ghost use Rattle.qstate.specs.Cancelling.{is_cancelled_by, ending_for, with_ending, thread_after_cancelled, thread_unless_cancelled, unread_on_by, call_if_cancelled, is_taken_from, Lose, AreCancelled, LoseCancelled};
+ghost use Rattle.qstate.specs.Cancelling.{is_cancelled_by, completion_for, with_completion, thread_after_cancelled, thread_unless_cancelled, unread_on_by, call_if_cancelled, is_taken_from, Lose, AreCancelled, LoseCancelled};
 ghost use Rattle.qstate.specs.Thread.{open_in};
 ghost use Rattle.qstate.specs.Kept.{members_of};
 
@@ -93,7 +93,7 @@ fn take_message(channels: &mut Channels<Channel>, call: &OpenCall, key: usize)
 
 /// Returns the completion of a thread's open call that is cancelled: it failed with the error, and gets its buffer
 /// back.
-fn cancel_ending(call: OpenCall, thread: ThreadNo, errno: Errno) -> Completion
+fn cancel_completion(call: OpenCall, thread: ThreadNo, errno: Errno) -> Completion
     ensures { result ≡ cancel_call errno thread call }
 {
     Completion {
@@ -123,13 +123,13 @@ fn cancel_thread(
     channels: &mut Channels<Channel>,
     cancel: &Cancel,
 ) -> Option<Completion>
-    ensures ending { result ≡ cancel_where (is_cancelled_by cancel.now.set thread.old.member.thread) cancel.now.errno thread.old.member.thread thread.old.open_call }
+    ensures completion { result ≡ cancel_where (is_cancelled_by cancel.now.set thread.old.member.thread) cancel.now.errno thread.old.member.thread thread.old.open_call }
     ensures thread { thread.new ≡ thread_unless_cancelled (is_cancelled_by cancel.now.set thread.old.member.thread) thread.old }
     ensures channels { Lose (is_taken_from (is_cancelled_by cancel.now.set thread.old.member.thread) thread.old.open_call) channels.old channels.new }
 {
     let call = take_cancelled(thread, &cancel.set)?;
     take_message(channels, &call, thread.key);
-    Some(cancel_ending(call, thread.member.thread, cancel.errno))
+    Some(cancel_completion(call, thread.member.thread, cancel.errno))
 }
 
 /// Ends the call of a thread: returns `own`, the caller's completion, if the thread is the caller; else ends the
@@ -142,7 +142,7 @@ fn end_thread(
     own: &mut Option<Completion>,
 ) -> Option<Completion>
     requires idle { (thread.old.member.thread == caller) ≡ true → thread.old.open_call ≡ None }
-    ensures ending { result ≡ (if thread.old.member.thread == caller then own.old else cancel_where (is_cancelled_by cancel.now.set thread.old.member.thread) cancel.now.errno thread.old.member.thread thread.old.open_call) }
+    ensures completion { result ≡ (if thread.old.member.thread == caller then own.old else cancel_where (is_cancelled_by cancel.now.set thread.old.member.thread) cancel.now.errno thread.old.member.thread thread.old.open_call) }
     ensures own { own.new ≡ (if thread.old.member.thread == caller then None else own.old) }
     ensures thread { thread.new ≡ thread_unless_cancelled (is_cancelled_by cancel.now.set thread.old.member.thread) thread.old }
     ensures channels { Lose (is_taken_from (is_cancelled_by cancel.now.set thread.old.member.thread) thread.old.open_call) channels.old channels.new }
@@ -154,13 +154,13 @@ fn end_thread(
     }
 }
 
-/// Appends an ending to the list, if there is one.
-fn push_ending(endings: &mut Endings, ending: Option<Completion>)
+/// Appends a completion to the list, if there is one.
+fn push_completion(endings: &mut Endings, completion: Option<Completion>)
     requires { length endings.old.items < 64 }
-    ensures { endings.new.items ≡ with_ending endings.old.items ending }
+    ensures { endings.new.items ≡ with_completion endings.old.items completion }
 {
-    if let Some(ending) = ending {
-        endings.push(ending);
+    if let Some(completion) = completion {
+        endings.push(completion);
     }
 }
 
@@ -176,15 +176,15 @@ fn cancel_each(
     requires few { length threads.old.items ≤ 64 }
     requires idle { open_in threads.old.items own.thread ≡ None }
     requires none { endings.old.items ≡ [] }
-    ensures endings { endings.new.items ≡ filter_map (λ u. ending_for cancel.set cancel.errno own u (open_in threads.old.items u)) (threads_of (members_of threads.old.items)) }
+    ensures endings { endings.new.items ≡ filter_map (λ u. completion_for cancel.set cancel.errno own u (open_in threads.old.items u)) (threads_of (members_of threads.old.items)) }
     ensures threads { threads.new.items ≡ map (thread_after_cancelled cancel.set) threads.old.items }
     ensures channels { LoseCancelled cancel.set cancel.errno threads.old.items channels.old channels.new }
 {
     let caller = own.thread;
     let mut left = Some(own);
     for thread in threads.iter_mut() {
-        let ending = end_thread(thread, channels, &cancel, caller, &mut left);
-        push_ending(endings, ending);
+        let completion = end_thread(thread, channels, &cancel, caller, &mut left);
+        push_completion(endings, completion);
     }
 }
 
@@ -194,7 +194,7 @@ impl Objects {
     pub fn cancel(&mut self, set: CancelSet, errno: Errno, own: Completion, endings: &mut Endings)
         requires idle { open_in self.old.threads own.thread ≡ None }
         requires none { endings.old.items ≡ [] }
-        ensures endings { endings.new.items ≡ filter_map (λ u. ending_for set errno own u (open_in self.old.threads u)) (threads_of (members_of self.old.threads)) }
+        ensures endings { endings.new.items ≡ filter_map (λ u. completion_for set errno own u (open_in self.old.threads u)) (threads_of (members_of self.old.threads)) }
         ensures threads { AreCancelled set errno self.old.threads self.new.threads }
         ensures channels { LoseCancelled set errno self.old.threads self.old.channels self.new.channels }
         ensures connections { self.new.connections ≡ self.old.connections }

@@ -1,7 +1,7 @@
 //! The endings of one event.
 
 ghost use Rattle.std.specs.Prelude.{◌≡◌, ◌<◌, ◌≤◌, true, insert, is_some, length, nat_lt, position};
-ghost use Rattle.qstate.specs.Endings.{with_ending_in_place, with_ending_if};
+ghost use Rattle.qstate.specs.Endings.{with_completion_in_place, with_completion_if};
 
 use arrayvec::ArrayVec;
 use qbase::ids::ThreadNo;
@@ -11,43 +11,43 @@ use std::alloc::Global;
 /// The endings of one event, in rising thread number: each thread of the roster gets at most one.
 pub type Endings = ArrayVec<Completion, 64, Global>;
 
-/// Returns the index of the first ending whose thread has a greater number; `None` if there is none.
+/// Returns the index of the first completion whose thread has a greater number; `None` if there is none.
 fn first_later(endings: &Endings, thread: ThreadNo) -> Option<usize>
     ensures { result ≡ position (λ e. nat_lt thread e.thread) endings.now.items }
 {
     endings.iter().position(|e| thread.0 < e.thread.0)
 }
 
-/// Inserts an ending before the one at an index.
+/// Inserts a completion before the one at an index.
 #[cold]
 #[inline(never)]
-fn put_before(endings: &mut Endings, place: usize, ending: Completion)
+fn put_before(endings: &mut Endings, place: usize, completion: Completion)
     requires place { place ≤ length endings.old.items }
     requires room { length endings.old.items < 64 }
-    ensures { endings.new.items ≡ insert endings.old.items place ending }
+    ensures { endings.new.items ≡ insert endings.old.items place completion }
 {
-    endings.insert(place, ending);
+    endings.insert(place, completion);
 }
 
-/// Inserts an ending at its place, by thread number: before the first one of a later thread, or at the end if there is
+/// Inserts a completion at its place, by thread number: before the first one of a later thread, or at the end if there is
 /// none.
 #[inline(always)]
-pub fn put(endings: &mut Endings, ending: Completion)
+pub fn put(endings: &mut Endings, completion: Completion)
     requires { length endings.old.items < 64 }
-    ensures { endings.new.items ≡ with_ending_in_place ending endings.old.items }
+    ensures { endings.new.items ≡ with_completion_in_place completion endings.old.items }
 {
-    match first_later(endings, ending.thread) {
-        None => endings.push(ending),
-        Some(place) => put_before(endings, place, ending),
+    match first_later(endings, completion.thread) {
+        None => endings.push(completion),
+        Some(place) => put_before(endings, place, completion),
     }
 }
 
-/// Inserts an ending at its place, by thread number, if there is one.
-pub fn put_if(endings: &mut Endings, ending: Option<Completion>)
-    requires { is_some ending ≡ true → length endings.old.items < 64 }
-    ensures { endings.new.items ≡ with_ending_if ending endings.old.items }
+/// Inserts a completion at its place, by thread number, if there is one.
+pub fn put_if(endings: &mut Endings, completion: Option<Completion>)
+    requires { is_some completion ≡ true → length endings.old.items < 64 }
+    ensures { endings.new.items ≡ with_completion_if completion endings.old.items }
 {
-    if let Some(ending) = ending {
-        put(endings, ending);
+    if let Some(completion) = completion {
+        put(endings, completion);
     }
 }

@@ -21,7 +21,7 @@ events =
     ∷ event 1 (Reply 3 (pos 0) []) (ended 5 1 mark.Ok [] ∷ ended 3 2 (mark.Replied (pos 0) 0) [] ∷ [])
     ∷ []
 
--- the sender gets no ending for the answer to its message
+-- the sender gets no completion for the answer to its message
 abbrev pub one_left_out : List Event
 one_left_out = with_endings 5 (ended 5 1 mark.Ok [] ∷ []) events
 
@@ -33,7 +33,7 @@ one_added = with_endings 3 (ended 3 2 (mark.Replied (pos 0) 0) [] ∷ []) events
 abbrev pub mark_changed : List Event
 mark_changed = with_endings 4 (ended 4 1 (mark.Message 2 0) [] ∷ []) events
 
--- the ending of the server's call goes to the client
+-- the completion of the server's call goes to the client
 abbrev pub thread_changed : List Event
 thread_changed = with_endings 4 (ended 4 2 (mark.Message 3 0) [] ∷ []) events
 

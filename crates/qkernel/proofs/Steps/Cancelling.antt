@@ -10,7 +10,7 @@ use Rattle.qrules.proofs.Words.Facts.{threads_of}
 use Rattle.qmodel.specs.declared.call.Completion.{Completion}
 use Rattle.qmodel.specs.declared.call.Mark.TheVariants as mark
 use Rattle.qstate.specs.Kept.{pending_in, members_of}
-use Rattle.qstate.specs.Cancelling.{AreCancelled, LoseCancelled, ending_for, is_cancelled_among, is_cancelled_by}
+use Rattle.qstate.specs.Cancelling.{AreCancelled, LoseCancelled, completion_for, is_cancelled_among, is_cancelled_by}
 use Rattle.qstate.specs.Thread.{open_in}
 use Rattle.qstate.specs.declared.channel.Channel.{Channel}
 use Rattle.qstate.specs.declared.cancelling.CancelSet.{CancelSet}
@@ -26,7 +26,7 @@ mine s t = record { call = s.made + 1; thread = t; mark = mark.Ok; buffer = [] }
 
 -- all endings of a call of thread t that cancels others
 abbrev pub endings_cancelled : State → ℕ → CancelSet → Errno → List Completion
-endings_cancelled s t cancel e = filter_map (λ u. ending_for cancel e (mine s t) u (open_in s.threads u)) (threads_of (members_of s.threads))
+endings_cancelled s t cancel e = filter_map (λ u. completion_for cancel e (mine s t) u (open_in s.threads u)) (threads_of (members_of s.threads))
 
 -- the caller isn't blocked, so that it waits for nothing afterwards
 pub open_after : (s : State) (t : ℕ) (cancel : CancelSet) (e : Errno) (threads : List Thread) (u : ℕ) → open_in s.threads t ≡ None → AreCancelled cancel e s.threads threads

@@ -16,7 +16,7 @@ use Rattle.qmodel.specs.declared.call.Completion.{Completion}
 use Rattle.qmodel.specs.declared.call.Mark.TheVariants as mark
 use Rattle.qstate.specs.declared.channel.Channel.{Channel}
 use Rattle.qrules.specs.Outcome.{MayRefuse}
-use Rattle.qrules.proofs.Words.Items.{refusal_ending}
+use Rattle.qrules.proofs.Words.Items.{refusal_completion}
 use Rattle.qstate.specs.Channel.{ids_of}
 use Rattle.qstate.specs.Kept.{open_channel_of, channel_in, items_waiting_on, pending_in, members_of}
 use Rattle.qrules.proofs.Words.Effects.{creates}
@@ -47,7 +47,7 @@ may_refuse s t flags e up free known is =
     ] refl is
 
 pub step_create_refused : (s : State) (t : ℕ) (flags : ChannelFlags) (e : Errno) (X : List Completion) → s.down ≡ false → open_in s.threads t ≡ None → nat_lt flags.0 8 ≡ true → e ≡ cond (nat_lt (length s.channels) 64) NoMemory Again
-    → X ≡ refusal_ending (facts_in s) t (ChannelCreate flags) e ∷ [] → Steps s t (ChannelCreate flags) X (counted s)
+    → X ≡ refusal_completion (facts_in s) t (ChannelCreate flags) e ∷ [] → Steps s t (ChannelCreate flags) X (counted s)
 step_create_refused s t flags e X up free known is X_is = step_refused_alone s t (ChannelCreate flags) e X (may_refuse s t flags e up free known is) X_is
 
 module _ (s : State) (t : ℕ) (flags : ChannelFlags) (m : Member) (q : Contents) (sound : IsSound s) (empty : q.items ≡ []) where

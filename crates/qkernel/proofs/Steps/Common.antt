@@ -15,7 +15,7 @@ use Rattle.qstate.specs.declared.thread.Thread.{Thread}
 use Rattle.qbase.specs.declared.errno.Errno.{Errno}
 use Rattle.qqueue.specs.declared.item.Item.{Item}
 use Rattle.qrules.specs.Outcome.{MayRefuse, refusal_of}
-use Rattle.qrules.proofs.Words.Items.{refusal_ending}
+use Rattle.qrules.proofs.Words.Items.{refusal_completion}
 use Rattle.qrules.proofs.Words.Items.{receipt_of}
 use Rattle.qrules.proofs.Words.Effects.{closes, makes, sets}
 use Rattle.qrules.proofs.Words.Items.{names}
@@ -57,7 +57,7 @@ pub count_same : (old new : List (ℕ × Channel)) → ids_of new ≡ ids_of old
 count_same old new e = sym (length-map new (λ e. e.0)) ∙ ap length e ∙ length-map old (λ e. e.0)
 
 -- a call that is refused only counts
-pub step_refused : (s : State) (t : ℕ) (c : Call) (e : Errno) (X : List Completion) (new : State) → MayRefuse (facts_in s) t c e → X ≡ refusal_ending (facts_in s) t c e ∷ [] → Counted s new → Steps s t c X new
+pub step_refused : (s : State) (t : ℕ) (c : Call) (e : Errno) (X : List Completion) (new : State) → MayRefuse (facts_in s) t c e → X ≡ refusal_completion (facts_in s) t c e ∷ [] → Counted s new → Steps s t c X new
 step_refused s t c e X new may is counted = (
   false,
   record {
@@ -78,7 +78,7 @@ step_refused s t c e X new may is counted = (
 )
 
 -- the same where nothing else changed
-pub step_refused_alone : (s : State) (t : ℕ) (c : Call) (e : Errno) (X : List Completion) → MayRefuse (facts_in s) t c e → X ≡ refusal_ending (facts_in s) t c e ∷ []
+pub step_refused_alone : (s : State) (t : ℕ) (c : Call) (e : Errno) (X : List Completion) → MayRefuse (facts_in s) t c e → X ≡ refusal_completion (facts_in s) t c e ∷ []
     → Steps s t c X (counted s)
 step_refused_alone s t c e X may is = step_refused s t c e X _ may is (counted_alone s)
 

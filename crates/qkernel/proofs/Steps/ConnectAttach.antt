@@ -10,7 +10,7 @@ use Rattle.qmodel.specs.declared.call.Call.TheVariants.{ConnectAttach}
 use Rattle.qmodel.specs.declared.call.Completion.{Completion}
 use Rattle.qmodel.specs.declared.call.Mark.TheVariants as mark
 use Rattle.qrules.specs.Outcome.{MayRefuse}
-use Rattle.qrules.proofs.Words.Items.{refusal_ending}
+use Rattle.qrules.proofs.Words.Items.{refusal_completion}
 use Rattle.qstate.specs.Kept.{channel_in, members_of}
 use Rattle.qrules.proofs.Words.Effects.{attaches}
 use Rattle.qkernel.specs.Kernel.{State, IsSound}
@@ -23,7 +23,7 @@ use Rattle.qkernel.proofs.Steps.Common.{uncut, counted, step_refused_alone, all_
 use Rattle.qkernel.proofs.Tables.{entry_at-push, length-push, rising_push}
 
 pub step_attach_nowhere : (s : State) (t chid : ℕ) (X : List Completion) → s.down ≡ false → open_in s.threads t ≡ None → is_some (channel_in s.channels chid) ≡ false
-    → X ≡ refusal_ending (facts_in s) t (ConnectAttach chid) Srch ∷ [] → Steps s t (ConnectAttach chid) X (counted s)
+    → X ≡ refusal_completion (facts_in s) t (ConnectAttach chid) Srch ∷ [] → Steps s t (ConnectAttach chid) X (counted s)
 step_attach_nowhere s t chid X up free closed is = step_refused_alone s t (ConnectAttach chid) Srch X (inl (rw (up, free, closed) refl)) is
 
 -- the table's refusal is the row's, or want of memory
@@ -36,7 +36,7 @@ may_refuse s t chid e up free opens is =
     ] refl is
 
 pub step_attach_refused : (s : State) (t chid : ℕ) (e : Errno) (X : List Completion) → s.down ≡ false → open_in s.threads t ≡ None → is_some (channel_in s.channels chid) ≡ true → e ≡ cond (nat_lt (length s.connections) 1024) NoMemory Again
-    → X ≡ refusal_ending (facts_in s) t (ConnectAttach chid) e ∷ [] → Steps s t (ConnectAttach chid) X (counted s)
+    → X ≡ refusal_completion (facts_in s) t (ConnectAttach chid) e ∷ [] → Steps s t (ConnectAttach chid) X (counted s)
 step_attach_refused s t chid e X up free opens is X_is = step_refused_alone s t (ConnectAttach chid) e X (may_refuse s t chid e up free opens is) X_is
 
 module _ (s : State) (t chid : ℕ) (m : Member) (sound : IsSound s) where

@@ -18,8 +18,8 @@ use Rattle.qtables.specs.Entries.{entry_at, without_entry}
 use Rattle.qtables.specs.Members.{member_at}
 use Rattle.qtables.specs.declared.connection.Connection.{Connection}
 use Rattle.qtables.specs.declared.member.Member.{Member}
-use Rattle.qrules.specs.Outcome.{MayRefuse, ending}
-use Rattle.qrules.proofs.Words.Items.{refusal_ending}
+use Rattle.qrules.specs.Outcome.{MayRefuse, completion_to}
+use Rattle.qrules.proofs.Words.Items.{refusal_completion}
 use Rattle.qrules.proofs.Traces.Parts.{connection_between, connections_between}
 use Rattle.qrules.specs.Rules.Connections.{disconnect_pulse}
 use Rattle.qrules.proofs.Traces.Parts.{due_pulse_over, is_own}
@@ -43,8 +43,8 @@ use Rattle.qstate.specs.declared.cancelling.CancelSet.TheVariants.{Over}
 use Rattle.qstate.specs.declared.thread.Thread.{Thread}
 use Rattle.qstate.specs.Channel.{own_channel_in}
 use Rattle.qstate.specs.Kept.{channel_in, pending_in, thread_priority, members_of}
-use Rattle.qstate.specs.Cancelling.{AreCancelled, LoseCancelled, ending_for, is_cancelled_among}
-use Rattle.qstate.specs.Endings.{with_ending_if}
+use Rattle.qstate.specs.Cancelling.{AreCancelled, LoseCancelled, completion_for, is_cancelled_among}
+use Rattle.qstate.specs.Endings.{with_completion_if}
 use Rattle.qstate.specs.Pulses.{has_room}
 use Rattle.qrules.specs.Delivery.{newest_receiver}
 use Rattle.qstate.specs.Thread.{newest_in, open_in}
@@ -110,7 +110,7 @@ new_pulse n priority p last d is = subst (IsNew n) (sym is) (elim last as (λ b.
 -- ---- the step
 
 module _ (s : State) (t coid : ℕ) (m : Member) (known : member_at (members_of s.threads) t ≡ Some m) (up : s.down ≡ false) (free : open_in s.threads t ≡ None) where
-  pub step_detach_refused : (X : List Completion) → own_channel_in m.process (entry_at s.connections coid) ≡ None → X ≡ refusal_ending (facts_in s) t (ConnectDetach coid) Inval ∷ [] → Steps s t (ConnectDetach coid) X (counted s)
+  pub step_detach_refused : (X : List Completion) → own_channel_in m.process (entry_at s.connections coid) ≡ None → X ≡ refusal_completion (facts_in s) t (ConnectDetach coid) Inval ∷ [] → Steps s t (ConnectDetach coid) X (counted s)
   step_detach_refused X other is =
       let not_mine : is_own (facts_in s) t (entry_at s.connections coid) ≡ false = not_own s t m (entry_at s.connections coid) known other in
       step_refused_alone s t (ConnectDetach coid) Inval X (inl (rw (up, free, not_mine) refl)) is
@@ -174,7 +174,7 @@ module _ (s : State) (t coid : ℕ) (m : Member) (known : member_at (members_of 
 
         -- how the calls end in the threads that are left
         abbrev g : ℕ → Option Completion
-        g u = ending_for (Over coid) Badf (mine s t) u (open_in mid u)
+        g u = completion_for (Over coid) Badf (mine s t) u (open_in mid u)
 
         g_is : (u : ℕ) → g u ≡ cond (eqb u t) (Some (mine s t)) (cancel u)
         g_is u = ap (cond (eqb u t) (Some (mine s t))) (cancel_mid u)
@@ -182,7 +182,7 @@ module _ (s : State) (t coid : ℕ) (m : Member) (known : member_at (members_of 
         g_own : (u : ℕ) (x : Completion) → g u ≡ Some x → x.thread ≡ u
         g_own u x e = elim (eqb u t) as (λ b. eqb u t ≡ b → cond b (Some (mine s t)) (cancel u) ≡ Some x → x.thread ≡ u) [
           | true ↦ λ same hit. sym (ap (λ y. y.thread) (same_Some (mine s t) x hit)) ∙ sym (eqb-true u t same)
-          | false ↦ λ other hit. sym (ap (λ y. y.thread) (cancel_parts (is_over coid) Badf u (open_in s.threads u) x hit).ending)
+          | false ↦ λ other hit. sym (ap (λ y. y.thread) (cancel_parts (is_over coid) Badf u (open_in s.threads u) x hit).completion)
         ] refl (sym (g_is u) ∙ e)
 
         g_none : (u : ℕ) → is_some (ends_receiver (facts_in s) o u) ≡ true → g u ≡ None
@@ -194,8 +194,8 @@ module _ (s : State) (t coid : ℕ) (m : Member) (known : member_at (members_of 
         others_is : (u : ℕ) → (row_of (facts_in s) t (ConnectDetach coid)).others u ≡ option_or (cancel u) (ends_receiver (facts_in s) o u)
         others_is u = ap (option_or (cancel u)) (pulse_same (facts_in s) (disconnect_pulse (facts_in s) t coid) u ∙ ap (λ d. ends_receiver (facts_in s) d u) due_is)
 
-        ending_is : (u : ℕ) → option_or (g u) (ends_receiver (facts_in s) o u) ≡ ending (facts_in s) t (ConnectDetach coid) u
-        ending_is u = rw (g_is u, others_is u) (elim (eqb u t) as (λ b. option_or (cond b (Some (mine s t)) (cancel u)) (ends_receiver (facts_in s) o u) ≡ cond b (Some (mine s t)) (option_or (cancel u) (ends_receiver (facts_in s) o u))) [ true ↦ refl | false ↦ refl ])
+        completion_is : (u : ℕ) → option_or (g u) (ends_receiver (facts_in s) o u) ≡ completion_to (facts_in s) t (ConnectDetach coid) u
+        completion_is u = rw (g_is u, others_is u) (elim (eqb u t) as (λ b. option_or (cond b (Some (mine s t)) (cancel u)) (ends_receiver (facts_in s) o u) ≡ cond b (Some (mine s t)) (option_or (cancel u) (ends_receiver (facts_in s) o u))) [ true ↦ refl | false ↦ refl ])
 
         pub room_for_one : length s.threads ≤ 64 → is_some met ≡ true → length (filter_map g (threads_of (members_of mid))) < 64
         room_for_one few some = rw (is.members) (let fewer : length (filter_map g ts) + 1 ≤ length ts = is.few g g_none some in let as_many : length ts ≡ length s.threads = length-map (members_of s.threads) (λ m. m.thread) ∙ length-map s.threads (λ t. t.member) in omega arith)
@@ -234,14 +234,14 @@ module _ (s : State) (t coid : ℕ) (m : Member) (known : member_at (members_of 
               ∙ taken_filtered (λ item. not (is_cancelled (facts_in s) t (ConnectDetach coid) k item.number)) (pulse_receipt (facts_in s) o) k (pending_in s.channels k ++ made_on k o)
 
           pub step_detached : (X : List Completion) → length (without_entry s.connections coid) + 1 ≡ length s.connections
-              → X ≡ with_ending_if met (filter_map g (threads_of (members_of mid))) → Steps s t (ConnectDetach coid) X detached
+              → X ≡ with_completion_if met (filter_map g (threads_of (members_of mid))) → Steps s t (ConnectDetach coid) X detached
           step_detached X fewer is_X = (
             true,
             record {
               answer = (
                 rw (up, free, own, due_is) is.room,
-                is_X ∙ ap (λ ms. with_ending_if met (filter_map g (threads_of ms))) is.members ∙ is.endings g g_own g_none
-                    ∙ filter_map_same (λ u. option_or (g u) (ends_receiver (facts_in s) o u)) (ending (facts_in s) t (ConnectDetach coid)) ts ending_is,
+                is_X ∙ ap (λ ms. with_completion_if met (filter_map g (threads_of ms))) is.members ∙ is.endings g g_own g_none
+                    ∙ filter_map_same (λ u. option_or (g u) (ends_receiver (facts_in s) o u)) (completion_to (facts_in s) t (ConnectDetach coid)) ts completion_is,
               );
               follows = record {
                 roster = are.members ∙ is.members;

@@ -10,8 +10,8 @@ use Rattle.qmodel.specs.declared.call.Completion.{Completion}
 use Rattle.qmodel.specs.declared.call.Mark.TheVariants as mark
 use Rattle.qstate.specs.declared.thread.Thread.{Thread}
 use Rattle.qrules.proofs.Traces.Parts.{error_finish}
-use Rattle.qstate.specs.Endings.{with_ending_in_place}
-use Rattle.qrules.proofs.Words.Items.{answer_ending}
+use Rattle.qstate.specs.Endings.{with_completion_in_place}
+use Rattle.qrules.proofs.Words.Items.{answer_completion}
 use Rattle.qstate.specs.Held.{is_held_in}
 use Rattle.qkernel.specs.Kernel.{State, IsSound}
 use Rattle.qkernel.specs.Private.Steps.{Steps, facts_in}
@@ -21,8 +21,8 @@ use Rattle.qkernel.proofs.Steps.Common.{uncut}
 use Rattle.qkernel.proofs.Steps.Held.{is_held, two_ended, answered_calls}
 
 pub step_errored : (s : State) (t : ℕ) (m : Member) (i : ℕ) (sound : IsSound s) (known : member_at (members_of s.threads) t ≡ Some m) (code : ℤ) (u : ℕ) (y : Completion)
-    → s.down ≡ false → open_in s.threads t ≡ None → is_held_in s.threads s.channels m.process i ≡ true → sender_in s.threads i ≡ Some u → answer_ending (error_finish code) u (open_in s.threads u) ≡ Some y
-    → (threads : List Thread) (X : List Completion) → SetsOpen u None s.threads threads → X ≡ with_ending_in_place y (record { call = s.made + 1; thread = t; mark = mark.Ok; buffer = [] } ∷ [])
+    → s.down ≡ false → open_in s.threads t ≡ None → is_held_in s.threads s.channels m.process i ≡ true → sender_in s.threads i ≡ Some u → answer_completion (error_finish code) u (open_in s.threads u) ≡ Some y
+    → (threads : List Thread) (X : List Completion) → SetsOpen u None s.threads threads → X ≡ with_completion_in_place y (record { call = s.made + 1; thread = t; mark = mark.Ok; buffer = [] } ∷ [])
     → Steps s t (Error i code) X (record { made = s.made + 1; down = s.down; threads = threads; channels = s.channels; connections = s.connections })
 step_errored s t m i sound known code u y up free held is_sender ended threads X takes is = (
   true,

@@ -13,16 +13,16 @@ use Rattle.qmodel.specs.declared.call.Mark.TheVariants as mark
 use Rattle.qmodel.specs.declared.open_call.OpenCall.{OpenCall}
 use Rattle.qmodel.specs.declared.open_call.OpenCall.TheVariants.{Receive, Send}
 use Rattle.qstate.specs.declared.thread.Thread.{Thread}
-use Rattle.qrules.specs.Outcome.{ending}
-use Rattle.qrules.proofs.Words.Items.{refusal_ending}
+use Rattle.qrules.specs.Outcome.{completion_to}
+use Rattle.qrules.proofs.Words.Items.{refusal_completion}
 use Rattle.qrules.specs.Rules.{row_of}
 use Rattle.qstate.specs.Kept.{channel_in, members_of}
-use Rattle.qstate.specs.Endings.{with_ending_in_place}
+use Rattle.qstate.specs.Endings.{with_completion_in_place}
 use Rattle.qrules.proofs.Words.Facts.{is_send, sender, threads_of}
 use Rattle.qrules.specs.Records.{sender_among}
 use Rattle.qrules.specs.Rules.Held.{refusal_unless_held}
 use Rattle.qrules.proofs.Words.Items.{Finish, ends_sender}
-use Rattle.qrules.proofs.Words.Items.{answer_ending}
+use Rattle.qrules.proofs.Words.Items.{answer_completion}
 use Rattle.qrules.specs.Facts.{holds}
 use Rattle.qrules.proofs.Messages.{held_same as holds_by_call}
 use Rattle.qrules.proofs.Traces.Parts.{is_held_for}
@@ -49,7 +49,7 @@ module _ (s : State) (t : ℕ) (m : Member) (i : ℕ) (sound : IsSound s) (known
 
   -- refused where no message is held so
   pub step_unheld : (c : Call) (X : List Completion) → (row_of (facts_in s) t c).refusal ≡ refusal_unless_held (facts_in s) t i → s.down ≡ false → open_in s.threads t ≡ None → is_held_in s.threads s.channels m.process i ≡ false
-      → X ≡ refusal_ending (facts_in s) t c Srch ∷ [] → Steps s t c X (counted s)
+      → X ≡ refusal_completion (facts_in s) t c Srch ∷ [] → Steps s t c X (counted s)
   step_unheld c X row up free none is = step_refused_alone s t c Srch X (inl (rw (row, up, free, is_held, none) refl)) is
 
 -- ---- the sender
@@ -65,27 +65,27 @@ among_senders threads i u e = found (threads_of (members_of threads)) e where
 
 -- ---- an answer
 
-finished_thread : (finish : Finish) (u : ℕ) (o : Option OpenCall) (y : Completion) → answer_ending finish u o ≡ Some y → y.thread ≡ u
+finished_thread : (finish : Finish) (u : ℕ) (o : Option OpenCall) (y : Completion) → answer_completion finish u o ≡ Some y → y.thread ≡ u
 finished_thread finish u None y e = absurd (none-some y e)
 finished_thread finish u (Some (Send s)) y e = sym (ap (λ x. x.thread) (same_Some _ y e))
 finished_thread finish u (Some (Receive r)) y e = absurd (none-some y e)
 
 module _ (s : State) (t : ℕ) (m : Member) (i : ℕ) (sound : IsSound s) (known : member_at (members_of s.threads) t ≡ Some m) (finish : Finish) (u : ℕ) (y : Completion) (up : s.down ≡ false) (free : open_in s.threads t ≡ None)
-    (is_sender : sender_in s.threads i ≡ Some u) (ended : answer_ending finish u (open_in s.threads u) ≡ Some y) where
-  -- the ending of the call that answers
+    (is_sender : sender_in s.threads i ≡ Some u) (ended : answer_completion finish u (open_in s.threads u) ≡ Some y) where
+  -- the completion of the call that answers
   abbrev pub mine : Completion
   mine = record { call = s.made + 1; thread = t; mark = mark.Ok; buffer = [] }
 
   apart : t ≢ u
-  apart e = none-some y (sym (ap (answer_ending finish u) (ap (open_in s.threads) (sym e) ∙ free)) ∙ ended)
+  apart e = none-some y (sym (ap (answer_completion finish u) (ap (open_in s.threads) (sym e) ∙ free)) ∙ ended)
 
   -- the endings of the two threads
   module _ (c : Call) (own : (row_of (facts_in s) t c).own ≡ Some mine) (others : (v : ℕ) → (row_of (facts_in s) t c).others v ≡ ends_sender (facts_in s) finish (sender (facts_in s) i) v) where
-    pub two_ended : (X : List Completion) → X ≡ with_ending_in_place y (mine ∷ []) → X ≡ filter_map (ending (facts_in s) t c) (threads_of (members_of s.threads))
+    pub two_ended : (X : List Completion) → X ≡ with_completion_in_place y (mine ∷ []) → X ≡ filter_map (completion_to (facts_in s) t c) (threads_of (members_of s.threads))
     two_ended X is =
         is ∙ two_endings mine y t u refl (finished_thread finish u (open_in s.threads u) y ended) apart (threads_of (members_of s.threads)) (rises (members_of s.threads) sound.roster) (among (members_of s.threads) t m known) (among_senders s.threads i u is_sender)
-        ∙ sym (filter_map_same (ending (facts_in s) t c) (λ v. cond (eqb v t) (Some mine) (cond (eqb v u) (Some y) None)) (threads_of (members_of s.threads)) (λ v. rw (own, others v, is_sender)
-        (ap (cond (eqb v t) (Some mine)) (elim (eqb v u) as (λ b. eqb v u ≡ b → cond b (answer_ending finish v (open_in s.threads v)) None ≡ cond b (Some y) None) [
+        ∙ sym (filter_map_same (completion_to (facts_in s) t c) (λ v. cond (eqb v t) (Some mine) (cond (eqb v u) (Some y) None)) (threads_of (members_of s.threads)) (λ v. rw (own, others v, is_sender)
+        (ap (cond (eqb v t) (Some mine)) (elim (eqb v u) as (λ b. eqb v u ≡ b → cond b (answer_completion finish v (open_in s.threads v)) None ≡ cond b (Some y) None) [
           | true ↦ λ f. rw (eqb-true v u f) ended
           | false ↦ λ f. refl
         ] refl))))
@@ -94,9 +94,9 @@ module _ (s : State) (t : ℕ) (m : Member) (i : ℕ) (sound : IsSound s) (known
     pub answered_calls : (threads : List Thread) → SetsOpen u None s.threads threads → (v : ℕ)
         → open_in threads v ≡ cond (eqb v t) None (unless (is_some ((row_of (facts_in s) t c).others v)) (open_in s.threads v))
     answered_calls threads takes v = rw (others v, is_sender) (takes.open_call v ∙ (elim (eqb v t) as (λ b. eqb v t ≡ b → cond (eqb v u) None (open_in s.threads v)
-        ≡ cond b None (unless (is_some (cond (eqb v u) (answer_ending finish v (open_in s.threads v)) None)) (open_in s.threads v))) [
+        ≡ cond b None (unless (is_some (cond (eqb v u) (answer_completion finish v (open_in s.threads v)) None)) (open_in s.threads v))) [
           | true ↦ λ e. let idle : open_in s.threads v ≡ None = ap (open_in s.threads) (eqb-true v t e) ∙ free in rw idle (cond_same (eqb v u) None)
-          | false ↦ λ e. elim (eqb v u) as (λ b. eqb v u ≡ b → cond b None (open_in s.threads v) ≡ unless (is_some (cond b (answer_ending finish v (open_in s.threads v)) None)) (open_in s.threads v)) [
+          | false ↦ λ e. elim (eqb v u) as (λ b. eqb v u ≡ b → cond b None (open_in s.threads v) ≡ unless (is_some (cond b (answer_completion finish v (open_in s.threads v)) None)) (open_in s.threads v)) [
             | true ↦ λ f. rw (eqb-true v u f, ended) refl
             | false ↦ λ f. refl
           ] refl

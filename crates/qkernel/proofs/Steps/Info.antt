@@ -15,7 +15,7 @@ use Rattle.qstate.specs.declared.thread.Thread.{Thread}
 use Rattle.qmodel.specs.declared.call.Info.{Info as Told}
 use Rattle.qrules.specs.Rules.Held.{info_of}
 use Rattle.qrules.specs.Records.{info_of_open}
-use Rattle.qrules.proofs.Words.Items.{info_ending}
+use Rattle.qrules.proofs.Words.Items.{info_completion}
 use Rattle.qrules.proofs.Words.Facts.{sender, threads_of}
 use Rattle.qstate.specs.Held.{is_held_in, is_held_of}
 use Rattle.qkernel.specs.Kernel.{State, IsSound}
@@ -59,14 +59,14 @@ told_there channels p i u threads t sent is held none =
 
 module _ (s : State) (t : ℕ) (m : Member) (i : ℕ) (sound : IsSound s) (known : member_at (members_of s.threads) t ≡ Some m) (up : s.down ≡ false) (free : open_in s.threads t ≡ None)
     (held : is_held_in s.threads s.channels m.process i ≡ true) where
-  pub step_info : (told_so : Told) (X : List Completion) → info_of (facts_in s) (sender (facts_in s) i) ≡ Some told_so → X ≡ info_ending (s.made + 1) t told_so ∷ [] → Steps s t (Info i) X (counted s)
+  pub step_info : (told_so : Told) (X : List Completion) → info_of (facts_in s) (sender (facts_in s) i) ≡ Some told_so → X ≡ info_completion (s.made + 1) t told_so ∷ [] → Steps s t (Info i) X (counted s)
   step_info told_so X says is = (
     true,
     record {
       answer = (
         rw (up, free, is_held s t m i sound known, held) refl,
-        is ∙ sym (only_own _ t (Some (info_ending (s.made + 1) t told_so)) (rises (members_of s.threads) sound.roster) (among (members_of s.threads) t m known))
-            ∙ ap (λ o. filter_map (λ u. cond (eqb u t) (option_map (info_ending (s.made + 1) t) o) None) (threads_of (members_of s.threads))) (sym says),
+        is ∙ sym (only_own _ t (Some (info_completion (s.made + 1) t told_so)) (rises (members_of s.threads) sound.roster) (among (members_of s.threads) t m known))
+            ∙ ap (λ o. filter_map (λ u. cond (eqb u t) (option_map (info_completion (s.made + 1) t) o) None) (threads_of (members_of s.threads))) (sym says),
       );
       follows = record {
         roster = refl;

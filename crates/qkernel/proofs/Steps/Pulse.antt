@@ -11,7 +11,7 @@ use Rattle.qtables.specs.declared.member.Member.{Member}
 use Rattle.qmodel.specs.declared.call.Call.TheVariants.{Pulse}
 use Rattle.qmodel.specs.declared.call.Completion.{Completion}
 use Rattle.qrules.specs.Outcome.{MayRefuse}
-use Rattle.qrules.proofs.Words.Items.{refusal_ending}
+use Rattle.qrules.proofs.Words.Items.{refusal_completion}
 use Rattle.qstate.specs.Channel.{route_in}
 use Rattle.qstate.specs.Pulses.{has_room}
 use Rattle.qrules.proofs.Words.Facts.{route}
@@ -37,12 +37,12 @@ natural code e = e
 -- ---- refusals
 
 module _ (s : State) (t coid priority : ℕ) (code value : ℤ) (m : Member) (known : member_at (members_of s.threads) t ≡ Some m) (up : s.down ≡ false) (free : open_in s.threads t ≡ None) where
-  pub step_pulse_nowhere : (X : List Completion) → route_in m.process s.channels (entry_at s.connections coid) ≡ None → X ≡ refusal_ending (facts_in s) t (Pulse coid priority code value) Badf ∷ [] → Steps s t (Pulse coid priority code value) X (counted s)
+  pub step_pulse_nowhere : (X : List Completion) → route_in m.process s.channels (entry_at s.connections coid) ≡ None → X ≡ refusal_completion (facts_in s) t (Pulse coid priority code value) Badf ∷ [] → Steps s t (Pulse coid priority code value) X (counted s)
   step_pulse_nowhere X none is =
       let no_way : route (facts_in s) t coid ≡ None = route-leads_to s t m (entry_at s.connections coid) known ∙ none in
       step_refused_alone s t (Pulse coid priority code value) Badf X (inl (rw (up, free, no_way) refl)) is
 
-  pub step_pulse_negative : (X : List Completion) (h : ℕ) → route_in m.process s.channels (entry_at s.connections coid) ≡ Some h → int_lt code (pos 0) ≡ true → X ≡ refusal_ending (facts_in s) t (Pulse coid priority code value) Inval ∷ []
+  pub step_pulse_negative : (X : List Completion) (h : ℕ) → route_in m.process s.channels (entry_at s.connections coid) ≡ Some h → int_lt code (pos 0) ≡ true → X ≡ refusal_completion (facts_in s) t (Pulse coid priority code value) Inval ∷ []
       → Steps s t (Pulse coid priority code value) X (counted s)
   step_pulse_negative X h found negative is =
       let there : route (facts_in s) t coid ≡ Some h = route-leads_to s t m (entry_at s.connections coid) known ∙ found in

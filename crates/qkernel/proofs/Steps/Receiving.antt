@@ -21,7 +21,7 @@ use Rattle.qstate.specs.declared.channel.Channel.{Channel}
 use Rattle.qmodel.specs.declared.open_call.OpenCall.{OpenCall}
 use Rattle.qmodel.specs.declared.open_call.Receipt.{Receipt}
 use Rattle.qstate.specs.declared.thread.Thread.{Thread}
-use Rattle.qrules.specs.Outcome.{ending}
+use Rattle.qrules.specs.Outcome.{completion_to}
 use Rattle.qstate.specs.Channel.{ids_of, is_of, SetsItems}
 use Rattle.qstate.specs.Kept.{channel_in, pending_in, members_of, thread_priority}
 use Rattle.qrules.proofs.Words.Facts.{owns, threads_of}
@@ -29,7 +29,7 @@ use Rattle.qrules.specs.Records.{is_fixed}
 use Rattle.qrules.proofs.Words.Items.{own_receipt, receipt_when_taken}
 use Rattle.qrules.specs.Records.{receive_of}
 use Rattle.qrules.proofs.Words.Items.{Received}
-use Rattle.qrules.specs.Delivery.{receipt_ending}
+use Rattle.qrules.specs.Delivery.{receipt_completion}
 use Rattle.qkernel.specs.Kernel.{State, IsSound}
 use Rattle.qkernel.specs.Private.Steps.{Steps, facts_in}
 use Rattle.qrules.proofs.Words.Step.{after_receipt, unreceived_items, unless, priority_taken}
@@ -88,7 +88,7 @@ step_of s t chid Any buffer m o X threads channels none known up free owned best
   record {
     answer = (
       rw (up, free, owned) refl,
-      r.endings ∙ sym (filter_map_same (ending (facts_in s) t (Receive chid buffer)) (λ u. cond (eqb u t) (own_of s t buffer o) None) (threads_of (members_of s.threads)) (λ u. rw best refl)),
+      r.endings ∙ sym (filter_map_same (completion_to (facts_in s) t (Receive chid buffer)) (λ u. cond (eqb u t) (own_of s t buffer o) None) (threads_of (members_of s.threads)) (λ u. rw best refl)),
     );
     follows = record {
       roster = r.roster;
@@ -111,7 +111,7 @@ step_of s t chid PulseOnly buffer m o X threads channels none known up free owne
     record {
       answer = (
         rw (up, free, owned) refl,
-        q.endings ∙ sym (filter_map_same (ending (facts_in s) t (ReceivePulse chid)) (λ u. cond (eqb u t) (own_of s t [] o) None) (threads_of (members_of s.threads)) (λ u. rw best refl)),
+        q.endings ∙ sym (filter_map_same (completion_to (facts_in s) t (ReceivePulse chid)) (λ u. cond (eqb u t) (own_of s t [] o) None) (threads_of (members_of s.threads)) (λ u. rw best refl)),
       );
       follows = record {
         roster = q.roster;
@@ -178,11 +178,11 @@ module _ (s : State) (t chid : ℕ) (kind : Kind) (buffer : List ℕ) (m : Membe
     priority channels = cond (is_fixed (channel_in channels chid)) None (Some item.priority)
 
     pub step_receive_takes : (threads_1 threads_2 : List Thread) (channels : List (ℕ × Channel)) (X : List Completion) → HandsOver (is_pulse item.what) item.number kept s.threads threads_1
-        → SetsPriority t (priority channels) threads_1 threads_2 → SetsItems chid (without_item item.number (pending_in s.channels chid)) s.channels channels → X ≡ receipt_ending item (message_from s.threads item.number) t (s.made + 1) buffer ∷ []
+        → SetsPriority t (priority channels) threads_1 threads_2 → SetsItems chid (without_item item.number (pending_in s.channels chid)) s.channels channels → X ≡ receipt_completion item (message_from s.threads item.number) t (s.made + 1) buffer ∷ []
         → Steps s t (receive_of kind chid buffer) X (record { made = s.made + 1; down = s.down; threads = threads_2; channels = channels; connections = s.connections })
     step_receive_takes threads_1 threads_2 channels X hands takes sets is = by (is_pulse item.what) refl hands where
-      ends : X ≡ filter_map (λ u. cond (eqb u t) (Some (receipt_ending item (message_from s.threads item.number) t (s.made + 1) buffer)) None) (threads_of (members_of s.threads))
-      ends = is ∙ sym (only_own (threads_of (members_of s.threads)) t (Some (receipt_ending item (message_from s.threads item.number) t (s.made + 1) buffer)) (rises (members_of s.threads) sound.roster) (among (members_of s.threads) t m known))
+      ends : X ≡ filter_map (λ u. cond (eqb u t) (Some (receipt_completion item (message_from s.threads item.number) t (s.made + 1) buffer)) None) (threads_of (members_of s.threads))
+      ends = is ∙ sym (only_own (threads_of (members_of s.threads)) t (Some (receipt_completion item (message_from s.threads item.number) t (s.made + 1) buffer)) (rises (members_of s.threads) sound.roster) (among (members_of s.threads) t m known))
 
       priorities : (u : ℕ) → thread_priority threads_1 u ≡ thread_priority s.threads u → thread_priority threads_2 u ≡ unwrap_or (cond (eqb t u) (priority s.channels) None) (thread_priority s.threads u)
       priorities u same = takes.priority u ∙ ap (unwrap_or (cond (eqb t u) (priority channels) None)) same

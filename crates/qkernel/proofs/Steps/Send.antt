@@ -20,8 +20,8 @@ use Rattle.qmodel.specs.declared.open_call.OpenCall.{OpenCall}
 use Rattle.qmodel.specs.declared.open_call.Receipt.{Receipt}
 use Rattle.qmodel.specs.declared.open_call.OpenCall.TheVariants.{Send as InSend}
 use Rattle.qstate.specs.declared.thread.Thread.{Thread}
-use Rattle.qrules.specs.Outcome.{ending}
-use Rattle.qrules.proofs.Words.Items.{refusal_ending}
+use Rattle.qrules.specs.Outcome.{completion_to}
+use Rattle.qrules.proofs.Words.Items.{refusal_completion}
 use Rattle.qstate.specs.Channel.{route_in, SetsItems}
 use Rattle.qstate.specs.Kept.{pending_in, members_of, thread_priority}
 use Rattle.qrules.proofs.Words.Facts.{route, threads_of}
@@ -44,14 +44,14 @@ use Rattle.qqueue.specs.Best.{without_item}
 -- ---- refusals
 
 pub step_send_nowhere : (s : State) (t coid : ℕ) (message reply_buffer : List ℕ) (m : Member) (X : List Completion) → member_at (members_of s.threads) t ≡ Some m → s.down ≡ false → open_in s.threads t ≡ None
-    → route_in m.process s.channels (entry_at s.connections coid) ≡ None → X ≡ refusal_ending (facts_in s) t (Send coid message reply_buffer) Badf ∷ [] → Steps s t (Send coid message reply_buffer) X (counted s)
+    → route_in m.process s.channels (entry_at s.connections coid) ≡ None → X ≡ refusal_completion (facts_in s) t (Send coid message reply_buffer) Badf ∷ [] → Steps s t (Send coid message reply_buffer) X (counted s)
 step_send_nowhere s t coid message reply_buffer m X known up free none is =
     let no_way : route (facts_in s) t coid ≡ None = route-leads_to s t m (entry_at s.connections coid) known ∙ none in
     step_refused_alone s t (Send coid message reply_buffer) Badf X (inl (rw (up, free, no_way) refl)) is
 
 pub step_send_no_memory : (s : State) (t coid : ℕ) (message reply_buffer : List ℕ) (m : Member) (h : ℕ) (new : List (ℕ × Channel)) (e : Errno) (X : List Completion) → member_at (members_of s.threads) t ≡ Some m
     → s.down ≡ false → open_in s.threads t ≡ None → route_in m.process s.channels (entry_at s.connections coid) ≡ Some h → e ≡ NoMemory → newest_in h (message_numbered (s.made + 1) (thread_priority s.threads t)) s.threads ≡ None → SetsItems h (pending_in s.channels h) s.channels new
-    → X ≡ refusal_ending (facts_in s) t (Send coid message reply_buffer) e ∷ []
+    → X ≡ refusal_completion (facts_in s) t (Send coid message reply_buffer) e ∷ []
     → Steps s t (Send coid message reply_buffer) X (record { made = s.made + 1; down = s.down; threads = s.threads; channels = new; connections = s.connections })
 step_send_no_memory s t coid message reply_buffer m h new e X known up free found want nobody sets is =
     let some_way : route (facts_in s) t coid ≡ Some h = route-leads_to s t m (entry_at s.connections coid) known ∙ found in
@@ -84,7 +84,7 @@ module _ (s : State) (t coid : ℕ) (message reply_buffer : List ℕ) (m : Membe
         record {
           answer = (
             rw (up, free, over_way) refl,
-            is ∙ sym (nothing (threads_of (members_of s.threads)) (ending (facts_in s) t (Send coid message reply_buffer)) (λ u. rw (over_sent, none) (cond_same (eqb u t) None))),
+            is ∙ sym (nothing (threads_of (members_of s.threads)) (completion_to (facts_in s) t (Send coid message reply_buffer)) (λ u. rw (over_sent, none) (cond_same (eqb u t) None))),
           );
           follows = record {
             roster = opens.members;
@@ -132,7 +132,7 @@ module _ (s : State) (t coid : ℕ) (message reply_buffer : List ℕ) (m : Membe
       record {
         answer = (
           rw (up, free, over_way) refl,
-          is ∙ sym (filter_map_same (ending (facts_in s) t (Send coid message reply_buffer)) (λ u. cond (eqb u r) (Some y) None) (threads_of (members_of s.threads)) (λ u. rw (others_is u) (
+          is ∙ sym (filter_map_same (completion_to (facts_in s) t (Send coid message reply_buffer)) (λ u. cond (eqb u r) (Some y) None) (threads_of (members_of s.threads)) (λ u. rw (others_is u) (
               elim (eqb u t) as (λ b. eqb u t ≡ b → cond b None (cond (eqb u r) (takes item message u (open_in s.threads u)) None) ≡ cond (eqb u r) (Some y) None) [
                 | true ↦ λ e. let other : eqb u r ≡ false = ne_eqb u r (λ s. apart (sym (eqb-true u t e) ∙ s)) in rw other refl
                 | false ↦ λ e. elim (eqb u r) as (λ b. eqb u r ≡ b → cond b (takes item message u (open_in s.threads u)) None ≡ cond b (Some y) None) [

@@ -5,7 +5,7 @@ use Rattle.std.proofs.lemmas.List.{append-nil}
 use Rattle.qbase.specs.declared.errno.Errno.TheVariants.{Srch}
 use Rattle.qtables.specs.Members.{member_at}
 use Rattle.qtables.specs.declared.member.Member.{Member}
-use Rattle.qrules.proofs.Words.Items.{refusal_ending}
+use Rattle.qrules.proofs.Words.Items.{refusal_completion}
 use Rattle.qrules.specs.Rules.Threads.{state_in}
 use Rattle.qmodel.specs.declared.call.Call.TheVariants.{State as Ask}
 use Rattle.qmodel.specs.declared.call.Completion.{Completion}
@@ -20,7 +20,7 @@ use Rattle.std.specs.Option.{option_map_or}
 use Rattle.qbase.specs.declared.state.ThreadState.TheVariants.{Ready}
 
 module _ (s : State) (t target : ℕ) (m : Member) (known : member_at (members_of s.threads) t ≡ Some m) (up : s.down ≡ false) (free : open_in s.threads t ≡ None) where
-  pub step_state_nobody : (X : List Completion) → is_some (member_at (members_of s.threads) target) ≡ false → X ≡ refusal_ending (facts_in s) t (Ask target) Srch ∷ [] → Steps s t (Ask target) X (counted s)
+  pub step_state_nobody : (X : List Completion) → is_some (member_at (members_of s.threads) target) ≡ false → X ≡ refusal_completion (facts_in s) t (Ask target) Srch ∷ [] → Steps s t (Ask target) X (counted s)
   step_state_nobody X nobody is = step_refused_alone s t (Ask target) Srch X (inl (rw (up, free, nobody) refl)) is
 
   -- how the call ends

@@ -9,8 +9,8 @@ use Rattle.qtables.specs.declared.member.Member.{Member}
 use Rattle.qbase.specs.declared.errno.Errno.{Errno}
 use Rattle.qbase.specs.declared.errno.Errno.TheVariants.{Again, NoMemory}
 use Rattle.qbase.proofs.Lists.{cond_same}
-use Rattle.qrules.specs.Outcome.{MayRefuse, ending, refusal_of}
-use Rattle.qrules.proofs.Words.Items.{refusal_ending}
+use Rattle.qrules.specs.Outcome.{MayRefuse, completion_to, refusal_of}
+use Rattle.qrules.proofs.Words.Items.{refusal_completion}
 use Rattle.qrules.proofs.Words.Items.{receipt_of}
 use Rattle.qrules.specs.Rules.{row_of}
 use Rattle.qrules.proofs.Words.Facts.{Facts, threads_of}
@@ -22,7 +22,7 @@ use Rattle.qmodel.specs.declared.call.Completion.{Completion}
 use Rattle.qmodel.specs.declared.open_call.OpenCall.{OpenCall}
 use Rattle.qstate.specs.declared.channel.Channel.{Channel}
 use Rattle.qstate.specs.declared.thread.Thread.{Thread}
-use Rattle.qstate.specs.Endings.{with_ending_if}
+use Rattle.qstate.specs.Endings.{with_completion_if}
 use Rattle.qstate.specs.Pulses.{IsSent, IsSentIfDue, IsTurnedAway, has_room}
 use Rattle.qstate.specs.Thread.{newest_in, open_in}
 use Rattle.qstate.specs.Kept.{thread_priority, members_of}
@@ -69,15 +69,15 @@ module _ (s : State) (t : ℕ) (c : Call) (m : Member) (o : Option SentItem) (so
   abbrev ts : List ℕ
   ts = threads_of (members_of s.threads)
 
-  -- the caller's own ending
+  -- the caller's own completion
   abbrev g : ℕ → Option Completion
   g u = cond (eqb u t) (Some (mine s t)) None
 
   g_none : (u : ℕ) → is_some (ends_receiver (facts_in s) o u) ≡ true → g u ≡ None
   g_none u there = rw (ne_eqb u t (not_caller s t u o mid channels met is there)) refl
 
-  ending_is : (u : ℕ) → option_or (g u) (ends_receiver (facts_in s) o u) ≡ ending (facts_in s) t c u
-  ending_is u = rw (tells.own, tells.ends u) (own_first (eqb u t) (Some (mine s t)) (ends_receiver (facts_in s) o u))
+  completion_is : (u : ℕ) → option_or (g u) (ends_receiver (facts_in s) o u) ≡ completion_to (facts_in s) t c u
+  completion_is u = rw (tells.own, tells.ends u) (own_first (eqb u t) (Some (mine s t)) (ends_receiver (facts_in s) o u))
 
   -- the receiver of the pulse isn't marked, and neither is the caller
   unless_after : (b : Bool) (u : ℕ) (w : Option OpenCall) → after_unblock o (unblocks c) u (unless b w) ≡ unless b (after_unblock o (unblocks c) u w)
@@ -99,7 +99,7 @@ module _ (s : State) (t : ℕ) (c : Call) (m : Member) (o : Option SentItem) (so
   settled u y e = told_settled s o u y (sym (tells.ends u) ∙ e)
 
   -- it waits, or meets a receiver
-  pub step_told : (threads : List Thread) (X : List Completion) → AreMarked c o mid threads → X ≡ with_ending_if met (mine s t ∷ [])
+  pub step_told : (threads : List Thread) (X : List Completion) → AreMarked c o mid threads → X ≡ with_completion_if met (mine s t ∷ [])
       → Steps s t c X (record { made = s.made + 1; down = s.down; threads = threads; channels = channels; connections = s.connections })
   step_told threads X marked is_X =
       let q = tells.quiet in (
@@ -107,8 +107,8 @@ module _ (s : State) (t : ℕ) (c : Call) (m : Member) (o : Option SentItem) (so
         record {
           answer = (
             tells.passed,
-            is_X ∙ ap (with_ending_if met) (sym (only_own ts t (Some (mine s t)) (rises (members_of s.threads) sound.roster) (among (members_of s.threads) t m known)))
-                ∙ is.endings g (λ u x e. own_one (mine s t) t u x refl e) g_none ∙ filter_map_same (λ u. option_or (g u) (ends_receiver (facts_in s) o u)) (ending (facts_in s) t c) ts ending_is,
+            is_X ∙ ap (with_completion_if met) (sym (only_own ts t (Some (mine s t)) (rises (members_of s.threads) sound.roster) (among (members_of s.threads) t m known)))
+                ∙ is.endings g (λ u x e. own_one (mine s t) t u x refl e) g_none ∙ filter_map_same (λ u. option_or (g u) (ends_receiver (facts_in s) o u)) (completion_to (facts_in s) t c) ts completion_is,
           );
           follows = record {
             roster = marked.members ∙ is.members;
@@ -138,7 +138,7 @@ module _ (s : State) (t : ℕ) (c : Call) (h : ℕ) (item : Item) (e : Errno) (t
     | inr want ↦ counted_room s h channels want.sets
   ])
 
-  pub step_turned_away : (X : List Completion) → (has_room s.channels h ≡ false → MayRefuse (facts_in s) t c Again) → (has_room s.channels h ≡ true → newest_in h item s.threads ≡ None → MayRefuse (facts_in s) t c NoMemory) → X ≡ refusal_ending (facts_in s) t c e ∷ []
+  pub step_turned_away : (X : List Completion) → (has_room s.channels h ≡ false → MayRefuse (facts_in s) t c Again) → (has_room s.channels h ≡ true → newest_in h item s.threads ≡ None → MayRefuse (facts_in s) t c NoMemory) → X ≡ refusal_completion (facts_in s) t c e ∷ []
       → Steps s t c X (record { made = s.made + 1; down = s.down; threads = threads; channels = channels; connections = s.connections })
   step_turned_away X again memory is =
       step_refused s t c e X _ (elim (away.1) [ inl full ↦ subst (MayRefuse (facts_in s) t c) (sym full.error) (again full.room) | inr want ↦ subst (MayRefuse (facts_in s) t c) (sym want.error) (memory want.room want.nobody) ]) is only_counted

@@ -27,7 +27,7 @@ use Rattle.qrules.proofs.Traces.Calls.Delivering.{ForAnItem, met_item, met_settl
 use Rattle.qrules.proofs.Traces.Past.Laws.{IsSettled}
 use Rattle.qstate.specs.Channel.{ids_of}
 use Rattle.qstate.specs.Kept.{channel_in, pending_in, thread_priority, members_of}
-use Rattle.qstate.specs.Endings.{with_ending_if}
+use Rattle.qstate.specs.Endings.{with_completion_if}
 use Rattle.qstate.specs.Pulses.{IsLeft, IsMet, IsSentIfDue}
 use Rattle.qstate.specs.Thread.{open_in}
 use Rattle.qstate.specs.declared.channel.Channel.{Channel}
@@ -55,7 +55,7 @@ pub record IsTold (s : State) (t : ℕ) (o : Option SentItem) (mid : List Thread
   pub channel : (k : ℕ) → channel_in channels k ≡ channel_in s.channels k
   pub pending : (k : ℕ) → pending_in channels k ≡ unreceived_items (pulse_receipt (facts_in s) o) k (pending_in s.channels k ++ made_on k o)
   pub endings : (g : ℕ → Option Completion) → ((u : ℕ) (x : Completion) → g u ≡ Some x → x.thread ≡ u) → ((u : ℕ) → is_some (ends_receiver (facts_in s) o u) ≡ true → g u ≡ None)
-      → with_ending_if met (filter_map g (threads_of (members_of s.threads))) ≡ filter_map (λ u. option_or (g u) (ends_receiver (facts_in s) o u)) (threads_of (members_of s.threads))
+      → with_completion_if met (filter_map g (threads_of (members_of s.threads))) ≡ filter_map (λ u. option_or (g u) (ends_receiver (facts_in s) o u)) (threads_of (members_of s.threads))
   pub few : (g : ℕ → Option Completion) → ((u : ℕ) → is_some (ends_receiver (facts_in s) o u) ≡ true → g u ≡ None) → is_some met ≡ true
       → length (filter_map g (threads_of (members_of s.threads))) + 1 ≤ length (threads_of (members_of s.threads))
 

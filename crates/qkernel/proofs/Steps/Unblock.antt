@@ -13,8 +13,8 @@ use Rattle.qbase.specs.declared.errno.Errno.TheVariants.{Again, Intr, NoMemory, 
 use Rattle.qqueue.specs.declared.item.Item.{Item}
 use Rattle.qtables.specs.Members.{member_at}
 use Rattle.qtables.specs.declared.member.Member.{Member}
-use Rattle.qrules.specs.Outcome.{MayRefuse, ending}
-use Rattle.qrules.proofs.Words.Items.{refusal_ending}
+use Rattle.qrules.specs.Outcome.{MayRefuse, completion_to}
+use Rattle.qrules.proofs.Words.Items.{refusal_completion}
 use Rattle.qrules.specs.Rules.Unblock.{unblock_pulse, guards}
 use Rattle.qrules.proofs.Words.Items.{ends_unblocked}
 use Rattle.qrules.proofs.Traces.Parts.{due_pulse_of_open}
@@ -112,7 +112,7 @@ one_guards s (Some (Send x)) g e =
 -- ---- the step
 
 module _ (s : State) (t thread : ℕ) (m : Member) (sound : IsSound s) (known : member_at (members_of s.threads) t ≡ Some m) (up : s.down ≡ false) (free : open_in s.threads t ≡ None) where
-  pub step_unblock_refused : (X : List Completion) → is_in_process m.process (member_at (members_of s.threads) thread) ≡ false → X ≡ refusal_ending (facts_in s) t (Unblock thread) Srch ∷ []
+  pub step_unblock_refused : (X : List Completion) → is_in_process m.process (member_at (members_of s.threads) thread) ≡ false → X ≡ refusal_completion (facts_in s) t (Unblock thread) Srch ∷ []
       → Steps s t (Unblock thread) X (counted s)
   step_unblock_refused X other is = step_refused_alone s t (Unblock thread) Srch X (inl (rw (up, free, known, other) refl)) is
 
@@ -146,7 +146,7 @@ module _ (s : State) (t thread : ℕ) (m : Member) (sound : IsSound s) (known : 
         record {
           answer = (
             rw (up, free, known, fellow, k.none_due) refl,
-            is ∙ sym (filter_map_same (ending (facts_in s) t (Unblock thread)) (λ u. cond (eqb u t) (Some (mine s t)) (cancel_where (λ o. eqb u thread) Intr u (open_in s.threads u))) (threads_of (members_of s.threads))
+            is ∙ sym (filter_map_same (completion_to (facts_in s) t (Unblock thread)) (λ u. cond (eqb u t) (Some (mine s t)) (cancel_where (λ o. eqb u thread) Intr u (open_in s.threads u))) (threads_of (members_of s.threads))
                 (λ u. ap (cond (eqb u t) (Some (mine s t))) (ends_one u))),
           );
           follows = record {
@@ -194,7 +194,7 @@ module _ (s : State) (t thread : ℕ) (m : Member) (sound : IsSound s) (known : 
           record {
             answer = (
               rw (up, free, known, fellow, none_due) refl,
-              is ∙ sym (filter_map_same (ending (facts_in s) t (Unblock thread)) (λ u. cond (eqb u t) (Some (mine s t)) None) (threads_of (members_of s.threads)) (λ u. ap (cond (eqb u t) (Some (mine s t))) (ends_none u))
+              is ∙ sym (filter_map_same (completion_to (facts_in s) t (Unblock thread)) (λ u. cond (eqb u t) (Some (mine s t)) None) (threads_of (members_of s.threads)) (λ u. ap (cond (eqb u t) (Some (mine s t))) (ends_none u))
                   ∙ only_own _ t (Some (mine s t)) (rises (members_of s.threads) sound.roster) (among (members_of s.threads) t m known)),
             );
             follows = record {

@@ -36,7 +36,7 @@ impl Caller {
 
     /// Returns the completion of the caller's call, with a buffer.
     #[inline(always)]
-    pub(crate) fn ending_with(&self, mark: Mark, buffer: Bytes) -> Completion
+    pub(crate) fn completion_with(&self, mark: Mark, buffer: Bytes) -> Completion
         ensures { result ≡ record { call = self.now.made + 1; thread = self.now.seat.thread; mark = mark; buffer = buffer } }
     {
         Completion {
@@ -48,10 +48,10 @@ impl Caller {
     }
 
     /// Returns the completion of the caller's call, with an empty buffer.
-    pub(crate) fn ending(&self, mark: Mark) -> Completion
+    pub(crate) fn completion(&self, mark: Mark) -> Completion
         ensures { result ≡ record { call = self.now.made + 1; thread = self.now.seat.thread; mark = mark; buffer = [] } }
     {
-        self.ending_with(mark, Bytes::new(self.alloc))
+        self.completion_with(mark, Bytes::new(self.alloc))
     }
 
     /// Returns the message or pulse that the caller's call sends. Its number is that of the call.
@@ -70,6 +70,6 @@ impl Caller {
         requires { endings.old.items ≡ [] }
         ensures { endings.new.items ≡ record { call = self.now.made + 1; thread = self.now.seat.thread; mark = Mark.Failed errno; buffer = buffer } ∷ [] }
     {
-        endings.push(self.ending_with(Mark::Failed(errno), buffer));
+        endings.push(self.completion_with(Mark::Failed(errno), buffer));
     }
 }

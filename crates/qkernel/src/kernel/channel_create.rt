@@ -35,7 +35,7 @@ impl Kernel {
         if let Err((errno, _)) = self.objects.channels.create(chid, channel) {
             return Err(errno);
         }
-        put(endings, caller.ending(Mark::Channel(chid)));
+        put(endings, caller.completion(Mark::Channel(chid)));
         Ok(())
     }
 }

@@ -26,7 +26,7 @@ impl Kernel {
         if !self.objects.owns(caller.process, chid) {
             return Err(Errno::Inval);
         }
-        let own = caller.ending(Mark::Ok);
+        let own = caller.completion(Mark::Ok);
         self.objects
             .cancel(CancelSet::On(chid), Errno::Srch, own, endings);
         self.objects.close(chid);

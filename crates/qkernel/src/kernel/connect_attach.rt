@@ -32,7 +32,7 @@ impl Kernel {
         if let Err((errno, _)) = self.objects.connections.create(coid, connection) {
             return Err(errno);
         }
-        put(endings, caller.ending(Mark::Connection(coid)));
+        put(endings, caller.completion(Mark::Connection(coid)));
         Ok(())
     }
 }

@@ -47,7 +47,7 @@ impl Kernel {
         let priority = self.objects.threads.priority(&caller.seat);
         let due = pulse_for(caller, last, priority);
         let met = self.objects.send_due(chid, due)?;
-        let own = caller.ending(Mark::Ok);
+        let own = caller.completion(Mark::Ok);
         self.objects
             .cancel(CancelSet::Over(coid), Errno::Badf, own, endings);
         put_if(endings, met);

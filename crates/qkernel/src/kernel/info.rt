@@ -34,7 +34,7 @@ impl Kernel {
         let holder = self.objects.holder(caller.process, rcvid)?;
         let told = self.objects.threads.record(&holder).info();
         let info = told.ok_or(Errno::Srch)?;
-        put(endings, caller.ending(Mark::Info(info)));
+        put(endings, caller.completion(Mark::Info(info)));
         Ok(())
     }
 }

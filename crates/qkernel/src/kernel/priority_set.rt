@@ -26,7 +26,7 @@ impl Kernel {
         let fellow = self.objects.fellow(caller.process, target)?;
         self.objects.requeue_unread(&fellow, priority);
         self.objects.threads.set_priority(&fellow, Some(priority));
-        put(endings, caller.ending(Mark::Ok));
+        put(endings, caller.completion(Mark::Ok));
         Ok(())
     }
 }

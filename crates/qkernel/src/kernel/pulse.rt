@@ -34,7 +34,7 @@ impl Kernel {
         }
         let item = caller.item(priority, What::User { code, value });
         let met = self.objects.send_pulse(chid, item)?;
-        put(endings, caller.ending(Mark::Ok));
+        put(endings, caller.completion(Mark::Ok));
         put_if(endings, met);
         Ok(())
     }

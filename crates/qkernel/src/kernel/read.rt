@@ -31,7 +31,7 @@ impl Kernel {
         let mut buffer = buffer;
         let message = self.objects.threads.record(&holder).message();
         let copied = buffer.take(message, offset);
-        put(endings, caller.ending_with(Mark::Count(copied), buffer));
+        put(endings, caller.completion_with(Mark::Count(copied), buffer));
     }
 
     /// Copies bytes into the reply buffer of a held message's sender, from an offset on; the sender stays blocked. An
@@ -49,7 +49,7 @@ impl Kernel {
     {
         let holder = self.objects.holder(caller.process, rcvid)?;
         let copied = self.objects.threads.write_sent(&holder, offset, bytes);
-        put(endings, caller.ending(Mark::Count(copied)));
+        put(endings, caller.completion(Mark::Count(copied)));
         Ok(())
     }
 }

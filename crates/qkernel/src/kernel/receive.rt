@@ -50,6 +50,6 @@ impl Kernel {
         let priority = channel.carried(item.priority);
         let mark = objects.threads.hand_item(item, &mut buffer);
         objects.threads.set_priority(&caller.seat, priority);
-        put(endings, caller.ending_with(mark, buffer));
+        put(endings, caller.completion_with(mark, buffer));
     }
 }

@@ -13,7 +13,7 @@ use qmodel::open_call::OpenSend;
 use qstate::endings::{Endings, put};
 
 /// Returns the completion of a Send that is answered: the bytes are copied to the front of its reply buffer.
-fn reply_ending(sent: OpenSend, status: i64, bytes: &[u8]) -> Completion
+fn reply_completion(sent: OpenSend, status: i64, bytes: &[u8]) -> Completion
     ensures { result ≡ record { call = sent.number; thread = sent.thread; mark = Mark.Replied status (laid_count sent.reply_buffer 0 bytes.now); buffer = lay_over sent.reply_buffer 0 bytes.now } }
 {
     let mut sent = sent;
@@ -51,8 +51,8 @@ impl Kernel {
         ensures { MakesOrRefuses self.old caller.now (Call.Reply rcvid status bytes.now) result endings.new.items self.new }
     {
         let sent = self.objects.take_held(caller.process, rcvid)?;
-        put(endings, caller.ending(Mark::Ok));
-        put(endings, reply_ending(sent, status, bytes));
+        put(endings, caller.completion(Mark::Ok));
+        put(endings, reply_completion(sent, status, bytes));
         Ok(())
     }
 
@@ -69,7 +69,7 @@ impl Kernel {
         ensures { MakesOrRefuses self.old caller.now (Call.Error rcvid code) result endings.new.items self.new }
     {
         let sent = self.objects.take_held(caller.process, rcvid)?;
-        put(endings, caller.ending(Mark::Ok));
+        put(endings, caller.completion(Mark::Ok));
         put(endings, sent.completion(error_mark(code)));
         Ok(())
     }

@@ -3,7 +3,7 @@
 ghost use Rattle.std.specs.Prelude.{◌≡◌, Some, false};
 ghost use Rattle.qqueue.specs.Best.{is_pulse};
 ghost use Rattle.qrules.specs.Past.{item_in};
-ghost use Rattle.qrules.specs.Delivery.{receipt_ending};
+ghost use Rattle.qrules.specs.Delivery.{receipt_completion};
 
 use super::Kernel;
 use super::caller::Caller;
@@ -18,7 +18,7 @@ use qstate::endings::{Endings, put};
 /// Hands the message to a receive that ended. Returns the receive's completion, and the receipt for the sender's record.
 fn deliver(receive: OpenReceive, item: &Item, message: &Bytes) -> (Completion, Receipt)
     requires { is_pulse item.now.what ≡ false }
-    ensures ended { result.0 ≡ receipt_ending item.now message.now receive.thread receive.number receive.buffer }
+    ensures ended { result.0 ≡ receipt_completion item.now message.now receive.thread receive.number receive.buffer }
     ensures copied { item_in result.0.mark ≡ Some (record { number = item.now.number; copied = result.1.copied }) }
     ensures receipt { result.1 ≡ record { priority = item.now.priority; copied = result.1.copied; unblocked = false } }
 {

@@ -16,7 +16,7 @@ impl Kernel {
         requires { MayCall self.old caller.now endings.old.items }
         ensures { Makes self.old caller.now Call.Shutdown endings.new.items self.new }
     {
-        let own = caller.ending(Mark::Ok);
+        let own = caller.completion(Mark::Ok);
         self.objects
             .cancel(CancelSet::All, Errno::Srch, own, endings);
         self.down = true;

@@ -25,7 +25,7 @@ impl Kernel {
             state: self.objects.state(&seat),
             priority: self.objects.threads.priority(&seat),
         };
-        put(endings, caller.ending(mark));
+        put(endings, caller.completion(mark));
         Ok(())
     }
 }

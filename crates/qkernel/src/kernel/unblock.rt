@@ -27,19 +27,19 @@ impl Kernel {
     {
         let fellow = self.objects.fellow(caller.process, target)?;
         let Some(held) = self.objects.guarded_message(&fellow) else {
-            let own = caller.ending(Mark::Ok);
+            let own = caller.completion(Mark::Ok);
             self.objects
                 .cancel(CancelSet::Of(target), Errno::Intr, own, endings);
             return Ok(());
         };
         if held.receipt.unblocked {
-            put(endings, caller.ending(Mark::Ok));
+            put(endings, caller.completion(Mark::Ok));
             return Ok(());
         }
         let pulse = caller.item(held.receipt.priority, What::Unblock(held.rcvid));
         let met = self.objects.send_pulse(held.channel, pulse)?;
         self.objects.threads.mark_unblocked(&fellow);
-        put(endings, caller.ending(Mark::Ok));
+        put(endings, caller.completion(Mark::Ok));
         put_if(endings, met);
         Ok(())
     }

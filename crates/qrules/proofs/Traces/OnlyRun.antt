@@ -10,18 +10,18 @@ use Rattle.qmodel.specs.declared.call.Call.{Call}
 use Rattle.qmodel.specs.declared.call.Completion.{Completion}
 use Rattle.qmodel.specs.declared.call.Mark.TheVariants as mark
 use Rattle.qrules.specs.Outcome.{Answers, MayRefuse, refusal_of}
-use Rattle.qrules.proofs.Words.Items.{refusal_ending}
+use Rattle.qrules.proofs.Words.Items.{refusal_completion}
 use Rattle.qrules.proofs.Words.Facts.{Facts}
 use Rattle.qrules.proofs.Words.Lawful.{IsLawful, facts_of, followed_by}
 use Rattle.qrules.specs.Lawful.{event_call, HadMemory, IsOnlyRun}
 use Rattle.qmodel.specs.Trace.{Event, Trace}
 
--- no ending says that there was no memory
+-- no completion says that there was no memory
 abbrev Fine : List Completion → Type 0
 Fine X = AllByRecursion (λ x. x.mark ≡ mark.Failed NoMemory → ⊥) X
 
 -- a refusal for another reason than memory is the first that applies
-first_refusal : (f : Facts) (t : ℕ) (c : Call) (e : Errno) (X : List Completion) → MayRefuse f t c e → X ≡ refusal_ending f t c e ∷ [] → Fine X → refusal_of f t c ≡ Some e
+first_refusal : (f : Facts) (t : ℕ) (c : Call) (e : Errno) (X : List Completion) → MayRefuse f t c e → X ≡ refusal_completion f t c e ∷ [] → Fine X → refusal_of f t c ≡ Some e
 first_refusal f t c e X (inl first) is fine = first
 first_refusal f t c e X (inr short) is fine = absurd ((subst Fine is fine).0 (ap mark.Failed (short.2)))
 
@@ -31,7 +31,7 @@ one_answer f t c X Y (inl x) (inr y) p q = absurd (none-some y.0 (sym x.0 ∙ fi
 one_answer f t c X Y (inr x) (inl y) p q = absurd (none-some x.0 (sym y.0 ∙ first_refusal f t c x.0 X x.1 x.2 p))
 one_answer f t c X Y (inr x) (inr y) p q =
     let same : x.0 ≡ y.0 = cc (first_refusal f t c x.0 X x.1 x.2 p, first_refusal f t c y.0 Y y.1 y.2 q) in
-    x.2 ∙ ap (λ e. refusal_ending f t c e ∷ []) same ∙ sym y.2
+    x.2 ∙ ap (λ e. refusal_completion f t c e ∷ []) same ∙ sym y.2
 
 -- the past of a lawful trace is lawful
 lawful_past : (roster : List Member) (past : Trace) (events : List Event) → IsLawful roster (followed_by past events) → IsLawful roster past

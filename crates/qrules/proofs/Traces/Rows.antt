@@ -13,9 +13,9 @@ use Rattle.qrules.specs.Rules.Unblock.{due_pulse_of, guards, unblock_pulse}
 use Rattle.qmodel.specs.declared.open_call.OpenCall.{OpenCall}
 use Rattle.qmodel.specs.declared.open_call.OpenCall.TheVariants.{Receive, Send}
 use Rattle.qmodel.specs.Trace.{SentItem}
-use Rattle.qrules.specs.Delivery.{cancel_call, cancels, deliver, newest_receiver, receipt_ending}
+use Rattle.qrules.specs.Delivery.{cancel_call, cancels, deliver, newest_receiver, receipt_completion}
 use Rattle.qrules.specs.Facts.{has_flag, receive_in, receive_of, route, send_in, send_of, Facts}
-use Rattle.qrules.proofs.Words.Items.{answer_ending, delivers, ends_receiver, ends_sender, message_item, receiver}
+use Rattle.qrules.proofs.Words.Items.{answer_completion, delivers, ends_receiver, ends_sender, message_item, receiver}
 use Rattle.qrules.specs.Records.{takes}
 use Rattle.qrules.proofs.Words.Items.{ends_unblocked, Finish}
 use Rattle.qrules.specs.Records.{cancel_where}
@@ -23,13 +23,13 @@ use Rattle.qrules.specs.Rules.{row_of}
 use Rattle.qrules.proofs.Traces.Calls.Delivering.{sent_way}
 use Rattle.qrules.proofs.Traces.Routes.{has_way}
 
-takes_same : (item : Item) (message : List ℕ) (u : ℕ) (o : Option OpenCall) → option_map (λ r. receipt_ending item message u r.number r.buffer) (option_and_then receive_in o) ≡ takes item message u o
+takes_same : (item : Item) (message : List ℕ) (u : ℕ) (o : Option OpenCall) → option_map (λ r. receipt_completion item message u r.number r.buffer) (option_and_then receive_in o) ≡ takes item message u o
 takes_same item message u None = refl
 takes_same item message u (Some (Send s)) = refl
 takes_same item message u (Some (Receive r)) = refl
 
 to_receiver : (f : Facts) (item : Item) (message : List ℕ) (r : Option ℕ) (u : ℕ)
-    → option_and_then (λ v. cond (eqb u v) (option_map (λ x. receipt_ending item message u x.number x.buffer) (receive_of f u)) None) r ≡ delivers f item message r u
+    → option_and_then (λ v. cond (eqb u v) (option_map (λ x. receipt_completion item message u x.number x.buffer) (receive_of f u)) None) r ≡ delivers f item message r u
 to_receiver f item message None u = refl
 to_receiver f item message (Some v) u = ap (λ o. cond (eqb u v) o None) (takes_same item message u (f.open_call u))
 
@@ -48,7 +48,7 @@ sent_same f t coid sent reply_buffer u passed =
     ∙ ap (λ h. delivers f (message_item f t) sent (receiver f (message_item f t) h) u) (sym w.1)
 
 answered_same : (finish : Finish) (u : ℕ) (o : Option OpenCall)
-    → option_map (λ s. record { call = s.number; thread = u; mark = (finish s.reply_buffer).0; buffer = (finish s.reply_buffer).1 }) (option_and_then send_in o) ≡ answer_ending finish u o
+    → option_map (λ s. record { call = s.number; thread = u; mark = (finish s.reply_buffer).0; buffer = (finish s.reply_buffer).1 }) (option_and_then send_in o) ≡ answer_completion finish u o
 answered_same finish u None = refl
 answered_same finish u (Some (Send s)) = refl
 answered_same finish u (Some (Receive r)) = refl

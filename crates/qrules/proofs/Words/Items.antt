@@ -27,8 +27,8 @@ use Rattle.qrules.proofs.Words.Facts.{Facts, message, route, sender}
 use Rattle.qbase.specs.declared.errno.Errno.{Errno}
 use Rattle.qbase.specs.declared.errno.Errno.TheVariants.{Intr}
 use Rattle.qmodel.specs.declared.open_call.OpenCall.TheVariants.{Receive, Send}
-use Rattle.qrules.specs.Rule.{buffer_of, own_ending}
-use Rattle.qrules.specs.Delivery.{newest_receiver, receipt_ending}
+use Rattle.qrules.specs.Rule.{buffer_of, own_completion}
+use Rattle.qrules.specs.Delivery.{newest_receiver, receipt_completion}
 use Rattle.qrules.specs.Rules.Connections.{disconnect_pulse}
 use Rattle.qrules.specs.Rules.Pulse.{pulse_over}
 use Rattle.qrules.specs.Rules.Unblock.{guards, unblock_pulse}
@@ -94,32 +94,32 @@ ends_unblocked f thread None u =
     cancel_where (λ o. (u == thread) && not (guards f o)) Intr u (f.open_call u)
 ends_unblocked f thread (Some m) u = ends_receiver f (Some m) u
 
--- an answer: from the reply buffer to the mark of the Send's ending and the buffer that it gives back
+-- an answer: from the reply buffer to the mark of the Send's completion and the buffer that it gives back
 abbrev pub Finish : Type 0
 Finish = List ℕ → Mark × List ℕ
 
--- the ending of thread u's open call with this answer, if it is a Send
-abbrev pub answer_ending_of : Finish → ThreadNo → OpenCall → Option Completion
-answer_ending_of finish u (Send s) = Some (record {
+-- the completion of thread u's open call with this answer, if it is a Send
+abbrev pub answer_completion_of : Finish → ThreadNo → OpenCall → Option Completion
+answer_completion_of finish u (Send s) = Some (record {
   call = s.number;
   thread = u;
   mark = (finish s.reply_buffer).0;
   buffer = (finish s.reply_buffer).1;
 })
-answer_ending_of finish u (Receive r) = None
+answer_completion_of finish u (Receive r) = None
 
 -- the same of an open call, if there is one
-abbrev pub answer_ending : Finish → ThreadNo → Option OpenCall → Option Completion
-answer_ending finish u call = option_and_then (answer_ending_of finish u) call
+abbrev pub answer_completion : Finish → ThreadNo → Option OpenCall → Option Completion
+answer_completion finish u call = option_and_then (answer_completion_of finish u) call
 
 -- ends the sender's call, and no other
 abbrev pub ends_sender : Facts → Finish → Option ThreadNo → ThreadNo → Option Completion
 ends_sender f finish sender u =
-    option_and_then (λ s. if u == s then answer_ending finish u (f.open_call u) else None) sender
+    option_and_then (λ s. if u == s then answer_completion finish u (f.open_call u) else None) sender
 
 -- a refused call ends in its own event, with its buffer as it was
-abbrev pub refusal_ending : Facts → ThreadNo → Call → Errno → Completion
-refusal_ending f t c e = own_ending f t (mark.Failed e) (buffer_of c)
+abbrev pub refusal_completion : Facts → ThreadNo → Call → Errno → Completion
+refusal_completion f t c e = own_completion f t (mark.Failed e) (buffer_of c)
 
 -- ---- receipts
 
@@ -132,16 +132,16 @@ pub record Received : Type 0 where
   pub sender : Option ThreadNo
   pub kept : Receipt
 
--- the receipt in an ending, of an item of this channel, sender and priority
+-- the receipt in a completion, of an item of this channel, sender and priority
 abbrev pub receipt_in : ChannelId → Option ThreadNo → Priority → Option Completion → Option Received
-receipt_in h sender priority ending =
+receipt_in h sender priority completion =
     option_and_then (λ y. option_map (λ r. record {
       item = r.number;
       channel = h;
       by = y.thread;
       sender = sender;
       kept = record { priority = priority; copied = r.copied; unblocked = false };
-    }) (item_in y.mark)) ending
+    }) (item_in y.mark)) completion
 
 -- the receipt of what is sent to channel h; a message has a sender that waits for its answer
 abbrev pub receipt_when_sent : Facts → Option ThreadNo → Item → List ℕ → Option ChannelId → Option ThreadNo
@@ -155,18 +155,18 @@ abbrev pub pulse_receipt : Facts → Option SentItem → Option Received
 pulse_receipt f pulse = option_and_then
     (λ m. receipt_when_sent f None m.item [] (Some m.channel) (receiver f m.item (Some m.channel))) pulse
 
--- the ending of the call that takes the item into its buffer
+-- the completion of the call that takes the item into its buffer
 abbrev pub own_receipt : Facts → ThreadNo → List ℕ → Option Item → Option Completion
-own_receipt f t buffer item = option_map (λ i. receipt_ending i (message f i.number) t f.number buffer) item
+own_receipt f t buffer item = option_map (λ i. receipt_completion i (message f i.number) t f.number buffer) item
 
 -- the thread that waits for the answer to an item; None for a pulse
 abbrev pub sender_for : Facts → Item → Option ThreadNo
 sender_for f item = if is_pulse item.what then None else sender f item.number
 
--- the receipt of the item that the call takes, by its ending
+-- the receipt of the item that the call takes, by its completion
 abbrev pub receipt_when_taken : Facts → ChannelId → Option Completion → Option Item → Option Received
-receipt_when_taken f h ending item =
-    option_and_then (λ i. receipt_in h (sender_for f i) i.priority ending) item
+receipt_when_taken f h completion item =
+    option_and_then (λ i. receipt_in h (sender_for f i) i.priority completion) item
 
 -- the receipt of the best item that the kind may take
 abbrev pub receipt_of_best : Facts → ThreadNo → ChannelId → Kind → List ℕ → Option Received
@@ -185,10 +185,10 @@ receipt_of f t (calls.Unblock thread) = pulse_receipt f (unblock_pulse f thread)
 receipt_of f t (calls.ConnectDetach coid) = pulse_receipt f (disconnect_pulse f t coid)
 receipt_of f t c = None
 
--- the ending of a call with this mark and no buffer
+-- the completion of a call with this mark and no buffer
 abbrev pub ends_with : CallNo → ThreadNo → Mark → Completion
 ends_with n t mark = record { call = n; thread = t; mark = mark; buffer = [] }
 
--- the ending of the Info
-abbrev pub info_ending : CallNo → ThreadNo → Info → Completion
-info_ending n t info = ends_with n t (mark.Info info)
+-- the completion of the Info
+abbrev pub info_completion : CallNo → ThreadNo → Info → Completion
+info_completion n t info = ends_with n t (mark.Info info)

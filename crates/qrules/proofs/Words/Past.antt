@@ -30,8 +30,8 @@ abbrev pub refuses : List Completion → CallNo → Bool
 refuses endings n = list_any (λ x. (x.call == n) && is_failure x.mark) endings
 
 -- one of these endings is of call i
-abbrev pub has_ending_of : List Completion → CallNo → Bool
-has_ending_of endings i = list_any (λ x. x.call == i) endings
+abbrev pub has_completion_of : List Completion → CallNo → Bool
+has_completion_of endings i = list_any (λ x. x.call == i) endings
 
 -- ---- channels and connections
 
@@ -91,9 +91,9 @@ abbrev pub carried_priority : (ChannelId → Option OpenChannel) → Option Sent
 carried_priority channel made =
     option_and_then (λ m. if is_fixed (channel m.channel) then None else Some m.item.priority) made
 
--- the priority that thread t takes by an ending, given the priority, or none, that each received item carries
-abbrev pub priority_from_ending : (CallNo → Option Priority) → ThreadNo → Completion → Option Priority
-priority_from_ending priority t x =
+-- the priority that thread t takes by a completion, given the priority, or none, that each received item carries
+abbrev pub priority_from_completion : (CallNo → Option Priority) → ThreadNo → Completion → Option Priority
+priority_from_completion priority t x =
     if x.thread == t then option_and_then (λ r. priority r.number) (item_in x.mark) else None
 
 -- a thread's priority: the one that an event changed it to last, or else the one in the roster

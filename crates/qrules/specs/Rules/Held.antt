@@ -5,7 +5,7 @@ use Rattle.qrules.specs.Words.{option_map, pos, Errno, Info, Mark, Member, None,
 use Rattle.qrules.specs.Words.{Srch, ℤ}
 use Rattle.qrules.specs.Trace.{Bytes, ReceiveId, ThreadNo}
 use Rattle.qrules.specs.Facts.{holds, message, reply_buffer, send_of, sender, Facts, OpenCall}
-use Rattle.qrules.specs.Rule.{no_effect, own_ending, own_row, plain_row, Row, Rule, Transfer}
+use Rattle.qrules.specs.Rule.{no_effect, own_completion, own_row, plain_row, Row, Rule, Transfer}
 use Rattle.qrules.specs.Words.mark
 use Rattle.qmodel.specs.declared.open_call.OpenCall.TheVariants.{Receive, Send}
 
@@ -13,8 +13,8 @@ use Rattle.qmodel.specs.declared.open_call.OpenCall.TheVariants.{Receive, Send}
 abbrev pub refusal_unless_held : Facts → ThreadNo → ReceiveId → Option Errno
 refusal_unless_held f t i = if holds f t i then None else Some Srch
 
--- the row of a call that answers message i; answer takes the reply buffer to the mark of the Send's ending
--- and the buffer that it gives back
+-- the row of a call that answers message i; answer takes the reply buffer to the mark of the Send's
+-- completion and the buffer that it gives back
 abbrev pub answer_row : ReceiveId → (Bytes → Mark × Bytes) → Facts → ThreadNo → Row
 answer_row i answer f t = record (plain_row f t (refusal_unless_held f t i) mark.Ok) {
   others = λ u. option_and_then (λ s. if u == s then option_map (λ x. record {
@@ -83,6 +83,6 @@ info_of f sender = option_and_then (λ s. option_and_then
 abbrev pub info : ReceiveId → Rule
 info i = record {
   row = λ f t. record (plain_row f t (refusal_unless_held f t i) mark.Ok)
-      { own = option_map (λ told. own_ending f t (mark.Info told) []) (info_of f (sender f i)) };
+      { own = option_map (λ told. own_completion f t (mark.Info told) []) (info_of f (sender f i)) };
   effect = no_effect;
 }

@@ -3,7 +3,7 @@ use Rattle.std.specs.Prelude.{if◌then◌else◌}
 use Rattle.qrules.specs.Words.{best_of, false, option_map, None, Some, Srch}
 use Rattle.qrules.specs.Facts.{message, owns}
 use Rattle.qrules.specs.Rule.{no_effect, ReceiveRequest, Rule}
-use Rattle.qrules.specs.Delivery.{receipt_ending}
+use Rattle.qrules.specs.Delivery.{receipt_completion}
 
 -- takes the best item that the kind may take, with the bytes of its Send; Srch if the channel is another
 -- process's
@@ -12,7 +12,7 @@ receive r = record {
   row = λ f t. record {
     refusal = if owns f t r.channel then None else Some Srch;
     takes_memory = false;
-    own = option_map (λ item. receipt_ending item (message f item.number) t f.number r.buffer)
+    own = option_map (λ item. receipt_completion item (message f item.number) t f.number r.buffer)
         (best_of r.kind (f.pending r.channel));
     others = λ u. None;
   };

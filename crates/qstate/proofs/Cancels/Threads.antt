@@ -18,7 +18,7 @@ use Rattle.qstate.specs.declared.cancelling.CancelSet.{CancelSet}
 use Rattle.qstate.specs.declared.thread.Thread.{Thread}
 use Rattle.qstate.specs.Channel.{ids_of}
 use Rattle.qstate.specs.Kept.{channel_in, pending_in, members_of, thread_priority}
-use Rattle.qstate.specs.Cancelling.{is_cancelled_by, is_cancelled_open, is_taken_from, is_cancelled_among, ending_for, with_ending, thread_after_cancelled, Lose, LoseCancelled, AreCancelled}
+use Rattle.qstate.specs.Cancelling.{is_cancelled_by, is_cancelled_open, is_taken_from, is_cancelled_among, completion_for, with_completion, thread_after_cancelled, Lose, LoseCancelled, AreCancelled}
 use Rattle.qstate.specs.Thread.{open_in}
 use Rattle.qbase.proofs.Lists.{filter_whole}
 use Rattle.qstate.proofs.Cancels.Queues.{filter_after}
@@ -110,14 +110,14 @@ later_apart n u (t ∷ threads) at h =
     let above : n < t.member.thread = h.0 in
     rw (ne_eqb t.member.thread u (λ e. omega arith)) (later_apart n u threads at h.1)
 
-ending_joins : (endings more : List Completion) (ending : Option Completion) → with_ending endings ending ++ more ≡ endings ++ cons_option ending more
-ending_joins endings more None = refl
-ending_joins endings more (Some ending) = append_assoc endings (ending ∷ []) more
+completion_joins : (endings more : List Completion) (completion : Option Completion) → with_completion endings completion ++ more ≡ endings ++ cons_option completion more
+completion_joins endings more None = refl
+completion_joins endings more (Some completion) = append_assoc endings (completion ∷ []) more
 
 module _ (cancel : CancelSet) (e : Errno) (own : Completion) where
   -- how the thread's call ends
-  abbrev pub ending_of : Thread → Option Completion
-  ending_of t = ending_for cancel e own t.member.thread t.open_call
+  abbrev pub completion_of : Thread → Option Completion
+  completion_of t = completion_for cancel e own t.member.thread t.open_call
 
   -- what the rest of the threads is yet to bring, with what was brought so far, is what all of them bring
   pub record Sweeps (all rest : List Thread) (first now : List (ℕ × Channel)) (left : Option Completion) (endings : List Completion) : Type 0 where
@@ -126,7 +126,7 @@ module _ (cancel : CancelSet) (e : Errno) (own : Completion) where
     pub pending : (k : ℕ) → filter (λ item. not (goes_among (is_cancelled_by cancel) rest k item.number)) (pending_in now k)
         ≡ filter (λ item. not (goes_among (is_cancelled_by cancel) all k item.number)) (pending_in first k)
     pub unspent : is_among own.thread rest ≡ true → left ≡ Some own
-    pub brings : endings ++ filter_map ending_of rest ≡ filter_map ending_of all
+    pub brings : endings ++ filter_map completion_of rest ≡ filter_map completion_of all
     pub roster : IsRoster (members_of rest)
     pub idle : AllByRecursion (λ t. eqb t.member.thread own.thread ≡ true → t.open_call ≡ None) rest
 
@@ -146,13 +146,13 @@ module _ (cancel : CancelSet) (e : Errno) (own : Completion) where
     idle = idle_all (open_in all) all none (own_open all roster);
   }
 
-  pub sweeps_on : (all rest : List Thread) (x : Thread) (first now next : List (ℕ × Channel)) (left left-2 ending : Option Completion) (endings : List Completion)
+  pub sweeps_on : (all rest : List Thread) (x : Thread) (first now next : List (ℕ × Channel)) (left left-2 completion : Option Completion) (endings : List Completion)
       → Sweeps all (x ∷ rest) first now left endings
       → Lose (is_taken_from (is_cancelled_by cancel x.member.thread) x.open_call) now next
       → left-2 ≡ cond (eqb x.member.thread own.thread) None left
-      → ending ≡ cond (eqb x.member.thread own.thread) left (cancel_where (is_cancelled_by cancel x.member.thread) e x.member.thread x.open_call)
-      → Sweeps all rest first next left-2 (with_ending endings ending)
-  sweeps_on all rest x first now next left left-2 ending endings so lose l-2 ends = record {
+      → completion ≡ cond (eqb x.member.thread own.thread) left (cancel_where (is_cancelled_by cancel x.member.thread) e x.member.thread x.open_call)
+      → Sweeps all rest first next left-2 (with_completion endings completion)
+  sweeps_on all rest x first now next left left-2 completion endings so lose l-2 ends = record {
     ids = lose.ids ∙ so.ids;
     channel = λ k. lose.channel k ∙ so.channel k;
     pending = λ k. ap (filter (λ item. not (goes_among (is_cancelled_by cancel) rest k item.number))) (lose.pending k)
@@ -162,8 +162,8 @@ module _ (cancel : CancelSet) (e : Errno) (own : Completion) where
       | true ↦ λ at there. absurd (true≢false (sym h ∙ later_apart _ _ rest at so.roster.0))
       | false ↦ λ apart there. there h
     ] refl so.unspent);
-    brings = ending_joins endings (filter_map ending_of rest) ending
-        ∙ ap (λ o. endings ++ cons_option o (filter_map ending_of rest)) (ends ∙ (elim (eqb x.member.thread own.thread)
+    brings = completion_joins endings (filter_map completion_of rest) completion
+        ∙ ap (λ o. endings ++ cons_option o (filter_map completion_of rest)) (ends ∙ (elim (eqb x.member.thread own.thread)
         as (λ b. ((b || is_among own.thread rest) ≡ true → left ≡ Some own) → cond b left (cancel_where (is_cancelled_by cancel x.member.thread) e x.member.thread x.open_call) ≡ cond b (Some own) (cancel_where (is_cancelled_by cancel x.member.thread) e x.member.thread x.open_call)) [
           | true ↦ λ there. there refl
           | false ↦ λ there. refl
@@ -175,9 +175,9 @@ module _ (cancel : CancelSet) (e : Errno) (own : Completion) where
 
   -- at the end all of the threads are passed
   pub swept_endings : (all : List Thread) (first now : List (ℕ × Channel)) (left : Option Completion) (endings : List Completion) → IsRoster (members_of all) → Sweeps all [] first now left endings
-      → endings ≡ filter_map (λ u. ending_for cancel e own u (open_in all u)) (threads_of (members_of all))
+      → endings ≡ filter_map (λ u. completion_for cancel e own u (open_in all u)) (threads_of (members_of all))
   swept_endings all first now left endings roster so =
-      sym (append-nil endings) ∙ so.brings ∙ sym (endings_by (ending_for cancel e own) (open_in all) all (own_open all roster))
+      sym (append-nil endings) ∙ so.brings ∙ sym (endings_by (completion_for cancel e own) (open_in all) all (own_open all roster))
 
   pub swept_channels : (all : List Thread) (first now : List (ℕ × Channel)) (left : Option Completion) (endings : List Completion) → IsRoster (members_of all) → Sweeps all [] first now left endings
       → LoseCancelled cancel e all first now
@@ -213,14 +213,14 @@ module _ (cancel : CancelSet) (e : Errno) (own : Completion) where
     pub idle_here : eqb (get_or items i d).member.thread caller ≡ true → (get_or items i d).open_call ≡ None
     idle_here at = here.idle.0 (subst (λ n. eqb (get_or items i d).member.thread n ≡ true) named at)
 
-    pub sweeps_step : (next : List (ℕ × Channel)) (left-2 ending : Option Completion) (endings-2 : List Completion)
+    pub sweeps_step : (next : List (ℕ × Channel)) (left-2 completion : Option Completion) (endings-2 : List Completion)
         → Lose (is_taken_from (is_cancelled_by cancel (get_or items i d).member.thread) (get_or items i d).open_call) now next
         → left-2 ≡ cond (eqb (get_or items i d).member.thread caller) None left
-        → ending ≡ cond (eqb (get_or items i d).member.thread caller) left (cancel_where (is_cancelled_by cancel (get_or items i d).member.thread) e (get_or items i d).member.thread (get_or items i d).open_call)
-        → endings-2 ≡ with_ending endings ending
+        → completion ≡ cond (eqb (get_or items i d).member.thread caller) left (cancel_where (is_cancelled_by cancel (get_or items i d).member.thread) e (get_or items i d).member.thread (get_or items i d).open_call)
+        → endings-2 ≡ with_completion endings completion
         → Sweeps all (drop (i + 1) all) first next left-2 endings-2
-    sweeps_step next left-2 ending endings-2 lose l-2 ends put = subst (λ es. Sweeps all (drop (i + 1) all) first next left-2 es) (sym put)
-        (sweeps_on all (drop (i + 1) all) (get_or items i d) first now next left left-2 ending endings here lose
+    sweeps_step next left-2 completion endings-2 lose l-2 ends put = subst (λ es. Sweeps all (drop (i + 1) all) first next left-2 es) (sym put)
+        (sweeps_on all (drop (i + 1) all) (get_or items i d) first now next left left-2 completion endings here lose
         (l-2 ∙ ap (λ n. cond (eqb (get_or items i d).member.thread n) None left) named)
         (ends ∙ ap (λ n. cond (eqb (get_or items i d).member.thread n) left (cancel_where (is_cancelled_by cancel (get_or items i d).member.thread) e (get_or items i d).member.thread (get_or items i d).open_call)) named))
 
@@ -230,6 +230,6 @@ module _ (cancel : CancelSet) (e : Errno) (own : Completion) where
   pub swept_threads : (all items new : List Thread) (i n : ℕ) → items ≡ swept passed i all → i ≡ length all → length items ≡ n → take n (items ++ new) ≡ map passed all
   swept_threads all items new i n is end long = take_at items new n long ∙ is ∙ ap (λ j. swept passed j all) end ∙ swept_all passed all
 
-pub few_more : (endings : List Completion) (ending : Option Completion) → length (with_ending endings ending) ≤ length endings + 1
+pub few_more : (endings : List Completion) (completion : Option Completion) → length (with_completion endings completion) ≤ length endings + 1
 few_more endings None = omega arith
-few_more endings (Some ending) = omega (arith, length-append endings (ending ∷ []))
+few_more endings (Some completion) = omega (arith, length-append endings (completion ∷ []))

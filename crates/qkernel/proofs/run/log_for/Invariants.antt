@@ -7,5 +7,5 @@ invariant-loop-thread l = record {
   events : l.log.events ≡ [];
   endings : l.log.endings ≡ [];
   calls : l.log.call_room + l.thread-index ≡ length l.calls;
-  room : l.log.ending_room ≡ length l.calls + 64;
+  room : l.log.completion_room ≡ length l.calls + 64;
 }

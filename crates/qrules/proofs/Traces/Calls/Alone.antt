@@ -22,7 +22,7 @@ waits_not c a m = record {
   unblocks_one = λ v is f t i e. absurd (none-some i (sym (m f t) ∙ e));
 }
 
--- its ending is its own, and no receipt
+-- its completion is its own, and no receipt
 pub record IsPlain (n t : ℕ) (y : Completion) : Type 0 where
   pub own : IsOwn n t y
   pub mark : item_in y.mark ≡ None

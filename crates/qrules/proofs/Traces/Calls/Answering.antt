@@ -21,8 +21,8 @@ of_open : (f : Facts) (t rcvid : ℕ) (finish : Finish) (u : ℕ) (y : Completio
 of_open f t rcvid finish u y s = record {
   waiting = Send s.held.send;
   is = s.held.is_open;
-  call = sym (ap (λ x. x.call) s.ending) ∙ sym s.number;
-  thread = sym (ap (λ x. x.thread) s.ending);
+  call = sym (ap (λ x. x.call) s.completion) ∙ sym s.number;
+  thread = sym (ap (λ x. x.thread) s.completion);
 }
 
 settled_open : (f : Facts) (t rcvid : ℕ) (finish : Finish) (u : ℕ) (y : Completion) → SenderEnds f t rcvid finish u y → IsSettled (f.open_call u)
@@ -30,7 +30,7 @@ settled_open f t rcvid finish u y s w is = ap is_settled (same_Some w (Send s.he
 
 -- its mark is none of a receipt
 pub answer_receives : (f : Facts) (t rcvid : ℕ) (finish : Finish) (u : ℕ) (y : Completion) → ((buffer : List ℕ) → item_in (finish buffer).0 ≡ None) → SenderEnds f t rcvid finish u y → item_in y.mark ≡ None
-answer_receives f t rcvid finish u y none s = ap (λ x. item_in x.mark) (sym s.ending) ∙ none s.held.send.reply_buffer
+answer_receives f t rcvid finish u y none s = ap (λ x. item_in x.mark) (sym s.completion) ∙ none s.held.send.reply_buffer
 
 -- a call that ends in its own event, and ends the Send that it answers
 pub answers : (f : Facts) (t : ℕ) (c : Call) (rcvid : ℕ) (finish : Finish) → ((buffer : List ℕ) → item_in (finish buffer).0 ≡ None) → refusal_unless_held f t rcvid ≡ None

@@ -18,18 +18,18 @@ use Rattle.qrules.proofs.Traces.Calls.Alone.{IsPlain}
 use Rattle.qrules.proofs.Traces.Past.Laws.{RowLaws, is_forceful}
 use Rattle.qrules.specs.Rule.{Transfer}
 
--- the ending is of an open call that is cancelled
+-- the completion is of an open call that is cancelled
 pub record IsCutCall (is_cancelled : OpenCall → Bool) (e : Errno) (u : ℕ) (o : Option OpenCall) (y : Completion) : Type 0 where
   pub waiting : OpenCall
   pub is : o ≡ Some waiting
   pub cancel : is_cancelled waiting ≡ true
-  pub ending : cancel_call e u waiting ≡ y
+  pub completion : cancel_call e u waiting ≡ y
 
 pub cancel_parts : (is_cancelled : OpenCall → Bool) (e : Errno) (u : ℕ) (o : Option OpenCall) (y : Completion) → cancel_where is_cancelled e u o ≡ Some y → IsCutCall is_cancelled e u o y
 cancel_parts is_cancelled e u None y h = absurd (none-some y h)
 cancel_parts is_cancelled e u (Some o) y h =
     elim (is_cancelled o) as (λ b. is_cancelled o ≡ b → cond b (Some (cancel_call e u o)) None ≡ Some y → IsCutCall is_cancelled e u (Some o) y) [
-      | true ↦ λ cancel s. record { waiting = o; is = refl; cancel = cancel; ending = same_Some _ y s }
+      | true ↦ λ cancel s. record { waiting = o; is = refl; cancel = cancel; completion = same_Some _ y s }
       | false ↦ λ cancel s. absurd (none-some y s)
     ] refl h
 
@@ -40,10 +40,10 @@ cancelling f t c is_cancelled e force own ends receipt made written =
     let ended = λ (u : ℕ) (y : Completion) (s : (row_of f t c).others u ≡ Some y). cancel_parts (is_cancelled u) e u (f.open_call u) y (sym (ends u) ∙ s) in
     record {
       owns = λ y s. (own y s).own;
-      ends_open = λ u y s. let k = ended u y s in record { waiting = k.waiting; is = k.is; call = sym (ap (λ x. x.call) k.ending); thread = sym (ap (λ x. x.thread) k.ending) };
+      ends_open = λ u y s. let k = ended u y s in record { waiting = k.waiting; is = k.is; call = sym (ap (λ x. x.call) k.completion); thread = sym (ap (λ x. x.thread) k.completion) };
       ends_settled = λ mild u y s. absurd (true≢false (sym force ∙ mild));
       own_receives = λ y q s m. absurd (none-some q (sym (own y s).mark ∙ m));
-      ends_receives = λ u y q s m. absurd (none-some q (ap (λ x. item_in x.mark) (ended u y s).ending ∙ m));
+      ends_receives = λ u y q s m. absurd (none-some q (ap (λ x. item_in x.mark) (ended u y s).completion ∙ m));
       receives = λ r s. absurd (none-some r (sym receipt ∙ s));
       sends = λ m s message. absurd (none-some m (sym made ∙ s));
       makes_open = λ m s. absurd (none-some m (sym made ∙ s));

@@ -74,12 +74,12 @@ own_passes f t k r = elim (is_own f t (f.connection k)) as (λ b. cond b (refusa
 
 -- ---- what it ends
 
--- the ending of another's call
-abbrev other_ending : Facts → ℕ → Option SentItem → ℕ → Option Completion
-other_ending f k m u = option_or (cancels f (λ v. is_over k) Badf u) (deliver f m [] u)
+-- the completion of another's call
+abbrev other_completion : Facts → ℕ → Option SentItem → ℕ → Option Completion
+other_completion f k m u = option_or (cancels f (λ v. is_over k) Badf u) (deliver f m [] u)
 
 -- another's call that it ends is cancelled, or meets the pulse
-pub detach_ends : (f : Facts) (k : ℕ) (o : Option SentItem) (u : ℕ) (y : Completion) → other_ending f k o u ≡ Some y → IsCutCall (is_over k) Badf u (f.open_call u) y ⊎ (ends_receiver f o u ≡ Some y)
+pub detach_ends : (f : Facts) (k : ℕ) (o : Option SentItem) (u : ℕ) (y : Completion) → other_completion f k o u ≡ Some y → IsCutCall (is_over k) Badf u (f.open_call u) y ⊎ (ends_receiver f o u ≡ Some y)
 detach_ends f k o u y e =
     elim (cancel_where (is_over k) Badf u (f.open_call u)) as (λ x. cancel_where (is_over k) Badf u (f.open_call u) ≡ x → option_or x (deliver f o [] u) ≡ Some y → IsCutCall (is_over k) Badf u (f.open_call u) y ⊎ (ends_receiver f o u ≡ Some y)) [
       | None ↦ λ none s. inr (sym (pulse_same f o u) ∙ s)
@@ -102,11 +102,11 @@ call_laws coid = record {
 }
 
 module _ (f : Facts) (t coid : ℕ) (p : Passes f t (ConnectDetach coid)) where
-  ended : (u : ℕ) (y : Completion) → other_ending f coid (disconnect_pulse f t coid) u ≡ Some y → IsCutCall (is_over coid) Badf u (f.open_call u) y ⊎ (ends_receiver f (disconnect_pulse f t coid) u ≡ Some y)
+  ended : (u : ℕ) (y : Completion) → other_completion f coid (disconnect_pulse f t coid) u ≡ Some y → IsCutCall (is_over coid) Badf u (f.open_call u) y ⊎ (ends_receiver f (disconnect_pulse f t coid) u ≡ Some y)
   ended u y e = detach_ends f coid (disconnect_pulse f t coid) u y e
 
   cancel_open : (u : ℕ) (y : Completion) → IsCutCall (is_over coid) Badf u (f.open_call u) y → IsOfOpen f u y
-  cancel_open u y k = record { waiting = k.waiting; is = k.is; call = sym (ap (λ x. x.call) k.ending); thread = sym (ap (λ x. x.thread) k.ending) }
+  cancel_open u y k = record { waiting = k.waiting; is = k.is; call = sym (ap (λ x. x.call) k.completion); thread = sym (ap (λ x. x.thread) k.completion) }
 
   told_open : (o : Option SentItem) (u : ℕ) (y : Completion) → ends_receiver f o u ≡ Some y → IsOfOpen f u y
   told_open None u y e = absurd (none-some y e)
@@ -117,7 +117,7 @@ module _ (f : Facts) (t coid : ℕ) (p : Passes f t (ConnectDetach coid)) where
   told_one (Some m) is u y q e mark = met_receipt f t (Some m.channel) (ConnectDetach coid) m.item [] None (ap (pulse_receipt f) is) u y q e mark
 
   -- what meets the pulse isn't cancelled
-  met_ends : (m : SentItem) → disconnect_pulse f t coid ≡ Some m → (u : ℕ) (y : Completion) → ends_receiver f (Some m) u ≡ Some y → other_ending f coid (disconnect_pulse f t coid) u ≡ Some y
+  met_ends : (m : SentItem) → disconnect_pulse f t coid ≡ Some m → (u : ℕ) (y : Completion) → ends_receiver f (Some m) u ≡ Some y → other_completion f coid (disconnect_pulse f t coid) u ≡ Some y
   met_ends m is u y e =
       let k = met_item f m.item [] (Some m.channel) u y e in
       let uncut : cancel_where (is_over coid) Badf u (f.open_call u) ≡ None = rw k.is refl in
@@ -134,7 +134,7 @@ module _ (f : Facts) (t coid : ℕ) (p : Passes f t (ConnectDetach coid)) where
     ends_open = λ u y e. elim (ended u y e) [ inl k ↦ cancel_open u y k | inr s ↦ told_open (disconnect_pulse f t coid) u y s ];
     ends_settled = λ mild. absurd (true≢false mild);
     own_receives = λ y q e m. absurd (none-some q (ap (λ x. item_in x.mark) (same_Some _ y e) ∙ m));
-    ends_receives = λ u y q e m. elim (ended u y e) [ inl k ↦ absurd (none-some q (ap (λ x. item_in x.mark) k.ending ∙ m)) | inr s ↦ told_one (disconnect_pulse f t coid) refl u y q s m ];
+    ends_receives = λ u y q e m. elim (ended u y e) [ inl k ↦ absurd (none-some q (ap (λ x. item_in x.mark) k.completion ∙ m)) | inr s ↦ told_one (disconnect_pulse f t coid) refl u y q s m ];
     receives = λ q e. receives (disconnect_pulse f t coid) refl q e;
     sends = λ m e sent. absurd (true≢false (sym (due_is_pulse f t coid m e) ∙ sent));
     makes_open = λ m e. tells_open (f.channel m.channel) (due_parts f t (f.connection coid) m e).tells;

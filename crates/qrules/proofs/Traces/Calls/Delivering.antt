@@ -6,7 +6,7 @@ use Rattle.std.proofs.lemmas.Bool.{eqb-true, ne_eqb}
 use Rattle.std.proofs.lemmas.Option.{none-some, same_Some}
 use Rattle.qqueue.specs.declared.item.Item.{Item}
 use Rattle.qtables.specs.declared.connection.Connection.{Connection}
-use Rattle.qrules.specs.Outcome.{ending}
+use Rattle.qrules.specs.Outcome.{completion_to}
 use Rattle.qrules.proofs.Words.Items.{receipt_of}
 use Rattle.qrules.specs.Rules.{row_of}
 use Rattle.qrules.proofs.Words.Items.{delivers, receiver}
@@ -17,7 +17,7 @@ use Rattle.qrules.specs.Delivery.{newest_receiver}
 use Rattle.qrules.proofs.Words.Effects.{asks, makes}
 use Rattle.qrules.proofs.Words.Items.{Received, item_in, receipt_in, item_sent_over}
 use Rattle.qrules.specs.Records.{takes}
-use Rattle.qrules.specs.Delivery.{receipt_ending}
+use Rattle.qrules.specs.Delivery.{receipt_completion}
 use Rattle.qmodel.specs.Trace.{SentItem}
 use Rattle.qmodel.specs.declared.call.Call.{Call}
 use Rattle.qmodel.specs.declared.call.Completion.{Completion}
@@ -124,7 +124,7 @@ pub record ForAnItem (call : Option OpenCall) : Type 0 where
 
 -- what takes the item waits for one, and ends by taking it
 pub takes_item : (item : Item) (message : List ℕ) (u : ℕ) (call : Option OpenCall) (y : Completion) → takes item message u call ≡ Some y
-    → (w : ForAnItem call) × (receipt_ending item message u w.receive.number w.receive.buffer ≡ y)
+    → (w : ForAnItem call) × (receipt_completion item message u w.receive.number w.receive.buffer ≡ y)
 takes_item item message u None y e = absurd (none-some y e)
 takes_item item message u (Some (Send s)) y e = absurd (none-some y e)
 takes_item item message u (Some (Receive r)) y e = (record { receive = r; is = refl }, same_Some _ y e)
@@ -168,7 +168,7 @@ module _ (f : Facts) (t : ℕ) (o : Option ℕ) (c : Call) (item : Item) (messag
           sender_is = sender_is s.channel;
         });
         given = s.given;
-        is_given = subst (λ v. ending f t c v ≡ Some s.given) (sym s.taken.thread) (rw other (ends_met s.by s.given met));
+        is_given = subst (λ v. completion_to f t c v ≡ Some s.given) (sym s.taken.thread) (rw other (ends_met s.by s.given met));
         mark = s.taken.mark;
       })
 

@@ -10,7 +10,7 @@ use Rattle.qrules.proofs.Messages.{held_same}
 use Rattle.qrules.proofs.Words.Facts.{Facts, sender, threads_of, number_of, owns}
 use Rattle.qrules.specs.Rules.Held.{refusal_unless_held}
 use Rattle.qrules.proofs.Words.Items.{Finish, ends_sender}
-use Rattle.qrules.proofs.Words.Items.{answer_ending}
+use Rattle.qrules.proofs.Words.Items.{answer_completion}
 use Rattle.qrules.proofs.Traces.Parts.{is_held_for}
 use Rattle.qmodel.specs.declared.call.Completion.{Completion}
 use Rattle.qmodel.specs.declared.open_call.OpenCall.{OpenCall}
@@ -20,7 +20,7 @@ use Rattle.qrules.proofs.Traces.Past.Senders.{sender_sends}
 use Rattle.qmodel.specs.declared.open_call.OpenSend.{OpenSend}
 use Rattle.qbase.proofs.Lists.{some_of}
 
--- the ending of call m of thread u that is answered so
+-- the completion of call m of thread u that is answered so
 abbrev pub answering : ℕ → ℕ → Finish → List ℕ → Completion
 answering m u finish buffer = record { call = m; thread = u; mark = (finish buffer).0; buffer = (finish buffer).1 }
 
@@ -62,16 +62,16 @@ pub record SenderEnds (f : Facts) (t rcvid : ℕ) (finish : Finish) (u : ℕ) (y
   pub is_sender : sender f rcvid ≡ Some u
   pub held : IsHeldFor f t (f.open_call u)
   pub number : held.send.number ≡ rcvid
-  pub ending : answering rcvid u finish held.send.reply_buffer ≡ y
+  pub completion : answering rcvid u finish held.send.reply_buffer ≡ y
 
--- the ending of what is held
-pub finished_held : (f : Facts) (t : ℕ) (finish : Finish) (u : ℕ) (call : Option OpenCall) (h : IsHeldFor f t call) → answer_ending finish u call ≡ Some (answering h.send.number u finish h.send.reply_buffer)
+-- the completion of what is held
+pub finished_held : (f : Facts) (t : ℕ) (finish : Finish) (u : ℕ) (call : Option OpenCall) (h : IsHeldFor f t call) → answer_completion finish u call ≡ Some (answering h.send.number u finish h.send.reply_buffer)
 finished_held f t finish u call h = rw h.is_open refl
 
-ends_parts : (f : Facts) (finish : Finish) (r : Option ℕ) (u : ℕ) (y : Completion) → ends_sender f finish r u ≡ Some y → (r ≡ Some u) × (answer_ending finish u (f.open_call u) ≡ Some y)
+ends_parts : (f : Facts) (finish : Finish) (r : Option ℕ) (u : ℕ) (y : Completion) → ends_sender f finish r u ≡ Some y → (r ≡ Some u) × (answer_completion finish u (f.open_call u) ≡ Some y)
 ends_parts f finish None u y e = absurd (none-some y e)
 ends_parts f finish (Some v) u y e =
-    elim (eqb u v) as (λ b. eqb u v ≡ b → cond b (answer_ending finish u (f.open_call u)) None ≡ Some y → (Some v ≡ Some u) × (answer_ending finish u (f.open_call u) ≡ Some y)) [
+    elim (eqb u v) as (λ b. eqb u v ≡ b → cond b (answer_completion finish u (f.open_call u)) None ≡ Some y → (Some v ≡ Some u) × (answer_completion finish u (f.open_call u) ≡ Some y)) [
       | true ↦ λ same s. (ap (λ k. Some k) (sym (eqb-true u v same)), s)
       | false ↦ λ other s. absurd (none-some y s)
     ] refl e
@@ -87,5 +87,5 @@ sender_ends f t rcvid finish u y r e =
       is_sender = p.0;
       held = h;
       number = number;
-      ending = subst (λ m. answering m u finish h.send.reply_buffer ≡ y) number (same_Some _ y (sym (finished_held f t finish u (f.open_call u) h) ∙ p.1));
+      completion = subst (λ m. answering m u finish h.send.reply_buffer ≡ y) number (same_Some _ y (sym (finished_held f t finish u (f.open_call u) h) ∙ p.1));
     }

@@ -4,7 +4,7 @@ use Rattle.std.specs.Prelude.{Option, None, Some}
 use Rattle.std.specs.Option.{option_map}
 use Rattle.std.proofs.lemmas.Option.{none-some, same_Some}
 use Rattle.qrules.specs.Rules.Held.{info_of}
-use Rattle.qrules.proofs.Words.Items.{info_ending}
+use Rattle.qrules.proofs.Words.Items.{info_completion}
 use Rattle.qrules.proofs.Words.Facts.{Facts, sender}
 use Rattle.qmodel.specs.declared.call.Call.TheVariants.{Info}
 use Rattle.qmodel.specs.declared.call.Completion.{Completion}
@@ -15,7 +15,7 @@ use Rattle.qrules.proofs.Traces.Past.Laws.{CallLaws, RowLaws, Passes}
 pub call_laws : (rcvid : ℕ) → CallLaws (Info rcvid)
 call_laws rcvid = waits_not (Info rcvid) (λ n t h. refl) (λ f t. refl)
 
-pub plain : (n t : ℕ) (o : Option Told) (y : Completion) → option_map (info_ending n t) o ≡ Some y → IsPlain n t y
+pub plain : (n t : ℕ) (o : Option Told) (y : Completion) → option_map (info_completion n t) o ≡ Some y → IsPlain n t y
 plain n t None y e = absurd (none-some y e)
 plain n t (Some info_of) y e = subst (IsPlain n t) (same_Some _ y e) (record { own = record { call = refl; thread = refl; mark = refl }; mark = refl })
 

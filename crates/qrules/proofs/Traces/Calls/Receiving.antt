@@ -11,7 +11,7 @@ use Rattle.qrules.proofs.Words.Facts.{Facts, message}
 use Rattle.qrules.proofs.Words.Items.{own_receipt, receipt_when_taken, sender_for}
 use Rattle.qrules.proofs.Words.Effects.{asks, makes, writes}
 use Rattle.qrules.proofs.Words.Items.{Received, item_in}
-use Rattle.qrules.specs.Delivery.{receipt_ending}
+use Rattle.qrules.specs.Delivery.{receipt_completion}
 use Rattle.qmodel.specs.declared.call.Call.{Call}
 use Rattle.qmodel.specs.declared.call.Completion.{Completion}
 use Rattle.qmodel.specs.declared.open_call.OpenCall.{OpenCall}
@@ -39,7 +39,7 @@ own_one : (f : Facts) (t : ℕ) (buffer : List ℕ) (o : Option Item) (y : Compl
 own_one f t buffer None y e = absurd (none-some y e)
 own_one f t buffer (Some item) y e = subst (IsOwn f.number t) (same_Some _ y e) (record { call = refl; thread = refl; mark = given_no_failure item (message f item.number) buffer })
 
--- what it receives by its own ending is the receipt of the row
+-- what it receives by its own completion is the receipt of the row
 record Own (f : Facts) (t chid : ℕ) (buffer : List ℕ) (o : Option Item) (p : ReceivedItem) : Type 0 where
   receipt : Received
   is : receipt_when_taken f chid (own_receipt f t buffer o) o ≡ Some receipt
@@ -51,8 +51,8 @@ own_received : (f : Facts) (t chid : ℕ) (buffer : List ℕ) (o : Option Item) 
 own_received f t chid buffer None y p e m = absurd (none-some y e)
 own_received f t chid buffer (Some item) y p e m = record {
   receipt = receipt_from chid (sender_for f item) item.priority t p;
-  is = receipt_in_at chid (sender_for f item) item.priority (Some (receipt_ending item (message f item.number) t f.number buffer)) (receipt_ending item (message f item.number) t f.number buffer) p refl
-      (ap (λ x. item_in x.mark) (same_Some (receipt_ending item (message f item.number) t f.number buffer) y e) ∙ m);
+  is = receipt_in_at chid (sender_for f item) item.priority (Some (receipt_completion item (message f item.number) t f.number buffer)) (receipt_completion item (message f item.number) t f.number buffer) p refl
+      (ap (λ x. item_in x.mark) (same_Some (receipt_completion item (message f item.number) t f.number buffer) y e) ∙ m);
   by = refl;
   item = refl;
   copied = refl;
@@ -63,14 +63,14 @@ best_received : (f : Facts) (t : ℕ) (c : Call) (chid : ℕ) (kind : Kind) (buf
 best_received f t c chid kind buffer None r own is e = absurd (none-some r e)
 best_received f t c chid kind buffer (Some item) r own is e =
     let g = given_received item (message f item.number) buffer in
-    let at = receipt_in_at chid (sender_for f item) item.priority (Some (receipt_ending item (message f item.number) t f.number buffer)) (receipt_ending item (message f item.number) t f.number buffer) (record { number = item.number; copied = g.0 }) refl g.1 in
+    let at = receipt_in_at chid (sender_for f item) item.priority (Some (receipt_completion item (message f item.number) t f.number buffer)) (receipt_completion item (message f item.number) t f.number buffer) (record { number = item.number; copied = g.0 }) refl g.1 in
     subst (IsReceived f t c) (same_Some (receipt_from chid (sender_for f item) item.priority t (record { number = item.number; copied = g.0 })) r (sym at ∙ e)) (record {
       item = item;
       number = refl;
       priority = refl;
       fresh = refl;
       source = inr (record { kind = kind; best = is; sender_is = refl });
-      given = receipt_ending item (message f item.number) t f.number buffer;
+      given = receipt_completion item (message f item.number) t f.number buffer;
       is_given = rw (eqb_same t) own;
       mark = g.1;
     })

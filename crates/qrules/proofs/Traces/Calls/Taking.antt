@@ -42,7 +42,7 @@ given_no_failure item message buffer = given_is is_failure false (λ i n. refl) 
 
 -- ---- the open call
 
--- the open call w of thread u waits for an item, and the ending y of it takes item i
+-- the open call w of thread u waits for an item, and the completion y of it takes item i
 pub record Taken (i u : ℕ) (o : Option OpenCall) (y : Completion) : Type 0 where
   pub waiting : OpenCall
   pub is : o ≡ Some waiting
@@ -62,7 +62,7 @@ pub taken_by : (item : Item) (message : List ℕ) (u : ℕ) (o : Option OpenCall
 taken_by item message u None y e = absurd (none-some y e)
 taken_by item message u (Some o) y e = taken_into item message u o y e
 
--- the receipt that an ending with such a mark is
+-- the receipt that a completion with such a mark is
 abbrev pub receipt_from : ℕ → Option ℕ → ℕ → ℕ → ReceivedItem → Received
 receipt_from h sender priority u p = record { item = p.number; channel = h; by = u; sender = sender; kept = record { priority = priority; copied = p.copied; unblocked = false } }
 

@@ -104,7 +104,7 @@ module _ (f : Facts) (t thread : ℕ) (p : Passes f t (Unblock thread)) where
   ends_cancelled : (unblock_pulse f thread ≡ None) → (u : ℕ) (y : Completion) → ends_unblocked f thread (unblock_pulse f thread) u ≡ Some y → IsOfOpen f u y × (item_in y.mark ≡ None)
   ends_cancelled none u y e =
       let k = cancel_parts (is_cancelled f thread u) Intr u (f.open_call u) y (ap (λ d. ends_unblocked f thread d u) (sym none) ∙ e) in
-      (record { waiting = k.waiting; is = k.is; call = sym (ap (λ x. x.call) k.ending); thread = sym (ap (λ x. x.thread) k.ending) }, ap (λ x. item_in x.mark) (sym k.ending))
+      (record { waiting = k.waiting; is = k.is; call = sym (ap (λ x. x.call) k.completion); thread = sym (ap (λ x. x.thread) k.completion) }, ap (λ x. item_in x.mark) (sym k.completion))
 
   -- with this one due
   module _ (m : SentItem) (is : unblock_pulse f thread ≡ Some m) where

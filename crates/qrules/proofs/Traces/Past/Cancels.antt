@@ -13,7 +13,7 @@ use Rattle.qrules.specs.Delivery.{is_on}
 use Rattle.qrules.proofs.Words.Facts.{Facts, threads_of, number_of, is_for_answer}
 use Rattle.qrules.specs.Records.{is_for_receipt}
 use Rattle.qrules.proofs.Words.Lawful.{facts_of, IsLawful, with_event}
-use Rattle.qrules.proofs.Words.Past.{has_ending_of, is_ended, is_received, open_call, priority_of_item, copied_count_of, sender_of, filled, with_receipt}
+use Rattle.qrules.proofs.Words.Past.{has_completion_of, is_ended, is_received, open_call, priority_of_item, copied_count_of, sender_of, filled, with_receipt}
 use Rattle.qrules.proofs.Words.Step.{is_cancelled, uncut_items}
 use Rattle.qrules.specs.Records.{is_unread_send}
 use Rattle.qmodel.specs.Trace.{Trace}
@@ -118,18 +118,18 @@ unread_elsewhere roster past h i s waiting v is number differs = false_from_ne_t
 
 -- the Send of a pending message exactly where it is cancelled
 ends_sent : (roster : List Member) (past : Trace) (t : ℕ) (c : Call) (X : List Completion) (h : ℕ) (item : Item) → IsLawful roster past → Outcome true (facts_of roster past) t c X → IsPending roster past h item → is_pulse item.what ≡ false
-    → has_ending_of X item.number ≡ is_cancelled (facts_of roster past) t c h item.number
+    → has_completion_of X item.number ≡ is_cancelled (facts_of roster past) t c h item.number
 ends_sent roster past t c X h item l a p message =
     let f = facts_of roster past in
     let s = sent_by roster past h item l p message in
     let other : eqb s.sender t ≡ false = ne_eqb s.sender t (λ same. none-some s.waiting (sym (passes_of f t c X a).idle ∙ ap (open_call roster past) (sym same) ∙ s.is_open)) in
-    let ended : has_ending_of X (number_of s.waiting) ≡ is_some ((row_of f t c).others s.sender) = ends_other roster past t c X s.sender s.waiting l a other s.is_open in
+    let ended : has_completion_of X (number_of s.waiting) ≡ is_some ((row_of f t c).others s.sender) = ends_other roster past t c X s.sender s.waiting l a other s.is_open in
     let number : eqb (number_of s.waiting) item.number ≡ true = eq-eqb _ _ s.number in
     let cancel : is_cancelled f t c h item.number ≡ is_some ((row_of f t c).others s.sender) =
     any_only (λ v. is_unread_send h item.number (f.open_call v) && is_some ((row_of f t c).others v)) (threads_of roster) s.sender (known roster s.sender (open_known roster past s.sender s.waiting l s.is_open)) (λ v differs.
     ap (λ b. b && is_some ((row_of f t c).others v)) (unread_elsewhere roster past h item.number s.sender s.waiting v s.is_open s.number differs))
     ∙ rw (s.is_open, number, s.unread, s.on) refl in
-    ap (has_ending_of X) (sym s.number) ∙ ended ∙ sym cancel
+    ap (has_completion_of X) (sym s.number) ∙ ended ∙ sym cancel
 
 -- no open call has the number of a pulse
 pub pulse_unread : (roster : List Member) (past : Trace) (h : ℕ) (item : Item) (v : ℕ) → IsPending roster past h item → is_pulse item.what ≡ true
@@ -146,11 +146,11 @@ no_pulse_is_cancelled roster past t c h item p pulse =
     any_never (λ v. is_unread_send h item.number (f.open_call v) && is_some ((row_of f t c).others v)) (threads_of roster) (λ v.
     ap (λ b. b && is_some ((row_of f t c).others v)) (pulse_unread roster past h item v p pulse))
 
--- a pending item goes by an ending exactly where it is cancelled
+-- a pending item goes by a completion exactly where it is cancelled
 pub ended_is_cancelled : (roster : List Member) (past : Trace) (t : ℕ) (c : Call) (X : List Completion) (h : ℕ) (item : Item) → IsLawful roster past → Outcome true (facts_of roster past) t c X → IsPending roster past h item
     → (not (is_pulse item.what) && is_ended (with_event t c X past) item.number) ≡ is_cancelled (facts_of roster past) t c h item.number
 ended_is_cancelled roster past t c X h item l a p =
-    elim (is_pulse item.what) as (λ b. is_pulse item.what ≡ b → (not b && (has_ending_of X item.number || is_ended past item.number)) ≡ is_cancelled (facts_of roster past) t c h item.number) [
+    elim (is_pulse item.what) as (λ b. is_pulse item.what ≡ b → (not b && (has_completion_of X item.number || is_ended past item.number)) ≡ is_cancelled (facts_of roster past) t c h item.number) [
       | true ↦ λ pulse. sym (no_pulse_is_cancelled roster past t c h item p pulse)
       | false ↦ λ message.
           let going : is_ended past item.number ≡ false = pending_going roster past h item p message in

@@ -8,11 +8,11 @@ use Rattle.std.proofs.Math.Bool.{and-false}
 use Rattle.qbase.specs.declared.errno.Errno.TheVariants.{Down, Busy}
 use Rattle.qtables.specs.Members.{member_at}
 use Rattle.qtables.specs.declared.member.Member.{Member}
-use Rattle.qrules.specs.Outcome.{refusal_of, ending, Outcome, Answers}
+use Rattle.qrules.specs.Outcome.{refusal_of, completion_to, Outcome, Answers}
 use Rattle.qrules.specs.Rules.{row_of}
 use Rattle.qrules.proofs.Words.Facts.{Facts, threads_of, number_of}
 use Rattle.qrules.proofs.Words.Lawful.{facts_of, IsLawful}
-use Rattle.qrules.proofs.Words.Past.{has_ending_of, refuses, is_ended, open_call, block}
+use Rattle.qrules.proofs.Words.Past.{has_completion_of, refuses, is_ended, open_call, block}
 use Rattle.qmodel.specs.Trace.{Trace}
 use Rattle.qmodel.specs.declared.call.Call.{Call}
 use Rattle.qmodel.specs.declared.call.Completion.{Completion}
@@ -43,7 +43,7 @@ passes_of f t c X a = row_passes f t c a.0
 pub laws_of : (f : Facts) (t : ℕ) (c : Call) (X : List Completion) → Outcome true f t c X → RowLaws f t c
 laws_of f t c X a = row_laws f t c (row_passes f t c a.0)
 
--- ---- each ending is the call's own, or of what its thread waits for
+-- ---- each completion is the call's own, or of what its thread waits for
 
 pub record IsOwnOf (f : Facts) (t : ℕ) (c : Call) (v : ℕ) (y : Completion) : Type 0 where
   pub thread : v ≡ t
@@ -55,21 +55,21 @@ pub record IsOther (f : Facts) (t : ℕ) (c : Call) (v : ℕ) (y : Completion) :
   pub is : (row_of f t c).others v ≡ Some y
   pub names : IsOfOpen f v y
 
-pub ending_names : (f : Facts) (t : ℕ) (c : Call) (v : ℕ) (y : Completion) → RowLaws f t c → ending f t c v ≡ Some y → IsOwnOf f t c v y ⊎ IsOther f t c v y
-ending_names f t c v y laws e =
+pub completion_names : (f : Facts) (t : ℕ) (c : Call) (v : ℕ) (y : Completion) → RowLaws f t c → completion_to f t c v ≡ Some y → IsOwnOf f t c v y ⊎ IsOther f t c v y
+completion_names f t c v y laws e =
     elim (eqb v t) as (λ b. eqb v t ≡ b → cond b (row_of f t c).own ((row_of f t c).others v) ≡ Some y → IsOwnOf f t c v y ⊎ IsOther f t c v y) [
       | true ↦ λ h o. inl (record { thread = eqb-true v t h; is = o; names = laws.owns y o })
       | false ↦ λ h o. inr (record { thread = h; is = o; names = laws.ends_open v y o })
     ] refl e
 
--- an ending of another thread is of a number of the past
+-- a completion of another thread is of a number of the past
 pub other_below : (roster : List Member) (past : Trace) (v : ℕ) (y : Completion) → IsOfOpen (facts_of roster past) v y → y.call ≤ length past
 other_below roster past v y h = let below : (number_of h.waiting) ≤ length past = open_below roster past v h.waiting h.is in omega (arith, h.call)
 
--- no ending of an accepted call refuses it
+-- no completion of an accepted call refuses it
 pub accepted : (roster : List Member) (past : Trace) (t : ℕ) (c : Call) (X : List Completion) → Outcome true (facts_of roster past) t c X → refuses X (length past + 1) ≡ false
-accepted roster past t c X a = rw (a.1) (any_filter_map _ (ending (facts_of roster past) t c) (threads_of roster) (λ v y e.
-    elim (ending_names (facts_of roster past) t c v y (laws_of (facts_of roster past) t c X a) e) [
+accepted roster past t c X a = rw (a.1) (any_filter_map _ (completion_to (facts_of roster past) t c) (threads_of roster) (λ v y e.
+    elim (completion_names (facts_of roster past) t c v y (laws_of (facts_of roster past) t c X a) e) [
       | inl h ↦ rw (h.names.mark) (and-false _)
       | inr h ↦
           let below : y.call ≤ length past = other_below roster past v y h.names in
@@ -81,14 +81,14 @@ pub refused : (roster : List Member) (past : Trace) (t : ℕ) (c : Call) (X : Li
 refused roster past t c X a = rw (a.2, eqb_same (length past + 1)) refl
 
 -- the endings of a refused call end no earlier call
-pub refused_ends : (roster : List Member) (past : Trace) (t : ℕ) (c : Call) (X : List Completion) (i : ℕ) → Outcome false (facts_of roster past) t c X → i ≢ length past + 1 → has_ending_of X i ≡ false
+pub refused_ends : (roster : List Member) (past : Trace) (t : ℕ) (c : Call) (X : List Completion) (i : ℕ) → Outcome false (facts_of roster past) t c X → i ≢ length past + 1 → has_completion_of X i ≡ false
 refused_ends roster past t c X i a other = let e : eqb (length past + 1) i ≡ false = ne_eqb _ _ (λ same. other (sym same)) in rw (a.2, e) refl
 
--- an ending names this call or an earlier one
-pub names_below : (roster : List Member) (past : Trace) (t : ℕ) (c : Call) (X : List Completion) (i : ℕ) → Answers (facts_of roster past) t c X → length past + 1 < i → has_ending_of X i ≡ false
+-- a completion names this call or an earlier one
+pub names_below : (roster : List Member) (past : Trace) (t : ℕ) (c : Call) (X : List Completion) (i : ℕ) → Answers (facts_of roster past) t c X → length past + 1 < i → has_completion_of X i ≡ false
 names_below roster past t c X i a l = elim a [
-  | inl a ↦ rw (a.1) (any_filter_map _ (ending (facts_of roster past) t c) (threads_of roster) (λ v y e.
-      elim (ending_names (facts_of roster past) t c v y (laws_of (facts_of roster past) t c X a) e) [
+  | inl a ↦ rw (a.1) (any_filter_map _ (completion_to (facts_of roster past) t c) (threads_of roster) (λ v y e.
+      elim (completion_names (facts_of roster past) t c v y (laws_of (facts_of roster past) t c X a) e) [
         | inl h ↦ ne_eqb _ _ (λ same. omega (arith, h.names.call))
         | inr h ↦ let below : y.call ≤ length past = other_below roster past v y h.names in ne_eqb _ _ (λ same. omega arith)
       ]))
@@ -116,14 +116,14 @@ open_known roster past u o l is = let k = open_parts roster past u o is in block
 
 -- of another thread's open call: just what its row says
 pub ends_other : (roster : List Member) (past : Trace) (t : ℕ) (c : Call) (X : List Completion) (u : ℕ) (o : OpenCall) → IsLawful roster past → Outcome true (facts_of roster past) t c X
-    → eqb u t ≡ false → open_call roster past u ≡ Some o → has_ending_of X (number_of o) ≡ is_some ((row_of (facts_of roster past) t c).others u)
+    → eqb u t ≡ false → open_call roster past u ≡ Some o → has_completion_of X (number_of o) ≡ is_some ((row_of (facts_of roster past) t c).others u)
 ends_other roster past t c X u o l a other is =
     let f = facts_of roster past in
     let laws = laws_of (facts_of roster past) t c X a in
     rw (a.1) (
-    elim ((row_of f t c).others u) as (λ z. (row_of f t c).others u ≡ z → list_any (λ x. eqb x.call (number_of o)) (filter_map (ending f t c) (threads_of roster)) ≡ is_some z) [
-      | None ↦ λ e. any_filter_map _ (ending f t c) (threads_of roster) (λ v y ev.
-          elim (ending_names f t c v y laws ev) [
+    elim ((row_of f t c).others u) as (λ z. (row_of f t c).others u ≡ z → list_any (λ x. eqb x.call (number_of o)) (filter_map (completion_to f t c) (threads_of roster)) ≡ is_some z) [
+      | None ↦ λ e. any_filter_map _ (completion_to f t c) (threads_of roster) (λ v y ev.
+          elim (completion_names f t c v y laws ev) [
             | inl h ↦ let below : (number_of o) ≤ length past = open_below roster past u o is in ne_eqb _ _ (λ s. omega (arith, h.names.call))
             | inr h ↦ ne_eqb _ _ (λ s.
                 let same : v ≡ u = open_thread roster past v u h.names.waiting o h.names.is is (sym h.names.call ∙ s) in
@@ -132,31 +132,31 @@ ends_other roster past t c X u o l a other is =
       | Some y ↦ λ e.
           let n = laws.ends_open u y e in
           let names : (number_of n.waiting) ≡ (number_of o) = ap number_of (same_Some n.waiting o (sym n.is ∙ is)) in
-          any_filter_map_at _ (ending f t c) (threads_of roster) u y (known roster u (open_known roster past u o l is)) (rw other e) (eq-eqb _ _ (n.call ∙ names))
+          any_filter_map_at _ (completion_to f t c) (threads_of roster) u y (known roster u (open_known roster past u o l is)) (rw other e) (eq-eqb _ _ (n.call ∙ names))
     ] refl)
 
 -- of its own number: where it ends in its own event
 pub ends_own : (roster : List Member) (past : Trace) (t : ℕ) (c : Call) (X : List Completion) → is_some (member_at roster t) ≡ true → Outcome true (facts_of roster past) t c X
-    → has_ending_of X (length past + 1) ≡ is_some (row_of (facts_of roster past) t c).own
+    → has_completion_of X (length past + 1) ≡ is_some (row_of (facts_of roster past) t c).own
 ends_own roster past t c X member a =
     let f = facts_of roster past in
     let laws = laws_of (facts_of roster past) t c X a in
     rw (a.1) (
-    elim ((row_of f t c).own) as (λ z. (row_of f t c).own ≡ z → list_any (λ x. eqb x.call (length past + 1)) (filter_map (ending f t c) (threads_of roster)) ≡ is_some z) [
-      | None ↦ λ e. any_filter_map _ (ending f t c) (threads_of roster) (λ v y ev.
-          elim (ending_names f t c v y laws ev) [
+    elim ((row_of f t c).own) as (λ z. (row_of f t c).own ≡ z → list_any (λ x. eqb x.call (length past + 1)) (filter_map (completion_to f t c) (threads_of roster)) ≡ is_some z) [
+      | None ↦ λ e. any_filter_map _ (completion_to f t c) (threads_of roster) (λ v y ev.
+          elim (completion_names f t c v y laws ev) [
             | inl h ↦ absurd (none-some y (sym e ∙ h.is))
             | inr h ↦ let below : y.call ≤ length past = other_below roster past v y h.names in ne_eqb _ _ (λ s. omega arith)
           ])
-      | Some y ↦ λ e. any_filter_map_at _ (ending f t c) (threads_of roster) t y (known roster t member) (rw (eqb_same t) e) (eq-eqb _ _ (laws.owns y e).call)
+      | Some y ↦ λ e. any_filter_map_at _ (completion_to f t c) (threads_of roster) t y (known roster t member) (rw (eqb_same t) e) (eq-eqb _ _ (laws.owns y e).call)
     ] refl)
 
 -- ---- no call is ended twice
 
 pub not_ended : (roster : List Member) (past : Trace) (t : ℕ) (c : Call) (X : List Completion) → IsLawful roster past → Answers (facts_of roster past) t c X → AllByRecursion (λ x. is_ended past x.call ≡ false) X
 not_ended roster past t c X l a = elim a [
-  | inl a ↦ rw (a.1) (all_filter_map (λ x. is_ended past x.call ≡ false) (ending (facts_of roster past) t c) (threads_of roster) (λ v y e.
-      elim (ending_names (facts_of roster past) t c v y (laws_of (facts_of roster past) t c X a) e) [
+  | inl a ↦ rw (a.1) (all_filter_map (λ x. is_ended past x.call ≡ false) (completion_to (facts_of roster past) t c) (threads_of roster) (λ v y e.
+      elim (completion_names (facts_of roster past) t c v y (laws_of (facts_of roster past) t c X a) e) [
         | inl h ↦ let number : y.call ≡ length past + 1 = h.names.call in ended_below roster past y.call l (omega arith)
         | inr h ↦
             let k = open_parts roster past v h.names.waiting h.names.is in

@@ -5,7 +5,7 @@ use Rattle.qqueue.specs.Best.{best_of, is_pulse}
 use Rattle.qqueue.specs.declared.item.Item.{Item}
 use Rattle.qqueue.specs.declared.item.Kind.{Kind}
 use Rattle.qqueue.specs.declared.item.What.TheVariants as what
-use Rattle.qrules.specs.Outcome.{ending}
+use Rattle.qrules.specs.Outcome.{completion_to}
 use Rattle.qrules.proofs.Words.Items.{receipt_of}
 use Rattle.qrules.specs.Rules.{row_of}
 use Rattle.qrules.proofs.Words.Facts.{Facts, sender, number_of, is_for_answer}
@@ -75,13 +75,13 @@ pub record Passes (f : Facts) (t : ℕ) (c : Call) : Type 0 where
   pub idle : f.open_call t ≡ None
   pub row : (row_of f t c).refusal ≡ None
 
--- an ending of the call itself
+-- a completion of the call itself
 pub record IsOwn (n t : ℕ) (y : Completion) : Type 0 where
   pub call : y.call ≡ n
   pub thread : y.thread ≡ t
   pub mark : is_failure y.mark ≡ false
 
--- an ending of what thread u waits for
+-- a completion of what thread u waits for
 pub record IsOfOpen (f : Facts) (u : ℕ) (y : Completion) : Type 0 where
   pub waiting : OpenCall
   pub is : f.open_call u ≡ Some waiting
@@ -111,7 +111,7 @@ pub record IsBest (f : Facts) (r : Received) (item : Item) : Type 0 where
   pub best : best_of kind (f.pending r.channel) ≡ Some item
   pub sender_is : r.sender ≡ sender_for f item
 
--- a receipt is an ending of its thread, of an item of that number and priority
+-- a receipt is a completion of its thread, of an item of that number and priority
 pub record IsReceived (f : Facts) (t : ℕ) (c : Call) (r : Received) : Type 0 where
   pub item : Item
   pub number : item.number ≡ r.item
@@ -119,7 +119,7 @@ pub record IsReceived (f : Facts) (t : ℕ) (c : Call) (r : Received) : Type 0 w
   pub fresh : r.kept.unblocked ≡ false
   pub source : IsNew f t c r item ⊎ IsBest f r item
   pub given : Completion
-  pub is_given : ending f t c r.by ≡ Some given
+  pub is_given : completion_to f t c r.by ≡ Some given
   pub mark : item_in given.mark ≡ Some (record { number = r.item; copied = r.kept.copied })
 
 pub record RowLaws (f : Facts) (t : ℕ) (c : Call) : Type 0 where

@@ -14,7 +14,7 @@ use Rattle.qrules.proofs.Words.Items.{receipt_of}
 use Rattle.qrules.specs.Rules.{row_of}
 use Rattle.qrules.proofs.Words.Facts.{Facts, sender, threads_of, number_of}
 use Rattle.qrules.proofs.Words.Lawful.{facts_of, IsLawful, with_event}
-use Rattle.qrules.proofs.Words.Past.{refuses, has_ending_of, is_ended, is_received, item_of, copied_count_of, priority_of_item, unless_ended, open_call, unblocked_among, block, with_receipt, filled}
+use Rattle.qrules.proofs.Words.Past.{refuses, has_completion_of, is_ended, is_received, item_of, copied_count_of, priority_of_item, unless_ended, open_call, unblocked_among, block, with_receipt, filled}
 use Rattle.qrules.proofs.Words.Items.{sender_for}
 use Rattle.qrules.proofs.Words.Effects.{asks, makes, unblocks, writes}
 use Rattle.qrules.proofs.Words.Items.{Received, buffer_after_write}
@@ -264,13 +264,13 @@ open_other roster past t c X u l member a other =
     ≡ unless (is_some (R.others u)) (other_after (facts_of roster past) t c u (option_map (kept roster past) (unless_ended past o)))) [
       | None ↦ λ e. sym nothing
       | Some b ↦ λ e.
-          elim (is_ended past (number_of b)) as (λ d. is_ended past (number_of b) ≡ d → option_map (kept roster (with_event t c X past)) (cond (has_ending_of X (number_of b) || d) None (Some b))
+          elim (is_ended past (number_of b)) as (λ d. is_ended past (number_of b) ≡ d → option_map (kept roster (with_event t c X past)) (cond (has_completion_of X (number_of b) || d) None (Some b))
           ≡ unless (is_some (R.others u)) (other_after (facts_of roster past) t c u (option_map (kept roster past) (cond d None (Some b))))) [
-            | true ↦ λ gone. rw (or-true (has_ending_of X (number_of b))) (sym nothing)
+            | true ↦ λ gone. rw (or-true (has_completion_of X (number_of b))) (sym nothing)
             | false ↦ λ going.
                 let below : (number_of b) ≤ length past = block_below roster past u b e in
-                let ended : has_ending_of X (number_of b) ≡ is_some (R.others u) =
-                ap (has_ending_of X) (sym (kept_number roster past b)) ∙ ends_other roster past t c X u (kept roster past b) l a other (open_from roster past u b e going) in
+                let ended : has_completion_of X (number_of b) ≡ is_some (R.others u) =
+                ap (has_completion_of X) (sym (kept_number roster past b)) ∙ ends_other roster past t c X u (kept roster past b) l a other (open_from roster past u b e going) in
                 let receipt : copied_count_of (with_event t c X past) (number_of b) ≡ option_or (copied_by (receipt_of (facts_of roster past) t c) (number_of b)) (copied_count_of past (number_of b)) = rw (accepted_receipts roster past t c X (number_of b) l member a) refl in
                 let waits = open_from roster past u b e going in
                 let old : Bool = is_unblocked roster past (number_of b) in
@@ -289,7 +289,7 @@ open_other roster past t c X u l member a other =
                 (λ r is. other_holds roster past t c u b r l other e going ((laws_of (facts_of roster past) t c X a).receives r is))
                 ∙ ap (after_receipt (receipt_of (facts_of roster past) t c) u) (receipt_written (facts_of roster past) (writes c) u (number_of b) (priority_of_item roster past (number_of b)) old (copied_count_of past (number_of b)) (filled past b) (kept_number roster past b)
                 (λ x is. written_sender roster past t c X u (kept roster past b) x a waits is ∙ ap (eqb x.rcvid) (kept_number roster past b)))) in
-                rw (or-false (has_ending_of X (number_of b)), ended) (
+                rw (or-false (has_completion_of X (number_of b)), ended) (
                 elim (is_some (R.others u)) as (λ d. option_map (kept roster (with_event t c X past)) (cond d None (Some b)) ≡ unless d (other_after (facts_of roster past) t c u (Some (kept roster past b)))) [ true ↦ refl | false ↦ now ])
           ] refl
     ] refl) ∙ ap (λ o. unless (is_some ((row_of (facts_of roster past) t c).others u)) (other_after (facts_of roster past) t c u o)) (sym (open_is roster past u))
@@ -298,8 +298,8 @@ open_other roster past t c X u l member a other =
 still : (roster : List Member) (e : Event) (past : Trace) (o : Option OpenCall) → option_map (kept roster past) (unless_ended past o) ≡ None → option_map (kept roster (e ∷ past)) (unless_ended (e ∷ past) o) ≡ None
 still roster e past None h = refl
 still roster e past (Some b) h =
-    elim (is_ended past (number_of b)) as (λ d. option_map (kept roster past) (cond d None (Some b)) ≡ None → option_map (kept roster (e ∷ past)) (cond (has_ending_of e.endings (number_of b) || d) None (Some b)) ≡ None) [
-      | true ↦ λ h. rw (or-true (has_ending_of e.endings (number_of b))) refl
+    elim (is_ended past (number_of b)) as (λ d. option_map (kept roster past) (cond d None (Some b)) ≡ None → option_map (kept roster (e ∷ past)) (cond (has_completion_of e.endings (number_of b) || d) None (Some b)) ≡ None) [
+      | true ↦ λ h. rw (or-true (has_completion_of e.endings (number_of b))) refl
       | false ↦ λ h. absurd (none-some _ (sym h))
     ] h
 

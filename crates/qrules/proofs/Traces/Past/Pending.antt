@@ -15,7 +15,7 @@ use Rattle.qrules.specs.Outcome.{Outcome}
 use Rattle.qrules.proofs.Words.Items.{receipt_of}
 use Rattle.qrules.specs.Rules.{row_of}
 use Rattle.qrules.proofs.Words.Lawful.{facts_of, IsLawful, with_event}
-use Rattle.qrules.proofs.Words.Past.{channel_at, has_ending_of, is_destroyed, is_ended, is_received, is_gone, items, item_of, pending_items, copied_count_among, copied_count_of, open_call, made_on}
+use Rattle.qrules.proofs.Words.Past.{channel_at, has_completion_of, is_destroyed, is_ended, is_received, is_gone, items, item_of, pending_items, copied_count_among, copied_count_of, open_call, made_on}
 use Rattle.qrules.proofs.Words.Effects.{closes, makes, sets}
 use Rattle.qrules.proofs.Words.Items.{Received, names}
 use Rattle.qmodel.specs.Trace.{SentItem, Event, Trace}
@@ -119,7 +119,7 @@ stays_gone past t c X item e =
       | inr ended ↦
           let p = and_parts (not (is_pulse item.what)) (is_ended past item.number) ended in
           or_right (is_received (with_event t c X past) item.number) (not (is_pulse item.what) && ended_now)
-          (and_from (not (is_pulse item.what)) ended_now p.0 (or_right (has_ending_of X item.number) (is_ended past item.number) p.1))
+          (and_from (not (is_pulse item.what)) ended_now p.0 (or_right (has_completion_of X item.number) (is_ended past item.number) p.1))
     ]
 
 -- of what stood on the channel, what was pending, isn't cancelled and isn't received
@@ -156,11 +156,11 @@ pending_new roster past t c X h l member a =
     made_all (λ item. stays item ≡ left item) h (makes f t c) (λ m is on.
     let number : m.item.number ≡ length past + 1 = ((call_laws c).makes_one f t m is).number in
     gone_now roster past t c X m.item false l member a (receipt_beyond roster past m.item.number l (omega arith)) (
-    elim (is_pulse m.item.what) as (λ b. is_pulse m.item.what ≡ b → (not b && (has_ending_of X m.item.number || is_ended past m.item.number)) ≡ false) [
+    elim (is_pulse m.item.what) as (λ b. is_pulse m.item.what ≡ b → (not b && (has_completion_of X m.item.number || is_ended past m.item.number)) ≡ false) [
       | true ↦ λ pulse. refl
       | false ↦ λ message.
-          let own : has_ending_of X (length past + 1) ≡ false = ends_own roster past t c X member a ∙ ap is_some ((laws_of f t c X a).sends m is message) in
-          let ended : has_ending_of X m.item.number ≡ false = subst (λ i. has_ending_of X i ≡ false) (sym number) own in
+          let own : has_completion_of X (length past + 1) ≡ false = ends_own roster past t c X member a ∙ ap is_some ((laws_of f t c X a).sends m is message) in
+          let ended : has_completion_of X m.item.number ≡ false = subst (λ i. has_completion_of X i ≡ false) (sym number) own in
           rw (ended, ended_below roster past m.item.number l (omega arith)) refl
     ] refl)))
 

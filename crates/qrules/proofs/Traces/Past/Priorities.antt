@@ -7,21 +7,21 @@ use Rattle.std.specs.Option.{option_map, option_or}
 use Rattle.qqueue.specs.declared.item.Item.{Item}
 use Rattle.qtables.specs.Members.{member_at}
 use Rattle.qtables.specs.declared.member.Member.{Member}
-use Rattle.qrules.specs.Outcome.{ending, Outcome}
+use Rattle.qrules.specs.Outcome.{completion_to, Outcome}
 use Rattle.qrules.proofs.Words.Items.{receipt_of}
 use Rattle.qrules.proofs.Words.Facts.{threads_of}
 use Rattle.qrules.proofs.Words.Lawful.{facts_of, IsLawful, with_event}
-use Rattle.qrules.proofs.Words.Past.{items_by_now, carried_priority, channel_at, first_among, priority_from_ending, item_of, items, item_among, priority_of_thread, refuses, current_priority}
+use Rattle.qrules.proofs.Words.Past.{items_by_now, carried_priority, channel_at, first_among, priority_from_completion, item_of, items, item_among, priority_of_thread, refuses, current_priority}
 use Rattle.qrules.proofs.Words.Effects.{sets}
 use Rattle.qrules.proofs.Words.Items.{Received, item_in, priority_set_for}
 use Rattle.qmodel.specs.Trace.{SentItem, Event, Trace}
 use Rattle.qrules.proofs.Words.Step.{priority_taken, priority_after}
 use Rattle.qmodel.specs.declared.call.Call.{Call}
 use Rattle.qmodel.specs.declared.call.Completion.{Completion}
-use Rattle.qrules.proofs.Traces.Past.Ends.{accepted, ending_names, laws_of, refused}
+use Rattle.qrules.proofs.Traces.Past.Ends.{accepted, completion_names, laws_of, refused}
 use Rattle.qrules.proofs.Traces.Past.Items.{item_at, item_below, item_earlier, item_found, item_newest, item_priority}
 use Rattle.qrules.proofs.Traces.Past.Laws.{RowLaws, IsReceipt, IsReceived}
-use Rattle.qrules.proofs.Traces.Past.Receipts.{among_none, among_one, best_pending, best_priority, ending_receives, given_known}
+use Rattle.qrules.proofs.Traces.Past.Receipts.{among_none, among_one, best_pending, best_priority, completion_receives, given_known}
 use Rattle.qrules.proofs.Traces.Calls.{call_laws}
 use Rattle.qrules.proofs.Traces.Past.CurrentPriority.{among_now, now, worth_beyond}
 use Rattle.qrules.proofs.Traces.Rosters.{known}
@@ -56,9 +56,9 @@ received_at roster past t c X r k a =
           }
     ]
 
--- an ending is of the thread that gets it
-pub ending_thread : (roster : List Member) (past : Trace) (t : ℕ) (c : Call) (v : ℕ) (y : Completion) → RowLaws (facts_of roster past) t c → ending (facts_of roster past) t c v ≡ Some y → y.thread ≡ v
-ending_thread roster past t c v y laws e = elim (ending_names (facts_of roster past) t c v y laws e) [
+-- a completion is of the thread that gets it
+pub completion_thread : (roster : List Member) (past : Trace) (t : ℕ) (c : Call) (v : ℕ) (y : Completion) → RowLaws (facts_of roster past) t c → completion_to (facts_of roster past) t c v ≡ Some y → y.thread ≡ v
+completion_thread roster past t c v y laws e = elim (completion_names (facts_of roster past) t c v y laws e) [
   | inl h ↦ h.names.thread ∙ sym h.thread
   | inr h ↦ h.names.thread
 ]
@@ -79,18 +79,18 @@ module _ (roster : List Member) (past : Trace) (t : ℕ) (c : Call) (X : List Co
       ∙ ap (option_map (λ (m : SentItem). record { item = now past m.item; channel = m.channel })) (item_found roster (with_event t c X past) r.item _ at.at))
       ∙ ap (λ p. priority_taken (facts_of roster past) (Some (record { item = r.item; channel = r.channel; by = r.by; sender = r.sender; kept = record { priority = p; copied = r.kept.copied; unblocked = r.kept.unblocked } })) u) (at.is_worth ∙ k.priority)
 
-  -- what an ending gives is what the row's receipt does
-  gives : (v : ℕ) (y : Completion) (q : ReceivedItem) → ending (facts_of roster past) t c v ≡ Some y → item_in y.mark ≡ Some q → priority_from_ending carries u y ≡ priority_taken (facts_of roster past) (receipt_of (facts_of roster past) t c) u
+  -- what a completion gives is what the row's receipt does
+  gives : (v : ℕ) (y : Completion) (q : ReceivedItem) → completion_to (facts_of roster past) t c v ≡ Some y → item_in y.mark ≡ Some q → priority_from_completion carries u y ≡ priority_taken (facts_of roster past) (receipt_of (facts_of roster past) t c) u
   gives v y q e m =
-      let k : IsReceipt (receipt_of (facts_of roster past) t c) v q = ending_receives (facts_of roster past) t c v y q laws e m in
+      let k : IsReceipt (receipt_of (facts_of roster past) t c) v q = completion_receives (facts_of roster past) t c v y q laws e m in
       ap (λ o. cond (eqb y.thread u) (option_and_then (λ r. carries r.number) o) None) m
-      ∙ ap (λ w. cond (eqb w u) (carries q.number) None) (ending_thread roster past t c v y laws e ∙ sym k.by)
+      ∙ ap (λ w. cond (eqb w u) (carries q.number) None) (completion_thread roster past t c v y laws e ∙ sym k.by)
       ∙ ap (λ i. cond (eqb k.receipt.by u) (carries i) None) k.item
       ∙ carries_it k.receipt (laws.receives k.receipt k.is)
       ∙ ap (λ o. priority_taken (facts_of roster past) o u) (sym k.is)
 
-  none_or_it : (v : ℕ) (y : Completion) → ending (facts_of roster past) t c v ≡ Some y → (priority_from_ending carries u y ≡ None) ⊎ (priority_from_ending carries u y ≡ priority_taken (facts_of roster past) (receipt_of (facts_of roster past) t c) u)
-  none_or_it v y e = elim (item_in y.mark) as (λ o. item_in y.mark ≡ o → (priority_from_ending carries u y ≡ None) ⊎ (priority_from_ending carries u y ≡ priority_taken (facts_of roster past) (receipt_of (facts_of roster past) t c) u)) [
+  none_or_it : (v : ℕ) (y : Completion) → completion_to (facts_of roster past) t c v ≡ Some y → (priority_from_completion carries u y ≡ None) ⊎ (priority_from_completion carries u y ≡ priority_taken (facts_of roster past) (receipt_of (facts_of roster past) t c) u)
+  none_or_it v y e = elim (item_in y.mark) as (λ o. item_in y.mark ≡ o → (priority_from_completion carries u y ≡ None) ⊎ (priority_from_completion carries u y ≡ priority_taken (facts_of roster past) (receipt_of (facts_of roster past) t c) u)) [
     | None ↦ λ m. inl (ap (λ o. cond (eqb y.thread u) (option_and_then (λ r. carries r.number) o) None) m ∙ nothing (eqb y.thread u))
     | Some q ↦ λ m. inr (gives v y q e m)
   ] refl where
@@ -98,17 +98,17 @@ module _ (roster : List Member) (past : Trace) (t : ℕ) (c : Call) (X : List Co
     nothing true = refl
     nothing false = refl
 
-  given_accepted : first_among (priority_from_ending carries u) X ≡ priority_taken (facts_of roster past) (receipt_of (facts_of roster past) t c) u
-  given_accepted = ap (first_among (priority_from_ending carries u)) (a.1) ∙ by (priority_taken (facts_of roster past) (receipt_of (facts_of roster past) t c) u) refl where
-    by : (o : Option ℕ) → priority_taken (facts_of roster past) (receipt_of (facts_of roster past) t c) u ≡ o → first_among (priority_from_ending carries u) (filter_map (ending (facts_of roster past) t c) (threads_of roster)) ≡ o
-    by None is = among_none (priority_from_ending carries u) (ending (facts_of roster past) t c) (threads_of roster) (λ v y e. elim (none_or_it v y e) [ inl h ↦ h | inr h ↦ h ∙ is ])
+  given_accepted : first_among (priority_from_completion carries u) X ≡ priority_taken (facts_of roster past) (receipt_of (facts_of roster past) t c) u
+  given_accepted = ap (first_among (priority_from_completion carries u)) (a.1) ∙ by (priority_taken (facts_of roster past) (receipt_of (facts_of roster past) t c) u) refl where
+    by : (o : Option ℕ) → priority_taken (facts_of roster past) (receipt_of (facts_of roster past) t c) u ≡ o → first_among (priority_from_completion carries u) (filter_map (completion_to (facts_of roster past) t c) (threads_of roster)) ≡ o
+    by None is = among_none (priority_from_completion carries u) (completion_to (facts_of roster past) t c) (threads_of roster) (λ v y e. elim (none_or_it v y e) [ inl h ↦ h | inr h ↦ h ∙ is ])
     by (Some p) is = from (receipt_of (facts_of roster past) t c) refl is where
       from : (o : Option Received) → (receipt_of (facts_of roster past) t c) ≡ o → priority_taken (facts_of roster past) o u ≡ Some p
-          → first_among (priority_from_ending carries u) (filter_map (ending (facts_of roster past) t c) (threads_of roster)) ≡ Some p
+          → first_among (priority_from_completion carries u) (filter_map (completion_to (facts_of roster past) t c) (threads_of roster)) ≡ Some p
       from None e none = absurd (none-some p none)
       from (Some r) e some =
           let k = laws.receives r e in
-          among_one (priority_from_ending carries u) (ending (facts_of roster past) t c) (threads_of roster) p (λ v y e. elim (none_or_it v y e) [ inl h ↦ inl h | inr h ↦ inr (h ∙ is) ])
+          among_one (priority_from_completion carries u) (completion_to (facts_of roster past) t c) (threads_of roster) p (λ v y e. elim (none_or_it v y e) [ inl h ↦ inl h | inr h ↦ inr (h ∙ is) ])
           r.by k.given (known roster r.by (given_known roster past t c r.by k.given l member laws k.is_given)) k.is_given (gives r.by k.given _ k.is_given k.mark ∙ is)
 
   pub priority_accepted : priority_of_thread roster (with_event t c X past) u ≡ priority_after (facts_of roster past) t c u
@@ -120,8 +120,8 @@ module _ (roster : List Member) (past : Trace) (t : ℕ) (c : Call) (X : List Co
 pub priority_refused : (roster : List Member) (past : Trace) (t : ℕ) (c : Call) (X : List Completion) (u : ℕ) → Outcome false (facts_of roster past) t c X
     → priority_of_thread roster (with_event t c X past) u ≡ priority_of_thread roster past u
 priority_refused roster past t c X u a =
-    ap (λ b. unwrap_or (option_or (cond (not b) (priority_set_for (sets c) u) None) (first_among (priority_from_ending (λ i. carried_priority (channel_at roster past) (item_among (items_by_now past (items roster (with_event t c X past))) i)) u) X)) (priority_of_thread roster past u)) (refused roster past t c X a)
-    ∙ ap (λ Y. unwrap_or (first_among (priority_from_ending (λ i. carried_priority (channel_at roster past) (item_among (items_by_now past (items roster (with_event t c X past))) i)) u) Y) (priority_of_thread roster past u)) (a.2)
+    ap (λ b. unwrap_or (option_or (cond (not b) (priority_set_for (sets c) u) None) (first_among (priority_from_completion (λ i. carried_priority (channel_at roster past) (item_among (items_by_now past (items roster (with_event t c X past))) i)) u) X)) (priority_of_thread roster past u)) (refused roster past t c X a)
+    ∙ ap (λ Y. unwrap_or (first_among (priority_from_completion (λ i. carried_priority (channel_at roster past) (item_among (items_by_now past (items roster (with_event t c X past))) i)) u) Y) (priority_of_thread roster past u)) (a.2)
     ∙ nothing (eqb t u) where
       nothing : (b : Bool) → unwrap_or (option_or (cond b None None) None) (priority_of_thread roster past u) ≡ priority_of_thread roster past u
       nothing true = refl

@@ -9,7 +9,7 @@ use Rattle.qqueue.specs.declared.item.Kind.{Kind}
 use Rattle.qqueue.proofs.OrderLaws.{best-at}
 use Rattle.qtables.specs.Members.{member_at}
 use Rattle.qtables.specs.declared.member.Member.{Member}
-use Rattle.qrules.specs.Outcome.{ending, Outcome, Answers}
+use Rattle.qrules.specs.Outcome.{completion_to, Outcome, Answers}
 use Rattle.qrules.proofs.Words.Items.{receipt_of}
 use Rattle.qrules.proofs.Words.Facts.{Facts, threads_of}
 use Rattle.qrules.proofs.Words.Lawful.{facts_of, IsLawful}
@@ -21,7 +21,7 @@ use Rattle.qmodel.specs.declared.call.Completion.{Completion}
 use Rattle.qbase.proofs.Lists.{is_among}
 use Rattle.qrules.proofs.Traces.Past.Laws.{RowLaws, IsReceipt, IsReceived}
 use Rattle.qrules.proofs.Traces.Calls.{call_laws}
-use Rattle.qrules.proofs.Traces.Past.Ends.{laws_of, ending_names, open_known}
+use Rattle.qrules.proofs.Traces.Past.Ends.{laws_of, completion_names, open_known}
 use Rattle.qrules.proofs.Traces.Past.Items.{IsPending, pending_all, pending_priorities, item_below}
 use Rattle.qrules.proofs.Traces.Rosters.{known}
 use Rattle.qrules.specs.Past.{ReceivedItem}
@@ -53,8 +53,8 @@ among_one tell g (u ∷ us) k h v z m e q =
 
 -- ---- the receipt of an accepted call
 
-pub ending_receives : (f : Facts) (t : ℕ) (c : Call) (v : ℕ) (y : Completion) (p : ReceivedItem) → RowLaws f t c → ending f t c v ≡ Some y → item_in y.mark ≡ Some p → IsReceipt (receipt_of f t c) v p
-ending_receives f t c v y p laws e m = elim (ending_names f t c v y laws e) [
+pub completion_receives : (f : Facts) (t : ℕ) (c : Call) (v : ℕ) (y : Completion) (p : ReceivedItem) → RowLaws f t c → completion_to f t c v ≡ Some y → item_in y.mark ≡ Some p → IsReceipt (receipt_of f t c) v p
+completion_receives f t c v y p laws e m = elim (completion_names f t c v y laws e) [
   | inl h ↦ subst (λ u. IsReceipt (receipt_of f t c) u p) (sym h.thread) (laws.own_receives y p h.is m)
   | inr h ↦ laws.ends_receives v y p h.is m
 ]
@@ -68,19 +68,19 @@ same_copied : (f : Facts) (t : ℕ) (c : Call) (v : ℕ) (p : ReceivedItem) (i :
 same_copied f t c v p i k =
     ap (λ n. cond (eqb n i) (Some p.copied) None) k.item ∙ ap (λ n. cond (eqb k.receipt.item i) (Some n) None) k.copied ∙ ap (λ o. copied_by o i) (sym k.is)
 
--- what an ending copies of item i is what the row's receipt does
-ending_copies : (f : Facts) (t : ℕ) (c : Call) (v : ℕ) (y : Completion) (i : ℕ) → RowLaws f t c → ending f t c v ≡ Some y
+-- what a completion copies of item i is what the row's receipt does
+completion_copies : (f : Facts) (t : ℕ) (c : Call) (v : ℕ) (y : Completion) (i : ℕ) → RowLaws f t c → completion_to f t c v ≡ Some y
     → (copied_count_in i (item_in y.mark) ≡ None) ⊎ (copied_count_in i (item_in y.mark) ≡ copied_by (receipt_of f t c) i)
-ending_copies f t c v y i laws e =
+completion_copies f t c v y i laws e =
     elim (item_in y.mark) as (λ o. item_in y.mark ≡ o → (copied_count_in i o ≡ None) ⊎ (copied_count_in i o ≡ copied_by (receipt_of f t c) i)) [
       | None ↦ λ m. inl refl
-      | Some p ↦ λ m. inr (same_copied f t c v p i (ending_receives f t c v y p laws e m))
+      | Some p ↦ λ m. inr (same_copied f t c v p i (completion_receives f t c v y p laws e m))
     ] refl
 
 -- the one that the row says is given to a thread of the roster
 pub given_known : (roster : List Member) (past : Trace) (t : ℕ) (c : Call) (v : ℕ) (y : Completion) → IsLawful roster past → is_some (member_at roster t) ≡ true → RowLaws (facts_of roster past) t c
-    → ending (facts_of roster past) t c v ≡ Some y → is_some (member_at roster v) ≡ true
-given_known roster past t c v y l member laws e = elim (ending_names (facts_of roster past) t c v y laws e) [
+    → completion_to (facts_of roster past) t c v ≡ Some y → is_some (member_at roster v) ≡ true
+given_known roster past t c v y l member laws e = elim (completion_names (facts_of roster past) t c v y laws e) [
   | inl h ↦ subst (λ u. is_some (member_at roster u) ≡ true) (sym h.thread) member
   | inr h ↦ open_known roster past v h.names.waiting l h.names.is
 ]
@@ -90,20 +90,20 @@ pub accepted_receipts : (roster : List Member) (past : Trace) (t : ℕ) (c : Cal
 accepted_receipts roster past t c X i l member a =
     let f = facts_of roster past in
     let laws = laws_of (facts_of roster past) t c X a in
-    let copies = λ (v : ℕ) (y : Completion) (e : ending (facts_of roster past) t c v ≡ Some y). ending_copies (facts_of roster past) t c v y i laws e in
+    let copies = λ (v : ℕ) (y : Completion) (e : completion_to (facts_of roster past) t c v ≡ Some y). completion_copies (facts_of roster past) t c v y i laws e in
     rw (a.1) (
-    elim ((receipt_of f t c)) as (λ o. (receipt_of f t c) ≡ o → copied_count_among (filter_map (ending f t c) (threads_of roster)) i ≡ copied_by o i) [
-      | None ↦ λ is. among_none (λ x. copied_count_in i (item_in x.mark)) (ending f t c) (threads_of roster) (λ v y e. elim (copies v y e) [ inl h ↦ h | inr h ↦ h ∙ ap (λ o. copied_by o i) is ])
+    elim ((receipt_of f t c)) as (λ o. (receipt_of f t c) ≡ o → copied_count_among (filter_map (completion_to f t c) (threads_of roster)) i ≡ copied_by o i) [
+      | None ↦ λ is. among_none (λ x. copied_count_in i (item_in x.mark)) (completion_to f t c) (threads_of roster) (λ v y e. elim (copies v y e) [ inl h ↦ h | inr h ↦ h ∙ ap (λ o. copied_by o i) is ])
       | Some r ↦ λ is.
           let k = laws.receives r is in
-          elim (eqb r.item i) as (λ b. eqb r.item i ≡ b → copied_count_among (filter_map (ending f t c) (threads_of roster)) i ≡ cond b (Some r.kept.copied) None) [
+          elim (eqb r.item i) as (λ b. eqb r.item i ≡ b → copied_count_among (filter_map (completion_to f t c) (threads_of roster)) i ≡ cond b (Some r.kept.copied) None) [
             | true ↦ λ same.
                 let by : copied_by (receipt_of f t c) i ≡ Some r.kept.copied = rw (is, same) refl in
-                among_one (λ x. copied_count_in i (item_in x.mark)) (ending f t c) (threads_of roster) r.kept.copied (λ v y e. elim (copies v y e) [ inl h ↦ inl h | inr h ↦ inr (h ∙ by) ])
+                among_one (λ x. copied_count_in i (item_in x.mark)) (completion_to f t c) (threads_of roster) r.kept.copied (λ v y e. elim (copies v y e) [ inl h ↦ inl h | inr h ↦ inr (h ∙ by) ])
                 r.by k.given (known roster r.by (given_known roster past t c r.by k.given l member laws k.is_given)) k.is_given (rw (k.mark, same) refl)
             | false ↦ λ other.
                 let by : copied_by (receipt_of f t c) i ≡ None = rw (is, other) refl in
-                among_none (λ x. copied_count_in i (item_in x.mark)) (ending f t c) (threads_of roster) (λ v y e. elim (copies v y e) [ inl h ↦ h | inr h ↦ h ∙ by ])
+                among_none (λ x. copied_count_in i (item_in x.mark)) (completion_to f t c) (threads_of roster) (λ v y e. elim (copies v y e) [ inl h ↦ h | inr h ↦ h ∙ by ])
           ] refl
     ] refl)
 

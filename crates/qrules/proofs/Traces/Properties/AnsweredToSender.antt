@@ -8,7 +8,7 @@ use Rattle.std.proofs.lemmas.List.Sums.{sum_by-cons}
 use Rattle.std.proofs.lemmas.Option.{none-some}
 use Rattle.qtables.specs.declared.member.Member.{Member}
 use Rattle.qtables.specs.Members.{IsRoster}
-use Rattle.qrules.specs.Outcome.{ending, Outcome, Answers}
+use Rattle.qrules.specs.Outcome.{completion_to, Outcome, Answers}
 use Rattle.qrules.proofs.Words.Facts.{is_for_answer, owns, threads_of, number_of}
 use Rattle.qrules.specs.Properties.{is_answer, items, AnsweredToSender, AnswersIts, AnswersOnce}
 use Rattle.qrules.specs.Past.{item_among}
@@ -56,7 +56,7 @@ answers_its roster past e u y l a h =
 each_answers_its : (roster : List Member) (past : Trace) (e : Event) → IsLawful roster past → Answers (facts_of roster past) e.thread e.call e.endings
     → AllByRecursion (λ x. is_answer x.mark ≡ true → AnswersIts roster past e x) e.endings
 each_answers_its roster past e l a = elim a [
-  | inl a ↦ subst (AllByRecursion (λ x. is_answer x.mark ≡ true → AnswersIts roster past e x)) (sym a.1) (all_filter_map (λ x. is_answer x.mark ≡ true → AnswersIts roster past e x) (ending (facts_of roster past) e.thread e.call) (threads_of roster) (λ u y is answers.
+  | inl a ↦ subst (AllByRecursion (λ x. is_answer x.mark ≡ true → AnswersIts roster past e x)) (sym a.1) (all_filter_map (λ x. is_answer x.mark ≡ true → AnswersIts roster past e x) (completion_to (facts_of roster past) e.thread e.call) (threads_of roster) (λ u y is answers.
       answers_its roster past e u y l a (answers_held (facts_of roster past) e.thread e.call u y (passes_of (facts_of roster past) e.thread e.call e.endings a) is answers)))
   | inr a ↦ subst (AllByRecursion (λ x. is_answer x.mark ≡ true → AnswersIts roster past e x)) (sym a.2) ((λ answers. absurd (true≢false (sym answers))), tt)
 ]
@@ -101,8 +101,8 @@ answers_once roster past e r l a i answered was =
     let p = passes_of (facts_of roster past) e.thread e.call e.endings o in
     let k = answers_one (facts_of roster past) e.thread e.call i p answered in
     let other : eqb k.thread e.thread ≡ false = ne_eqb k.thread e.thread (λ same. none-some k.waiting (sym p.idle ∙ ap (λ t. f.open_call t) (sym same) ∙ k.is_open)) in
-    let given : ending f e.thread e.call k.thread ≡ Some k.given = rw other k.is in
-    rw (o.1) (count_one (λ x. eqb x.call i) (ending f e.thread e.call) roster k.thread k.given r
+    let given : completion_to f e.thread e.call k.thread ≡ Some k.given = rw other k.is in
+    rw (o.1) (count_one (λ x. eqb x.call i) (completion_to f e.thread e.call) roster k.thread k.given r
     (known roster k.thread (open_known roster past k.thread k.waiting l k.is_open))
     given
     (eq-eqb k.given.call i k.call)

@@ -1,4 +1,4 @@
--- An ending that answers a message: whose it is, by each call's row.
+-- A completion that answers a message: whose it is, by each call's row.
 use Rattle.qrules.proofs.Traces.Rows.{answer_same, pulse_same, sent_same, unblocked_same}
 use Rattle.std.proofs.Common.{◌≡◌, ◌∙◌, ℕ, List, [], cond, ap, refl, sym, subst, true, false, inl, inr}
 use Rattle.std.specs.Prelude.{ℤ, pos, Option, None, Some}
@@ -7,7 +7,7 @@ use Rattle.std.specs.Ordering.{int_eq}
 use Rattle.std.proofs.lemmas.Bool.{true≢false}
 use Rattle.std.proofs.lemmas.Option.{none-some, same_Some}
 use Rattle.qbase.specs.declared.errno.Errno.TheVariants.{Srch}
-use Rattle.qrules.specs.Outcome.{ending}
+use Rattle.qrules.specs.Outcome.{completion_to}
 use Rattle.qrules.specs.Rules.{row_of}
 use Rattle.qqueue.specs.declared.item.Item.{Item}
 use Rattle.qqueue.specs.declared.item.Kind.{Kind}
@@ -16,7 +16,7 @@ use Rattle.qtables.specs.declared.connection.Connection.{Connection}
 use Rattle.qrules.proofs.Traces.Parts.{error_finish}
 use Rattle.qrules.specs.Records.{error_mark}
 use Rattle.qrules.specs.Rules.Held.{info_of}
-use Rattle.qrules.proofs.Words.Items.{info_ending}
+use Rattle.qrules.proofs.Words.Items.{info_completion}
 use Rattle.qrules.proofs.Traces.Parts.{reply_finish}
 use Rattle.qrules.proofs.Words.Items.{message_item}
 use Rattle.qrules.specs.Rules.Held.{refusal_unless_held}
@@ -41,7 +41,7 @@ use Rattle.qrules.proofs.Traces.Calls.Held.{IsHeldFor, SenderEnds, answering, fi
 use Rattle.qbase.proofs.Lists.{eqb_same}
 use Rattle.qrules.proofs.Traces.Past.Senders.{sender_sends}
 use Rattle.qrules.proofs.Traces.Past.Laws.{Passes}
-use Rattle.qrules.proofs.Traces.Properties.Receipts.{ending_of}
+use Rattle.qrules.proofs.Traces.Properties.Receipts.{completion_of}
 use Rattle.qrules.proofs.Traces.Calls.Taking.{given_is}
 use Rattle.qrules.proofs.Traces.Properties.Rows.Receiving.{ReceiveTakes, receive_takes}
 use Rattle.qrules.proofs.Traces.Properties.Rows.Delivering.{Delivers, delivery_meets}
@@ -54,7 +54,7 @@ use Rattle.qrules.proofs.Traces.Properties.Rows.Telling.{told_meets, unblock_end
 
 -- ---- what answers
 
--- the call names the message of the ending, which thread u sent and is held for the caller
+-- the call names the message of the completion, which thread u sent and is held for the caller
 pub record AnswersHeld (f : Facts) (t : ℕ) (c : Call) (u : ℕ) (y : Completion) : Type 0 where
   pub named : (effect_of c).answers ≡ Some y.call
   pub is_sender : sender f y.call ≡ Some u
@@ -70,13 +70,13 @@ given_no_answer : (item : Item) (message buffer : List ℕ) → is_answer (deliv
 given_no_answer item message buffer = given_is is_answer false (λ i n. refl) item message buffer refl
 
 takes_no_answer : {P : Type 0} (f : Facts) (t chid : ℕ) (kind : Kind) (buffer : List ℕ) (y : Completion) → ReceiveTakes f t chid kind buffer y → is_answer y.mark ≡ true → P
-takes_no_answer f t chid kind buffer y r is = no_answer _ y r.ending (given_no_answer r.item (message f r.item.number) buffer) is
+takes_no_answer f t chid kind buffer y r is = no_answer _ y r.completion (given_no_answer r.item (message f r.item.number) buffer) is
 
 met_no_answer : {P : Type 0} (f : Facts) (o : Option ℕ) (item : Item) (sent : List ℕ) (u : ℕ) (y : Completion) → Delivers f o item sent u y → is_answer y.mark ≡ true → P
-met_no_answer f o item sent u y s is = no_answer _ y s.ending (given_no_answer item sent s.receive.buffer) is
+met_no_answer f o item sent u y s is = no_answer _ y s.completion (given_no_answer item sent s.receive.buffer) is
 
 -- what is told is no answer
-tells_only : (n t : ℕ) (o : Option Told) (y : Completion) → option_map (info_ending n t) o ≡ Some y → is_answer y.mark ≡ false
+tells_only : (n t : ℕ) (o : Option Told) (y : Completion) → option_map (info_completion n t) o ≡ Some y → is_answer y.mark ≡ false
 tells_only n t None y e = absurd (none-some y e)
 tells_only n t (Some told_so) y e = ap (λ x. is_answer x.mark) (sym (same_Some _ y e))
 
@@ -90,13 +90,13 @@ own_answers f t c u y e is = no_answer _ y (same_Some _ y e) refl is
 -- the Send that a call ends is the one that it names
 answers_by : (f : Facts) (t : ℕ) (c : Call) (rcvid : ℕ) (finish : Finish) (u : ℕ) (y : Completion) → (effect_of c).answers ≡ Some rcvid → SenderEnds f t rcvid finish u y → AnswersHeld f t c u y
 answers_by f t c rcvid finish u y named r =
-    let call : rcvid ≡ y.call = ap (λ x. x.call) r.ending in
+    let call : rcvid ≡ y.call = ap (λ x. x.call) r.completion in
     record {
       named = named ∙ ap (λ i. Some i) call;
       is_sender = subst (λ i. sender f i ≡ Some u) call r.is_sender;
       held = r.held;
       number = r.number ∙ call;
-      thread = sym (ap (λ x. x.thread) r.ending);
+      thread = sym (ap (λ x. x.thread) r.completion);
     }
 
 ends_answers : (f : Facts) (t : ℕ) (c : Call) (u : ℕ) (y : Completion) → Passes f t c → (row_of f t c).others u ≡ Some y → is_answer y.mark ≡ true → AnswersHeld f t c u y
@@ -105,21 +105,21 @@ ends_answers f t (Pulse coid level code value) u y p e is =
     let k = told_meets f (pulse.pulse_over f coid level code value) u y (sym (pulse_same f (pulse.pulse_over f coid level code value) u) ∙ e) in met_no_answer f (Some k.made.channel) k.made.item [] u y k.delivers is
 ends_answers f t (Reply rcvid status bytes) u y p e is = answers_by f t (Reply rcvid status bytes) rcvid (reply_finish status bytes) u y refl (sender_ends f t rcvid (reply_finish status bytes) u y p.row (sym (answer_same f (reply_finish status bytes) (sender f rcvid) u) ∙ e))
 ends_answers f t (Error rcvid code) u y p e is = answers_by f t (Error rcvid code) rcvid (error_finish code) u y refl (sender_ends f t rcvid (error_finish code) u y p.row (sym (answer_same f (error_finish code) (sender f rcvid) u) ∙ e))
-ends_answers f t (ChannelDestroy chid) u y p e is = no_answer _ y (cancel_parts (is_on chid) Srch u (f.open_call u) y e).ending refl is
-ends_answers f t Shutdown u y p e is = no_answer _ y (cancel_parts (λ wait. true) Srch u (f.open_call u) y e).ending refl is
+ends_answers f t (ChannelDestroy chid) u y p e is = no_answer _ y (cancel_parts (is_on chid) Srch u (f.open_call u) y e).completion refl is
+ends_answers f t Shutdown u y p e is = no_answer _ y (cancel_parts (λ wait. true) Srch u (f.open_call u) y e).completion refl is
 ends_answers f t (Unblock thread) u y p e is = elim (unblock_ends f thread u y (unblock.unblock_pulse f thread) (sym (unblocked_same f t thread u) ∙ e)) [
-  | inl cancel ↦ no_answer _ y cancel.ending refl is
+  | inl cancel ↦ no_answer _ y cancel.completion refl is
   | inr k ↦ met_no_answer f (Some k.made.channel) k.made.item [] u y k.delivers is
 ]
 ends_answers f t (ConnectDetach coid) u y p e is = elim (detach_ends f coid (connect_detach.disconnect_pulse f t coid) u y e) [
-  | inl cancel ↦ no_answer _ y cancel.ending refl is
+  | inl cancel ↦ no_answer _ y cancel.completion refl is
   | inr s ↦ let k = told_meets f (connect_detach.disconnect_pulse f t coid) u y s in met_no_answer f (Some k.made.channel) k.made.item [] u y k.delivers is
 ]
 ends_answers f t c u y p e is = absurd (none-some y e)
 
--- each ending that answers a message answers so
-pub answers_held : (f : Facts) (t : ℕ) (c : Call) (u : ℕ) (y : Completion) → Passes f t c → ending f t c u ≡ Some y → is_answer y.mark ≡ true → AnswersHeld f t c u y
-answers_held f t c u y p e is = elim (ending_of f t c u y e) [
+-- each completion that answers a message answers so
+pub answers_held : (f : Facts) (t : ℕ) (c : Call) (u : ℕ) (y : Completion) → Passes f t c → completion_to f t c u ≡ Some y → is_answer y.mark ≡ true → AnswersHeld f t c u y
+answers_held f t c u y p e is = elim (completion_of f t c u y e) [
   | inl h ↦ own_answers f t c u y h.1 is
   | inr h ↦ ends_answers f t c u y p h.1 is
 ]

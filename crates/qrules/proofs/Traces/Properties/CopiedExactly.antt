@@ -15,13 +15,13 @@ use Rattle.qqueue.specs.declared.item.Kind.{Kind}
 use Rattle.qqueue.specs.declared.item.Kind.TheVariants.{Any, PulseOnly}
 use Rattle.qbase.specs.Laying.{laid_count, lay_over}
 use Rattle.qtables.specs.declared.member.Member.{Member}
-use Rattle.qrules.specs.Outcome.{ending, Answers}
+use Rattle.qrules.specs.Outcome.{completion_to, Answers}
 use Rattle.qrules.specs.Rules.{row_of}
 use Rattle.qmodel.specs.Buffers.{buffer_of}
 use Rattle.qrules.proofs.Words.Effects.{writes}
 use Rattle.qrules.proofs.Traces.Parts.{error_finish}
 use Rattle.qrules.specs.Rules.Held.{info_of}
-use Rattle.qrules.proofs.Words.Items.{info_ending}
+use Rattle.qrules.proofs.Words.Items.{info_completion}
 use Rattle.qrules.proofs.Traces.Parts.{reply_finish}
 use Rattle.qrules.proofs.Words.Items.{message_item}
 use Rattle.qrules.specs.Delivery.{cancel_call, is_on, is_over}
@@ -37,7 +37,7 @@ use Rattle.qrules.specs.Rules.{effect_of}
 use Rattle.qrules.specs.Trace.{call_at}
 use Rattle.qrules.proofs.Words.Lawful.{facts_of, IsLawful}
 use Rattle.qrules.proofs.Words.Past.{open_call, refuses}
-use Rattle.qrules.specs.Delivery.{receipt_ending}
+use Rattle.qrules.specs.Delivery.{receipt_completion}
 use Rattle.qmodel.specs.Trace.{SentItem, Event, Trace}
 use Rattle.qmodel.specs.declared.call.Call.{Call}
 use Rattle.qmodel.specs.declared.call.Call.TheVariants.{Send, Receive, Reply, Error, Read, Write, Info, ReceivePulse, Pulse, ChannelDestroy, Shutdown, Unblock, ConnectDetach}
@@ -56,7 +56,7 @@ use Rattle.qrules.proofs.Traces.Past.Receipts.{best_pending}
 use Rattle.qrules.proofs.Traces.Past.Senders.{sender_sends}
 use Rattle.qrules.proofs.Traces.Past.Writes.{writes_beyond, writes_nothing, writes_refused}
 use Rattle.qrules.proofs.Traces.Properties.Messages.{buffer_by, message_sent, open_buffer, open_message, pending_message}
-use Rattle.qrules.proofs.Traces.Properties.Receipts.{ending_of}
+use Rattle.qrules.proofs.Traces.Properties.Receipts.{completion_of}
 use Rattle.qrules.proofs.Traces.Laying.{lay_nothing, count_nothing}
 use Rattle.qrules.proofs.Traces.Properties.Rows.Receiving.{ReceiveTakes, receive_takes}
 use Rattle.qrules.proofs.Traces.Calls.Cancelling.{IsCutCall, cancel_parts}
@@ -128,7 +128,7 @@ held_buffer roster past t rcvid passed =
     let h = held_for f t rcvid s.0 passed s.1 in
     reply_buffer_same f rcvid ∙ ap reply_buffer_in (held_call_is f t rcvid s.0 s.1 h) ∙ sym (open_buffer roster past s.0 (InSend h.send) h.is_open) ∙ ap (buffer_at past) (held_number f t rcvid s.0 s.1 h)
 
--- ---- the forms of an ending
+-- ---- the forms of a completion
 
 -- what a receipt gives, by whether it is of a pulse
 abbrev as_given : Item → List ℕ → List ℕ → Bool → Mark × List ℕ
@@ -136,7 +136,7 @@ as_given item buffer bytes t = cond {A = Mark × List ℕ} t (mark.Pulse item.nu
 
 -- a message is laid over the buffer, and a pulse leaves it
 taking_copied : (past : Trace) (e : Event) (m u : ℕ) (item : Item) (buffer bytes : List ℕ) (y : Completion) → buffer_at (e ∷ past) m ≡ buffer → (is_pulse item.what ≡ false → message_at (e ∷ past) item.number ≡ bytes)
-    → receipt_ending item bytes u m buffer ≡ y → IsCopied past e y y.mark
+    → receipt_completion item bytes u m buffer ≡ y → IsCopied past e y y.mark
 taking_copied past e m u item buffer bytes y b s is = subst (λ (x : Completion). IsCopied past e x x.mark) is (by (is_pulse item.what) s) where
   by : (t : Bool) → (t ≡ false → message_at (e ∷ past) item.number ≡ bytes) → IsCopied past e (record { call = m; thread = u; mark = (as_given item buffer bytes t).0; buffer = (as_given item buffer bytes t).1 }) (as_given item buffer bytes t).0
   by true s = sym b
@@ -156,16 +156,16 @@ errored_copied past e m u code buffer y says b is = subst (λ (x : Completion). 
       | false ↦ λ says. sym b
     ] says)
 
--- an ending that gives the call's own buffer back
+-- a completion that gives the call's own buffer back
 plain_copied : (past : Trace) (e : Event) (y x : Completion) → x ≡ y → IsCopied past e x x.mark → IsCopied past e y y.mark
 plain_copied past e y x is h = subst (λ (z : Completion). IsCopied past e z z.mark) is h
 
 -- what is told gives no buffer
-told_copied : (past : Trace) (e : Event) (n t : ℕ) (o : Option Told) (y : Completion) → option_map (info_ending n t) o ≡ Some y → buffer_at (e ∷ past) n ≡ [] → IsCopied past e y y.mark
+told_copied : (past : Trace) (e : Event) (n t : ℕ) (o : Option Told) (y : Completion) → option_map (info_completion n t) o ≡ Some y → buffer_at (e ∷ past) n ≡ [] → IsCopied past e y y.mark
 told_copied past e n t None y is b = absurd (none-some y is)
-told_copied past e n t (Some told_so) y is b = plain_copied past e y (info_ending n t told_so) (same_Some _ y is) (sym b)
+told_copied past e n t (Some told_so) y is b = plain_copied past e y (info_completion n t told_so) (same_Some _ y is) (sym b)
 
--- ---- each ending of an accepted call
+-- ---- each completion of an accepted call
 
 -- the best that is taken
 best_copied : (roster : List Member) (past : Trace) (t : ℕ) (c : Call) (X : List Completion) (y : Completion) (chid : ℕ) (kind : Kind) (buffer : List ℕ) → IsLawful roster past
@@ -175,7 +175,7 @@ best_copied roster past t c X y chid kind buffer l brought r =
     let v = event t c X in
     taking_copied past v (length past + 1) t r.item buffer (message (facts_of roster past) r.item.number) y brought
     (λ sent. message_earlier v past r.item.number (item_below roster past r.item.number _ b.made) ∙ sym (pending_message roster past chid r.item l b sent))
-    r.ending
+    r.completion
 
 own_copied : (roster : List Member) (past : Trace) (t : ℕ) (c : Call) (X : List Completion) (y : Completion) → IsLawful roster past → Passes (facts_of roster past) t c → (row_of (facts_of roster past) t c).own ≡ Some y
     → IsCopied past (event t c X) y y.mark
@@ -200,13 +200,13 @@ answered_buffer roster past v t rcvid finish u y none r =
 met_copied : (roster : List Member) (past : Trace) (t : ℕ) (c : Call) (X : List Completion) (u : ℕ) (y : Completion) (o : Option ℕ) (item : Item) (sent : List ℕ) → writes c ≡ None
     → (is_pulse item.what ≡ false → message_at (event t c X ∷ past) item.number ≡ sent) → Delivers (facts_of roster past) o item sent u y → IsCopied past (event t c X) y y.mark
 met_copied roster past t c X u y o item sent none message s =
-    taking_copied past (event t c X) s.receive.number u item s.receive.buffer sent y (buffer_open roster (event t c X) past u (InReceive s.receive) none s.is_open) message s.ending
+    taking_copied past (event t c X) s.receive.number u item s.receive.buffer sent y (buffer_open roster (event t c X) past u (InReceive s.receive) none s.is_open) message s.completion
 
 -- what is cancelled gives its buffer back as it is by now
 cancel_copied : (roster : List Member) (past : Trace) (t : ℕ) (c : Call) (X : List Completion) (u : ℕ) (y : Completion) (is_cancelled : OpenCall → Bool) (errno : Errno) → writes c ≡ None → IsCutCall is_cancelled errno u (open_call roster past u) y
     → IsCopied past (event t c X) y y.mark
 cancel_copied roster past t c X u y is_cancelled errno none k =
-    plain_copied past (event t c X) y (cancel_call errno u k.waiting) k.ending (sym (buffer_open roster (event t c X) past u k.waiting none k.is))
+    plain_copied past (event t c X) y (cancel_call errno u k.waiting) k.completion (sym (buffer_open roster (event t c X) past u k.waiting none k.is))
 
 -- what a receiver takes that a pulse meets which is due
 told_now : (roster : List Member) (past : Trace) (t : ℕ) (c : Call) (X : List Completion) (u : ℕ) (y : Completion) (o : Option SentItem) → writes c ≡ None → ((m : SentItem) → o ≡ Some m → is_pulse m.item.what ≡ true)
@@ -236,16 +236,16 @@ ends_copied roster past t (Pulse coid level code value) X u y p e =
 ends_copied roster past t (Reply rcvid status bytes) X u y p e =
     let r = sender_ends (facts_of roster past) t rcvid (reply_finish status bytes) u y p.row (sym (answer_same (facts_of roster past) (reply_finish status bytes) (sender (facts_of roster past) rcvid) u) ∙ e) in
     let v = event t (Reply rcvid status bytes) X in
-    replied_copied past v rcvid u status bytes r.held.send.reply_buffer y refl (answered_buffer roster past v t rcvid (reply_finish status bytes) u y refl r) r.ending
+    replied_copied past v rcvid u status bytes r.held.send.reply_buffer y refl (answered_buffer roster past v t rcvid (reply_finish status bytes) u y refl r) r.completion
 ends_copied roster past t (Error rcvid code) X u y p e =
     let r = sender_ends (facts_of roster past) t rcvid (error_finish code) u y p.row (sym (answer_same (facts_of roster past) (error_finish code) (sender (facts_of roster past) rcvid) u) ∙ e) in
     let v = event t (Error rcvid code) X in
-    errored_copied past v rcvid u code r.held.send.reply_buffer y refl (answered_buffer roster past v t rcvid (error_finish code) u y refl r) r.ending
+    errored_copied past v rcvid u code r.held.send.reply_buffer y refl (answered_buffer roster past v t rcvid (error_finish code) u y refl r) r.completion
 ends_copied roster past t c X u y p e = absurd (none-some y e)
 
-ending_copied : (roster : List Member) (past : Trace) (t : ℕ) (c : Call) (X : List Completion) (u : ℕ) (y : Completion) → IsLawful roster past → Passes (facts_of roster past) t c
-    → ending (facts_of roster past) t c u ≡ Some y → IsCopied past (event t c X) y y.mark
-ending_copied roster past t c X u y l p e = elim (ending_of (facts_of roster past) t c u y e) [
+completion_copied : (roster : List Member) (past : Trace) (t : ℕ) (c : Call) (X : List Completion) (u : ℕ) (y : Completion) → IsLawful roster past → Passes (facts_of roster past) t c
+    → completion_to (facts_of roster past) t c u ≡ Some y → IsCopied past (event t c X) y y.mark
+completion_copied roster past t c X u y l p e = elim (completion_of (facts_of roster past) t c u y e) [
   | inl h ↦ own_copied roster past t c X y l p h.1
   | inr h ↦ ends_copied roster past t c X u y p h.1
 ]
@@ -262,8 +262,8 @@ refused_buffer roster past t c X l r = brought c ∙ sym (buffer_newest (event t
 all_copied : (roster : List Member) (past : Trace) (t : ℕ) (c : Call) (X : List Completion) → IsLawful roster past → Answers (facts_of roster past) t c X
     → AllByRecursion (λ x. IsCopied past (event t c X) x x.mark) X
 all_copied roster past t c X l a = elim a [
-  | inl a ↦ subst (AllByRecursion (λ x. IsCopied past (event t c X) x x.mark)) (sym a.1) (all_filter_map (λ x. IsCopied past (event t c X) x x.mark) (ending (facts_of roster past) t c) (threads_of roster)
-      (λ u y e. ending_copied roster past t c X u y l (passes_of (facts_of roster past) t c X a) e))
+  | inl a ↦ subst (AllByRecursion (λ x. IsCopied past (event t c X) x x.mark)) (sym a.1) (all_filter_map (λ x. IsCopied past (event t c X) x x.mark) (completion_to (facts_of roster past) t c) (threads_of roster)
+      (λ u y e. completion_copied roster past t c X u y l (passes_of (facts_of roster past) t c X a) e))
   | inr a ↦ subst (AllByRecursion (λ x. IsCopied past (event t c X) x x.mark)) (sym a.2) (refused_buffer roster past t c X l (refused roster past t c X a), tt)
 ]
 

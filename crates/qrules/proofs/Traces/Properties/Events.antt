@@ -5,7 +5,7 @@ use Rattle.std.specs.List.{AllByRecursion}
 use Rattle.std.proofs.lemmas.Bool.{true≢false}
 use Rattle.std.proofs.lemmas.Option.{none-some}
 use Rattle.qtables.specs.declared.member.Member.{Member}
-use Rattle.qrules.specs.Outcome.{ending, Outcome, Answers}
+use Rattle.qrules.specs.Outcome.{completion_to, Outcome, Answers}
 use Rattle.qrules.proofs.Words.Facts.{Facts, threads_of}
 use Rattle.qrules.specs.Properties.{number_received}
 use Rattle.qrules.proofs.Words.Lawful.{facts_of}
@@ -46,7 +46,7 @@ none_made roster e past is =
 
 each_taken : (P : Completion → ℕ → Type 0) (f : Facts) (t : ℕ) (c : Call) (X : List Completion) → Outcome true f t c X
     → ((u : ℕ) (y : Completion) (i : ℕ) → TakesOne f t c u y i → P y i) → AllByRecursion (λ x. (i : ℕ) → number_received x ≡ Some i → P x i) X
-each_taken P f t c X a h = rw (a.1) (all_filter_map (λ x. (i : ℕ) → number_received x ≡ Some i → P x i) (ending f t c) (threads_of f.roster) (λ u y e i received_i.
+each_taken P f t c X a h = rw (a.1) (all_filter_map (λ x. (i : ℕ) → number_received x ≡ Some i → P x i) (completion_to f t c) (threads_of f.roster) (λ u y e i received_i.
     let p = receives_it y i received_i in
     subst (P y) p.2 (h u y p.0.number (takes_one f t c u y p.0 (passes_of f t c X a).row e p.1))))
 

@@ -14,7 +14,7 @@ use Rattle.qrules.specs.Properties.{buffer_at, message_at}
 use Rattle.qrules.specs.Rule.{buffer_of}
 use Rattle.qrules.specs.Rules.{effect_of}
 use Rattle.qrules.proofs.Words.Lawful.{facts_of, IsLawful}
-use Rattle.qrules.proofs.Words.Past.{has_ending_of, is_ended, item_of, open_call, with_writes, block, filled}
+use Rattle.qrules.proofs.Words.Past.{has_completion_of, is_ended, item_of, open_call, with_writes, block, filled}
 use Rattle.qrules.proofs.Words.Effects.{asks, makes}
 use Rattle.qrules.proofs.Words.Items.{pulse_item}
 use Rattle.qmodel.specs.Trace.{SentItem, Event, Trace}
@@ -143,7 +143,7 @@ item_waits roster (e ∷ past) i m l is message going =
             answer = w.answer;
           }
       | false ↦ λ other at.
-          let before : is_ended past i ≡ false = (or_parts (has_ending_of e.endings i) (is_ended past i) going).1 in
+          let before : is_ended past i ≡ false = (or_parts (has_completion_of e.endings i) (is_ended past i) going).1 in
           let k = item_waits roster past i m l.0 at message before in
           record {
             thread = k.thread;

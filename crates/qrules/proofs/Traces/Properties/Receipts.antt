@@ -1,4 +1,4 @@
--- An ending that receives an item: the caller's own of what was pending, or of a thread that waited for what the call makes.
+-- A completion that receives an item: the caller's own of what was pending, or of a thread that waited for what the call makes.
 use Rattle.qrules.proofs.Traces.Rows.{answer_same, pulse_same, sent_same, unblocked_same}
 use Rattle.std.proofs.Common.{◌≡◌, ◌∙◌, ℕ, List, [], ap, refl, sym, cond, eqb, true, false, inl, inr, ◌⊎◌}
 use Rattle.std.specs.Prelude.{Option, None, Some}
@@ -10,7 +10,7 @@ use Rattle.qqueue.specs.Best.{best_of, may_take}
 use Rattle.qqueue.specs.declared.item.Item.{Item}
 use Rattle.qqueue.specs.declared.item.Kind.{Kind}
 use Rattle.qqueue.specs.declared.item.Kind.TheVariants.{Any, PulseOnly}
-use Rattle.qrules.specs.Outcome.{ending}
+use Rattle.qrules.specs.Outcome.{completion_to}
 use Rattle.qrules.specs.Rules.{row_of}
 use Rattle.qrules.proofs.Traces.Parts.{error_finish}
 use Rattle.qrules.specs.Rules.Held.{info_of}
@@ -45,17 +45,17 @@ use Rattle.qrules.proofs.Traces.Properties.Rows.Telling.{Tells, told_meets, unbl
 use Rattle.qrules.proofs.Traces.Calls.Delivering.{sent_way}
 use Rattle.qrules.specs.Past.{ReceivedItem}
 
--- ---- whose ending it is
+-- ---- whose completion it is
 
-pub ending_of : (f : Facts) (t : ℕ) (c : Call) (u : ℕ) (y : Completion) → ending f t c u ≡ Some y
+pub completion_of : (f : Facts) (t : ℕ) (c : Call) (u : ℕ) (y : Completion) → completion_to f t c u ≡ Some y
     → ((u ≡ t) × ((row_of f t c).own ≡ Some y)) ⊎ ((eqb u t ≡ false) × ((row_of f t c).others u ≡ Some y))
-ending_of f t c u y e =
+completion_of f t c u y e =
     elim (eqb u t) as (λ b. eqb u t ≡ b → cond b (row_of f t c).own ((row_of f t c).others u) ≡ Some y → ((u ≡ t) × ((row_of f t c).own ≡ Some y)) ⊎ ((eqb u t ≡ false) × ((row_of f t c).others u ≡ Some y))) [
       | true ↦ λ same s. inl (eqb-true u t same, s)
       | false ↦ λ other s. inr (other, s)
     ] refl e
 
--- what an ending receives
+-- what a completion receives
 pub receives_it : (x : Completion) (i : ℕ) → number_received x ≡ Some i → (p : ReceivedItem) × (item_in x.mark ≡ Some p) × (p.number ≡ i)
 receives_it x i e =
     elim (item_in x.mark) as (λ o. option_map (λ r. r.number) o ≡ Some i → (p : ReceivedItem) × (o ≡ Some p) × (p.number ≡ i)) [
@@ -101,13 +101,13 @@ takes_best : (f : Facts) (t : ℕ) (c : Call) (chid : ℕ) (kind : Kind) (buffer
     → ReceiveTakes f t chid kind buffer y → item_in y.mark ≡ Some p → TakesOne f t c u y p.number
 takes_best f t c chid kind buffer u y p same receives none r m = inl (record {
   caller = same;
-  call = sym (ap (λ x. x.call) r.ending);
+  call = sym (ap (λ x. x.call) r.completion);
   request = record { channel = chid; kind = kind; buffer = buffer };
   item = r.item;
   receives = receives;
   makes_none = none;
   best = r.best;
-  number = ap (λ q. q.number) (same_Some (record { number = r.item.number; copied = (given_received r.item (message f r.item.number) buffer).0 }) p (sym (given_received r.item (message f r.item.number) buffer).1 ∙ ap (λ x. item_in x.mark) r.ending ∙ m));
+  number = ap (λ q. q.number) (same_Some (record { number = r.item.number; copied = (given_received r.item (message f r.item.number) buffer).0 }) p (sym (given_received r.item (message f r.item.number) buffer).1 ∙ ap (λ x. item_in x.mark) r.completion ∙ m));
 })
 
 own_takes : (f : Facts) (t : ℕ) (c : Call) (u : ℕ) (y : Completion) (p : ReceivedItem) → u ≡ t → (row_of f t c).own ≡ Some y → item_in y.mark ≡ Some p → TakesOne f t c u y p.number
@@ -123,10 +123,10 @@ takes_met : (f : Facts) (t : ℕ) (c : Call) (o : Option ℕ) (item : Item) (mes
 takes_met f t c o item message u y p s made m = inr (record {
   made = record { item = item; channel = s.channel };
   is_made = made s.channel s.leads;
-  number = ap (λ q. q.number) (same_Some (record { number = item.number; copied = (given_received item message s.receive.buffer).0 }) p (sym (given_received item message s.receive.buffer).1 ∙ ap (λ x. item_in x.mark) s.ending ∙ m));
+  number = ap (λ q. q.number) (same_Some (record { number = item.number; copied = (given_received item message s.receive.buffer).0 }) p (sym (given_received item message s.receive.buffer).1 ∙ ap (λ x. item_in x.mark) s.completion ∙ m));
   waiting = InReceive s.receive;
   is_open = s.is_open;
-  call = sym (ap (λ x. x.call) s.ending);
+  call = sym (ap (λ x. x.call) s.completion);
   kind = s.receive.kind;
   waits = ap (λ h. Some (h, s.receive.kind)) s.on;
   may = s.may;
@@ -141,14 +141,14 @@ ends_takes : (f : Facts) (t : ℕ) (c : Call) (u : ℕ) (y : Completion) (p : Re
 ends_takes f t (Reply rcvid status bytes) u y p r e m =
     absurd (none-some p (sym (answer_receives f t rcvid (reply_finish status bytes) u y (λ buffer. refl) (sender_ends f t rcvid (reply_finish status bytes) u y r (sym (answer_same f (reply_finish status bytes) (sender f rcvid) u) ∙ e))) ∙ m))
 ends_takes f t (Error rcvid code) u y p r e m = absurd (none-some p (sym (answer_receives f t rcvid (error_finish code) u y (λ buffer. no_receipt code) (sender_ends f t rcvid (error_finish code) u y r (sym (answer_same f (error_finish code) (sender f rcvid) u) ∙ e))) ∙ m))
-ends_takes f t (ChannelDestroy chid) u y p r e m = absurd (none-some p (ap (λ x. item_in x.mark) (cancel_parts (is_on chid) Srch u (f.open_call u) y e).ending ∙ m))
-ends_takes f t Shutdown u y p r e m = absurd (none-some p (ap (λ x. item_in x.mark) (cancel_parts (λ wait. true) Srch u (f.open_call u) y e).ending ∙ m))
+ends_takes f t (ChannelDestroy chid) u y p r e m = absurd (none-some p (ap (λ x. item_in x.mark) (cancel_parts (is_on chid) Srch u (f.open_call u) y e).completion ∙ m))
+ends_takes f t Shutdown u y p r e m = absurd (none-some p (ap (λ x. item_in x.mark) (cancel_parts (λ wait. true) Srch u (f.open_call u) y e).completion ∙ m))
 ends_takes f t (Unblock thread) u y p r e m = elim (unblock_ends f thread u y (unblock.unblock_pulse f thread) (sym (unblocked_same f t thread u) ∙ e)) [
-  | inl cancel ↦ absurd (none-some p (ap (λ x. item_in x.mark) cancel.ending ∙ m))
+  | inl cancel ↦ absurd (none-some p (ap (λ x. item_in x.mark) cancel.completion ∙ m))
   | inr k ↦ takes_told f t (Unblock thread) (unblock.unblock_pulse f thread) u y p refl k m
 ]
 ends_takes f t (ConnectDetach coid) u y p r e m = elim (detach_ends f coid (connect_detach.disconnect_pulse f t coid) u y e) [
-  | inl cancel ↦ absurd (none-some p (ap (λ x. item_in x.mark) cancel.ending ∙ m))
+  | inl cancel ↦ absurd (none-some p (ap (λ x. item_in x.mark) cancel.completion ∙ m))
   | inr s ↦ takes_told f t (ConnectDetach coid) (connect_detach.disconnect_pulse f t coid) u y p refl (told_meets f (connect_detach.disconnect_pulse f t coid) u y s) m
 ]
 ends_takes f t (Send coid message reply_buffer) u y p r e m =
@@ -157,9 +157,9 @@ ends_takes f t (Pulse coid level code value) u y p r e m =
     takes_told f t (Pulse coid level code value) (pulse.pulse_over f coid level code value) u y p refl (told_meets f (pulse.pulse_over f coid level code value) u y (sym (pulse_same f (pulse.pulse_over f coid level code value) u) ∙ e)) m
 ends_takes f t c u y p r e m = absurd (none-some y e)
 
--- each ending that receives an item takes it so
-pub takes_one : (f : Facts) (t : ℕ) (c : Call) (u : ℕ) (y : Completion) (p : ReceivedItem) → (row_of f t c).refusal ≡ None → ending f t c u ≡ Some y → item_in y.mark ≡ Some p → TakesOne f t c u y p.number
-takes_one f t c u y p r e m = elim (ending_of f t c u y e) [
+-- each completion that receives an item takes it so
+pub takes_one : (f : Facts) (t : ℕ) (c : Call) (u : ℕ) (y : Completion) (p : ReceivedItem) → (row_of f t c).refusal ≡ None → completion_to f t c u ≡ Some y → item_in y.mark ≡ Some p → TakesOne f t c u y p.number
+takes_one f t c u y p r e m = elim (completion_of f t c u y e) [
   | inl o ↦ own_takes f t c u y p o.0 o.1 m
   | inr o ↦ ends_takes f t c u y p r o.1 m
 ]

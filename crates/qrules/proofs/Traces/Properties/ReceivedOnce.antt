@@ -9,23 +9,23 @@ use Rattle.std.proofs.lemmas.List.Elements.{filter_map-append}
 use Rattle.std.proofs.lemmas.Option.{same_Some, option_and_then_some}
 use Rattle.qtables.specs.declared.member.Member.{Member}
 use Rattle.qtables.specs.Members.{IsRoster}
-use Rattle.qrules.specs.Outcome.{ending, Answers, Outcome}
+use Rattle.qrules.specs.Outcome.{completion_to, Answers, Outcome}
 use Rattle.qrules.proofs.Words.Facts.{Facts, threads_of}
 use Rattle.qrules.specs.Properties.{AllDifferent, ReceivedOnce, items, number_received}
 use Rattle.qrules.specs.Past.{item_among}
 use Rattle.qrules.specs.Trace.{InEachEvent, endings_of}
 use Rattle.qrules.proofs.Words.Lawful.{facts_of, IsLawful}
-use Rattle.qrules.proofs.Words.Past.{copied_count_in, has_ending_of, is_ended, is_received, copied_count_among, copied_count_of}
+use Rattle.qrules.proofs.Words.Past.{copied_count_in, has_completion_of, is_ended, is_received, copied_count_among, copied_count_of}
 use Rattle.qrules.proofs.Words.Items.{item_in}
 use Rattle.qmodel.specs.Trace.{SentItem, Event, Trace}
 use Rattle.qmodel.specs.declared.call.Call.{Call}
 use Rattle.qmodel.specs.declared.call.Completion.{Completion}
-use Rattle.qrules.proofs.Traces.Past.Ends.{ending_names, laws_of, not_ended, other_below}
+use Rattle.qrules.proofs.Traces.Past.Ends.{completion_names, laws_of, not_ended, other_below}
 use Rattle.qrules.proofs.Traces.Past.Items.{IsPending, item_at, item_below, item_earlier, item_found, item_newest}
 use Rattle.qrules.proofs.Traces.Calls.{call_laws}
 use Rattle.qbase.proofs.Lists.{all_append, all_map, all_more}
 use Rattle.qrules.proofs.Traces.Past.Open.{open_thread}
-use Rattle.qrules.proofs.Traces.Past.Receipts.{best_pending, ending_receives, receipt_beyond}
+use Rattle.qrules.proofs.Traces.Past.Receipts.{best_pending, completion_receives, receipt_beyond}
 use Rattle.qrules.proofs.Traces.Properties.Different.{IsNoneOf, different_append, different_kept, calls_as}
 use Rattle.qrules.proofs.Traces.Properties.Receipts.{TakesPending, TakesMade, receives_it}
 use Rattle.qrules.proofs.Traces.Properties.Events.{each_received, made_now}
@@ -37,16 +37,16 @@ eqb_flip n m e = ne_eqb m n (λ same. eqb-false n m e (sym same))
 
 -- two threads' endings of one event are of different calls
 pub different_calls : (roster : List Member) (past : Trace) (t : ℕ) (c : Call) (X : List Completion) → Outcome true (facts_of roster past) t c X → (u v : ℕ) (y z : Completion) → u ≢ v
-    → ending (facts_of roster past) t c u ≡ Some y → ending (facts_of roster past) t c v ≡ Some z → eqb y.call z.call ≡ false
+    → completion_to (facts_of roster past) t c u ≡ Some y → completion_to (facts_of roster past) t c v ≡ Some z → eqb y.call z.call ≡ false
 different_calls roster past t c X a u v y z apart yis zis =
     let f = facts_of roster past in
     let laws = laws_of (facts_of roster past) t c X a in
-    elim (ending_names f t c u y laws yis) as (λ _. eqb y.call z.call ≡ false) [
-      | inl h ↦ elim (ending_names f t c v z laws zis) as (λ _. eqb y.call z.call ≡ false) [
+    elim (completion_names f t c u y laws yis) as (λ _. eqb y.call z.call ≡ false) [
+      | inl h ↦ elim (completion_names f t c v z laws zis) as (λ _. eqb y.call z.call ≡ false) [
         | inl k ↦ absurd (apart (h.thread ∙ sym k.thread))
         | inr k ↦ let below : z.call ≤ length past = other_below roster past v z k.names in ne_eqb y.call z.call (λ same. omega (arith, h.names.call))
       ]
-      | inr h ↦ elim (ending_names f t c v z laws zis) as (λ _. eqb y.call z.call ≡ false) [
+      | inr h ↦ elim (completion_names f t c v z laws zis) as (λ _. eqb y.call z.call ≡ false) [
         | inl k ↦ let below : y.call ≤ length past = other_below roster past u y h.names in ne_eqb y.call z.call (λ same. omega (arith, k.names.call))
         | inr k ↦ ne_eqb y.call z.call (λ same.
             apart (open_thread roster past u v h.names.waiting k.names.waiting h.names.is k.names.is (sym h.names.call ∙ same ∙ k.names.call)))
@@ -56,16 +56,16 @@ different_calls roster past t c X a u v y z apart yis zis =
 -- the endings of one event are of different calls
 event_calls : (roster : List Member) (past : Trace) (t : ℕ) (c : Call) (X : List Completion) → IsRoster roster → Answers (facts_of roster past) t c X → AllDifferent (map (λ x. x.call) X)
 event_calls roster past t c X r a = elim a [
-  | inl a ↦ rw (a.1, calls_as (filter_map (ending (facts_of roster past) t c) (threads_of roster)))
-      (different_kept (λ x. Some x.call) (ending (facts_of roster past) t c) roster r (λ u v i j less eu ev.
-      option_and_then_some (λ (x : Completion). Some x.call) (ending (facts_of roster past) t c u) i eu (λ y yis yi.
-      option_and_then_some (λ (x : Completion). Some x.call) (ending (facts_of roster past) t c v) j ev (λ z zis zj.
+  | inl a ↦ rw (a.1, calls_as (filter_map (completion_to (facts_of roster past) t c) (threads_of roster)))
+      (different_kept (λ x. Some x.call) (completion_to (facts_of roster past) t c) roster r (λ u v i j less eu ev.
+      option_and_then_some (λ (x : Completion). Some x.call) (completion_to (facts_of roster past) t c u) i eu (λ y yis yi.
+      option_and_then_some (λ (x : Completion). Some x.call) (completion_to (facts_of roster past) t c v) j ev (λ z zis zj.
       subst (λ n. eqb n j ≡ false) (same_Some y.call i yi) (subst (λ n. eqb y.call n ≡ false) (same_Some z.call j zj)
       (different_calls roster past t c X a u v y z (λ same. omega arith) yis zis))))))
   | inr a ↦ rw (a.2) (tt, tt)
 ]
 
-none_ends : (X : List Completion) (i : ℕ) → has_ending_of X i ≡ false → IsNoneOf i (map (λ x. x.call) X)
+none_ends : (X : List Completion) (i : ℕ) → has_completion_of X i ≡ false → IsNoneOf i (map (λ x. x.call) X)
 none_ends [] i e = tt
 none_ends (x ∷ X) i e = let p = or_parts _ _ e in (eqb_flip x.call i p.0, none_ends X i p.1)
 
@@ -73,7 +73,7 @@ none_ends (x ∷ X) i e = let p = or_parts _ _ e in (eqb_flip x.call i p.0, none
 unended : (past : Trace) (i : ℕ) → is_ended past i ≡ false → IsNoneOf i (map (λ x. x.call) (endings_of past))
 unended [] i e = tt
 unended (e ∷ past) i is =
-    let p = or_parts (has_ending_of e.endings i) (is_ended past i) is in
+    let p = or_parts (has_completion_of e.endings i) (is_ended past i) is in
     rw (map-append (λ (x : Completion). x.call) e.endings (endings_of past))
     (all_append (λ m. eqb i m ≡ false) (map (λ x. x.call) e.endings) (map (λ x. x.call) (endings_of past)) (none_ends e.endings i p.0) (unended past i p.1))
 
@@ -118,13 +118,13 @@ untaken_yet roster past t c X l a = all_kept (λ i. is_received past i ≡ false
 -- the endings of one event receive different items: there is one receipt at most
 event_items : (roster : List Member) (past : Trace) (t : ℕ) (c : Call) (X : List Completion) → IsRoster roster → Answers (facts_of roster past) t c X → AllDifferent (filter_map number_received X)
 event_items roster past t c X r a = elim a [
-  | inl a ↦ rw (a.1) (different_kept number_received (ending (facts_of roster past) t c) roster r (λ u v i j less eu ev.
+  | inl a ↦ rw (a.1) (different_kept number_received (completion_to (facts_of roster past) t c) roster r (λ u v i j less eu ev.
       let f = facts_of roster past in
       let laws = laws_of (facts_of roster past) t c X a in
-      option_and_then_some number_received (ending (facts_of roster past) t c u) i eu (λ y yis yi.
-      option_and_then_some number_received (ending (facts_of roster past) t c v) j ev (λ z zis zj.
-      let first = ending_receives f t c u y (receives_it y i yi).0 laws yis (receives_it y i yi).1 in
-      let second = ending_receives f t c v z (receives_it z j zj).0 laws zis (receives_it z j zj).1 in
+      option_and_then_some number_received (completion_to (facts_of roster past) t c u) i eu (λ y yis yi.
+      option_and_then_some number_received (completion_to (facts_of roster past) t c v) j ev (λ z zis zj.
+      let first = completion_receives f t c u y (receives_it y i yi).0 laws yis (receives_it y i yi).1 in
+      let second = completion_receives f t c v z (receives_it z j zj).0 laws zis (receives_it z j zj).1 in
       let one : u ≡ v = sym first.by ∙ ap (λ q. q.by) (same_Some first.receipt second.receipt (sym first.is ∙ second.is)) ∙ second.by in
       absurd (omega arith)))))
   | inr a ↦ rw (a.2) tt

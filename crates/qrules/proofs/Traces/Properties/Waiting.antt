@@ -28,7 +28,7 @@ use Rattle.qrules.proofs.Words.Past.{made_on}
 use Rattle.qrules.specs.Delivery.{newest_receiver}
 use Rattle.qrules.proofs.Words.Items.{Received, names, item_sent_over}
 use Rattle.qrules.specs.Records.{takes}
-use Rattle.qrules.specs.Delivery.{receipt_ending}
+use Rattle.qrules.specs.Delivery.{receipt_completion}
 use Rattle.qmodel.specs.Trace.{SentItem, Trace}
 use Rattle.qrules.proofs.Words.Step.{after_receipt, after_write, is_cancelled, uncut_items, items_with_priority_set, open_call_after, pending_after, unreceived_items, unless, after_unblock}
 use Rattle.qrules.specs.Records.{unblocked_call}
@@ -108,9 +108,9 @@ pub record IsReceivedAtOnce (f : Facts) (t : ℕ) (c : Call) (m : SentItem) : Ty
 delivered_receipt : (f : Facts) (sender : Option ℕ) (item : Item) (message : List ℕ) (w : Option ℕ) (h r : ℕ) (v : WaitsOn h item (f.open_call r)) → w ≡ Some h → newest_receiver f h item ≡ Some r
     → receipt_when_sent f sender item message w (receiver f item w) ≡ Some (receipt_from h sender item.priority r (record { number = item.number; copied = (given_received item message v.receive.buffer).0 }))
 delivered_receipt f sender item message w h r v is_way is_newest =
-    let takes_it : takes item message r (f.open_call r) ≡ Some (receipt_ending item message r v.receive.number v.receive.buffer) = rw v.is_open refl in
+    let takes_it : takes item message r (f.open_call r) ≡ Some (receipt_completion item message r v.receive.number v.receive.buffer) = rw v.is_open refl in
     ap (λ o. receipt_when_sent f sender item message o (receiver f item o)) is_way ∙ ap (receipt_when_sent f sender item message (Some h)) is_newest
-    ∙ receipt_in_at h sender item.priority (takes item message r (f.open_call r)) (receipt_ending item message r v.receive.number v.receive.buffer) (record { number = item.number; copied = (given_received item message v.receive.buffer).0 }) takes_it (given_received item message v.receive.buffer).1
+    ∙ receipt_in_at h sender item.priority (takes item message r (f.open_call r)) (receipt_completion item message r v.receive.number v.receive.buffer) (record { number = item.number; copied = (given_received item message v.receive.buffer).0 }) takes_it (given_received item message v.receive.buffer).1
 
 delivered_at_once : (f : Facts) (t : ℕ) (c : Call) (w : Option ℕ) (item : Item) (message : List ℕ) (sender : Option ℕ) (m : SentItem) (u : ℕ) (o : OpenCall) (kind : Kind) → w ≡ Some m.channel → m.item ≡ item
     → (receipt_of f t c) ≡ receipt_when_sent f sender item message w (receiver f item w) → is_among (threads_of f.roster) u ≡ true → f.open_call u ≡ Some o

@@ -8,14 +8,14 @@ use Rattle.std.proofs.lemmas.Option.{none-some}
 use Rattle.std.proofs.Math.Bool.{or-true}
 use Rattle.qtables.specs.Members.{member_at, IsRoster}
 use Rattle.qtables.specs.declared.member.Member.{Member}
-use Rattle.qrules.specs.Outcome.{ending}
+use Rattle.qrules.specs.Outcome.{completion_to}
 use Rattle.qrules.proofs.Words.Items.{receipt_of}
 use Rattle.qrules.specs.Rules.{row_of}
 use Rattle.qrules.specs.Trace.{gets, AreApart}
 use Rattle.qrules.proofs.Words.Facts.{Facts, sender, threads_of}
 use Rattle.qrules.proofs.Words.Effects.{asks, makes, unblocks, writes}
 use Rattle.qrules.proofs.Words.Lawful.{facts_of, IsLawful}
-use Rattle.qrules.proofs.Words.Past.{has_ending_of, open_call}
+use Rattle.qrules.proofs.Words.Past.{has_completion_of, open_call}
 use Rattle.qrules.proofs.Words.Items.{Received}
 use Rattle.qmodel.specs.Trace.{SentItem, Event, Trace}
 use Rattle.qrules.proofs.Words.Step.{after_receipt, after_unblock, after_write, open_call_after, unless}
@@ -24,12 +24,12 @@ use Rattle.qmodel.specs.declared.call.Call.{Call}
 use Rattle.qmodel.specs.declared.call.Completion.{Completion}
 use Rattle.qmodel.specs.declared.open_call.OpenCall.{OpenCall}
 use Rattle.qbase.proofs.Lists.{is_among, eqb_same, any_filter_map, any_filter_map_at, all_filter_map, cond_same}
-use Rattle.qrules.proofs.Traces.Past.Ends.{ending_names, ends_own, laws_of, open_known, passes_of}
+use Rattle.qrules.proofs.Traces.Past.Ends.{completion_names, ends_own, laws_of, open_known, passes_of}
 use Rattle.qrules.proofs.Traces.Past.Laws.{Passes}
 use Rattle.qrules.proofs.Traces.Past.OpenCalls.{open_accepted, open_refused}
 use Rattle.qrules.proofs.Traces.Past.Waits.{some_map, waits_or_ends}
 use Rattle.qrules.proofs.Traces.Rosters.{Rises, rises, not_among, known}
-use Rattle.qrules.proofs.Traces.TraceLaws.Ending.{ending_thread}
+use Rattle.qrules.proofs.Traces.TraceLaws.Ending.{completion_thread}
 use Rattle.qrules.proofs.Traces.TraceLaws.Unended.{asks_any}
 use Rattle.qrules.specs.Rule.{Transfer}
 use Rattle.qrules.specs.Past.{channel_of}
@@ -62,12 +62,12 @@ module _ (g : ℕ → Option Completion) (names : (u : ℕ) (y : Completion) →
         | Some y ↦ λ is. any_filter_map_at (λ x. eqb x.thread u) g ts u y among is (rw (names u y is) (eqb_same u))
       ] refl
 
--- each ending of an event goes to a thread of its own
+-- each completion of an event goes to a thread of its own
 pub endings_are_apart : (roster : List Member) (past : Trace) (e : Event) → IsRoster roster → IsLawful roster (e ∷ past) → AreApart e.endings
 endings_are_apart roster past e r l =
     let f = facts_of roster past in
     elim (l.1.1) [
-      | inl a ↦ subst AreApart (sym a.1) (apart_by (ending f e.thread e.call) (ending_thread f e.thread e.call (laws_of f e.thread e.call e.endings a)) (threads_of roster) (rises roster r))
+      | inl a ↦ subst AreApart (sym a.1) (apart_by (completion_to f e.thread e.call) (completion_thread f e.thread e.call (laws_of f e.thread e.call e.endings a)) (threads_of roster) (rises roster r))
       | inr a ↦ subst AreApart (sym a.2) (refl, tt)
     ]
 
@@ -75,12 +75,12 @@ endings_are_apart roster past e r l =
 abbrev pub may_end : List Member → Trace → ℕ → ℕ → Bool
 may_end roster past t u = eqb u t || is_some (open_call roster past u)
 
--- the ending goes to a thread of the roster whose call may end in an event of thread t
+-- the completion goes to a thread of the roster whose call may end in an event of thread t
 pub record GoesToBlocked (roster : List Member) (past : Trace) (t : ℕ) (x : Completion) : Type 0 where
   pub known : is_some (member_at roster x.thread) ≡ true
   pub may : may_end roster past t x.thread ≡ true
 
--- an ending of the caller
+-- a completion of the caller
 own_due : (roster : List Member) (past : Trace) (t : ℕ) (y : Completion) → is_some (member_at roster t) ≡ true → y.thread ≡ t → GoesToBlocked roster past t y
 own_due roster past t y member e = record { known = subst (λ u. is_some (member_at roster u) ≡ true) (sym e) member; may = rw (e, eqb_same t) refl }
 
@@ -88,8 +88,8 @@ pub endings_go_to_blocked : (roster : List Member) (past : Trace) (e : Event) �
 endings_go_to_blocked roster past e r l =
     let f = facts_of roster past in
     elim (l.1.1) [
-      | inl a ↦ subst (AllByRecursion (GoesToBlocked roster past e.thread)) (sym a.1) (all_filter_map (GoesToBlocked roster past e.thread) (ending f e.thread e.call) (threads_of roster) (λ v y is.
-          elim (ending_names f e.thread e.call v y (laws_of f e.thread e.call e.endings a) is) [
+      | inl a ↦ subst (AllByRecursion (GoesToBlocked roster past e.thread)) (sym a.1) (all_filter_map (GoesToBlocked roster past e.thread) (completion_to f e.thread e.call) (threads_of roster) (λ v y is.
+          elim (completion_names f e.thread e.call v y (laws_of f e.thread e.call e.endings a) is) [
             | inl own ↦ own_due roster past e.thread y l.1.0 own.names.thread
             | inr other ↦ record {
               known = subst (λ u. is_some (member_at roster u) ≡ true) (sym other.names.thread) (open_known roster past v other.names.waiting l.0 other.names.is);
@@ -132,7 +132,7 @@ refused_blocked o own t u same idle = elim (cases_Bool (eqb u t)) [
   | inr e ↦ rw (e, ne_eqb t u (λ s. eqb-false u t e (sym s))) refl
 ]
 
-accepted_blocked : (f : Facts) (t : ℕ) (c : Call) (u : ℕ) → Passes f t c → is_some (open_call_after f t c u) ≡ cond (is_some (ending f t c u)) false (eqb u t || is_some (f.open_call u))
+accepted_blocked : (f : Facts) (t : ℕ) (c : Call) (u : ℕ) → Passes f t c → is_some (open_call_after f t c u) ≡ cond (is_some (completion_to f t c u)) false (eqb u t || is_some (f.open_call u))
 accepted_blocked f t c u p = elim (cases_Bool (eqb u t)) [
   | inl e ↦ rw (e, eqb-true u t e) (own_blocked f t c p)
   | inr e ↦ rw e (some_unless (is_some ((row_of f t c).others u)) _ ∙ ap (λ b. cond (is_some ((row_of f t c).others u)) false b)
@@ -156,7 +156,7 @@ member_blocked roster past e l idle u member =
     let c = e.call in
     elim (l.1.1) [
       | inl a ↦
-          let got : gets e.endings u ≡ is_some (ending f t c u) = rw (a.1) (gets_by (ending f t c) (ending_thread f t c (laws_of f t c e.endings a)) (threads_of roster) u (known roster u member)) in
+          let got : gets e.endings u ≡ is_some (completion_to f t c u) = rw (a.1) (gets_by (completion_to f t c) (completion_thread f t c (laws_of f t c e.endings a)) (threads_of roster) u (known roster u member)) in
           ap is_some (open_accepted roster past t c e.endings u l.0 l.1.0 a) ∙ accepted_blocked f t c u (passes_of f t c e.endings a) ∙ ap (λ b. cond b false (may_end roster past t u)) (sym got)
       | inr a ↦ ap is_some (open_refused roster past t c e.endings u a) ∙ rw (a.2) (refused_blocked (open_call roster past u) (open_call roster past t) t u (λ s. ap (open_call roster past) (eqb-true u t s)) idle)
     ]
@@ -173,14 +173,14 @@ blocked_unless_ended roster past e r l idle u = elim (cases_Bool (is_some (membe
 
 -- ---- the event's own call
 
-pub caller_gets_its_own : (roster : List Member) (past : Trace) (e : Event) → IsRoster roster → IsLawful roster (e ∷ past) → gets e.endings e.thread ≡ has_ending_of e.endings (length past + 1)
+pub caller_gets_its_own : (roster : List Member) (past : Trace) (e : Event) → IsRoster roster → IsLawful roster (e ∷ past) → gets e.endings e.thread ≡ has_completion_of e.endings (length past + 1)
 caller_gets_its_own roster past e r l =
     let f = facts_of roster past in
     let t = e.thread in
     let c = e.call in
     elim (l.1.1) [
       | inl a ↦
-          let got : gets e.endings t ≡ is_some (ending f t c t) = rw (a.1) (gets_by (ending f t c) (ending_thread f t c (laws_of f t c e.endings a)) (threads_of roster) t (known roster t l.1.0)) in
+          let got : gets e.endings t ≡ is_some (completion_to f t c t) = rw (a.1) (gets_by (completion_to f t c) (completion_thread f t c (laws_of f t c e.endings a)) (threads_of roster) t (known roster t l.1.0)) in
           got ∙ rw (eqb_same t) refl ∙ sym (ends_own roster past t c e.endings l.1.0 a)
       | inr a ↦ rw (a.2, eqb_same t, eqb_same (length past + 1)) refl
     ]

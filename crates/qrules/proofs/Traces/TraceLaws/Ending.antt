@@ -4,7 +4,7 @@ use Rattle.std.specs.Prelude.{Some}
 use Rattle.std.specs.List.{AllByRecursion}
 use Rattle.std.proofs.lemmas.Bool.{ne_eqb}
 use Rattle.std.proofs.lemmas.Option.{none-some}
-use Rattle.qrules.specs.Outcome.{ending}
+use Rattle.qrules.specs.Outcome.{completion_to}
 use Rattle.qrules.proofs.Words.Facts.{Facts, threads_of, number_of}
 use Rattle.qrules.specs.Trace.{thread_at}
 use Rattle.qtables.specs.Members.{IsRoster}
@@ -13,7 +13,7 @@ use Rattle.qmodel.specs.Trace.{Event, Trace}
 use Rattle.qmodel.specs.declared.call.Call.{Call}
 use Rattle.qmodel.specs.declared.call.Completion.{Completion}
 use Rattle.qmodel.specs.declared.open_call.OpenCall.{OpenCall}
-use Rattle.qrules.proofs.Traces.Past.Ends.{ending_names, laws_of}
+use Rattle.qrules.proofs.Traces.Past.Ends.{completion_names, laws_of}
 use Rattle.qrules.proofs.Traces.Past.Laws.{RowLaws}
 use Rattle.qbase.proofs.Lists.{all_filter_map, eqb_same}
 use Rattle.qrules.proofs.Traces.Past.Numbers.{block_below}
@@ -23,8 +23,8 @@ use Rattle.qrules.proofs.Words.Past.{block}
 use Rattle.qtables.specs.declared.member.Member.{Member}
 
 -- an accepted call's endings go to the threads that get them
-pub ending_thread : (f : Facts) (t : ℕ) (c : Call) → RowLaws f t c → (u : ℕ) (y : Completion) → ending f t c u ≡ Some y → y.thread ≡ u
-ending_thread f t c laws u y e = elim (ending_names f t c u y laws e) [
+pub completion_thread : (f : Facts) (t : ℕ) (c : Call) → RowLaws f t c → (u : ℕ) (y : Completion) → completion_to f t c u ≡ Some y → y.thread ≡ u
+completion_thread f t c laws u y e = elim (completion_names f t c u y laws e) [
   | inl own ↦ own.names.thread ∙ sym own.thread
   | inr other ↦ other.names.thread
 ]
@@ -50,8 +50,8 @@ endings_name_own_calls roster past e r l =
     let f = facts_of roster past in
     let P = λ (x : Completion). thread_at (e ∷ past) x.call ≡ Some x.thread in
     elim (l.1.1) [
-      | inl a ↦ subst (AllByRecursion P) (sym a.1) (all_filter_map P (ending f e.thread e.call) (threads_of roster) (λ v y is.
-          elim (ending_names f e.thread e.call v y (laws_of f e.thread e.call e.endings a) is) [
+      | inl a ↦ subst (AllByRecursion P) (sym a.1) (all_filter_map P (completion_to f e.thread e.call) (threads_of roster) (λ v y is.
+          elim (completion_names f e.thread e.call v y (laws_of f e.thread e.call e.endings a) is) [
             | inl own ↦ ap (thread_at (e ∷ past)) own.names.call ∙ thread_newest e past ∙ ap Some (sym own.names.thread)
             | inr other ↦
                 let k = open_parts roster past v other.names.waiting other.names.is in

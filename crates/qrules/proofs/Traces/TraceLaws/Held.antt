@@ -13,7 +13,7 @@ use Rattle.qrules.specs.Properties.{number_received, TakesBest, takeable}
 use Rattle.qrules.specs.Past.{waiter, ReceivedItem}
 use Rattle.qrules.proofs.Traces.Past.Waits.{may_wait, waits_or_ends}
 use Rattle.qrules.proofs.Words.Lawful.{IsLawful, facts_of}
-use Rattle.qrules.proofs.Words.Past.{copied_count_in, has_ending_of, is_ended, is_received, item_of, accepted_at, open_call, copied_count_among, copied_count_of, filled}
+use Rattle.qrules.proofs.Words.Past.{copied_count_in, has_completion_of, is_ended, is_received, item_of, accepted_at, open_call, copied_count_among, copied_count_of, filled}
 use Rattle.qrules.proofs.Words.Items.{item_in}
 use Rattle.qmodel.specs.Trace.{SentItem, Trace, Event}
 use Rattle.qmodel.specs.declared.call.Completion.{Completion}
@@ -83,13 +83,13 @@ no_own (Some y) h = absurd (true≢false h)
 made_waits : (roster : List Member) (past : Trace) (i : ℕ) (m : SentItem) → IsLawful roster past → item_at roster past i ≡ Some m → is_ended past i ≡ false → (t : ℕ) × (accepted_at waiter past i ≡ Some t)
 made_waits roster [] i m l is going = absurd (none-some m is)
 made_waits roster (e ∷ past) i m l is going =
-    let p = or_parts (has_ending_of e.endings i) (is_ended past i) going in
+    let p = or_parts (has_completion_of e.endings i) (is_ended past i) going in
     elim (eqb i (length past + 1)) as (λ b. eqb i (length past + 1) ≡ b → cond b (item_of roster e past) (item_at roster past i) ≡ Some m → (t : ℕ) × (accepted_at waiter (e ∷ past) i ≡ Some t)) [
-      | true ↦ λ same at. let number : i ≡ length past + 1 = eqb-true _ _ same in now number at (subst (λ j. has_ending_of e.endings j ≡ false) number p.0)
+      | true ↦ λ same at. let number : i ≡ length past + 1 = eqb-true _ _ same in now number at (subst (λ j. has_completion_of e.endings j ≡ false) number p.0)
       | false ↦ λ other at. let k = made_waits roster past i m l.0 at p.1 in (k.0, made_stays waiter e past i k.0 k.1)
     ] refl is
   where
-    now : i ≡ length past + 1 → item_of roster e past ≡ Some m → has_ending_of e.endings (length past + 1) ≡ false → (t : ℕ) × (accepted_at waiter (e ∷ past) i ≡ Some t)
+    now : i ≡ length past + 1 → item_of roster e past ≡ Some m → has_completion_of e.endings (length past + 1) ≡ false → (t : ℕ) × (accepted_at waiter (e ∷ past) i ≡ Some t)
     now number at unended =
         let f = facts_of roster past in
         let a = item_accepted roster e past m at in

@@ -12,7 +12,7 @@ use Rattle.qbase.specs.declared.errno.Errno.TheVariants.{Srch}
 use Rattle.qqueue.specs.Best.{is_pulse}
 use Rattle.qqueue.specs.declared.item.Item.{Item}
 use Rattle.qqueue.specs.declared.item.Kind.TheVariants.{Any, PulseOnly}
-use Rattle.qrules.specs.Outcome.{ending}
+use Rattle.qrules.specs.Outcome.{completion_to}
 use Rattle.qrules.specs.Rules.{row_of}
 use Rattle.qmodel.specs.Buffers.{buffer_of}
 use Rattle.qrules.proofs.Words.Effects.{asks, makes, unblocks, writes}
@@ -22,7 +22,7 @@ use Rattle.qrules.proofs.Traces.Parts.{reply_finish}
 use Rattle.qrules.proofs.Words.Items.{message_item}
 use Rattle.qrules.specs.Rules.Unblock as unblock
 use Rattle.qrules.specs.Rules.Held.{info_of}
-use Rattle.qrules.proofs.Words.Items.{receipt_of, info_ending}
+use Rattle.qrules.proofs.Words.Items.{receipt_of, info_completion}
 use Rattle.qrules.specs.Rules.Pulse as pulse
 use Rattle.qrules.specs.Delivery.{is_on}
 use Rattle.qrules.proofs.Words.Facts.{Facts, message, sender, threads_of, route, number_of}
@@ -30,7 +30,7 @@ use Rattle.qrules.specs.Records.{buffer_of_open, with_buffer}
 use Rattle.qrules.specs.Rules.Held.{refusal_unless_held}
 use Rattle.qrules.proofs.Words.Items.{Finish, ends_sender}
 use Rattle.qrules.proofs.Words.Items.{Received, buffer_after_write}
-use Rattle.qrules.specs.Delivery.{receipt_ending}
+use Rattle.qrules.specs.Delivery.{receipt_completion}
 use Rattle.qmodel.specs.Trace.{SentItem, Event, Trace}
 use Rattle.qrules.proofs.Words.Step.{after_receipt, after_unblock, after_write, open_call_after, unless}
 use Rattle.qrules.specs.Records.{held_call, is_thread, unblocked_call, written_call}
@@ -59,46 +59,46 @@ use Rattle.qrules.specs.Trace.{call_at}
 use Rattle.qrules.proofs.Words.Lawful.{facts_of, IsLawful}
 use Rattle.qbase.proofs.Lengths.{lay_length}
 use Rattle.qbase.proofs.Lists.{all_filter_map, all_more, eqb_same}
-use Rattle.qrules.proofs.Traces.Past.Ends.{ending_names, laws_of, passes_of}
+use Rattle.qrules.proofs.Traces.Past.Ends.{completion_names, laws_of, passes_of}
 use Rattle.qrules.proofs.Traces.TraceLaws.Blocked.{some_receipt}
 use Rattle.qrules.proofs.Traces.Past.OpenCalls.{open_accepted, open_refused}
 use Rattle.qrules.specs.Rule.{Transfer}
 use Rattle.qmodel.specs.OpenCalls.{buffer_in}
 use Rattle.qrules.specs.Past.{channel_of}
 
-taking_length : (item : Item) (message : List ℕ) (u m : ℕ) (buffer : List ℕ) → length (receipt_ending item message u m buffer).buffer ≡ length buffer
+taking_length : (item : Item) (message : List ℕ) (u m : ℕ) (buffer : List ℕ) → length (receipt_completion item message u m buffer).buffer ≡ length buffer
 taking_length item message u m buffer =
     elim (is_pulse item.what) as (λ b. length (cond {A = Mark × List ℕ} b (mark.Pulse item.number item.priority item.what, buffer) (mark.Message item.number (laid_count buffer 0 message), lay_over buffer 0 message)).1 ≡ length buffer) [
       | true ↦ refl
       | false ↦ lay_length buffer 0 message
     ]
 
--- ---- the call's own ending
+-- ---- the call's own completion
 
-no_buffer : (n t : ℕ) (o : Option Told) (y : Completion) → option_map (info_ending n t) o ≡ Some y → length y.buffer ≡ 0
+no_buffer : (n t : ℕ) (o : Option Told) (y : Completion) → option_map (info_completion n t) o ≡ Some y → length y.buffer ≡ 0
 no_buffer n t None y e = absurd (none-some y e)
 no_buffer n t (Some info_of) y e = ap (λ x. length x.buffer) (sym (same_Some _ y e))
 
 own_length : (f : Facts) (t : ℕ) (c : Call) (y : Completion) → (row_of f t c).own ≡ Some y → length y.buffer ≡ length (buffer_of c)
 own_length f t (Send coid message reply_buffer) y e = absurd (none-some y e)
-own_length f t (Receive chid buffer) y e = let k = receive_takes f t chid Any buffer y e in ap (λ x. length x.buffer) (sym k.ending) ∙ taking_length k.item _ t f.number buffer
+own_length f t (Receive chid buffer) y e = let k = receive_takes f t chid Any buffer y e in ap (λ x. length x.buffer) (sym k.completion) ∙ taking_length k.item _ t f.number buffer
 own_length f t (Read rcvid offset buffer) y e = ap (λ x. length x.buffer) (sym (same_Some _ y e)) ∙ lay_length buffer 0 _
 own_length f t (Info rcvid) y e = no_buffer f.number t (info_of f (sender f rcvid)) y e
-own_length f t (ReceivePulse chid) y e = let k = receive_takes f t chid PulseOnly [] y e in ap (λ x. length x.buffer) (sym k.ending) ∙ taking_length k.item _ t f.number []
+own_length f t (ReceivePulse chid) y e = let k = receive_takes f t chid PulseOnly [] y e in ap (λ x. length x.buffer) (sym k.completion) ∙ taking_length k.item _ t f.number []
 own_length f t c y e = ap (λ x. length x.buffer) (sym (same_Some _ y e))
 
--- ---- another thread's ending
+-- ---- another thread's completion
 
 met_length : (f : Facts) (o : Option ℕ) (item : Item) (message : List ℕ) (u : ℕ) (y : Completion) → Delivers f o item message u y → length y.buffer ≡ length (buffer_of_open (f.open_call u))
-met_length f o item message u y k = ap (λ x. length x.buffer) (sym k.ending) ∙ taking_length item message u k.receive.number k.receive.buffer ∙ ap (λ x. length (buffer_of_open x)) (sym k.is_open)
+met_length f o item message u y k = ap (λ x. length x.buffer) (sym k.completion) ∙ taking_length item message u k.receive.number k.receive.buffer ∙ ap (λ x. length (buffer_of_open x)) (sym k.is_open)
 
 cancel_length : (is_cancelled : OpenCall → Bool) (e : Errno) (u : ℕ) (o : Option OpenCall) (y : Completion) → IsCutCall is_cancelled e u o y → length y.buffer ≡ length (buffer_of_open o)
-cancel_length is_cancelled e u o y k = ap (λ x. length x.buffer) (sym k.ending) ∙ ap (λ x. length (buffer_of_open x)) (sym k.is)
+cancel_length is_cancelled e u o y k = ap (λ x. length x.buffer) (sym k.completion) ∙ ap (λ x. length (buffer_of_open x)) (sym k.is)
 
 answered_length : (f : Facts) (t rcvid : ℕ) (finish : Finish) (u : ℕ) (y : Completion) → ((b : List ℕ) → length (finish b).1 ≡ length b) → refusal_unless_held f t rcvid ≡ None → ends_sender f finish (sender f rcvid) u ≡ Some y → length y.buffer ≡ length (buffer_of_open (f.open_call u))
 answered_length f t rcvid finish u y keeps r e =
     let k = sender_ends f t rcvid finish u y r e in
-    ap (λ x. length x.buffer) (sym k.ending) ∙ keeps k.held.send.reply_buffer ∙ ap (λ x. length (buffer_of_open x)) (sym k.held.is_open)
+    ap (λ x. length x.buffer) (sym k.completion) ∙ keeps k.held.send.reply_buffer ∙ ap (λ x. length (buffer_of_open x)) (sym k.held.is_open)
 
 ends_length : (f : Facts) (t : ℕ) (c : Call) (u : ℕ) (y : Completion) → Passes f t c → (row_of f t c).others u ≡ Some y → length y.buffer ≡ length (buffer_of_open (f.open_call u))
 ends_length f t (Send coid message reply_buffer) u y p e = met_length f (route f t coid) (message_item f t) message u y (delivery_meets f (route f t coid) (message_item f t) message u y (sym (sent_same f t coid message reply_buffer u p.row) ∙ e))
@@ -129,8 +129,8 @@ endings_keep_length roster past e r l =
     let f = facts_of roster past in
     let P = λ (x : Completion). length x.buffer ≡ length (buffer_brought roster past e.thread e.call x.thread) in
     elim (l.1.1) [
-      | inl a ↦ subst (AllByRecursion P) (sym a.1) (all_filter_map P (ending f e.thread e.call) (threads_of roster) (λ v y is.
-          elim (ending_names f e.thread e.call v y (laws_of f e.thread e.call e.endings a) is) [
+      | inl a ↦ subst (AllByRecursion P) (sym a.1) (all_filter_map P (completion_to f e.thread e.call) (threads_of roster) (λ v y is.
+          elim (completion_names f e.thread e.call v y (laws_of f e.thread e.call e.endings a) is) [
             | inl own ↦ rw (own.names.thread, eqb_same e.thread) (own_length f e.thread e.call y own.is)
             | inr other ↦ rw (other.names.thread, other.thread) (ends_length f e.thread e.call v y (passes_of f e.thread e.call e.endings a) other.is)
           ]))
@@ -239,10 +239,10 @@ open_calls_keep_length roster past u o is =
 
 -- ---- what is at most so long
 
--- the room that a thread's buffer brought serves for its ending, and for what it waits with afterwards
-pub ending_fits : (roster : List Member) (past : Trace) (e : Event) → IsRoster roster → IsLawful roster (e ∷ past)
+-- the room that a thread's buffer brought serves for its completion, and for what it waits with afterwards
+pub completion_fits : (roster : List Member) (past : Trace) (e : Event) → IsRoster roster → IsLawful roster (e ∷ past)
     → AllByRecursion (λ x. length x.buffer ≤ length (buffer_brought roster past e.thread e.call x.thread)) e.endings
-ending_fits roster past e r l = all_more _ _ e.endings (endings_keep_length roster past e r l) (λ x same. omega (arith, same))
+completion_fits roster past e r l = all_more _ _ e.endings (endings_keep_length roster past e r l) (λ x same. omega (arith, same))
 
 pub after_fits : (roster : List Member) (past : Trace) (e : Event) → IsLawful roster (e ∷ past) → is_some (open_call roster past e.thread) ≡ false
     → (u : ℕ) → length (buffer_of_open (open_call roster (e ∷ past) u)) ≤ length (buffer_brought roster past e.thread e.call u)

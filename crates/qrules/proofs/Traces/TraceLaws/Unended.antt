@@ -7,7 +7,7 @@ use Rattle.qtables.specs.declared.member.Member.{Member}
 use Rattle.qrules.specs.Past.{waiter, channel_of}
 use Rattle.qrules.proofs.Traces.Past.Waits.{may_wait}
 use Rattle.qrules.proofs.Words.Lawful.{IsLawful}
-use Rattle.qrules.proofs.Words.Past.{has_ending_of, is_accepted, is_ended, accepted_at, block, item_of}
+use Rattle.qrules.proofs.Words.Past.{has_completion_of, is_accepted, is_ended, accepted_at, block, item_of}
 use Rattle.qrules.proofs.Words.Effects.{asks}
 use Rattle.qmodel.specs.Trace.{Event, Trace}
 use Rattle.qmodel.specs.declared.call.Call.{Call}
@@ -76,7 +76,7 @@ unended_newest roster (e ∷ past) t i l is going =
           let k = begins roster e past t at in
           record { block = k.block; is = begun_newest roster e past t k; number = ((call_laws e.call).asks_one (length past + 1) t (channel_of (item_of roster e past)) k.block k.asked).number ∙ sym (eqb-true _ _ same) }
       | false ↦ λ other at.
-          let before : is_ended past i ≡ false = (or_parts (has_ending_of e.endings i) (is_ended past i) going).1 in
+          let before : is_ended past i ≡ false = (or_parts (has_completion_of e.endings i) (is_ended past i) going).1 in
           let k = unended_newest roster past t i l.0 at before in
           record { block = k.block; is = block_stays roster e past t k.block l k.is (subst (λ j. is_ended past j ≡ false) (sym k.number) before); number = k.number }
     ] refl is

@@ -9,26 +9,26 @@ loop-thread-init c = record {
   so_far = sweeps_init c.args.cancel.set c.args.cancel.errno c.args.own c.args.threads.now.items c.args.channels.now c.args.endings.now.items c.requires.roster c.requires.idle c.requires.none;
 }
 
-pub end_thread-ending-requires : goal.end_thread-ending-requires
-end_thread-ending-requires c =
+pub end_thread-completion-requires : goal.end_thread-completion-requires
+end_thread-completion-requires c =
     let so = c.loop-thread.invariant in
     let l : c.loop-thread.thread-index < length c.args.threads.now.items = omega (arith, ap length c.deref_mut-thread-items.ensures.value) in
     record {
       idle = idle_here c.args.cancel.set c.args.cancel.errno c.args.own c.args.threads.now.items c.loop-thread.thread-items c.loop-thread.thread-index c.thread-item.result c.args.channels.now c.loop-thread.channels c.loop-thread.left c.loop-thread.endings.items so.threads l so.so_far c.args.own.thread refl;
     }
 
-pub push_ending-requires : goal.push_ending-requires
-push_ending-requires c = omega (arith, ap length c.deref_mut-thread-items.ensures.value)
+pub push_completion-requires : goal.push_completion-requires
+push_completion-requires c = omega (arith, ap length c.deref_mut-thread-items.ensures.value)
 
 pub loop-thread-preserved : goal.loop-thread-preserved
 loop-thread-preserved c =
     let so = c.loop-thread.invariant in
     let l : c.loop-thread.thread-index < length c.args.threads.now.items = omega (arith, ap length c.deref_mut-thread-items.ensures.value) in
     record {
-      threads = passed_on c.args.cancel.set c.args.cancel.errno c.args.own c.args.threads.now.items c.loop-thread.thread-items c.loop-thread.thread-index c.thread-item.result c.end_thread-ending.new.thread so.threads l c.end_thread-ending.ensures.thread;
-      few = rw c.push_ending.ensures (omega (arith, few_more c.loop-thread.endings.items c.end_thread-ending.result));
+      threads = passed_on c.args.cancel.set c.args.cancel.errno c.args.own c.args.threads.now.items c.loop-thread.thread-items c.loop-thread.thread-index c.thread-item.result c.end_thread-completion.new.thread so.threads l c.end_thread-completion.ensures.thread;
+      few = rw c.push_completion.ensures (omega (arith, few_more c.loop-thread.endings.items c.end_thread-completion.result));
       so_far = sweeps_step c.args.cancel.set c.args.cancel.errno c.args.own c.args.threads.now.items c.loop-thread.thread-items c.loop-thread.thread-index c.thread-item.result c.args.channels.now c.loop-thread.channels c.loop-thread.left c.loop-thread.endings.items so.threads l so.so_far c.args.own.thread refl
-          c.end_thread-ending.new.channels c.end_thread-ending.new.own c.end_thread-ending.result c.push_ending.new.endings.items c.end_thread-ending.ensures.channels c.end_thread-ending.ensures.own c.end_thread-ending.ensures.ending c.push_ending.ensures;
+          c.end_thread-completion.new.channels c.end_thread-completion.new.own c.end_thread-completion.result c.push_completion.new.endings.items c.end_thread-completion.ensures.channels c.end_thread-completion.ensures.own c.end_thread-completion.ensures.completion c.push_completion.ensures;
     }
 
 pub returns-clause-endings : goal.returns-clause-endings

@@ -32,4 +32,4 @@ returns c =
     let may = rw (← c.self.view_is) at c.requires in
     let flags = sym c.if-not-is_known.ensures in
     let room : nat_lt (length c.self.inside.objects.channels) 64 ≡ true = lt-ltb (length c.self.inside.objects.channels) 64 (omega (arith, c.in_default.ensures.room)) in
-    rw (← c.self.view_is, may.counted, c.in_default.ensures.ok, c.number.ensures) (step_created _ c.args.caller.now.seat.thread c.args.flags _ c.new.result may.sound (ap (λ q. q.items) c.new.ensures) _ may.among.known may.up may.free flags room (rw (c.ending.ensures, c.number.ensures, may.none) at c.put.ensures))
+    rw (← c.self.view_is, may.counted, c.in_default.ensures.ok, c.number.ensures) (step_created _ c.args.caller.now.seat.thread c.args.flags _ c.new.result may.sound (ap (λ q. q.items) c.new.ensures) _ may.among.known may.up may.free flags room (rw (c.completion.ensures, c.number.ensures, may.none) at c.put.ensures))

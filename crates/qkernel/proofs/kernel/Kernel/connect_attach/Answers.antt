@@ -33,4 +33,4 @@ returns c =
     let may = rw (← c.self.view_is) at c.requires in
     let opens : is_some (channel_in c.self.inside.objects.channels c.args.chid) ≡ true = sym c.if-not-is_open.ensures in
     let room : nat_lt (length c.self.inside.objects.connections) 1024 ≡ true = lt-ltb (length c.self.inside.objects.connections) 1024 (omega (arith, c.in_default.ensures.room)) in
-    rw (← c.self.view_is, may.counted, c.in_default.ensures.ok, c.number.ensures) (step_attached _ c.args.caller.now.seat.thread c.args.chid _ may.sound _ may.among.known may.up may.free opens room (rw (c.ending.ensures, c.number.ensures, may.none) at c.put.ensures))
+    rw (← c.self.view_is, may.counted, c.in_default.ensures.ok, c.number.ensures) (step_attached _ c.args.caller.now.seat.thread c.args.chid _ may.sound _ may.among.known may.up may.free opens room (rw (c.completion.ensures, c.number.ensures, may.none) at c.put.ensures))

@@ -3,7 +3,7 @@ use Rattle.std.proofs.lemmas.Result.{err_from_is_err_and}
 use Rattle.std.specs.Prelude.{None, Some, is_some}
 use Rattle.qrules.specs.Records.{disconnect_item}
 use Rattle.qkernel.proofs.Steps.Common.{up_to_below}
-use Rattle.qstate.specs.Endings.{with_ending_if}
+use Rattle.qstate.specs.Endings.{with_completion_if}
 use Rattle.qmodel.specs.declared.call.Call.TheVariants.{ConnectDetach}
 use Rattle.qkernel.proofs.Steps.ConnectDetach.{detach_full, detach_memory, due_is, new_pulse, own_parts, room_for_one, sound_detached, step_detach_refused, step_detached}
 use Rattle.qkernel.proofs.Steps.Telling.{sound_due, sound_turned_away, step_turned_away}
@@ -20,7 +20,7 @@ put_if-requires c =
     let due = due_is _ c.args.caller.now.seat.thread c.args.coid _ may.among.known may.up may.free c.in-Some.chid of c.tells_detached-last.result may.sound c.tells_detached-last.ensures ∙ ap (made_for c.in-Some.chid) (sym pulsed) in
     let new = new_pulse (c.args.caller.now.made + 1) c.priority-priority.result c.args.caller.now.process c.tells_detached-last.result d c.pulse_for-due.ensures in
     let told = is_told _ c.args.caller.now.seat.thread c.in-Some.chid d _ _ c.in_ok-met.met may.sound may.free new c.in_ok-met.ensures.ok in
-    rw (rw c.ending-own.ensures at c.cancel.ensures.endings) (room_for_one _ c.args.caller.now.seat.thread c.args.coid _ may.among.known may.up may.free c.in-Some.chid of d due may.sound _ _ c.in_ok-met.met told may.sound.few)
+    rw (rw c.completion-own.ensures at c.cancel.ensures.endings) (room_for_one _ c.args.caller.now.seat.thread c.args.coid _ may.among.known may.up may.free c.in-Some.chid of d due may.sound _ _ c.in_ok-met.met told may.sound.few)
 
 pub invariant_of-self-2 : goal.invariant_of-self-2
 invariant_of-self-2 c =
@@ -48,7 +48,7 @@ returns c =
     let there = rw (c.cancel.ensures.connections, c.in_ok-met.ensures.connections) at c.remove.ensures.value ∙ of.is in
     let fewer = rw (there, c.cancel.ensures.connections, c.in_ok-met.ensures.connections) at c.remove.ensures.fewer in
     rw (← c.self.view_is, may.counted, c.remove.ensures.after, c.cancel.ensures.connections, c.in_ok-met.ensures.connections) (step_detached _ c.args.caller.now.seat.thread c.args.coid _ may.among.known may.up may.free c.in-Some.chid of d due may.sound _ _ c.in_ok-met.met told _ _ c.cancel.ensures.threads c.cancel.ensures.channels
-    _ (rw (c.remove.ensures.after, c.cancel.ensures.connections, c.in_ok-met.ensures.connections) at fewer) (c.put_if.ensures ∙ ap (with_ending_if c.in_ok-met.met) (rw c.ending-own.ensures at c.cancel.ensures.endings)))
+    _ (rw (c.remove.ensures.after, c.cancel.ensures.connections, c.in_ok-met.ensures.connections) at fewer) (c.put_if.ensures ∙ ap (with_completion_if c.in_ok-met.met) (rw c.completion-own.ensures at c.cancel.ensures.endings)))
 
 pub returns-in_err-met : goal.returns-in_err-met
 returns-in_err-met c =

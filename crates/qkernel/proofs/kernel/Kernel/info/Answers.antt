@@ -24,5 +24,5 @@ returns c =
     let held = c.in_ok-holder.ensures.held in
     let sent = c.in_ok-holder.ensures.sender in
     let told = info_there (record { made = c.args.caller.now.made; down = c.self.inside.down; threads = c.self.inside.objects.threads; channels = c.self.inside.objects.channels; connections = c.self.inside.objects.connections }) c.args.rcvid c.in_ok-holder.holder.thread c.record.result.now sent c.record.ensures ∙ sym c.info-told.ensures ∙ c.in_ok-info.ensures.ok_part in
-    let ended = rw (c.ending.ensures, may.none) at c.put.ensures in
+    let ended = rw (c.completion.ensures, may.none) at c.put.ensures in
     rw (← c.self.view_is, may.counted) (step_info _ c.args.caller.now.seat.thread _ c.args.rcvid may.sound may.among.known may.up may.free held c.in_ok-info.info _ told ended)

@@ -46,4 +46,4 @@ returns c =
     let told = is_told _ c.args.caller.now.seat.thread c.in-Some.chid (Some item) _ _ c.in_ok-met.met may.sound may.free (refl, refl) sent in
     rw (← c.self.view_is, may.counted, c.in_ok-met.ensures.connections) (step_told _ c.args.caller.now.seat.thread (Pulse c.args.coid c.args.priority c.args.code c.args.value) _ (made_for c.in-Some.chid (Some item)) may.sound may.among.known may.free
     (tells_pulse _ c.args.caller.now.seat.thread c.args.coid c.args.priority c.args.code c.args.value _ c.in-Some.chid may.among.known may.up may.free found positive told.room) _ _ c.in_ok-met.met told _ _
-    (none_marked (Pulse c.args.coid c.args.priority c.args.code c.args.value) (made_for c.in-Some.chid (Some item)) _ refl) (rw (c.put.ensures, c.ending.ensures, may.none) at c.put_if.ensures))
+    (none_marked (Pulse c.args.coid c.args.priority c.args.code c.args.value) (made_for c.in-Some.chid (Some item)) _ refl) (rw (c.put.ensures, c.completion.ensures, may.none) at c.put_if.ensures))

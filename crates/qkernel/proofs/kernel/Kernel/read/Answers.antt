@@ -20,5 +20,5 @@ returns c =
     let sent = c.in-Ok.ensures.sender in
     let message : c.message-message.result.now ≡ message_from c.self.inside.objects.threads c.args.rcvid =
     c.message-message.ensures ∙ ap message_in (sym c.record.ensures.open_call) ∙ sym (message_sent c.args.rcvid c.in-Ok.holder.thread c.self.inside.objects.threads sent) in
-    let ended = rw (c.ending_with.ensures, c.take-copied.ensures.count, c.take-copied.ensures.after, message, may.none) at c.put.ensures in
+    let ended = rw (c.completion_with.ensures, c.take-copied.ensures.count, c.take-copied.ensures.after, message, may.none) at c.put.ensures in
     rw (← c.self.view_is, may.counted) (step_read _ c.args.caller.now.seat.thread _ c.args.rcvid may.sound may.among.known may.up may.free held c.args.offset c.args.buffer _ ended)

@@ -40,7 +40,7 @@ returns c =
     let sets = sets_queue c.self.inside.objects.channels c.args.chid c.in-Some.channel.now c.take.new.self _ there (c.in-Some-take.ensures.rest ∙ ap (without_item c.in-Some-take.item.number) (sym (ap items_waiting_on there))) in
     let best = ap (λ o. best_of c.args.kind (items_waiting_on o)) there ∙ sym c.in-Some-take.ensures.best in
     let carried = c.carried-priority.ensures ∙ ap (λ o. cond (is_fixed o) None (Some c.in-Some-take.item.priority)) (sym (sets.channel c.args.chid ∙ ap (option_map open_channel_of) there)) in
-    let ended = rw (c.ending_with.ensures, c.hand_item-mark.ensures.mark, c.hand_item-mark.ensures.buffer, may.none) at c.put.ensures in
+    let ended = rw (c.completion_with.ensures, c.hand_item-mark.ensures.mark, c.hand_item-mark.ensures.buffer, may.none) at c.put.ensures in
     rw (← c.self.view_is, may.counted) (step_receive_takes _ c.args.caller.now.seat.thread c.args.chid c.args.kind c.args.buffer _ may.sound may.among.known may.up may.free own c.requires.buffer c.in-Some-take.item best _ _ _ _
     c.hand_item-mark.ensures.kept (rw carried at c.set_priority.ensures) sets ended)
 

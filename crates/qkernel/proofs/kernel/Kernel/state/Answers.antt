@@ -20,5 +20,5 @@ returns c =
     let may = rw (← c.self.view_is) at c.requires in
     let there = rw (← c.self.view_is) at (sym c.seat.ensures.known ∙ ap is_some c.in_ok-seat.ensures.ok_part) in
     let thread = rw c.in_ok-seat.ensures.ok_part at c.seat.ensures.thread in
-    let ended = rw (c.ending.ensures, c.state.ensures, c.priority.ensures, may.none, thread) at c.put.ensures in
+    let ended = rw (c.completion.ensures, c.state.ensures, c.priority.ensures, may.none, thread) at c.put.ensures in
     rw (← c.self.view_is, may.counted) (step_state _ c.args.caller.now.seat.thread c.args.target _ may.among.known may.up may.free _ may.sound there ended)

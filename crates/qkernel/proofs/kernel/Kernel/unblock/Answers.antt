@@ -26,7 +26,7 @@ returns-in_default c =
     let fellow = c.in_ok-fellow.ensures.fellow in
     let none = rw c.in_ok-fellow.ensures.thread at (sym c.guarded_message.ensures ∙ c.in_default.is) in
     rw (← c.self.view_is, may.counted, c.cancel.ensures.connections) (step_unblock_cancelled _ c.args.caller.now.seat.thread c.args.target _ may.sound may.among.known may.up may.free fellow none _ _ _ c.cancel.ensures.threads c.cancel.ensures.channels
-    (rw c.ending-own.ensures at c.cancel.ensures.endings))
+    (rw c.completion-own.ensures at c.cancel.ensures.endings))
 
 -- ---- its message had its pulse
 
@@ -35,7 +35,7 @@ returns-then-held c =
     let may = rw (← c.self.view_is) at c.requires in
     let fellow = c.in_ok-fellow.ensures.fellow in
     let guards = rw c.in_ok-fellow.ensures.thread at (sym c.guarded_message.ensures ∙ c.in-Some.is) in
-    rw (← c.self.view_is, may.counted) (step_unblock_again _ c.args.caller.now.seat.thread c.args.target _ may.sound may.among.known may.up may.free fellow c.in-Some.held guards c.if-held.true _ (rw (c.ending.ensures, may.none) at c.put.ensures))
+    rw (← c.self.view_is, may.counted) (step_unblock_again _ c.args.caller.now.seat.thread c.args.target _ may.sound may.among.known may.up may.free fellow c.in-Some.held guards c.if-held.true _ (rw (c.completion.ensures, may.none) at c.put.ensures))
 
 -- ---- its server is told
 
@@ -79,7 +79,7 @@ returns c =
     let told = is_told _ c.args.caller.now.seat.thread g.channel (Some pulse) _ _ c.in_ok-met.met may.sound may.free new c.in_ok-met.ensures.ok in
     rw (← c.self.view_is, may.counted, c.in_ok-met.ensures.connections) (step_told _ c.args.caller.now.seat.thread (Unblock c.args.target) _ (made_for g.channel (Some pulse)) may.sound may.among.known may.free
     (tells_of_it _ c.args.caller.now.seat.thread c.args.target _ may.sound may.among.known may.up may.free fellow g guards c.if-held.false pulse c.item-pulse.ensures told.room) _ _ c.in_ok-met.met told _ _
-    (are_marked c.args.target (record { item = pulse; channel = g.channel }) _ _ (rw c.in_ok-fellow.ensures.thread at c.mark_unblocked.ensures)) (rw (c.put-2.ensures, c.ending-2.ensures, may.none) at c.put_if.ensures))
+    (are_marked c.args.target (record { item = pulse; channel = g.channel }) _ _ (rw c.in_ok-fellow.ensures.thread at c.mark_unblocked.ensures)) (rw (c.put-2.ensures, c.completion-2.ensures, may.none) at c.put_if.ensures))
 
 pub returns-in_err-met : goal.returns-in_err-met
 returns-in_err-met c =

@@ -29,5 +29,5 @@ returns c =
     let sent = c.in_ok-holder.ensures.sender in
     let changes = changes_sender c.args.rcvid c.in_ok-holder.holder.thread (written_call c.args.offset c.args.bytes.now) _ _ sent c.write_sent-copied.ensures.after in
     let count = c.write_sent-copied.ensures.count ∙ ap (λ o. laid_count (reply_buffer_in o) c.args.offset c.args.bytes.now) (sym (call_sent c.args.rcvid c.in_ok-holder.holder.thread c.self.inside.objects.threads sent)) in
-    let ended = rw (c.ending.ensures, count, may.none) at c.put.ensures in
+    let ended = rw (c.completion.ensures, count, may.none) at c.put.ensures in
     rw (← c.self.view_is, may.counted) (step_written _ c.args.caller.now.seat.thread _ c.args.rcvid may.sound may.among.known may.up may.free held c.args.offset c.args.bytes.now _ _ changes ended)

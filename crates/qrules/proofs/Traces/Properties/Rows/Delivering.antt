@@ -6,7 +6,7 @@ use Rattle.qqueue.specs.Best.{may_take}
 use Rattle.qqueue.specs.declared.item.Item.{Item}
 use Rattle.qrules.proofs.Words.Items.{delivers, receiver}
 use Rattle.qrules.proofs.Words.Facts.{Facts, number_of}
-use Rattle.qrules.specs.Delivery.{receipt_ending}
+use Rattle.qrules.specs.Delivery.{receipt_completion}
 use Rattle.qmodel.specs.declared.call.Completion.{Completion}
 use Rattle.qmodel.specs.declared.open_call.OpenCall.{OpenCall}
 use Rattle.qmodel.specs.declared.open_call.OpenCall.TheVariants.{Receive}
@@ -24,7 +24,7 @@ pub record Delivers (f : Facts) (o : Option ℕ) (item : Item) (message : List �
   pub is_open : f.open_call u ≡ Some (Receive receive)
   pub on : receive.channel ≡ channel
   pub may : may_take receive.kind item ≡ true
-  pub ending : receipt_ending item message u receive.number receive.buffer ≡ y
+  pub completion : receipt_completion item message u receive.number receive.buffer ≡ y
 
 -- the channel of the receiver
 over : (f : Facts) (o : Option ℕ) (item : Item) (u : ℕ) → receiver f item o ≡ Some u → (h : ℕ) × (o ≡ Some h) × WaitsOn h item (f.open_call u)
@@ -45,5 +45,5 @@ delivery_meets f o item message u y e =
       is_open = w.2.is_open;
       on = w.2.on;
       may = w.2.may;
-      ending = subst (λ (o : OpenCall). receipt_ending item message u (number_of o) (buffer_in o) ≡ y) same p.1;
+      completion = subst (λ (o : OpenCall). receipt_completion item message u (number_of o) (buffer_in o) ≡ y) same p.1;
     }

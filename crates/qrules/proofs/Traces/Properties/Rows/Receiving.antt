@@ -6,18 +6,18 @@ use Rattle.qqueue.specs.Best.{best_of}
 use Rattle.qqueue.specs.declared.item.Item.{Item}
 use Rattle.qqueue.specs.declared.item.Kind.{Kind}
 use Rattle.qrules.proofs.Words.Items.{own_receipt}
-use Rattle.qrules.specs.Delivery.{receipt_ending}
+use Rattle.qrules.specs.Delivery.{receipt_completion}
 use Rattle.qrules.proofs.Words.Facts.{Facts, message}
 use Rattle.qmodel.specs.declared.call.Completion.{Completion}
 
 pub record ReceiveTakes (f : Facts) (t chid : ℕ) (kind : Kind) (buffer : List ℕ) (y : Completion) : Type 0 where
   pub item : Item
   pub best : best_of kind (f.pending chid) ≡ Some item
-  pub ending : receipt_ending item (message f item.number) t f.number buffer ≡ y
+  pub completion : receipt_completion item (message f item.number) t f.number buffer ≡ y
 
 pub receive_takes : (f : Facts) (t chid : ℕ) (kind : Kind) (buffer : List ℕ) (y : Completion) → own_receipt f t buffer (best_of kind (f.pending chid)) ≡ Some y → ReceiveTakes f t chid kind buffer y
 receive_takes f t chid kind buffer y e =
     elim (best_of kind (f.pending chid)) as (λ o. best_of kind (f.pending chid) ≡ o → own_receipt f t buffer o ≡ Some y → ReceiveTakes f t chid kind buffer y) [
       | None ↦ λ is s. absurd (none-some y s)
-      | Some item ↦ λ is s. record { item = item; best = is; ending = same_Some _ y s }
+      | Some item ↦ λ is s. record { item = item; best = is; completion = same_Some _ y s }
     ] refl e
