@@ -34,6 +34,21 @@ pub enum Errno {
     NoThread,
 }
 
+/// All errors, in the order in which the library for C numbers them from 1 on. Calls fail with the first eight.
+pub const ERRNOS: [Errno; 11] = [
+    Errno::Srch,
+    Errno::Badf,
+    Errno::Inval,
+    Errno::Again,
+    Errno::Intr,
+    Errno::Busy,
+    Errno::NoMemory,
+    Errno::Down,
+    Errno::Exhausted,
+    Errno::TraceFull,
+    Errno::NoThread,
+];
+
 impl From<AllocError> for Errno {
     ghost use Rattle.qbase.specs.declared.errno.Errno.TheVariants.{NoMemory};
 

@@ -2,6 +2,8 @@
 use Rattle.std.specs.Prelude.{ℕ, Bool, true, false, List, []}
 use Rattle.qmodel.specs.declared.call.Call.{Call}
 use Rattle.qmodel.specs.declared.call.Call.TheVariants.{Send, Receive, Reply, Read, Write}
+use Rattle.qmodel.specs.declared.kind.CallKind.{CallKind}
+use Rattle.qmodel.specs.declared.kind.CallKind.TheVariants as kind
 
 -- the buffer that a call brings, and gets back with its ending: a Send's reply buffer, or that of a Receive
 -- or a Read; any other call has none
@@ -11,11 +13,18 @@ buffer_of (Receive chid buffer) = buffer
 buffer_of (Read rcvid offset buffer) = buffer
 buffer_of other = []
 
--- a call brings bytes or a buffer
-abbrev pub has_bytes : Call → Bool
-has_bytes (Send coid message reply_buffer) = true
-has_bytes (Receive chid buffer) = true
-has_bytes (Reply rcvid status bytes) = true
-has_bytes (Read rcvid offset buffer) = true
-has_bytes (Write rcvid offset bytes) = true
-has_bytes call = false
+-- the bytes that a call brings: a Send's message, or the data of a Reply or a Write; any other call has none
+abbrev pub bytes_of : Call → List ℕ
+bytes_of (Send coid message reply_buffer) = message
+bytes_of (Reply rcvid status bytes) = bytes
+bytes_of (Write rcvid offset bytes) = bytes
+bytes_of other = []
+
+-- calls of this kind bring bytes or a buffer
+abbrev pub has_bytes : CallKind → Bool
+has_bytes kind.Send = true
+has_bytes kind.Receive = true
+has_bytes kind.Reply = true
+has_bytes kind.Read = true
+has_bytes kind.Write = true
+has_bytes other = false

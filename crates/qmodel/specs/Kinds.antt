@@ -1,5 +1,5 @@
--- The kinds of calls, their words in scripts, and the first operand of a call.
-use Rattle.std.specs.Prelude.{ℕ, List, Option, Some, None, codes}
+-- The table of calls: of each kind its word in scripts and its operands, and what a call has for them.
+use Rattle.std.specs.Prelude.{ℕ, List, [], ◌∷◌, Option, codes, option_map, slice_get}
 use Rattle.std.specs.List.{find}
 use Rattle.std.specs.Str.{bytes_eq}
 use Rattle.qmodel.specs.declared.call.Call.{Call}
@@ -7,6 +7,10 @@ use Rattle.qmodel.specs.declared.call.Call.TheVariants as call
 use Rattle.qmodel.specs.declared.kind.CallKind.{CallKind}
 use Rattle.qmodel.specs.declared.kind.CallKind.TheVariants as kind
 use Rattle.qmodel.specs.declared.kind.TheConstants.{KINDS}
+use Rattle.qmodel.specs.declared.operands.Operand.{Operand}
+use Rattle.qmodel.specs.declared.operands.Operand.TheVariants as sort
+use Rattle.qmodel.specs.declared.operands.Operands.{Operands}
+use Rattle.qmodel.specs.Operands.{no_operands, number_at, of_id, of_thread}
 
 -- the word for a call of this kind in a script
 abbrev pub script_word : CallKind → List ℕ
@@ -32,6 +36,26 @@ script_word kind.ConnectDetach = codes "detach"
 unfoldable pub kind_named : List ℕ → Option CallKind
 kind_named word = find (λ k. bytes_eq word (script_word k)) KINDS
 
+-- the operands of a call of this kind, in the order of a script
+abbrev pub sorts_of : CallKind → List Operand
+sorts_of kind.ChannelCreate = sort.Flags ∷ []
+sorts_of kind.ConnectAttach = sort.Channel ∷ []
+sorts_of kind.Send = sort.Connection ∷ sort.Message ∷ sort.ReplyBuffer ∷ []
+sorts_of kind.Receive = sort.Channel ∷ sort.Buffer ∷ []
+sorts_of kind.Reply = sort.ReceiveId ∷ sort.Status ∷ sort.Data ∷ []
+sorts_of kind.Error = sort.ReceiveId ∷ sort.ErrorCode ∷ []
+sorts_of kind.Read = sort.ReceiveId ∷ sort.Offset ∷ sort.Buffer ∷ []
+sorts_of kind.Write = sort.ReceiveId ∷ sort.Offset ∷ sort.Data ∷ []
+sorts_of kind.Info = sort.ReceiveId ∷ []
+sorts_of kind.ReceivePulse = sort.Channel ∷ []
+sorts_of kind.Pulse = sort.Connection ∷ sort.Priority ∷ sort.PulseCode ∷ sort.Value ∷ []
+sorts_of kind.PrioritySet = sort.Thread ∷ sort.Priority ∷ []
+sorts_of kind.State = sort.Thread ∷ []
+sorts_of kind.ChannelDestroy = sort.Channel ∷ []
+sorts_of kind.Shutdown = []
+sorts_of kind.Unblock = sort.Thread ∷ []
+sorts_of kind.ConnectDetach = sort.Connection ∷ []
+
 -- the kind of a call
 abbrev pub kind_of : Call → CallKind
 kind_of (call.ChannelCreate flags) = kind.ChannelCreate
@@ -52,22 +76,47 @@ kind_of call.Shutdown = kind.Shutdown
 kind_of (call.Unblock thread) = kind.Unblock
 kind_of (call.ConnectDetach coid) = kind.ConnectDetach
 
+-- the numbers among the operands of a call
+abbrev pub operands_of : Call → Operands
+operands_of (call.ChannelCreate flags) = record no_operands { flags = flags.0 }
+operands_of (call.ConnectAttach chid) = of_id chid
+operands_of (call.Send coid message reply_buffer) = of_id coid
+operands_of (call.Receive chid buffer) = of_id chid
+operands_of (call.Reply rcvid status bytes) = record (of_id rcvid) { status = status }
+operands_of (call.Error rcvid code) = record (of_id rcvid) { code = code }
+operands_of (call.Read rcvid offset buffer) = record (of_id rcvid) { offset = offset }
+operands_of (call.Write rcvid offset bytes) = record (of_id rcvid) { offset = offset }
+operands_of (call.Info rcvid) = of_id rcvid
+operands_of (call.ReceivePulse chid) = of_id chid
+operands_of (call.Pulse coid priority code value) =
+    record (of_id coid) { priority = priority; pulse_code = code; value = value }
+operands_of (call.PrioritySet thread priority) = record (of_thread thread) { priority = priority }
+operands_of (call.State thread) = of_thread thread
+operands_of (call.ChannelDestroy chid) = of_id chid
+operands_of call.Shutdown = no_operands
+operands_of (call.Unblock thread) = of_thread thread
+operands_of (call.ConnectDetach coid) = of_id coid
+
+-- the call of this kind with these numbers, these bytes and this buffer, each of which it takes if it has one
+abbrev pub call_with : CallKind → Operands → List ℕ → List ℕ → Call
+call_with kind.ChannelCreate o bytes buffer = call.ChannelCreate (record { 0 = o.flags })
+call_with kind.ConnectAttach o bytes buffer = call.ConnectAttach o.id
+call_with kind.Send o bytes buffer = call.Send o.id bytes buffer
+call_with kind.Receive o bytes buffer = call.Receive o.id buffer
+call_with kind.Reply o bytes buffer = call.Reply o.id o.status bytes
+call_with kind.Error o bytes buffer = call.Error o.id o.code
+call_with kind.Read o bytes buffer = call.Read o.id o.offset buffer
+call_with kind.Write o bytes buffer = call.Write o.id o.offset bytes
+call_with kind.Info o bytes buffer = call.Info o.id
+call_with kind.ReceivePulse o bytes buffer = call.ReceivePulse o.id
+call_with kind.Pulse o bytes buffer = call.Pulse o.id o.priority o.pulse_code o.value
+call_with kind.PrioritySet o bytes buffer = call.PrioritySet o.thread o.priority
+call_with kind.State o bytes buffer = call.State o.thread
+call_with kind.ChannelDestroy o bytes buffer = call.ChannelDestroy o.id
+call_with kind.Shutdown o bytes buffer = call.Shutdown
+call_with kind.Unblock o bytes buffer = call.Unblock o.thread
+call_with kind.ConnectDetach o bytes buffer = call.ConnectDetach o.id
+
 -- the first operand of a call: flags, a channel, a connection, a receive id or a thread; None for a Shutdown
 abbrev pub operand_of : Call → Option ℕ
-operand_of (call.ChannelCreate flags) = Some flags.0
-operand_of (call.ConnectAttach chid) = Some chid
-operand_of (call.Send coid message reply_buffer) = Some coid
-operand_of (call.Receive chid buffer) = Some chid
-operand_of (call.Reply rcvid status bytes) = Some rcvid
-operand_of (call.Error rcvid code) = Some rcvid
-operand_of (call.Read rcvid offset buffer) = Some rcvid
-operand_of (call.Write rcvid offset bytes) = Some rcvid
-operand_of (call.Info rcvid) = Some rcvid
-operand_of (call.ReceivePulse chid) = Some chid
-operand_of (call.Pulse coid priority code value) = Some coid
-operand_of (call.PrioritySet thread priority) = Some thread
-operand_of (call.State thread) = Some thread
-operand_of (call.ChannelDestroy chid) = Some chid
-operand_of call.Shutdown = None
-operand_of (call.Unblock thread) = Some thread
-operand_of (call.ConnectDetach coid) = Some coid
+operand_of c = option_map (number_at (operands_of c)) (slice_get (sorts_of (kind_of c)) 0)

@@ -1,7 +1,9 @@
-//! The kinds of calls, and the words by which scripts name them.
+//! The kinds of calls, and the table of their words and operands.
 
 ghost use Rattle.std.specs.Prelude.{◌≡◌};
-ghost use Rattle.qmodel.specs.Kinds.{kind_named, script_word};
+ghost use Rattle.qmodel.specs.Kinds.{kind_named, script_word, sorts_of};
+
+use crate::operands::Operand;
 
 /// A call without its operands. The variants are named as those of `Call`.
 #[derive(Clone, Copy, Debug, PartialEq, Eq)]
@@ -46,30 +48,108 @@ pub const KINDS: [CallKind; 17] = [
     CallKind::ConnectDetach,
 ];
 
+/// All kinds, as texts list them.
+pub const LISTED: [CallKind; 17] = [
+    CallKind::ChannelCreate,
+    CallKind::ConnectAttach,
+    CallKind::ConnectDetach,
+    CallKind::Send,
+    CallKind::Receive,
+    CallKind::Reply,
+    CallKind::Error,
+    CallKind::Read,
+    CallKind::Write,
+    CallKind::Info,
+    CallKind::ReceivePulse,
+    CallKind::Pulse,
+    CallKind::PrioritySet,
+    CallKind::Unblock,
+    CallKind::State,
+    CallKind::ChannelDestroy,
+    CallKind::Shutdown,
+];
+
+/// What a call makes that another call can name, or that another thread can receive.
+#[derive(Clone, Copy, Debug, PartialEq, Eq)]
+pub enum Product {
+    Nothing,
+    Channel,
+    Connection,
+    Message,
+    Pulse,
+}
+
+/// A row of the table of calls.
+#[derive(Clone, Copy)]
+pub struct Form {
+    /// The word for the call in a script.
+    pub word: &'static str,
+    /// QNX's names for the call, in lowercase without underscores.
+    pub qnx_names: &'static [&'static str],
+    /// The operands, in the order of a script.
+    pub operands: &'static [Operand],
+    pub product: Product,
+}
+
+/// A row: the word, QNX's names, the operands, and what the call makes.
+macro_rules! form {
+    ($word:literal, [$($name:literal),*], [$($operand:ident),*], $product:ident) => {
+        Form {
+            word: $word,
+            qnx_names: &[$($name),*],
+            operands: &[$(Operand::$operand),*],
+            product: Product::$product,
+        }
+    };
+}
+
 impl CallKind {
+    /// Returns the row of this kind in the table of calls.
+    pub fn form(self) -> Form
+        ensures word { result.word.now ≡ script_word self }
+        ensures operands { result.operands.now ≡ sorts_of self }
+    {
+        match self {
+            CallKind::ChannelCreate => form!("create", ["channelcreate"], [Flags], Channel),
+            CallKind::ConnectAttach => form!("attach", ["connectattach"], [Channel], Connection),
+            CallKind::Send => form!(
+                "send",
+                ["msgsend", "msgsendv", "msgsendnc"],
+                [Connection, Message, ReplyBuffer],
+                Message
+            ),
+            CallKind::Receive => form!("receive", ["msgreceive"], [Channel, Buffer], Nothing),
+            CallKind::Reply => form!("reply", ["msgreply"], [ReceiveId, Status, Data], Nothing),
+            CallKind::Error => form!("error", ["msgerror"], [ReceiveId, ErrorCode], Nothing),
+            CallKind::Read => form!("read", ["msgread"], [ReceiveId, Offset, Buffer], Nothing),
+            CallKind::Write => form!("write", ["msgwrite"], [ReceiveId, Offset, Data], Nothing),
+            CallKind::Info => form!("info", ["msginfo"], [ReceiveId], Nothing),
+            CallKind::ReceivePulse => form!(
+                "receivepulse",
+                ["msgreceivepulse"],
+                [Channel],
+                Nothing
+            ),
+            CallKind::Pulse => form!(
+                "pulse",
+                ["msgsendpulse"],
+                [Connection, Priority, PulseCode, Value],
+                Pulse
+            ),
+            CallKind::PrioritySet => form!("setprio", ["schedset"], [Thread, Priority], Nothing),
+            CallKind::State => form!("state", ["schedget"], [Thread], Nothing),
+            CallKind::ChannelDestroy => form!("destroy", ["channeldestroy"], [Channel], Nothing),
+            CallKind::Shutdown => form!("shutdown", [], [], Nothing),
+            CallKind::Unblock => form!("unblock", ["timertimeout"], [Thread], Pulse),
+            CallKind::ConnectDetach => form!("detach", ["connectdetach"], [Connection], Pulse),
+        }
+    }
+
     /// Returns the word for a call of this kind in a script.
     pub fn word(self) -> &'static str
         ensures { result.now ≡ script_word self }
     {
-        match self {
-            CallKind::ChannelCreate => "create",
-            CallKind::ConnectAttach => "attach",
-            CallKind::Send => "send",
-            CallKind::Receive => "receive",
-            CallKind::Reply => "reply",
-            CallKind::Error => "error",
-            CallKind::Read => "read",
-            CallKind::Write => "write",
-            CallKind::Info => "info",
-            CallKind::ReceivePulse => "receivepulse",
-            CallKind::Pulse => "pulse",
-            CallKind::PrioritySet => "setprio",
-            CallKind::State => "state",
-            CallKind::ChannelDestroy => "destroy",
-            CallKind::Shutdown => "shutdown",
-            CallKind::Unblock => "unblock",
-            CallKind::ConnectDetach => "detach",
-        }
+        self.form().word
     }
 
     /// Returns the kind with this word; `None` if no kind has it.

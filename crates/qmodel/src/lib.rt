@@ -4,3 +4,4 @@
 pub mod call;
 pub mod kind;
 pub mod open_call;
+pub mod operands;
