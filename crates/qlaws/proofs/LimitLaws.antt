@@ -24,7 +24,7 @@ use Rattle.qrules.proofs.Words.Lawful.{facts_of, IsLawful}
 use Rattle.qrules.proofs.Words.Past.{pending_items, made_on}
 use Rattle.qrules.proofs.Words.Effects.{closes, makes, sets}
 use Rattle.qrules.proofs.Words.Items.{Received, message_numbered, names, pulse_item, item_sent_over}
-use Rattle.qrules.proofs.Words.Step.{is_cancelled, uncut_items, items_with_priority_set, pending_after, unreceived_items}
+use Rattle.qrules.proofs.Words.Step.{is_cancelled, uncancelled_items, items_with_priority_set, pending_after, unreceived_items}
 use Rattle.qrules.proofs.Words.Items.{receipt_of}
 use Rattle.qmodel.specs.declared.call.Call.{Call}
 use Rattle.qmodel.specs.declared.call.Call.TheVariants.{Send, Pulse, Unblock, ConnectDetach}
@@ -129,7 +129,7 @@ limited f t c h p items less few = nothing_more items (omega (arith, less, few))
 limited_after : (f : Facts) (t : ℕ) (c : Call) (h : ℕ) → Passes f t c → pulses_among (f.pending h) ≤ 1024 → pulses_among (pending_after f t c h) ≤ 1024
 limited_after f t c h p few =
     let M = made_on h (makes f t c) in
-    let L = uncut_items f t c h (f.pending h ++ M) in
+    let L = uncancelled_items f t c h (f.pending h ++ M) in
     let made : pulses_among (f.pending h ++ M) ≤ 1024 = limited f t c h p (f.pending h) (omega arith) few in
     let less : pulses_among L ≤ pulses_among (f.pending h ++ M) = fewer_left (λ y. is_pulse y.what) (λ item. not (is_cancelled f t c h item.number)) (f.pending h ++ M) in
     let out : pulses_among (unreceived_items (receipt_of f t c) h L) ≤ pulses_among L = fewer_out (receipt_of f t c) h L in

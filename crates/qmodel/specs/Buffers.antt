@@ -5,8 +5,8 @@ use Rattle.qmodel.specs.declared.call.Call.TheVariants.{Send, Receive, Reply, Re
 use Rattle.qmodel.specs.declared.kind.CallKind.{CallKind}
 use Rattle.qmodel.specs.declared.kind.CallKind.TheVariants as kind
 
--- the buffer that a call brings, and gets back with its ending: a Send's reply buffer, or that of a Receive
--- or a Read; any other call has none
+-- the buffer that a call brings, and gets back with its completion: a Send's reply buffer, or that of a
+-- Receive or a Read; any other call has none
 abbrev pub buffer_of : Call → List ℕ
 buffer_of (Send coid message reply_buffer) = reply_buffer
 buffer_of (Receive chid buffer) = buffer

@@ -22,7 +22,8 @@ abbrev pub item_made_by : Facts → Event → Trace → Option SentItem
 item_made_by f e past = if is_accepted e past then (effect_of e.call).makes f e.thread else None
 
 module _ (roster : List Member) where
-  -- the facts after these events, given all items made and the threads' priorities
+  -- the facts after these events, given all items made and the threads' priorities; facts_of has the same
+  -- without them, which are made by these facts, event by event
   abbrev pub facts_by : Trace → ItemsAndPriorities → Facts
   facts_by past known = let items : List SentItem = items_by_now past known.items in record {
     roster = roster;

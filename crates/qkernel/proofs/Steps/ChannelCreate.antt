@@ -26,7 +26,7 @@ use Rattle.qrules.proofs.Words.Step.{put_at, one_for}
 use Rattle.qstate.specs.Thread.{open_in}
 use Rattle.qrules.proofs.Traces.Rosters.{rises, among, only_own}
 use Rattle.qbase.proofs.Lists.{all_append}
-use Rattle.qkernel.proofs.Steps.Common.{uncut, counted, step_refused_alone, all_up_to, stays_free}
+use Rattle.qkernel.proofs.Steps.Common.{uncancelled, counted, step_refused_alone, all_up_to, stays_free}
 use Rattle.qkernel.proofs.Tables.{entry_at-push, entry_at-above, length-push}
 
 ids_entries : (n : ℕ) (channels : List (ℕ × Channel)) → AllByRecursion (λ id. id ≤ n) (ids_of channels) → AllByRecursion (λ e. e.0 ≤ n) channels
@@ -98,7 +98,7 @@ module _ (s : State) (t : ℕ) (flags : ChannelFlags) (m : Member) (q : Contents
         connection = λ k. rw known refl;
         live_connections = rw known (omega arith);
         open_call = λ u. stays_free s.threads t u free;
-        pending = λ h. uncut s t (ChannelCreate flags) (rw (up, free, is_known, room) refl) refl refl refl h (pending_there h ∙ sym (append-nil (pending_in s.channels h)));
+        pending = λ h. uncancelled s t (ChannelCreate flags) (rw (up, free, is_known, room) refl) refl refl refl h (pending_there h ∙ sym (append-nil (pending_in s.channels h)));
         priority = λ u. refl;
       };
     },

@@ -9,7 +9,7 @@ use Rattle.qtables.specs.Members.{member_at}
 use Rattle.qtables.specs.declared.member.Member.{Member}
 use Rattle.qrules.proofs.Words.Items.{refusal_completion}
 use Rattle.qrules.proofs.Words.Facts.{owns}
-use Rattle.qrules.proofs.Words.Step.{uncut_items}
+use Rattle.qrules.proofs.Words.Step.{uncancelled_items}
 use Rattle.qmodel.specs.declared.call.Call.TheVariants.{ChannelDestroy}
 use Rattle.qmodel.specs.declared.call.Completion.{Completion}
 use Rattle.qstate.specs.Channel.{ClosesIn, is_of}
@@ -49,7 +49,7 @@ module _ (s : State) (t chid : ℕ) (m : Member) (known : member_at (members_of 
               connection = λ k. rw known refl;
               live_connections = rw known (omega arith);
               open_call = λ u. open_after s t (On chid) Srch threads u free are;
-              pending = λ h. closes.pending h ∙ ap (cond (eqb chid h) []) (lose.pending h ∙ ap (uncut_items (facts_in s) t (ChannelDestroy chid) h) (sym (append-nil (pending_in s.channels h))));
+              pending = λ h. closes.pending h ∙ ap (cond (eqb chid h) []) (lose.pending h ∙ ap (uncancelled_items (facts_in s) t (ChannelDestroy chid) h) (sym (append-nil (pending_in s.channels h))));
               priority = are.priority;
             };
           },

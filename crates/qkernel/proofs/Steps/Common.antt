@@ -19,7 +19,7 @@ use Rattle.qrules.proofs.Words.Items.{refusal_completion}
 use Rattle.qrules.proofs.Words.Items.{receipt_of}
 use Rattle.qrules.proofs.Words.Effects.{closes, makes, sets}
 use Rattle.qrules.proofs.Words.Items.{names}
-use Rattle.qrules.proofs.Words.Step.{uncut_items, items_with_priority_set, pending_after, unreceived_items}
+use Rattle.qrules.proofs.Words.Step.{uncancelled_items, items_with_priority_set, pending_after, unreceived_items}
 use Rattle.qrules.proofs.Words.Past.{made_on}
 use Rattle.qrules.proofs.Traces.Past.Cancels.{EndsSettled, none_cancelled}
 use Rattle.qrules.proofs.Traces.Past.Ends.{row_passes}
@@ -85,20 +85,20 @@ step_refused_alone s t c e X may is = step_refused s t c e X _ may is (counted_a
 -- ---- accepted calls
 
 -- what is pending after a call that neither destroys a channel nor ends a Send which isn't received
-pub uncut_by : (s : State) (t : ℕ) (c : Call) → EndsSettled (facts_in s) t c → closes c ≡ None → sets c ≡ None → (h : ℕ) {x : List Item}
+pub uncancelled_by : (s : State) (t : ℕ) (c : Call) → EndsSettled (facts_in s) t c → closes c ≡ None → sets c ≡ None → (h : ℕ) {x : List Item}
     → x ≡ unreceived_items (receipt_of (facts_in s) t c) h (pending_in s.channels h ++ made_on h (makes (facts_in s) t c)) → x ≡ pending_after (facts_in s) t c h
-uncut_by s t c settled closes_none sets_none h {x} is =
+uncancelled_by s t c settled closes_none sets_none h {x} is =
     let f = facts_in s in
     let items = pending_in s.channels h ++ made_on h (makes f t c) in
     is
     ∙ ap (unreceived_items (receipt_of f t c) h) (sym (none_cancelled f t c settled h items))
-    ∙ ap (λ o. cond (names o h) [] (unreceived_items (receipt_of f t c) h (uncut_items f t c h items))) (sym closes_none)
-    ∙ ap (λ o. cond (names (closes c) h) [] (items_with_priority_set f h o (unreceived_items (receipt_of f t c) h (uncut_items f t c h items)))) (sym sets_none)
+    ∙ ap (λ o. cond (names o h) [] (unreceived_items (receipt_of f t c) h (uncancelled_items f t c h items))) (sym closes_none)
+    ∙ ap (λ o. cond (names (closes c) h) [] (items_with_priority_set f h o (unreceived_items (receipt_of f t c) h (uncancelled_items f t c h items)))) (sym sets_none)
 
 -- the same of a call that is accepted and ends no other by force
-pub uncut : (s : State) (t : ℕ) (c : Call) → refusal_of (facts_in s) t c ≡ None → is_forceful c ≡ false → closes c ≡ None → sets c ≡ None → (h : ℕ) {x : List Item}
+pub uncancelled : (s : State) (t : ℕ) (c : Call) → refusal_of (facts_in s) t c ≡ None → is_forceful c ≡ false → closes c ≡ None → sets c ≡ None → (h : ℕ) {x : List Item}
     → x ≡ unreceived_items (receipt_of (facts_in s) t c) h (pending_in s.channels h ++ made_on h (makes (facts_in s) t c)) → x ≡ pending_after (facts_in s) t c h
-uncut s t c passed mild closes_none sets_none h is = uncut_by s t c ((row_laws (facts_in s) t c (row_passes (facts_in s) t c passed)).ends_settled mild) closes_none sets_none h is
+uncancelled s t c passed mild closes_none sets_none h is = uncancelled_by s t c ((row_laws (facts_in s) t c (row_passes (facts_in s) t c passed)).ends_settled mild) closes_none sets_none h is
 
 -- ---- soundness
 

@@ -19,7 +19,7 @@ use Rattle.qrules.proofs.Words.Step.{put_at, one_for}
 use Rattle.qstate.specs.Thread.{open_in}
 use Rattle.qrules.proofs.Traces.Rosters.{rises, among, only_own}
 use Rattle.qbase.proofs.Lists.{all_append}
-use Rattle.qkernel.proofs.Steps.Common.{uncut, counted, step_refused_alone, all_up_to, stays_free, up_to_below}
+use Rattle.qkernel.proofs.Steps.Common.{uncancelled, counted, step_refused_alone, all_up_to, stays_free, up_to_below}
 use Rattle.qkernel.proofs.Tables.{entry_at-push, length-push, rising_push}
 
 pub step_attach_nowhere : (s : State) (t chid : ℕ) (X : List Completion) → s.down ≡ false → open_in s.threads t ≡ None → is_some (channel_in s.channels chid) ≡ false
@@ -69,7 +69,7 @@ module _ (s : State) (t chid : ℕ) (m : Member) (sound : IsSound s) where
             ∙ ap (λ o. put_at (attaches o (ConnectAttach chid)) (s.made + 1) (entry_at s.connections) k) (sym known);
         live_connections = add-zero _ ∙ length-push s.connections _ ∙ ap (λ o. length s.connections + one_for (attaches o (ConnectAttach chid))) (sym known);
         open_call = λ u. stays_free s.threads t u free;
-        pending = λ h. uncut s t (ConnectAttach chid) (rw (up, free, opens, room) refl) refl refl refl h (sym (append-nil _));
+        pending = λ h. uncancelled s t (ConnectAttach chid) (rw (up, free, opens, room) refl) refl refl refl h (sym (append-nil _));
         priority = λ u. refl;
       };
     },

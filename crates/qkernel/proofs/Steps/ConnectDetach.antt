@@ -33,7 +33,7 @@ use Rattle.qrules.proofs.Words.Items.{pulse_receipt}
 use Rattle.qrules.proofs.Words.Items.{Received}
 use Rattle.qrules.specs.Records.{disconnect_item}
 use Rattle.qmodel.specs.Trace.{SentItem}
-use Rattle.qrules.proofs.Words.Step.{is_cancelled, uncut_items, unreceived_items, unless}
+use Rattle.qrules.proofs.Words.Step.{is_cancelled, uncancelled_items, unreceived_items, unless}
 use Rattle.qrules.specs.Records.{is_unread_send}
 use Rattle.qrules.proofs.Words.Past.{made_on}
 use Rattle.qmodel.specs.declared.call.Call.TheVariants.{ConnectDetach}
@@ -160,8 +160,8 @@ module _ (s : State) (t coid : ℕ) (m : Member) (known : member_at (members_of 
         cancel u = cancel_where (is_over coid) Badf u (open_in s.threads u)
 
         -- what meets the pulse isn't cancelled
-        met_uncut : (u : ℕ) (y : Completion) → ends_receiver (facts_in s) o u ≡ Some y → cancel u ≡ None
-        met_uncut u y e = let k = told_waits s o u y e in rw k.is refl
+        met_uncancelled : (u : ℕ) (y : Completion) → ends_receiver (facts_in s) o u ≡ Some y → cancel u ≡ None
+        met_uncancelled u y e = let k = told_waits s o u y e in rw k.is refl
 
         met_unread : (u k i : ℕ) (y : Completion) → ends_receiver (facts_in s) o u ≡ Some y → is_unread_send k i (open_in s.threads u) ≡ false
         met_unread u k i y e = let w = told_waits s o u y e in rw w.is (elim (eqb w.receive.number i) as (λ b. (b && false && eqb w.receive.channel k) ≡ false) [ true ↦ refl | false ↦ refl ])
@@ -169,7 +169,7 @@ module _ (s : State) (t coid : ℕ) (m : Member) (known : member_at (members_of 
         cancel_mid : (u : ℕ) → cancel_where (is_over coid) Badf u (open_in mid u) ≡ cancel u
         cancel_mid u = rw (is.open_call u) (elim (ends_receiver (facts_in s) o u) as (λ x. ends_receiver (facts_in s) o u ≡ x → cancel_where (is_over coid) Badf u (unless (is_some x) (open_in s.threads u)) ≡ cancel u) [
           | None ↦ λ e. refl
-          | Some y ↦ λ e. sym (met_uncut u y e)
+          | Some y ↦ λ e. sym (met_uncancelled u y e)
         ] refl)
 
         -- how the calls end in the threads that are left
@@ -188,7 +188,7 @@ module _ (s : State) (t coid : ℕ) (m : Member) (known : member_at (members_of 
         g_none : (u : ℕ) → is_some (ends_receiver (facts_in s) o u) ≡ true → g u ≡ None
         g_none u there = g_is u ∙ (elim (ends_receiver (facts_in s) o u) as (λ x. ends_receiver (facts_in s) o u ≡ x → is_some x ≡ true → cond (eqb u t) (Some (mine s t)) (cancel u) ≡ None) [
           | None ↦ λ e some. absurd (true≢false (sym some))
-          | Some y ↦ λ e some. rw (ne_eqb u t (not_caller s t u o mid between met is there), met_uncut u y e) refl
+          | Some y ↦ λ e some. rw (ne_eqb u t (not_caller s t u o mid between met is there), met_uncancelled u y e) refl
         ] refl there)
 
         others_is : (u : ℕ) → (row_of (facts_in s) t (ConnectDetach coid)).others u ≡ option_or (cancel u) (ends_receiver (facts_in s) o u)
@@ -207,7 +207,7 @@ module _ (s : State) (t coid : ℕ) (m : Member) (known : member_at (members_of 
           open_is : (u : ℕ) → open_in threads u ≡ unless (is_some (option_or (cancel u) (ends_receiver (facts_in s) o u))) (open_in s.threads u)
           open_is u = are.open_call u ∙ rw (cancel_mid u, is.open_call u) (elim (ends_receiver (facts_in s) o u) as (λ x. ends_receiver (facts_in s) o u ≡ x → cond (is_some (cancel u)) None (unless (is_some x) (open_in s.threads u)) ≡ unless (is_some (option_or (cancel u) x)) (open_in s.threads u)) [
             | None ↦ λ e. rw (or_none (cancel u)) refl
-            | Some y ↦ λ e. rw (met_uncut u y e) refl
+            | Some y ↦ λ e. rw (met_uncancelled u y e) refl
           ] refl)
 
           open_after : (u : ℕ) → open_in threads u ≡ cond (eqb u t) None (unless (is_some (option_or (cancel u) (ends_receiver (facts_in s) o u))) (open_in s.threads u))
@@ -227,10 +227,10 @@ module _ (s : State) (t coid : ℕ) (m : Member) (known : member_at (members_of 
           cancel_is : (k i : ℕ) → is_cancelled_among (Over coid) Badf mid k i ≡ is_cancelled (facts_in s) t (ConnectDetach coid) k i
           cancel_is k i = rw (is.members) (ap (λ (p : ℕ → Bool). list_any p ts) (λ j v. (gone_is k i v ∙ ap (λ x. is_unread_send k i (open_in s.threads v) && is_some x) (sym (others_is v))) j))
 
-          pending_is : (k : ℕ) → pending_in now k ≡ unreceived_items (pulse_receipt (facts_in s) o) k (uncut_items (facts_in s) t (ConnectDetach coid) k (pending_in s.channels k ++ made_on k o))
+          pending_is : (k : ℕ) → pending_in now k ≡ unreceived_items (pulse_receipt (facts_in s) o) k (uncancelled_items (facts_in s) t (ConnectDetach coid) k (pending_in s.channels k ++ made_on k o))
           pending_is k = lose.pending k
               ∙ filter_agree (λ (item : Item). not (is_cancelled_among (Over coid) Badf mid k item.number)) (λ item. not (is_cancelled (facts_in s) t (ConnectDetach coid) k item.number)) (λ item. ap not (cancel_is k item.number)) (pending_in between k)
-              ∙ ap (uncut_items (facts_in s) t (ConnectDetach coid) k) (is.pending k)
+              ∙ ap (uncancelled_items (facts_in s) t (ConnectDetach coid) k) (is.pending k)
               ∙ taken_filtered (λ item. not (is_cancelled (facts_in s) t (ConnectDetach coid) k item.number)) (pulse_receipt (facts_in s) o) k (pending_in s.channels k ++ made_on k o)
 
           pub step_detached : (X : List Completion) → length (without_entry s.connections coid) + 1 ≡ length s.connections

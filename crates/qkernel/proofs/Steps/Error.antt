@@ -17,7 +17,7 @@ use Rattle.qkernel.specs.Kernel.{State, IsSound}
 use Rattle.qkernel.specs.Private.Steps.{Steps, facts_in}
 use Rattle.qstate.specs.Thread.{open_in, sender_in, SetsOpen}
 use Rattle.qstate.specs.Kept.{members_of}
-use Rattle.qkernel.proofs.Steps.Common.{uncut}
+use Rattle.qkernel.proofs.Steps.Common.{uncancelled}
 use Rattle.qkernel.proofs.Steps.Held.{is_held, two_ended, answered_calls}
 
 pub step_errored : (s : State) (t : ℕ) (m : Member) (i : ℕ) (sound : IsSound s) (known : member_at (members_of s.threads) t ≡ Some m) (code : ℤ) (u : ℕ) (y : Completion)
@@ -37,7 +37,7 @@ step_errored s t m i sound known code u y up free held is_sender ended threads X
       connection = λ k. rw known refl;
       live_connections = rw known (omega arith);
       open_call = answered_calls s t m i sound known (error_finish code) u y up free is_sender ended (Error i code) refl (λ v. answer_same (facts_in s) (error_finish code) (sender (facts_in s) i) v) threads takes;
-      pending = λ k. uncut s t (Error i code) (rw (up, free, is_held s t m i sound known, held) refl) refl refl refl k (sym (append-nil _));
+      pending = λ k. uncancelled s t (Error i code) (rw (up, free, is_held s t m i sound known, held) refl) refl refl refl k (sym (append-nil _));
       priority = takes.priority;
     };
   },

@@ -26,7 +26,7 @@ use Rattle.qstate.specs.Threads.{IsRecordOf}
 use Rattle.qstate.specs.Kept.{members_of, channel_in}
 use Rattle.qstate.proofs.Senders.{held_sent}
 use Rattle.qrules.proofs.Traces.Rosters.{among, only_own, rises}
-use Rattle.qkernel.proofs.Steps.Common.{uncut, counted, stays_free}
+use Rattle.qkernel.proofs.Steps.Common.{uncancelled, counted, stays_free}
 use Rattle.qkernel.proofs.Steps.Held.{is_held}
 use Rattle.qrules.proofs.Traces.Past.Waits.{some_map}
 use Rattle.qstate.specs.Channel.{is_of}
@@ -77,7 +77,7 @@ module _ (s : State) (t : ℕ) (m : Member) (i : ℕ) (sound : IsSound s) (known
         connection = λ k. rw known refl;
         live_connections = rw known (omega arith);
         open_call = λ u. rw says (stays_free s.threads t u free);
-        pending = λ k. uncut s t (Info i) (rw (up, free, is_held s t m i sound known, held) refl) refl refl refl k (sym (append-nil _));
+        pending = λ k. uncancelled s t (Info i) (rw (up, free, is_held s t m i sound known, held) refl) refl refl refl k (sym (append-nil _));
         priority = λ u. refl;
       };
     },

@@ -14,7 +14,7 @@ use Rattle.qkernel.specs.Private.Steps.{Steps, facts_in}
 use Rattle.qstate.specs.Thread.{message_from, open_in}
 use Rattle.qstate.specs.Kept.{members_of}
 use Rattle.qrules.proofs.Traces.Rosters.{among, only_own, rises}
-use Rattle.qkernel.proofs.Steps.Common.{uncut, counted, stays_free}
+use Rattle.qkernel.proofs.Steps.Common.{uncancelled, counted, stays_free}
 use Rattle.qkernel.proofs.Steps.Held.{is_held}
 
 module _ (s : State) (t : ℕ) (m : Member) (i : ℕ) (sound : IsSound s) (known : member_at (members_of s.threads) t ≡ Some m) (up : s.down ≡ false) (free : open_in s.threads t ≡ None)
@@ -35,7 +35,7 @@ module _ (s : State) (t : ℕ) (m : Member) (i : ℕ) (sound : IsSound s) (known
         connection = λ k. rw known refl;
         live_connections = rw known (omega arith);
         open_call = λ u. stays_free s.threads t u free;
-        pending = λ k. uncut s t (Read i offset buffer) (rw (up, free, is_held s t m i sound known, held) refl) refl refl refl k (sym (append-nil _));
+        pending = λ k. uncancelled s t (Read i offset buffer) (rw (up, free, is_held s t m i sound known, held) refl) refl refl refl k (sym (append-nil _));
         priority = λ u. refl;
       };
     },

@@ -37,7 +37,7 @@ use Rattle.qrules.specs.Records.{is_thread, held_call}
 use Rattle.qstate.specs.Thread.{open_in, message_from, sender_in, SetsOpen, HandsOver, SetsPriority}
 use Rattle.qbase.proofs.Lists.{all_filter, eqb_either, cond_same}
 use Rattle.qrules.proofs.Traces.Rosters.{rises, among, nothing, filter_map_same, only_own}
-use Rattle.qkernel.proofs.Steps.Common.{uncut, counted, step_refused_alone, owned_by_member, all_up_to, stays_free}
+use Rattle.qkernel.proofs.Steps.Common.{uncancelled, counted, step_refused_alone, owned_by_member, all_up_to, stays_free}
 use Rattle.qkernel.proofs.Steps.Delivering.{count_kept, sound_items}
 use Rattle.qrules.proofs.Traces.Calls.Receiving.{receiver}
 
@@ -99,7 +99,7 @@ step_of s t chid Any buffer m o X threads channels none known up free owned best
       connection = λ k. rw known refl;
       live_connections = rw known (omega arith);
       open_call = λ u. rw best (r.open_call u);
-      pending = λ k. uncut s t (Receive chid buffer) (rw (up, free, owned) refl) refl refl refl k (rw best (r.items k));
+      pending = λ k. uncancelled s t (Receive chid buffer) (rw (up, free, owned) refl) refl refl refl k (rw best (r.items k));
       priority = λ u. rw best (r.priority u);
     };
   },
@@ -122,7 +122,7 @@ step_of s t chid PulseOnly buffer m o X threads channels none known up free owne
         connection = λ k. rw known refl;
         live_connections = rw known (omega arith);
         open_call = λ u. rw best (q.open_call u);
-        pending = λ k. uncut s t (ReceivePulse chid) (rw (up, free, owned) refl) refl refl refl k (rw best (q.items k));
+        pending = λ k. uncancelled s t (ReceivePulse chid) (rw (up, free, owned) refl) refl refl refl k (rw best (q.items k));
         priority = λ u. rw best (q.priority u);
       };
     },

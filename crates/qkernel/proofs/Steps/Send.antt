@@ -38,7 +38,7 @@ use Rattle.qbase.proofs.Lists.{is_among, cond_same}
 use Rattle.qrules.proofs.Traces.Rosters.{rises, nothing, filter_map_same, only_own}
 use Rattle.qkernel.proofs.Steps.Delivering.{counted_room, count_kept, items_after, some_sent, some_way, with_item, priority_at}
 use Rattle.qstate.proofs.Receivers.{ended_thread}
-use Rattle.qkernel.proofs.Steps.Common.{uncut, counted, step_refused, step_refused_alone, route-leads_to}
+use Rattle.qkernel.proofs.Steps.Common.{uncancelled, counted, step_refused, step_refused_alone, route-leads_to}
 use Rattle.qqueue.specs.Best.{without_item}
 
 -- ---- refusals
@@ -95,7 +95,7 @@ module _ (s : State) (t coid : ℕ) (message reply_buffer : List ℕ) (m : Membe
             connection = λ k. rw known refl;
             live_connections = rw known (omega arith);
             open_call = λ u. opens.open_call u ∙ rw (over_way, over_sent, none) (elim (eqb u t) as (λ b. cond b (Some (waiting None)) (open_in s.threads u) ≡ cond b (Some (waiting None)) (open_in s.threads u)) [ true ↦ refl | false ↦ refl ]);
-            pending = λ k. uncut s t (Send coid message reply_buffer) (rw (up, free, over_way) refl) refl refl refl k (sets.pending k ∙ rw (over_way, none) (with_item s h item sound refl k ∙ ap (λ o. pending_in s.channels k ++ made_on k o) (sym over_sent)));
+            pending = λ k. uncancelled s t (Send coid message reply_buffer) (rw (up, free, over_way) refl) refl refl refl k (sets.pending k ∙ rw (over_way, none) (with_item s h item sound refl k ∙ ap (λ o. pending_in s.channels k ++ made_on k o) (sym over_sent)));
             priority = λ u. opens.priority u ∙ rw (over_way, none) refl;
           };
         },
@@ -150,7 +150,7 @@ module _ (s : State) (t coid : ℕ) (message reply_buffer : List ℕ) (m : Membe
           connection = λ k. rw known refl;
           live_connections = rw known (omega arith);
           open_call = λ u. sets_t.open_call u ∙ rw (others_is u, over_way, newest_is_r, ended, is_receipt, over_sent) (calls_after threads_1 takes_r u);
-          pending = λ k. uncut s t (Send coid message reply_buffer) (rw (up, free, over_way) refl) refl refl refl k (rw (over_way, newest_is_r, ended, is_receipt) (items_after s h item sound refl k ∙ ap (λ o. cond (eqb h k) (without_item (s.made + 1) (pending_in s.channels k ++ made_on k o)) (pending_in s.channels k ++ made_on k o)) (sym over_sent)));
+          pending = λ k. uncancelled s t (Send coid message reply_buffer) (rw (up, free, over_way) refl) refl refl refl k (rw (over_way, newest_is_r, ended, is_receipt) (items_after s h item sound refl k ∙ ap (λ o. cond (eqb h k) (without_item (s.made + 1) (pending_in s.channels k ++ made_on k o)) (pending_in s.channels k ++ made_on k o)) (sym over_sent)));
           priority = λ u. sets_t.priority u ∙ takes_r.priority u ∙ rw (over_way, newest_is_r, ended, is_receipt, ended_thread item message r (open_in s.threads r) y ended) refl;
         };
       },

@@ -5,7 +5,7 @@ use Rattle.std.proofs.lemmas.List.{append-nil}
 use Rattle.qbase.specs.declared.errno.Errno.TheVariants.{Srch}
 use Rattle.qtables.specs.Members.{member_at}
 use Rattle.qtables.specs.declared.member.Member.{Member}
-use Rattle.qrules.proofs.Words.Step.{uncut_items}
+use Rattle.qrules.proofs.Words.Step.{uncancelled_items}
 use Rattle.qmodel.specs.declared.call.Call.TheVariants.{Shutdown}
 use Rattle.qmodel.specs.declared.call.Completion.{Completion}
 use Rattle.qstate.specs.Kept.{pending_in, members_of}
@@ -35,7 +35,7 @@ step_shut s t m threads channels X known up free are lose is = (
       connection = λ k. rw known refl;
       live_connections = rw known (omega arith);
       open_call = λ u. open_after s t All Srch threads u free are;
-      pending = λ h. lose.pending h ∙ ap (uncut_items (facts_in s) t Shutdown h) (sym (append-nil (pending_in s.channels h)));
+      pending = λ h. lose.pending h ∙ ap (uncancelled_items (facts_in s) t Shutdown h) (sym (append-nil (pending_in s.channels h)));
       priority = are.priority;
     };
   },

@@ -15,7 +15,7 @@ use Rattle.qkernel.specs.Private.Steps.{Steps, facts_in}
 use Rattle.qstate.specs.Thread.{open_in}
 use Rattle.qstate.specs.Kept.{thread_priority, members_of}
 use Rattle.qrules.proofs.Traces.Rosters.{among, only_own, rises}
-use Rattle.qkernel.proofs.Steps.Common.{uncut, counted, stays_free, step_refused_alone}
+use Rattle.qkernel.proofs.Steps.Common.{uncancelled, counted, stays_free, step_refused_alone}
 use Rattle.std.specs.Option.{option_map_or}
 use Rattle.qbase.specs.declared.state.ThreadState.TheVariants.{Ready}
 
@@ -44,7 +44,7 @@ module _ (s : State) (t target : ℕ) (m : Member) (known : member_at (members_o
         connection = λ k. rw known refl;
         live_connections = rw known (omega arith);
         open_call = λ u. stays_free s.threads t u free;
-        pending = λ k. uncut s t (Ask target) (rw (up, free, there) refl) refl refl refl k (sym (append-nil _));
+        pending = λ k. uncancelled s t (Ask target) (rw (up, free, there) refl) refl refl refl k (sym (append-nil _));
         priority = λ u. refl;
       };
     },

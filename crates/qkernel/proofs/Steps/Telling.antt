@@ -34,7 +34,7 @@ use Rattle.qrules.proofs.Traces.Rosters.{among, filter_map_same, only_own, rises
 use Rattle.qrules.proofs.Words.Items.{ends_receiver}
 use Rattle.qrules.proofs.Words.Items.{pulse_receipt}
 use Rattle.qrules.proofs.Traces.Past.Laws.{IsSettled}
-use Rattle.qkernel.proofs.Steps.Common.{Counted, counted_alone, sound_counted, sound_counted_alone, step_refused, uncut_by}
+use Rattle.qkernel.proofs.Steps.Common.{Counted, counted_alone, sound_counted, sound_counted_alone, step_refused, uncancelled_by}
 use Rattle.qkernel.proofs.Steps.Cancelling.{mine}
 use Rattle.qkernel.proofs.Steps.Delivering.{count_kept, counted_room, sound_threads, sound_with_item}
 use Rattle.qkernel.proofs.Steps.Told.{IsNew, IsTold, not_caller, told_settled}
@@ -119,7 +119,7 @@ module _ (s : State) (t : ℕ) (c : Call) (m : Member) (o : Option SentItem) (so
             connection = λ k. rw (q.attaches_none, q.detaches_none) refl;
             live_connections = rw (q.attaches_none, q.detaches_none) (omega arith);
             open_call = λ u. marked.open_call u ∙ open_after u ∙ rw (tells.own, tells.ends u, tells.receipt, tells.made, q.writes_none, is.senderless u (open_in s.threads u)) refl;
-            pending = λ k. uncut_by s t c settled q.closes_none q.sets_none k (is.pending k ∙ rw (tells.receipt, tells.made) refl);
+            pending = λ k. uncancelled_by s t c settled q.closes_none q.sets_none k (is.pending k ∙ rw (tells.receipt, tells.made) refl);
             priority = λ u. marked.priority u ∙ is.priority u ∙ rw (q.sets_none, tells.receipt) refl;
           };
         },

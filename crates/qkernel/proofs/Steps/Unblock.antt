@@ -26,7 +26,7 @@ use Rattle.qrules.proofs.Words.Items.{pulse_receipt}
 use Rattle.qrules.specs.Delivery.{refusal_if_full}
 use Rattle.qrules.proofs.Words.Items.{unblock_item}
 use Rattle.qmodel.specs.Trace.{SentItem}
-use Rattle.qrules.proofs.Words.Step.{uncut_items, unreceived_items}
+use Rattle.qrules.proofs.Words.Step.{uncancelled_items, unreceived_items}
 use Rattle.qrules.specs.Records.{unblocked_call, is_unread_send}
 use Rattle.qrules.proofs.Words.Past.{made_on}
 use Rattle.qmodel.specs.declared.call.Call.TheVariants.{Unblock}
@@ -46,7 +46,7 @@ use Rattle.qstate.specs.Thread.{newest_in, open_in, ChangesOpen}
 use Rattle.qkernel.specs.Kernel.{State, IsSound}
 use Rattle.qkernel.specs.Private.Steps.{Steps, facts_in}
 use Rattle.qrules.proofs.Traces.Rosters.{among, filter_map_same, only_own, rises}
-use Rattle.qkernel.proofs.Steps.Common.{counted, stays_free, step_refused_alone, uncut_by}
+use Rattle.qkernel.proofs.Steps.Common.{counted, stays_free, step_refused_alone, uncancelled_by}
 use Rattle.qkernel.proofs.Steps.Cancelling.{endings_cancelled, mine, open_after}
 use Rattle.qkernel.proofs.Steps.Delivering.{count_kept}
 use Rattle.qkernel.proofs.Steps.Telling.{AreMarked, Tells}
@@ -160,9 +160,9 @@ module _ (s : State) (t thread : ℕ) (m : Member) (sound : IsSound s) (known : 
             open_call = λ u. open_after s t (Of thread) Intr threads u free are ∙ rw (ends_one u, k.none_due, and-false (eqb u thread)) refl;
             pending = λ h. lose.pending h
                 ∙ ap (λ (g : ℕ → Option Completion). filter (λ item. not (list_any (λ v. is_unread_send h item.number (open_in s.threads v) && is_some (g v)) (threads_of (members_of s.threads)))) (pending_in s.channels h)) (sym ends_same)
-                ∙ ap (uncut_items (facts_in s) t (Unblock thread) h) (sym (append-nil (pending_in s.channels h)))
-                ∙ ap (λ o. unreceived_items (pulse_receipt (facts_in s) o) h (uncut_items (facts_in s) t (Unblock thread) h (pending_in s.channels h ++ []))) (sym k.none_due)
-                ∙ ap (λ o. unreceived_items (pulse_receipt (facts_in s) (unblock_pulse (facts_in s) thread)) h (uncut_items (facts_in s) t (Unblock thread) h (pending_in s.channels h ++ made_on h o))) (sym made_none);
+                ∙ ap (uncancelled_items (facts_in s) t (Unblock thread) h) (sym (append-nil (pending_in s.channels h)))
+                ∙ ap (λ o. unreceived_items (pulse_receipt (facts_in s) o) h (uncancelled_items (facts_in s) t (Unblock thread) h (pending_in s.channels h ++ []))) (sym k.none_due)
+                ∙ ap (λ o. unreceived_items (pulse_receipt (facts_in s) (unblock_pulse (facts_in s) thread)) h (uncancelled_items (facts_in s) t (Unblock thread) h (pending_in s.channels h ++ made_on h o))) (sym made_none);
             priority = λ u. are.priority u ∙ rw (k.none_due) refl;
           };
         },
@@ -178,15 +178,15 @@ module _ (s : State) (t thread : ℕ) (m : Member) (sound : IsSound s) (known : 
         none_due : unblock_pulse (facts_in s) thread ≡ None
         none_due = q.due_is ∙ rw told refl
 
-        uncut_where : (u : ℕ) (o : Option OpenCall) → open_in s.threads u ≡ o → cancel_where (λ o. eqb u thread && not (guards (facts_in s) o)) Intr u o ≡ None
-        uncut_where u None is = refl
-        uncut_where u (Some w) is = elim (eqb u thread) as (λ b. eqb u thread ≡ b → cond (b && not (guards (facts_in s) w)) (Some (cancel_call Intr u w)) None ≡ None) [
+        uncancelled_where : (u : ℕ) (o : Option OpenCall) → open_in s.threads u ≡ o → cancel_where (λ o. eqb u thread && not (guards (facts_in s) o)) Intr u o ≡ None
+        uncancelled_where u None is = refl
+        uncancelled_where u (Some w) is = elim (eqb u thread) as (λ b. eqb u thread ≡ b → cond (b && not (guards (facts_in s) w)) (Some (cancel_call Intr u w)) None ≡ None) [
           | true ↦ λ same. rw (q.guarded w (ap (open_in s.threads) (sym (eqb-true u thread same)) ∙ is)) refl
           | false ↦ λ other. refl
         ] refl
 
         ends_none : (u : ℕ) → (row_of (facts_in s) t (Unblock thread)).others u ≡ None
-        ends_none u = unblocked_same (facts_in s) t thread u ∙ ap (λ d. ends_unblocked (facts_in s) thread d u) none_due ∙ uncut_where u (open_in s.threads u) refl
+        ends_none u = unblocked_same (facts_in s) t thread u ∙ ap (λ d. ends_unblocked (facts_in s) thread d u) none_due ∙ uncancelled_where u (open_in s.threads u) refl
 
         pub step_unblock_again : (X : List Completion) → X ≡ mine s t ∷ [] → Steps s t (Unblock thread) X (counted s)
         step_unblock_again X is = (
@@ -206,7 +206,7 @@ module _ (s : State) (t thread : ℕ) (m : Member) (sound : IsSound s) (known : 
               connection = λ h. rw known refl;
               live_connections = rw known (omega arith);
               open_call = λ u. stays_free s.threads t u free ∙ rw (ends_none u, none_due, and-false (eqb u thread)) refl;
-              pending = λ h. uncut_by s t (Unblock thread) (λ u y e. absurd (none-some y (sym (ends_none u) ∙ e))) refl refl h (rw none_due (sym (append-nil _)));
+              pending = λ h. uncancelled_by s t (Unblock thread) (λ u y e. absurd (none-some y (sym (ends_none u) ∙ e))) refl refl h (rw none_due (sym (append-nil _)));
               priority = λ u. rw none_due refl;
             };
           },

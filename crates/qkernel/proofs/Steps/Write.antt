@@ -20,7 +20,7 @@ use Rattle.qstate.specs.Thread.{open_in, sender_in, sent_call, ChangesSender}
 use Rattle.qstate.specs.Kept.{members_of}
 use Rattle.qbase.proofs.Lists.{cond_same}
 use Rattle.qrules.proofs.Traces.Rosters.{among, only_own, rises}
-use Rattle.qkernel.proofs.Steps.Common.{uncut}
+use Rattle.qkernel.proofs.Steps.Common.{uncancelled}
 use Rattle.qkernel.proofs.Steps.Held.{is_held}
 
 module _ (s : State) (t : ℕ) (m : Member) (i : ℕ) (sound : IsSound s) (known : member_at (members_of s.threads) t ≡ Some m) (up : s.down ≡ false) (free : open_in s.threads t ≡ None)
@@ -50,7 +50,7 @@ module _ (s : State) (t : ℕ) (m : Member) (i : ℕ) (sound : IsSound s) (known
         connection = λ k. rw known refl;
         live_connections = rw known (omega arith);
         open_call = λ u. changes.open_call u ∙ calls_after offset bytes u;
-        pending = λ k. uncut s t (Write i offset bytes) (rw (up, free, is_held s t m i sound known, held) refl) refl refl refl k (sym (append-nil _));
+        pending = λ k. uncancelled s t (Write i offset bytes) (rw (up, free, is_held s t m i sound known, held) refl) refl refl refl k (sym (append-nil _));
         priority = changes.priority;
       };
     },

@@ -91,8 +91,8 @@ is_cancelled f t c h i = list_any (λ s. is_unread_send h i (f.open_call s)
     && is_some ((row_of f t c).others s)) (threads_of f.roster)
 
 -- the items of channel h without the messages whose Sends the call ends
-abbrev pub uncut_items : Facts → ThreadNo → Call → ChannelId → List Item → List Item
-uncut_items f t c h items = filter (λ item. not (is_cancelled f t c h item.number)) items
+abbrev pub uncancelled_items : Facts → ThreadNo → Call → ChannelId → List Item → List Item
+uncancelled_items f t c h items = filter (λ item. not (is_cancelled f t c h item.number)) items
 
 -- the items of channel h, with the new priority for the pending message of the thread that it is set for
 abbrev pub items_with_priority_set : Facts → ChannelId → Option PriorityChange → List Item → List Item
@@ -109,7 +109,7 @@ pending_after f t c h =
     if names (closes c) h then []
     else items_with_priority_set f h (sets c)
     (unreceived_items (receipt_of f t c) h
-    (uncut_items f t c h (f.pending h ++ made_on h (makes f t c))))
+    (uncancelled_items f t c h (f.pending h ++ made_on h (makes f t c))))
 
 -- the priority that thread u takes by a receipt: the item's, unless the channel leaves priorities as they are
 abbrev pub priority_taken : Facts → Option Received → ThreadNo → Option Priority

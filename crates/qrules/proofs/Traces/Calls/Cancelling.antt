@@ -19,16 +19,16 @@ use Rattle.qrules.proofs.Traces.Past.Laws.{RowLaws, is_forceful}
 use Rattle.qrules.specs.Rule.{Transfer}
 
 -- the completion is of an open call that is cancelled
-pub record IsCutCall (is_cancelled : OpenCall → Bool) (e : Errno) (u : ℕ) (o : Option OpenCall) (y : Completion) : Type 0 where
+pub record IsCancelledCall (is_cancelled : OpenCall → Bool) (e : Errno) (u : ℕ) (o : Option OpenCall) (y : Completion) : Type 0 where
   pub waiting : OpenCall
   pub is : o ≡ Some waiting
   pub cancel : is_cancelled waiting ≡ true
   pub completion : cancel_call e u waiting ≡ y
 
-pub cancel_parts : (is_cancelled : OpenCall → Bool) (e : Errno) (u : ℕ) (o : Option OpenCall) (y : Completion) → cancel_where is_cancelled e u o ≡ Some y → IsCutCall is_cancelled e u o y
+pub cancel_parts : (is_cancelled : OpenCall → Bool) (e : Errno) (u : ℕ) (o : Option OpenCall) (y : Completion) → cancel_where is_cancelled e u o ≡ Some y → IsCancelledCall is_cancelled e u o y
 cancel_parts is_cancelled e u None y h = absurd (none-some y h)
 cancel_parts is_cancelled e u (Some o) y h =
-    elim (is_cancelled o) as (λ b. is_cancelled o ≡ b → cond b (Some (cancel_call e u o)) None ≡ Some y → IsCutCall is_cancelled e u (Some o) y) [
+    elim (is_cancelled o) as (λ b. is_cancelled o ≡ b → cond b (Some (cancel_call e u o)) None ≡ Some y → IsCancelledCall is_cancelled e u (Some o) y) [
       | true ↦ λ cancel s. record { waiting = o; is = refl; cancel = cancel; completion = same_Some _ y s }
       | false ↦ λ cancel s. absurd (none-some y s)
     ] refl h

@@ -27,7 +27,7 @@ use Rattle.qrules.specs.Records.{disconnect_item}
 use Rattle.qmodel.specs.declared.call.Call.TheVariants.{ConnectDetach}
 use Rattle.qmodel.specs.declared.call.Completion.{Completion}
 use Rattle.qrules.proofs.Traces.Past.Laws.{CallLaws, IsOfOpen, IsOwn, IsReceipt, IsReceived, Passes, RowLaws}
-use Rattle.qrules.proofs.Traces.Calls.Cancelling.{IsCutCall, cancel_parts}
+use Rattle.qrules.proofs.Traces.Calls.Cancelling.{IsCancelledCall, cancel_parts}
 use Rattle.qrules.proofs.Traces.Calls.Delivering.{met_item, met_open, met_receipt, met_received}
 use Rattle.qrules.specs.Past.{ReceivedItem}
 
@@ -79,9 +79,9 @@ abbrev other_completion : Facts → ℕ → Option SentItem → ℕ → Option C
 other_completion f k m u = option_or (cancels f (λ v. is_over k) Badf u) (deliver f m [] u)
 
 -- another's call that it ends is cancelled, or meets the pulse
-pub detach_ends : (f : Facts) (k : ℕ) (o : Option SentItem) (u : ℕ) (y : Completion) → other_completion f k o u ≡ Some y → IsCutCall (is_over k) Badf u (f.open_call u) y ⊎ (ends_receiver f o u ≡ Some y)
+pub detach_ends : (f : Facts) (k : ℕ) (o : Option SentItem) (u : ℕ) (y : Completion) → other_completion f k o u ≡ Some y → IsCancelledCall (is_over k) Badf u (f.open_call u) y ⊎ (ends_receiver f o u ≡ Some y)
 detach_ends f k o u y e =
-    elim (cancel_where (is_over k) Badf u (f.open_call u)) as (λ x. cancel_where (is_over k) Badf u (f.open_call u) ≡ x → option_or x (deliver f o [] u) ≡ Some y → IsCutCall (is_over k) Badf u (f.open_call u) y ⊎ (ends_receiver f o u ≡ Some y)) [
+    elim (cancel_where (is_over k) Badf u (f.open_call u)) as (λ x. cancel_where (is_over k) Badf u (f.open_call u) ≡ x → option_or x (deliver f o [] u) ≡ Some y → IsCancelledCall (is_over k) Badf u (f.open_call u) y ⊎ (ends_receiver f o u ≡ Some y)) [
       | None ↦ λ none s. inr (sym (pulse_same f o u) ∙ s)
       | Some x ↦ λ some s. inl (cancel_parts (is_over k) Badf u (f.open_call u) y (some ∙ s))
     ] refl e
@@ -102,10 +102,10 @@ call_laws coid = record {
 }
 
 module _ (f : Facts) (t coid : ℕ) (p : Passes f t (ConnectDetach coid)) where
-  ended : (u : ℕ) (y : Completion) → other_completion f coid (disconnect_pulse f t coid) u ≡ Some y → IsCutCall (is_over coid) Badf u (f.open_call u) y ⊎ (ends_receiver f (disconnect_pulse f t coid) u ≡ Some y)
+  ended : (u : ℕ) (y : Completion) → other_completion f coid (disconnect_pulse f t coid) u ≡ Some y → IsCancelledCall (is_over coid) Badf u (f.open_call u) y ⊎ (ends_receiver f (disconnect_pulse f t coid) u ≡ Some y)
   ended u y e = detach_ends f coid (disconnect_pulse f t coid) u y e
 
-  cancel_open : (u : ℕ) (y : Completion) → IsCutCall (is_over coid) Badf u (f.open_call u) y → IsOfOpen f u y
+  cancel_open : (u : ℕ) (y : Completion) → IsCancelledCall (is_over coid) Badf u (f.open_call u) y → IsOfOpen f u y
   cancel_open u y k = record { waiting = k.waiting; is = k.is; call = sym (ap (λ x. x.call) k.completion); thread = sym (ap (λ x. x.thread) k.completion) }
 
   told_open : (o : Option SentItem) (u : ℕ) (y : Completion) → ends_receiver f o u ≡ Some y → IsOfOpen f u y
@@ -120,8 +120,8 @@ module _ (f : Facts) (t coid : ℕ) (p : Passes f t (ConnectDetach coid)) where
   met_ends : (m : SentItem) → disconnect_pulse f t coid ≡ Some m → (u : ℕ) (y : Completion) → ends_receiver f (Some m) u ≡ Some y → other_completion f coid (disconnect_pulse f t coid) u ≡ Some y
   met_ends m is u y e =
       let k = met_item f m.item [] (Some m.channel) u y e in
-      let uncut : cancel_where (is_over coid) Badf u (f.open_call u) ≡ None = rw k.is refl in
-      ap (λ x. option_or x (deliver f (disconnect_pulse f t coid) [] u)) uncut ∙ pulse_same f (disconnect_pulse f t coid) u ∙ ap (λ o. ends_receiver f o u) is ∙ e
+      let uncancelled : cancel_where (is_over coid) Badf u (f.open_call u) ≡ None = rw k.is refl in
+      ap (λ x. option_or x (deliver f (disconnect_pulse f t coid) [] u)) uncancelled ∙ pulse_same f (disconnect_pulse f t coid) u ∙ ap (λ o. ends_receiver f o u) is ∙ e
 
   receives : (o : Option SentItem) → disconnect_pulse f t coid ≡ o → (q : Received) → pulse_receipt f o ≡ Some q → IsReceived f t (ConnectDetach coid) q
   receives None is q e = absurd (none-some q e)

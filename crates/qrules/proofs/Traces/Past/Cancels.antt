@@ -14,7 +14,7 @@ use Rattle.qrules.proofs.Words.Facts.{Facts, threads_of, number_of, is_for_answe
 use Rattle.qrules.specs.Records.{is_for_receipt}
 use Rattle.qrules.proofs.Words.Lawful.{facts_of, IsLawful, with_event}
 use Rattle.qrules.proofs.Words.Past.{has_completion_of, is_ended, is_received, open_call, priority_of_item, copied_count_of, sender_of, filled, with_receipt}
-use Rattle.qrules.proofs.Words.Step.{is_cancelled, uncut_items}
+use Rattle.qrules.proofs.Words.Step.{is_cancelled, uncancelled_items}
 use Rattle.qrules.specs.Records.{is_unread_send}
 use Rattle.qmodel.specs.Trace.{Trace}
 use Rattle.qmodel.specs.declared.call.Call.{Call}
@@ -72,7 +72,7 @@ none_is_cancelled f t c settled h i = any_never _ (threads_of f.roster) (λ s.
       | Some y ↦ λ e. rw (not_unread h i (f.open_call s) (settled s y e)) refl
     ] refl)
 
-pub none_cancelled : (f : Facts) (t : ℕ) (c : Call) → EndsSettled f t c → (h : ℕ) (items : List Item) → uncut_items f t c h items ≡ items
+pub none_cancelled : (f : Facts) (t : ℕ) (c : Call) → EndsSettled f t c → (h : ℕ) (items : List Item) → uncancelled_items f t c h items ≡ items
 none_cancelled f t c settled h items =
     filter_whole (λ item. not (is_cancelled f t c h item.number)) items (λ item. ap not (none_is_cancelled f t c settled h item.number))
 

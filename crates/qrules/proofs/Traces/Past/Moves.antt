@@ -13,7 +13,7 @@ use Rattle.qrules.proofs.Words.Effects.{makes, sets}
 use Rattle.qrules.proofs.Words.Lawful.{IsLawful, facts_of, with_event}
 use Rattle.qrules.proofs.Words.Past.{is_gone, is_received, made_on, priority_set_by, current_priority}
 use Rattle.qrules.proofs.Words.Items.{Received}
-use Rattle.qrules.proofs.Words.Step.{is_cancelled, uncut_items, items_with_priority_set, unreceived_items}
+use Rattle.qrules.proofs.Words.Step.{is_cancelled, uncancelled_items, items_with_priority_set, unreceived_items}
 use Rattle.qrules.specs.Records.{is_unread_send}
 use Rattle.qmodel.specs.Trace.{Event, Trace}
 use Rattle.qmodel.specs.declared.call.Call.{Call}
@@ -37,7 +37,7 @@ filter_map_same p g (x ∷ items) same =
       | false ↦ filter_map_same p g items same
     ])
 
-pub left_map : (f : Facts) (t : ℕ) (c : Call) (h : ℕ) (g : Item → Item) (items : List Item) → ((x : Item) → (g x).number ≡ x.number) → uncut_items f t c h (map g items) ≡ map g (uncut_items f t c h items)
+pub left_map : (f : Facts) (t : ℕ) (c : Call) (h : ℕ) (g : Item → Item) (items : List Item) → ((x : Item) → (g x).number ≡ x.number) → uncancelled_items f t c h (map g items) ≡ map g (uncancelled_items f t c h items)
 left_map f t c h g items same = filter_map_same (λ item. not (is_cancelled f t c h item.number)) g items (λ x. ap (λ i. not (is_cancelled f t c h i)) (same x))
 
 pub out_map : (r : Option Received) (h : ℕ) (g : Item → Item) (items : List Item) → ((x : Item) → (g x).number ≡ x.number) → unreceived_items r h (map g items) ≡ map g (unreceived_items r h items)
@@ -60,7 +60,7 @@ mover_number f h s item = elim (is_unread_send h item.number (f.open_call s.thre
 pub mover_what : (f : Facts) (h : ℕ) (s : PriorityChange) (item : Item) → (mover f h s item).what ≡ item.what
 mover_what f h s item = elim (is_unread_send h item.number (f.open_call s.thread)) as (λ b. (cond b (with_priority s.priority item) item).what ≡ item.what) [ true ↦ refl | false ↦ refl ]
 
-pub moved_left : (f : Facts) (t : ℕ) (c : Call) (h : ℕ) (s : Option PriorityChange) (items : List Item) → uncut_items f t c h (items_with_priority_set f h s items) ≡ items_with_priority_set f h s (uncut_items f t c h items)
+pub moved_left : (f : Facts) (t : ℕ) (c : Call) (h : ℕ) (s : Option PriorityChange) (items : List Item) → uncancelled_items f t c h (items_with_priority_set f h s items) ≡ items_with_priority_set f h s (uncancelled_items f t c h items)
 moved_left f t c h None items = refl
 moved_left f t c h (Some s) items = left_map f t c h (mover f h s) items (mover_number f h s)
 

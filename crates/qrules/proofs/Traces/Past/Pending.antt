@@ -19,7 +19,7 @@ use Rattle.qrules.proofs.Words.Past.{channel_at, has_completion_of, is_destroyed
 use Rattle.qrules.proofs.Words.Effects.{closes, makes, sets}
 use Rattle.qrules.proofs.Words.Items.{Received, names}
 use Rattle.qmodel.specs.Trace.{SentItem, Event, Trace}
-use Rattle.qrules.proofs.Words.Step.{is_cancelled, uncut_items, items_with_priority_set, unreceived_items, pending_after}
+use Rattle.qrules.proofs.Words.Step.{is_cancelled, uncancelled_items, items_with_priority_set, unreceived_items, pending_after}
 use Rattle.qrules.specs.Records.{is_unread_send}
 use Rattle.qmodel.specs.declared.call.Call.{Call}
 use Rattle.qmodel.specs.declared.call.Completion.{Completion}
@@ -124,7 +124,7 @@ stays_gone past t c X item e =
 
 -- of what stood on the channel, what was pending, isn't cancelled and isn't received
 pending_old : (roster : List Member) (past : Trace) (t : ℕ) (c : Call) (X : List Completion) (h : ℕ) → IsLawful roster past → is_some (member_at roster t) ≡ true → Outcome true (facts_of roster past) t c X
-    → filter (λ item. not (is_gone (with_event t c X past) item)) (items_on roster past h) ≡ filter (leaves (receipt_of (facts_of roster past) t c)) (uncut_items (facts_of roster past) t c h (staying roster past h))
+    → filter (λ item. not (is_gone (with_event t c X past) item)) (items_on roster past h) ≡ filter (leaves (receipt_of (facts_of roster past) t c)) (uncancelled_items (facts_of roster past) t c h (staying roster past h))
 pending_old roster past t c X h l member a =
     let f = facts_of roster past in
     let R = row_of (facts_of roster past) t c in
@@ -222,8 +222,8 @@ none_out None h = refl
 none_out (Some r) h = cond_same (eqb r.channel h) []
 
 -- the item that a call makes isn't a message whose Send it ends: that has an earlier number
-made_uncut : (roster : List Member) (past : Trace) (t : ℕ) (c : Call) (h : ℕ) → uncut_items (facts_of roster past) t c h (made_on h (makes (facts_of roster past) t c)) ≡ made_on h (makes (facts_of roster past) t c)
-made_uncut roster past t c h =
+made_uncancelled : (roster : List Member) (past : Trace) (t : ℕ) (c : Call) (h : ℕ) → uncancelled_items (facts_of roster past) t c h (made_on h (makes (facts_of roster past) t c)) ≡ made_on h (makes (facts_of roster past) t c)
+made_uncancelled roster past t c h =
     let f = facts_of roster past in
     filter_all (λ item. not (is_cancelled f t c h item.number)) (made_on h (makes f t c)) (made_all (λ item. not (is_cancelled f t c h item.number) ≡ true) h (makes f t c) (λ m is on.
     let number : m.item.number ≡ length past + 1 = ((call_laws c).makes_one f t m is).number in
@@ -237,21 +237,21 @@ made_uncut roster past t c h =
     ] refl))))
 
 left_made : (roster : List Member) (past : Trace) (t : ℕ) (c : Call) (h : ℕ) (items : List Item)
-    → uncut_items (facts_of roster past) t c h (items ++ made_on h (makes (facts_of roster past) t c)) ≡ uncut_items (facts_of roster past) t c h items ++ made_on h (makes (facts_of roster past) t c)
+    → uncancelled_items (facts_of roster past) t c h (items ++ made_on h (makes (facts_of roster past) t c)) ≡ uncancelled_items (facts_of roster past) t c h items ++ made_on h (makes (facts_of roster past) t c)
 left_made roster past t c h items =
     let f = facts_of roster past in
-    filter-append (λ item. not (is_cancelled f t c h item.number)) items (made_on h (makes f t c)) ∙ ap (λ l. uncut_items f t c h items ++ l) (made_uncut roster past t c h)
+    filter-append (λ item. not (is_cancelled f t c h item.number)) items (made_on h (makes f t c)) ∙ ap (λ l. uncancelled_items f t c h items ++ l) (made_uncancelled roster past t c h)
 
 -- what stays of a channel that isn't destroyed
 staying_accepted : (roster : List Member) (past : Trace) (t : ℕ) (c : Call) (X : List Completion) (h : ℕ) → IsLawful roster past → is_some (member_at roster t) ≡ true → Outcome true (facts_of roster past) t c X
     → staying roster (with_event t c X past) h
-    ≡ unreceived_items (receipt_of (facts_of roster past) t c) h (uncut_items (facts_of roster past) t c h (staying roster past h ++ made_on h (makes (facts_of roster past) t c)))
+    ≡ unreceived_items (receipt_of (facts_of roster past) t c) h (uncancelled_items (facts_of roster past) t c h (staying roster past h ++ made_on h (makes (facts_of roster past) t c)))
 staying_accepted roster past t c X h l member a =
     let f = facts_of roster past in
     let e : Event = record { thread = t; call = c; endings = X } in
     let R = row_of (facts_of roster past) t c in
     let M = made_on h (makes f t c) in
-    let L = uncut_items (facts_of roster past) t c h (staying roster past h) in
+    let L = uncancelled_items (facts_of roster past) t c h (staying roster past h) in
     let made : item_of roster e past ≡ makes f t c = rw (accepted roster past t c X a) refl in
     let stays = λ (item : Item). not (is_gone (e ∷ past) item) in
     ap (filter stays) (items_more roster e past h ∙ ap (λ o. items_on roster past h ++ made_on h o) made)
@@ -267,7 +267,7 @@ staying_accepted roster past t c X h l member a =
 -- what stays, each item as it is after the event
 now_accepted : (roster : List Member) (past : Trace) (t : ℕ) (c : Call) (X : List Completion) (h : ℕ) → IsLawful roster past → is_some (member_at roster t) ≡ true → Outcome true (facts_of roster past) t c X
     → map (now (with_event t c X past)) (staying roster (with_event t c X past) h)
-    ≡ items_with_priority_set (facts_of roster past) h (sets c) (unreceived_items (receipt_of (facts_of roster past) t c) h (uncut_items (facts_of roster past) t c h (map (now past) (staying roster past h) ++ made_on h (makes (facts_of roster past) t c))))
+    ≡ items_with_priority_set (facts_of roster past) h (sets c) (unreceived_items (receipt_of (facts_of roster past) t c) h (uncancelled_items (facts_of roster past) t c h (map (now past) (staying roster past h) ++ made_on h (makes (facts_of roster past) t c))))
 now_accepted roster past t c X h l member a =
     let f = facts_of roster past in
     let e : Event = record { thread = t; call = c; endings = X } in
@@ -279,15 +279,15 @@ now_accepted roster past t c X h l member a =
     let fresh : map after M ≡ M = unchanged after M (made_all (λ item. after item ≡ item) h (makes f t c) (λ m is on.
     ap (λ q. with_priority q m.item) (worth_newest e past m.item ((call_laws c).makes_one f t m is).number))) in
     ap (map after) (staying_accepted roster past t c X h l member a)
-    ∙ sym (out_map r h after (uncut_items f t c h (S ++ M)) (λ x. refl))
+    ∙ sym (out_map r h after (uncancelled_items f t c h (S ++ M)) (λ x. refl))
     ∙ ap (unreceived_items r h) (sym (left_map f t c h after (S ++ M) (λ x. refl)))
-    ∙ ap (λ l. unreceived_items r h (uncut_items f t c h l)) (
+    ∙ ap (λ l. unreceived_items r h (uncancelled_items f t c h l)) (
     map-append after S M
     ∙ ap (λ l. l ++ map after M) (moved_now roster past t c X h S l a (staying_all roster past h))
     ∙ ap (λ l. items_with_priority_set f h (sets c) (map (now past) S) ++ l) (fresh ∙ sym (moved_made f t c h))
     ∙ sym (moved_append f h (sets c) (map (now past) S) M))
     ∙ ap (unreceived_items r h) (moved_left f t c h (sets c) (map (now past) S ++ M))
-    ∙ moved_out f r h (sets c) (uncut_items f t c h (map (now past) S ++ M))
+    ∙ moved_out f r h (sets c) (uncancelled_items f t c h (map (now past) S ++ M))
   where
     unchanged : (g : Item → Item) (items : List Item) → AllByRecursion (λ x. g x ≡ x) items → map g items ≡ items
     unchanged g [] same = refl
@@ -301,7 +301,7 @@ pending_accepted roster past t c X h l member a =
     let R = row_of (facts_of roster past) t c in
     let M = made_on h (makes f t c) in
     let S = map (now past) (staying roster past h) in
-    let after = λ (items : List Item). items_with_priority_set f h (sets c) (unreceived_items (receipt_of (facts_of roster past) t c) h (uncut_items f t c h (items ++ M))) in
+    let after = λ (items : List Item). items_with_priority_set f h (sets c) (unreceived_items (receipt_of (facts_of roster past) t c) h (uncancelled_items f t c h (items ++ M))) in
     pending_is roster (e ∷ past) h
     ∙ ap (λ b. cond b [] (map (now (e ∷ past)) (staying roster (e ∷ past) h))) (closed_accepted roster e past h (accepted roster past t c X a)) ∙ (
     elim (names (closes c) h) as (λ d. cond (d || is_destroyed past h) [] (map (now (e ∷ past)) (staying roster (e ∷ past) h)) ≡ cond d [] (after (cond (is_destroyed past h) [] S))) [
@@ -309,7 +309,7 @@ pending_accepted roster past t c X h l member a =
       | false ↦
           elim (is_destroyed past h) as (λ b. is_destroyed past h ≡ b → cond b [] (map (now (e ∷ past)) (staying roster (e ∷ past) h)) ≡ after (cond b [] S)) [
             | true ↦ λ closed. sym (
-                ap (λ l. items_with_priority_set f h (sets c) (unreceived_items (receipt_of (facts_of roster past) t c) h (uncut_items f t c h l))) (closed_makes roster past t c X h a closed)
+                ap (λ l. items_with_priority_set f h (sets c) (unreceived_items (receipt_of (facts_of roster past) t c) h (uncancelled_items f t c h l))) (closed_makes roster past t c X h a closed)
                 ∙ ap (items_with_priority_set f h (sets c)) (none_out (receipt_of (facts_of roster past) t c) h) ∙ moved_nothing f h (sets c))
             | false ↦ λ standing. now_accepted roster past t c X h l member a
           ] refl

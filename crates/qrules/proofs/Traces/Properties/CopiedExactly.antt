@@ -59,7 +59,7 @@ use Rattle.qrules.proofs.Traces.Properties.Messages.{buffer_by, message_sent, op
 use Rattle.qrules.proofs.Traces.Properties.Receipts.{completion_of}
 use Rattle.qrules.proofs.Traces.Laying.{lay_nothing, count_nothing}
 use Rattle.qrules.proofs.Traces.Properties.Rows.Receiving.{ReceiveTakes, receive_takes}
-use Rattle.qrules.proofs.Traces.Calls.Cancelling.{IsCutCall, cancel_parts}
+use Rattle.qrules.proofs.Traces.Calls.Cancelling.{IsCancelledCall, cancel_parts}
 use Rattle.qrules.proofs.Traces.Calls.Held.{IsHeldFor, SenderEnds, answering, has_sender, held_for, sender_ends}
 use Rattle.qrules.proofs.Traces.Properties.Rows.Delivering.{Delivers, delivery_meets}
 use Rattle.qrules.proofs.Traces.Properties.Rows.Telling.{Tells, told_meets, unblock_ends}
@@ -203,7 +203,7 @@ met_copied roster past t c X u y o item sent none message s =
     taking_copied past (event t c X) s.receive.number u item s.receive.buffer sent y (buffer_open roster (event t c X) past u (InReceive s.receive) none s.is_open) message s.completion
 
 -- what is cancelled gives its buffer back as it is by now
-cancel_copied : (roster : List Member) (past : Trace) (t : ℕ) (c : Call) (X : List Completion) (u : ℕ) (y : Completion) (is_cancelled : OpenCall → Bool) (errno : Errno) → writes c ≡ None → IsCutCall is_cancelled errno u (open_call roster past u) y
+cancel_copied : (roster : List Member) (past : Trace) (t : ℕ) (c : Call) (X : List Completion) (u : ℕ) (y : Completion) (is_cancelled : OpenCall → Bool) (errno : Errno) → writes c ≡ None → IsCancelledCall is_cancelled errno u (open_call roster past u) y
     → IsCopied past (event t c X) y y.mark
 cancel_copied roster past t c X u y is_cancelled errno none k =
     plain_copied past (event t c X) y (cancel_call errno u k.waiting) k.completion (sym (buffer_open roster (event t c X) past u k.waiting none k.is))

@@ -30,7 +30,7 @@ use Rattle.qrules.proofs.Words.Items.{Received, names, item_sent_over}
 use Rattle.qrules.specs.Records.{takes}
 use Rattle.qrules.specs.Delivery.{receipt_completion}
 use Rattle.qmodel.specs.Trace.{SentItem, Trace}
-use Rattle.qrules.proofs.Words.Step.{after_receipt, after_write, is_cancelled, uncut_items, items_with_priority_set, open_call_after, pending_after, unreceived_items, unless, after_unblock}
+use Rattle.qrules.proofs.Words.Step.{after_receipt, after_write, is_cancelled, uncancelled_items, items_with_priority_set, open_call_after, pending_after, unreceived_items, unless, after_unblock}
 use Rattle.qrules.specs.Records.{unblocked_call}
 use Rattle.qmodel.specs.declared.call.Call.{Call}
 use Rattle.qmodel.specs.declared.call.Call.TheVariants.{Send, Receive, ReceivePulse, Pulse, Unblock, ConnectDetach}
@@ -177,11 +177,11 @@ abbrev pub NothingFor : Facts → Type 0
 NothingFor f = (u : ℕ) (o : OpenCall) (h : ℕ) (kind : Kind) → f.open_call u ≡ Some o → waits_for o ≡ Some (h, kind) → AllByRecursion (λ w. may_take kind w ≡ false) (f.pending h)
 
 -- what is so of all that isn't destroyed is so of what is pending afterwards
-all_after : (kind : Kind) (f : Facts) (t : ℕ) (c : Call) (h : ℕ) → AllByRecursion (λ w. may_take kind w ≡ false) (unreceived_items (receipt_of f t c) h (uncut_items f t c h (f.pending h ++ made_on h (makes f t c))))
+all_after : (kind : Kind) (f : Facts) (t : ℕ) (c : Call) (h : ℕ) → AllByRecursion (λ w. may_take kind w ≡ false) (unreceived_items (receipt_of f t c) h (uncancelled_items f t c h (f.pending h ++ made_on h (makes f t c))))
     → AllByRecursion (λ w. may_take kind w ≡ false) (pending_after f t c h)
 all_after kind f t c h all =
     let P = λ (w : Item). may_take kind w ≡ false in
-    let L = unreceived_items (receipt_of f t c) h (uncut_items f t c h (f.pending h ++ made_on h (makes f t c))) in
+    let L = unreceived_items (receipt_of f t c) h (uncancelled_items f t c h (f.pending h ++ made_on h (makes f t c))) in
     elim (names (closes c) h) as (λ b. AllByRecursion P (cond b [] (items_with_priority_set f h (sets c) L))) [
       | true ↦ tt
       | false ↦ all_moved P f h (sets c) L (λ priority x none. same_kind kind priority x ∙ none) all
@@ -202,7 +202,7 @@ caller_finds_none f t c o h kind is waits =
     let none : AllByRecursion (λ (w : Item). may_take kind w ≡ false) (f.pending h) = none-may kind (f.pending h) k.0 in
     let Q = λ (w : Item). ((r : Received) → (receipt_of f t c) ≡ Some r → r.channel ≡ h → eqb w.number r.item ≡ false) → may_take kind w ≡ false in
     let left = λ (w : Item). not (is_cancelled f t c h w.number) in
-    all_after kind f t c h (rw (k.1) (all_left P (receipt_of f t c) h (uncut_items f t c h (f.pending h ++ []))
+    all_after kind f t c h (rw (k.1) (all_left P (receipt_of f t c) h (uncancelled_items f t c h (f.pending h ++ []))
     (all_filter Q left (f.pending h ++ []) (all_append Q (f.pending h) [] (all_more P Q (f.pending h) none (λ w m _. m)) tt))))
 
 -- another thread that waits on: what it may take is received at once
@@ -212,7 +212,7 @@ other_finds_none f t c u o h kind p nothing among is waits =
     let P = λ (w : Item). may_take kind w ≡ false in
     let Q = λ (w : Item). ((r : Received) → (receipt_of f t c) ≡ Some r → r.channel ≡ h → eqb w.number r.item ≡ false) → may_take kind w ≡ false in
     let left = λ (w : Item). not (is_cancelled f t c h w.number) in
-    all_after kind f t c h (all_left P (receipt_of f t c) h (uncut_items f t c h (f.pending h ++ made_on h (makes f t c)))
+    all_after kind f t c h (all_left P (receipt_of f t c) h (uncancelled_items f t c h (f.pending h ++ made_on h (makes f t c)))
     (all_filter Q left (f.pending h ++ made_on h (makes f t c)) (all_append Q (f.pending h) (made_on h (makes f t c))
     (all_more P Q (f.pending h) (nothing u o h kind is waits) (λ w m _. m))
     (elim (makes f t c) as (λ x. makes f t c ≡ x → AllByRecursion Q (made_on h x)) [

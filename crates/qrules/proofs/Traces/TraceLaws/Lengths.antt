@@ -45,7 +45,7 @@ use Rattle.qmodel.specs.declared.open_call.OpenCall.{OpenCall}
 use Rattle.qmodel.specs.declared.open_call.Receipt.{Receipt}
 use Rattle.qmodel.specs.declared.open_call.OpenCall.TheVariants.{Receive as InReceive, Send as InSend}
 use Rattle.qrules.proofs.Traces.Calls.ConnectDetach.{detach_ends}
-use Rattle.qrules.proofs.Traces.Calls.Cancelling.{IsCutCall, cancel_parts}
+use Rattle.qrules.proofs.Traces.Calls.Cancelling.{IsCancelledCall, cancel_parts}
 use Rattle.qrules.proofs.Traces.Calls.Held.{sender_ends}
 use Rattle.qrules.proofs.Traces.Past.Laws.{Passes}
 use Rattle.qrules.proofs.Traces.Past.Numbers.{block_asked}
@@ -92,7 +92,7 @@ own_length f t c y e = ap (λ x. length x.buffer) (sym (same_Some _ y e))
 met_length : (f : Facts) (o : Option ℕ) (item : Item) (message : List ℕ) (u : ℕ) (y : Completion) → Delivers f o item message u y → length y.buffer ≡ length (buffer_of_open (f.open_call u))
 met_length f o item message u y k = ap (λ x. length x.buffer) (sym k.completion) ∙ taking_length item message u k.receive.number k.receive.buffer ∙ ap (λ x. length (buffer_of_open x)) (sym k.is_open)
 
-cancel_length : (is_cancelled : OpenCall → Bool) (e : Errno) (u : ℕ) (o : Option OpenCall) (y : Completion) → IsCutCall is_cancelled e u o y → length y.buffer ≡ length (buffer_of_open o)
+cancel_length : (is_cancelled : OpenCall → Bool) (e : Errno) (u : ℕ) (o : Option OpenCall) (y : Completion) → IsCancelledCall is_cancelled e u o y → length y.buffer ≡ length (buffer_of_open o)
 cancel_length is_cancelled e u o y k = ap (λ x. length x.buffer) (sym k.completion) ∙ ap (λ x. length (buffer_of_open x)) (sym k.is)
 
 answered_length : (f : Facts) (t rcvid : ℕ) (finish : Finish) (u : ℕ) (y : Completion) → ((b : List ℕ) → length (finish b).1 ≡ length b) → refusal_unless_held f t rcvid ≡ None → ends_sender f finish (sender f rcvid) u ≡ Some y → length y.buffer ≡ length (buffer_of_open (f.open_call u))

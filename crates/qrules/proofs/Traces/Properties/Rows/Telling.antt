@@ -8,7 +8,7 @@ use Rattle.qrules.proofs.Words.Facts.{Facts}
 use Rattle.qrules.proofs.Words.Items.{ends_receiver}
 use Rattle.qmodel.specs.Trace.{SentItem}
 use Rattle.qmodel.specs.declared.call.Completion.{Completion}
-use Rattle.qrules.proofs.Traces.Calls.Cancelling.{IsCutCall, cancel_parts}
+use Rattle.qrules.proofs.Traces.Calls.Cancelling.{IsCancelledCall, cancel_parts}
 use Rattle.qrules.proofs.Traces.Calls.Unblock.{is_cancelled}
 use Rattle.qrules.proofs.Traces.Properties.Rows.Delivering.{Delivers, delivery_meets}
 
@@ -23,6 +23,6 @@ told_meets f None u y e = absurd (none-some y e)
 told_meets f (Some made) u y e = record { made = made; is_due = refl; delivers = delivery_meets f (Some made.channel) made.item [] u y e }
 
 -- an Unblock that ends another's call cancels it, or its pulse meets a thread that waits
-pub unblock_ends : (f : Facts) (thread u : ℕ) (y : Completion) (o : Option SentItem) → ends_unblocked f thread o u ≡ Some y → IsCutCall (is_cancelled f thread u) Intr u (f.open_call u) y ⊎ Tells f o u y
+pub unblock_ends : (f : Facts) (thread u : ℕ) (y : Completion) (o : Option SentItem) → ends_unblocked f thread o u ≡ Some y → IsCancelledCall (is_cancelled f thread u) Intr u (f.open_call u) y ⊎ Tells f o u y
 unblock_ends f thread u y None e = inl (cancel_parts (is_cancelled f thread u) Intr u (f.open_call u) y e)
 unblock_ends f thread u y (Some made) e = inr (told_meets f (Some made) u y e)
