@@ -1,6 +1,7 @@
-/* The host's time.h. A timer of SIGEV_PULSE sends a pulse over its connection at each expiry; timer_getoverrun counts
- * those that the kernel refused. Of timer_create: EAGAIN (64 such timers), EINVAL (the pulse's code or priority, or a
- * clock that has no timers), and what a first call fails with. A timer of another event is the host's. */
+/* The host's time.h, with QNX's timer_t. A timer of SIGEV_PULSE sends a pulse over its connection at each expiry;
+ * timer_getoverrun counts those that the kernel refused. A timer of another event is the host's. Of timer_create:
+ * EAGAIN (256 timers), EINVAL (the pulse's code or priority, or a clock that has no timers), EFAULT (no place for the
+ * id), and what a first call fails with. */
 #pragma GCC system_header
 #ifndef BALSAEUCHRE_QNX_NO_WRAPPERS
 #pragma redefine_extname timer_create neutrino_timer_create
