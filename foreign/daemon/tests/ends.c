@@ -222,7 +222,8 @@ static void interrupted(void) {
     memset(&action, 0, sizeof action);
     action.sa_handler = ignore;
     int chid = ChannelCreate(0), coid = ConnectAttach(0, 0, chid, _NTO_SIDE_CHANNEL, 0);
-    check(sigaction(SIGALRM, &action, NULL) == 0 && ualarm(2000, 2000) == 0); /* a signal may come before the call */
+    check(sigaction(SIGALRM, &action, NULL) == 0);
+    ualarm(2000, 2000); /* again and again, as a signal may come before the call */
     for (int turn = 0; turn < 20; turn++) {
         fails(MsgReceive(chid, NULL, 0, NULL), EINTR);
         fails(MsgSend(coid, NULL, 0, NULL, 0), EINTR);
