@@ -1,4 +1,4 @@
-/* Sends and receives, of one or several parts, which are gathered into one buffer and scattered again. Tested, not proved.
+/* Sends and receives of parts, which are gathered into one buffer and scattered again. Tested, not proved.
  *
  * The buffers are the seat's, so a cancelled thread leaves none behind. A thread's handler makes no call meanwhile. */
 enum side { SENT, ROOM };

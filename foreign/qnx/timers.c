@@ -103,8 +103,6 @@ int TimerDestroy(timer_t id) {
     return t ? 0 : -1;
 }
 
-int neutrino_timer_delete(timer_t timer) { return TimerDestroy(timer); }
-
 static uint64_t nanoseconds(const struct timespec *t) {
     return (uint64_t)t->tv_sec * 1000000000u + (uint64_t)t->tv_nsec;
 }

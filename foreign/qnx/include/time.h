@@ -8,7 +8,7 @@
 #pragma redefine_extname timer_settime neutrino_timer_settime
 #pragma redefine_extname timer_gettime neutrino_timer_gettime
 #pragma redefine_extname timer_getoverrun neutrino_timer_getoverrun
-#pragma redefine_extname timer_delete neutrino_timer_delete
+#pragma redefine_extname timer_delete TimerDestroy
 #endif
 #include_next <time.h>
 #if defined CLOCK_MONOTONIC && !defined BALSAEUCHRE_QNX_TIME_H
