@@ -29,6 +29,18 @@ static inline unsigned long timespec2nsec(const struct timespec *time) {
     return (unsigned long)time->tv_sec * 1000000000u + (unsigned long)time->tv_nsec;
 }
 
+/* Keep the processor busy for a time. Return EOK. */
+static inline int nanospin_ns(unsigned long nanoseconds) {
+    struct timespec now;
+    clock_gettime(CLOCK_MONOTONIC, &now);
+    unsigned long until = timespec2nsec(&now) + nanoseconds;
+    do clock_gettime(CLOCK_MONOTONIC, &now);
+    while (timespec2nsec(&now) < until);
+    return 0;
+}
+
+static inline int nanospin(const struct timespec *time) { return nanospin_ns(timespec2nsec(time)); }
+
 struct sigevent;
 
 /* TimerTimeout of sys/neutrino.h, with times as struct timespec. EINVAL also for a time that is none. */
