@@ -43,11 +43,12 @@ void unblocks(void) {
     close_few(kernel);
 }
 
-/* Sends once thread 1 waits, so that its message is received at once. */
+/* Sends once thread 1 has waited for a while, so that its message is received at once. */
 static void *send_to_receiver(void *argument) {
     struct job *job = argument;
     check(neutrino_join(job->kernel, job->tid) == 0);
     until_state(1, STATE_RECEIVE);
+    usleep(20000);
     check(neutrino_leave() == 0);
     return send_once(job);
 }
