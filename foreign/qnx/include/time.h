@@ -18,6 +18,7 @@ extern "C" {
 #endif
 
 #define CLOCK_SOFTTIME CLOCK_REALTIME
+typedef char neutrino_timer_t_is_qnxs[sizeof(timer_t) == sizeof(int) ? 1 : -1];
 
 /* A time in nanoseconds, and back. */
 static inline void nsec2timespec(struct timespec *time, unsigned long nanoseconds) {
