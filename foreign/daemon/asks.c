@@ -4,18 +4,6 @@ bool neutrino_remote(void) { return is_remote; }
 
 int neutrino_remote_scoid(void) { return program_scoid; }
 
-/* Makes a call of which the layer does not know all. */
-static long call_with(struct call *c, uint64_t value, pid_t pid, unsigned flags) {
-    int cancel;
-    if (refuse_call()) return -1;
-    pthread_setcancelstate(PTHREAD_CANCEL_DISABLE, &cancel);
-    struct wire_ask ask = ask_of(c, self, false);
-    ask.value = value;
-    ask.pid = pid;
-    ask.flags |= flags;
-    return make_remote(c, &ask, cancel);
-}
-
 int neutrino_remote_channel(unsigned flags) {
     return (int)call_with(&(struct call){.request = {.kind = BALSAEUCHRE_CHANNEL_CREATE}}, flags, 0, 0);
 }
@@ -32,12 +20,9 @@ static balsaeuchre_request pulse_of(int priority, int code) {
 /* The front's own thread has no seat: the program's clock sends its pulses. */
 int neutrino_remote_pulse(int coid, int priority, int code, union sigval value) {
     struct call c = {.request = pulse_of(priority, code), .number = coid, .own_priority = priority == -1};
-    uint64_t bits = (uint64_t)(intptr_t)value.sival_ptr;
-    if (self) return (int)call_with(&c, bits, 0, 0);
-    struct place none = {.word = ENDED};
-    struct wire_ask ask = ask_of(&c, &none, false);
-    ask.value = bits;
-    return (int)ask_plainly(&ask);
+    struct wire_ask ask = {.op = OP_CALL, .number = coid, .flags = priority == -1 ? WIRE_OWN_PRIORITY : 0,
+                           .value = (uint64_t)(intptr_t)value.sival_ptr, .request = c.request};
+    return (int)(self ? call_with(&c, ask.value, 0, 0) : ask_plainly(&ask));
 }
 
 static long ask_by_name(struct wire_ask ask, const char *name, struct wire_answer *answer) {

@@ -9,24 +9,35 @@ static _Thread_local struct place own_place;
 static _Thread_local uint32_t calls;
 static _Thread_local volatile sig_atomic_t open_call; /* the number of the call that waits, or 0 */
 
-/* Asks by the thread's box, or else the program's socket, and waits. */
-static long ask_daemon(struct wire_ask *ask, struct iovec bytes, struct wire_answer *answer, struct iovec room) {
+/* Asks by the thread's box, or else the program's socket, and waits. Returns the result, or fails with the daemon's
+ * error. */
+static long ask_with(struct wire_ask *ask, const struct iovec sent[2], struct wire_answer *answer, struct iovec room) {
     int cancel, ignored;
     long result;
     if (inside || program_socket == -1) return fail(inside ? EDEADLK : ESHUTDOWN);
     pthread_setcancelstate(PTHREAD_CANCEL_DISABLE, &cancel);
     inside++;
+    ask->sent_len = (uint32_t)sent[0].iov_len;
     if (self) {
-        ask->sent_len = (uint32_t)bytes.iov_len;
-        result = ask_by_box(ask, (struct iovec[2]){bytes, {NULL, 0}}, answer, room);
+        if (self->interruptible && cancel == PTHREAD_CANCEL_ENABLE) ask->flags |= WIRE_CANCELS;
+        open_call = (sig_atomic_t)ask->call;
+        result = ask_by_box(ask, sent, answer, room);
+        open_call = 0;
     } else {
         pthread_mutex_lock(&asking);
-        result = exchange(program_socket, ask, bytes, answer, room, NULL);
+        result = exchange(program_socket, ask, sent[0], answer, room, NULL);
         pthread_mutex_unlock(&asking);
     }
+    int error = errno;
     inside--;
     pthread_setcancelstate(cancel, &ignored);
+    errno = error;
     return result;
+}
+
+/* Asks with bytes, or without any. */
+static long ask_daemon(struct wire_ask *ask, struct iovec bytes, struct wire_answer *answer, struct iovec room) {
+    return ask_with(ask, (struct iovec[2]){bytes, {NULL, 0}}, answer, room);
 }
 
 static long ask_plainly(struct wire_ask *ask) {
@@ -38,44 +49,29 @@ static long ask_about(uint32_t op, int number) { return ask_plainly(&(struct wir
 
 /* ---- calls */
 
-static struct wire_ask ask_of(const struct call *c, struct place *p, bool cancels) {
-    struct wire_ask ask = {.op = OP_CALL, .call = ++calls ? calls : ++calls, .number = c->number, .states = p->states,
-                           .time = p->time, .request = c->request, .sent_len = (uint32_t)c->sent_len,
-                           .room_len = (uint32_t)c->room_len, .value = c->request.flags,
-                           .flags = (c->own_priority ? WIRE_OWN_PRIORITY : 0) | (cancels ? WIRE_CANCELS : 0)};
-    if (c->request.kind == BALSAEUCHRE_PULSE) ask.value = (uint64_t)(int64_t)c->request.value;
-    p->states = 0;
-    return ask;
-}
-
-/* Makes an ask of a call, and waits for its end. */
-static long make_remote(struct call *c, struct wire_ask *ask, int cancel) {
+/* Makes a call, with what the layer does not know of it, and waits for its end. */
+static long call_with(struct call *c, uint64_t value, pid_t pid, unsigned flags) {
     struct wire_answer answer = {.error = 0};
     bool sends = c->request.kind == BALSAEUCHRE_SEND;
     struct iovec sent[2] = {{(void *)(uintptr_t)c->sent, c->sent_len}, {c->room, sends ? c->room_len : 0}};
-    int ignored;
-    inside++;
-    open_call = (sig_atomic_t)ask->call;
-    long result = ask_by_box(ask, sent, &answer, (struct iovec){c->room, c->room_len});
-    int error = errno;
-    open_call = 0;
-    inside--;
+    if (refuse_call()) return -1;
+    struct wire_ask ask = {.op = OP_CALL, .call = ++calls ? calls : ++calls, .number = c->number, .pid = pid,
+                           .states = self->states, .flags = flags | (c->own_priority ? WIRE_OWN_PRIORITY : 0),
+                           .time = self->time, .value = value, .room_len = (uint32_t)c->room_len,
+                           .request = c->request};
+    self->states = 0;
+    long result = ask_with(&ask, sent, &answer, (struct iovec){c->room, c->room_len});
     if (c->info && answer.info.pid && result != -1) *c->info = answer.info;
-    pthread_setcancelstate(cancel, &ignored);
-    errno = error;
     return result;
 }
 
 static long call_remote(struct call *c) {
-    int cancel;
-    if (refuse_call()) return -1;
+    const balsaeuchre_request *r = &c->request;
     if ((!c->sent && c->sent_len) || (!c->room && c->room_len)) return fail(EFAULT);
-    if (c->request.kind == BALSAEUCHRE_SEND && c->sent_len > WIRE_MOST) return fail(EMSGSIZE);
+    if (r->kind == BALSAEUCHRE_SEND && c->sent_len > WIRE_MOST) return fail(EMSGSIZE);
     if (c->sent_len > WIRE_MOST) c->sent_len = WIRE_MOST;
     if (c->room_len > WIRE_MOST) c->room_len = WIRE_MOST;
-    pthread_setcancelstate(PTHREAD_CANCEL_DISABLE, &cancel);
-    struct wire_ask ask = ask_of(c, self, self->interruptible && cancel == PTHREAD_CANCEL_ENABLE);
-    return make_remote(c, &ask, cancel);
+    return call_with(c, r->kind == BALSAEUCHRE_PULSE ? (uint64_t)(int64_t)r->value : r->flags, 0, 0);
 }
 
 static long call_long(struct call *c) { return is_remote ? call_remote(c) : call_here(c); }

@@ -24,17 +24,22 @@
         errno = before; \
         return result; \
     }
-#define SEND_PARAMETERS (int coid, const void *smsg, size_t sbytes, void *rmsg, size_t rbytes)
-#define SENDV_PARAMETERS (int coid, const iov_t *siov, size_t sparts, const iov_t *riov, size_t rparts)
-#define SENDSV_PARAMETERS (int coid, const void *smsg, size_t sbytes, const iov_t *riov, size_t rparts)
-#define SENDVS_PARAMETERS (int coid, const iov_t *siov, size_t sparts, void *rmsg, size_t rbytes)
+/* The other forms of a send. */
+#define SENDS(name, parameters, arguments) \
+    NO_POINT(name, parameters, arguments) \
+    NUMBER_R(long, name, parameters, arguments) \
+    NUMBER_R(long, name##nc, parameters, arguments)
 #define TIMEOUT_PARAMETERS(type) \
     (clockid_t id, int flags, const struct sigevent *notify, const type *ntime, type *otime)
 
-NO_POINT(MsgSend, SEND_PARAMETERS, (coid, smsg, sbytes, rmsg, rbytes))
-NO_POINT(MsgSendv, SENDV_PARAMETERS, (coid, siov, sparts, riov, rparts))
-NO_POINT(MsgSendsv, SENDSV_PARAMETERS, (coid, smsg, sbytes, riov, rparts))
-NO_POINT(MsgSendvs, SENDVS_PARAMETERS, (coid, siov, sparts, rmsg, rbytes))
+SENDS(MsgSend, (int coid, const void *smsg, size_t sbytes, void *rmsg, size_t rbytes),
+      (coid, smsg, sbytes, rmsg, rbytes))
+SENDS(MsgSendv, (int coid, const iov_t *siov, size_t sparts, const iov_t *riov, size_t rparts),
+      (coid, siov, sparts, riov, rparts))
+SENDS(MsgSendsv, (int coid, const void *smsg, size_t sbytes, const iov_t *riov, size_t rparts),
+      (coid, smsg, sbytes, riov, rparts))
+SENDS(MsgSendvs, (int coid, const iov_t *siov, size_t sparts, void *rmsg, size_t rbytes),
+      (coid, siov, sparts, rmsg, rbytes))
 
 NUMBER_R(int, ChannelCreate, (unsigned flags), (flags))
 STATUS_R(ChannelDestroy, (int chid), (chid))
@@ -44,14 +49,6 @@ STATUS_R(ConnectDetach, (int coid), (coid))
 NUMBER_R(int, ConnectFlags, (pid_t pid, int coid, unsigned mask, unsigned bits), (pid, coid, mask, bits))
 NUMBER_R(int, ConnectServerInfo, (pid_t pid, int coid, struct _server_info *info), (pid, coid, info))
 STATUS_R(ConnectClientInfo, (int scoid, struct _client_info *info, int ngroups), (scoid, info, ngroups))
-NUMBER_R(long, MsgSend, SEND_PARAMETERS, (coid, smsg, sbytes, rmsg, rbytes))
-NUMBER_R(long, MsgSendv, SENDV_PARAMETERS, (coid, siov, sparts, riov, rparts))
-NUMBER_R(long, MsgSendsv, SENDSV_PARAMETERS, (coid, smsg, sbytes, riov, rparts))
-NUMBER_R(long, MsgSendvs, SENDVS_PARAMETERS, (coid, siov, sparts, rmsg, rbytes))
-NUMBER_R(long, MsgSendnc, SEND_PARAMETERS, (coid, smsg, sbytes, rmsg, rbytes))
-NUMBER_R(long, MsgSendvnc, SENDV_PARAMETERS, (coid, siov, sparts, riov, rparts))
-NUMBER_R(long, MsgSendsvnc, SENDSV_PARAMETERS, (coid, smsg, sbytes, riov, rparts))
-NUMBER_R(long, MsgSendvsnc, SENDVS_PARAMETERS, (coid, siov, sparts, rmsg, rbytes))
 NUMBER_R(rcvid_t, MsgReceive, (int chid, void *msg, size_t bytes, struct _msg_info *info), (chid, msg, bytes, info))
 NUMBER_R(rcvid_t, MsgReceivev, (int chid, const iov_t *riov, size_t rparts, struct _msg_info *info),
          (chid, riov, rparts, info))
@@ -79,6 +76,15 @@ STATUS_R(MsgRegisterEvent, (struct sigevent *event, int coid), (event, coid))
 STATUS_R(MsgUnregisterEvent, (const struct sigevent *event), (event))
 STATUS_R(TimerTimeout, TIMEOUT_PARAMETERS(uint64_t), (id, flags, notify, ntime, otime))
 STATUS_R(timer_timeout, TIMEOUT_PARAMETERS(struct timespec), (id, flags, notify, ntime, otime))
+NUMBER_R(int, TimerCreate, (clockid_t id, const struct sigevent *event), (id, event))
+STATUS_R(TimerDestroy, (timer_t id), (id))
+STATUS_R(TimerSettime, (timer_t id, int flags, const struct _itimer *itime, struct _itimer *oitime),
+         (id, flags, itime, oitime))
+NUMBER_R(int, TimerInfo, (pid_t pid, timer_t id, int flags, struct _timer_info *info), (pid, id, flags, info))
+STATUS_R(ClockTime, (clockid_t id, const uint64_t *new, uint64_t *old), (id, new, old))
+STATUS_R(ClockPeriod, (clockid_t id, const struct _clockperiod *new, struct _clockperiod *old, int reserved),
+         (id, new, old, reserved))
+STATUS_R(ThreadCtl, (int cmd, void *data), (cmd, data))
 STATUS_R(SchedSet, (pid_t pid, int tid, int policy, const struct sched_param *param), (pid, tid, policy, param))
 NUMBER_R(int, SchedGet, (pid_t pid, int tid, struct sched_param *param), (pid, tid, param))
 STATUS_R(SchedYield, (void), ())

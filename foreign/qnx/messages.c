@@ -33,13 +33,6 @@ static long send_message(int coid, const void *smsg, size_t sbytes, void *rmsg, 
     return status;
 }
 
-long MsgSend(int coid, const void *smsg, size_t sbytes, void *rmsg, size_t rbytes) {
-    if (enter_point()) return -1;
-    long status = send_message(coid, smsg, sbytes, rmsg, rbytes);
-    leave_point(status);
-    return status;
-}
-
 /* The program's pid, and the coid as the program knows it. */
 static void complete_info(struct _msg_info *info) {
     if (neutrino_remote()) return; /* the daemon has done so */
@@ -50,21 +43,6 @@ static void complete_info(struct _msg_info *info) {
         known = c.coid;
     }
     if (known) info->coid = known;
-}
-
-rcvid_t MsgReceive(int chid, void *msg, size_t bytes, struct _msg_info *info) {
-    if (enter_point()) return -1;
-    int rcvid = layer_MsgReceive(chid, msg, bytes, info);
-    if (rcvid > 0 && info) complete_info(info);
-    leave_point(rcvid);
-    return rcvid;
-}
-
-int MsgReceivePulse(int chid, void *pulse, size_t bytes, struct _msg_info *info) {
-    if (enter_point()) return -1;
-    int result = layer_MsgReceivePulse(chid, pulse, bytes, info);
-    leave_point(result);
-    return result;
 }
 
 int MsgReply(rcvid_t rcvid, long status, const void *msg, size_t bytes) {

@@ -1,4 +1,4 @@
-/* Messages of several parts, which are gathered into one buffer and scattered again. Tested, not proved.
+/* Sends and receives of parts, which are gathered into one buffer and scattered again. Tested, not proved.
  *
  * The buffers are the seat's, so a cancelled thread leaves none behind. A thread's handler makes no call meanwhile. */
 enum side { SENT, ROOM };
@@ -76,6 +76,11 @@ static struct whole one(iov_t *part, const void *bytes, size_t length) {
     return many(part, 1);
 }
 
+long MsgSend(int coid, const void *smsg, size_t sbytes, void *rmsg, size_t rbytes) {
+    iov_t sent, room;
+    return send_parts(coid, one(&sent, smsg, sbytes), one(&room, rmsg, rbytes));
+}
+
 long MsgSendv(int coid, const iov_t *siov, size_t sparts, const iov_t *riov, size_t rparts) {
     return send_parts(coid, many(siov, sparts), many(riov, rparts));
 }
@@ -90,31 +95,39 @@ long MsgSendvs(int coid, const iov_t *siov, size_t sparts, void *rmsg, size_t rb
     return send_parts(coid, many(siov, sparts), one(&room, rmsg, rbytes));
 }
 
-rcvid_t MsgReceivev(int chid, const iov_t *riov, size_t rparts, struct _msg_info *info) {
+/* Receives by one of the layer's two functions. info is filled for a message alone. */
+static int receive_parts(typeof(layer_MsgReceive) *receive, int chid, struct whole room, struct _msg_info *info) {
     struct _msg_info own;
-    struct whole room = many(riov, rparts);
     int rcvid = -1;
     if (enter_point()) return -1;
     holding++;
-    if (!gather(&room, ROOM, false)) rcvid = layer_MsgReceive(chid, room.bytes, room.length, &own);
+    if (!gather(&room, ROOM, false)) rcvid = receive(chid, room.bytes, room.length, &own);
     if (rcvid >= 0) scatter(&room, rcvid ? (size_t)own.msglen : sizeof(struct _pulse));
     holding--;
-    if (rcvid > 0 && info) *info = own;
-    if (rcvid > 0 && info) complete_info(info);
+    if (rcvid > 0 && info) {
+        *info = own;
+        complete_info(info);
+    }
     leave_point(rcvid);
     return rcvid;
 }
 
+rcvid_t MsgReceive(int chid, void *msg, size_t bytes, struct _msg_info *info) {
+    iov_t room;
+    return receive_parts(layer_MsgReceive, chid, one(&room, msg, bytes), info);
+}
+
+rcvid_t MsgReceivev(int chid, const iov_t *riov, size_t rparts, struct _msg_info *info) {
+    return receive_parts(layer_MsgReceive, chid, many(riov, rparts), info);
+}
+
+int MsgReceivePulse(int chid, void *pulse, size_t bytes, struct _msg_info *info) {
+    iov_t room;
+    return receive_parts(layer_MsgReceivePulse, chid, one(&room, pulse, bytes), info);
+}
+
 int MsgReceivePulsev(int chid, const iov_t *piov, size_t parts, struct _msg_info *info) {
-    struct whole room = many(piov, parts);
-    int result = -1;
-    if (enter_point()) return -1;
-    holding++;
-    if (!gather(&room, ROOM, false)) result = layer_MsgReceivePulse(chid, room.bytes, room.length, info);
-    if (!result) scatter(&room, sizeof(struct _pulse));
-    holding--;
-    leave_point(result);
-    return result;
+    return receive_parts(layer_MsgReceivePulse, chid, many(piov, parts), info);
 }
 
 /* Begins a call with parts that does not wait. */

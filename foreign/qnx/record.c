@@ -88,16 +88,6 @@ static void record_seat(int tid, pthread_t thread) {
     pthread_mutex_unlock(&recording);
 }
 
-/* The host has names of at most 15 bytes; and 0 is the calling thread. */
-int neutrino_pthread_setname_np(pthread_t thread, const char *name) {
-    char cut[THREAD_NAME];
-    if (!thread) thread = pthread_self();
-    snprintf(cut, sizeof cut, "%s", name);
-    int error = pthread_setname_np(thread, cut), tid = error || record.fd == -1 ? 0 : tid_of(thread);
-    if (seat_of(tid).use == TAKEN) record_seat(tid, thread);
-    return error;
-}
-
 static void add_thread(struct line *line, int tid) {
     list_thread(tid);
     line->text[line->length++] = MARK;

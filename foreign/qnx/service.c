@@ -80,7 +80,7 @@ static void start_service(void) {
 /* In a forked child, whose one thread has the front's lock, and none of its parent's kernel. */
 static void forget_all(void) {
     for (int at = 0; at < TIMERS; at++) {
-        if (timers[at].fd) close(timers[at].fd);
+        if (timers[at].is_used && timers[at].fd) close(timers[at].fd);
     }
     for (int at = 0; at < 2; at++) {
         if (orders[at] != -1) close(orders[at]);

@@ -34,6 +34,21 @@ static void *run_thread(void *argument) {
     return start.function(start.argument);
 }
 
+/* The priority of attributes: the host takes 1 to 99. These bytes are cleared as attributes begin, and the host doesn't
+ * use them. */
+static char *priority_of(const pthread_attr_t *attributes) { return (char *)(attributes + 1) - sizeof(int); }
+
+int neutrino_pthread_attr_getschedparam(const pthread_attr_t *attributes, struct sched_param *param) {
+    memcpy(&param->sched_priority, priority_of(attributes), sizeof(int));
+    return 0;
+}
+
+int neutrino_pthread_attr_setschedparam(pthread_attr_t *attributes, const struct sched_param *param) {
+    if (!is_priority(param->sched_priority)) return EINVAL;
+    memcpy(priority_of(attributes), &param->sched_priority, sizeof(int));
+    return 0;
+}
+
 /* How a new thread is scheduled: as its attributes say, or as its creator is. Under the lock. */
 static struct seat scheduling(const pthread_attr_t *attributes) {
     int own = seat ? seat : has_reserved() ? reserved : 0, inherits = PTHREAD_INHERIT_SCHED;
@@ -42,7 +57,7 @@ static struct seat scheduling(const pthread_attr_t *attributes) {
     if (own) new = (struct seat){.priority = seats[own].priority, .policy = seats[own].policy};
     if (attributes) {
         pthread_attr_getinheritsched(attributes, &inherits);
-        pthread_attr_getschedparam(attributes, &param);
+        neutrino_pthread_attr_getschedparam(attributes, &param);
     }
     if (inherits == PTHREAD_EXPLICIT_SCHED && is_priority(param.sched_priority)) {
         new.priority = param.sched_priority;
@@ -98,19 +113,6 @@ int neutrino_pthread_create(pthread_t *thread, const pthread_attr_t *attributes,
     note_created(&copy, error ? NULL : &created);
     if (error) free(start);
     if (!error && thread) *thread = created;
-    return error;
-}
-
-/* The host takes priorities of 1 to 99, of real-time policies. */
-int neutrino_pthread_attr_setschedparam(pthread_attr_t *attributes, const struct sched_param *param) {
-    struct sched_param cut = *param;
-    int policy;
-    if (!is_priority(param->sched_priority)) return EINVAL;
-    if (cut.sched_priority > 99) cut.sched_priority = 99;
-    pthread_attr_getschedpolicy(attributes, &policy);
-    pthread_attr_setschedpolicy(attributes, SCHED_RR);
-    int error = pthread_attr_setschedparam(attributes, &cut);
-    pthread_attr_setschedpolicy(attributes, policy);
     return error;
 }
 
@@ -195,10 +197,8 @@ static int tid_of_thread(pthread_t thread) {
 }
 
 int neutrino_pthread_setschedparam(pthread_t thread, int policy, const struct sched_param *param) {
-    int before = errno, tid = tid_of_thread(thread);
-    int error = !tid || set_priority(tid, policy, param->sched_priority) ? (tid ? errno : ESRCH) : 0;
-    errno = before;
-    return error;
+    int tid = tid_of_thread(thread);
+    return tid ? SchedSet_r(0, tid, policy, param) : ESRCH;
 }
 
 int neutrino_pthread_setschedprio(pthread_t thread, int priority) {
@@ -207,11 +207,9 @@ int neutrino_pthread_setschedprio(pthread_t thread, int priority) {
 }
 
 int neutrino_pthread_getschedparam(pthread_t thread, int *policy, struct sched_param *param) {
-    int before = errno, tid = tid_of_thread(thread), got = tid ? SchedGet(0, tid, param) : -1;
-    errno = before;
-    if (got == -1) return ESRCH;
-    *policy = got;
-    return 0;
+    int tid = tid_of_thread(thread), got = tid ? SchedGet_r(0, tid, param) : -1;
+    if (got >= 0) *policy = got;
+    return got < 0 ? ESRCH : 0;
 }
 
 /* Cancels a thread, and ends the call that it is blocked in. It ends where that call returns. */
@@ -223,6 +221,35 @@ int neutrino_pthread_cancel(pthread_t thread) {
     release();
     errno = before;
     return error;
+}
+
+/* The host has names of at most 15 bytes; and 0 is the calling thread. */
+int neutrino_pthread_setname_np(pthread_t thread, const char *name) {
+    char cut[THREAD_NAME];
+    if (!thread) thread = pthread_self();
+    snprintf(cut, sizeof cut, "%s", name);
+    int error = pthread_setname_np(thread, cut), tid = error ? 0 : tid_of(thread);
+    if (seat_of(tid).use == TAKEN) record_seat(tid, thread);
+    return error;
+}
+
+/* Gives the calling thread a name, and its old one. Returns 0 or an errno. */
+static int change_name(struct _thread_name *name) {
+    char new[THREAD_NAME], old[THREAD_NAME];
+    int length = name->new_name_len;
+    if (length > _NTO_THREAD_NAME_MAX) return E2BIG;
+    int error = pthread_getname_np(pthread_self(), old, sizeof old);
+    snprintf(new, sizeof new, "%.*s", length > 0 ? length : 0, name->name_buf);
+    if (!error && length >= 0) error = neutrino_pthread_setname_np(pthread_self(), new);
+    if (!error && name->old_name_len > 0) snprintf(name->name_buf, (size_t)name->old_name_len, "%s", old);
+    return error;
+}
+
+int ThreadCtl(int cmd, void *data) {
+    if (enter()) return -1;
+    if (cmd >= _NTO_TCTL_IO && cmd <= _NTO_TCTL_RUNMASK) return 0;
+    int error = cmd != _NTO_TCTL_NAME ? EINVAL : !data ? EFAULT : change_name(data);
+    return error ? fail(error) : 0;
 }
 
 unsigned delay(unsigned milliseconds) {

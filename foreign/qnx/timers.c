@@ -1,95 +1,138 @@
-/* Timers whose event is a pulse, and timeouts. Tested, not proved.
+/* Timers, timeouts and clocks. Tested, not proved.
  *
- * Such a timer is the host's timerfd, for which the front's own thread waits. */
+ * A timer whose event is a pulse is the host's timerfd, for which the front's own thread waits. Any other is the host's
+ * timer. */
 #include <sys/epoll.h>
 #include <sys/timerfd.h>
 
 struct timer {
-    _Atomic int fd; /* 0: it is free */
+    bool is_used;
+    int fd;      /* of a timer of pulses, or 0 */
+    void *hosts; /* the host's timer */
+    clockid_t clock;
+    int flags; /* with which it was set last */
     _Atomic int overruns;
     struct sigevent event;
 };
 
-static struct timer timers[TIMERS];
-static int watched = -1; /* the epoll of the front's own thread */
+static struct timer timers[TIMERS]; /* by id, which begins with 1 */
+static int watched = -1;            /* the epoll of the front's own thread */
 
-static struct timer *own_timer(timer_t timer) {
-    for (int at = 0; at < TIMERS; at++) {
-        if ((timer_t)&timers[at] == timer) return &timers[at];
-    }
+/* The host's functions, as they are: the headers have QNX's timer_t. */
+int hosts_create(clockid_t id, struct sigevent *event, void **timer) __asm__("timer_create");
+int hosts_settime(void *t, int flags, const struct itimerspec *value, struct itimerspec *old) __asm__("timer_settime");
+int hosts_gettime(void *timer, struct itimerspec *value) __asm__("timer_gettime");
+int hosts_getoverrun(void *timer) __asm__("timer_getoverrun");
+int hosts_delete(void *timer) __asm__("timer_delete");
+
+static struct timer *timer_of(timer_t id) {
+    if (id >= 1 && id <= TIMERS && timers[id - 1].is_used) return &timers[id - 1];
+    errno = EINVAL;
     return NULL;
 }
 
-/* Under the lock. */
-static int make_timer(clockid_t id, const struct sigevent *event, timer_t *timer) {
-    uint32_t at = 0;
-    while (at < TIMERS && timers[at].fd) at++;
-    if (at == TIMERS || watched == -1) return fail(EAGAIN);
-    int fd = timerfd_create(id, TFD_CLOEXEC | TFD_NONBLOCK);
-    if (fd == -1) return -1;
-    if (epoll_ctl(watched, EPOLL_CTL_ADD, fd, &(struct epoll_event){.events = EPOLLIN, .data.u32 = at})) {
-        close(fd);
-        return fail(EAGAIN);
-    }
-    timers[at] = (struct timer){fd, 0, *event};
-    *timer = &timers[at];
-    return 0;
+/* Opens the timerfd of a timer of pulses. */
+static int watch_timer(struct timer *new, int at) {
+    new->fd = watched == -1 ? fail(EAGAIN) : timerfd_create(new->clock, TFD_CLOEXEC | TFD_NONBLOCK);
+    if (new->fd == -1) return -1;
+    struct epoll_event event = {.events = EPOLLIN, .data.u32 = (uint32_t)at};
+    if (!epoll_ctl(watched, EPOLL_CTL_ADD, new->fd, &event)) return 0;
+    close(new->fd);
+    return fail(EAGAIN);
 }
 
-/* An event as the host has it. */
-static struct sigevent hosts_event(const struct sigevent *event) {
-    struct sigevent hosts = *event;
-    hosts.sigev_notify = SIGEV_GET_TYPE(event);
+/* Opens the host's timer, with an event as the host has it. */
+static int open_hosts_timer(struct timer *new) {
+    struct sigevent hosts = new->event;
+    hosts.sigev_notify = SIGEV_GET_TYPE(&hosts);
     if (hosts.sigev_notify == SIGEV_SIGNAL_CODE) hosts.sigev_notify = SIGEV_SIGNAL;
     if (hosts.sigev_notify == SIGEV_SIGNAL_THREAD) {
         hosts.sigev_notify = SIGEV_THREAD_ID;
         hosts._sigev_un._tid = gettid();
     }
-    return hosts;
+    return hosts_create(new->clock, &hosts, &new->hosts);
+}
+
+int TimerCreate(clockid_t id, const struct sigevent *event) {
+    static const struct sigevent alarms = {.sigev_notify = SIGEV_SIGNAL, .sigev_signo = SIGALRM};
+    struct timer new = {.is_used = true, .clock = id, .event = event ? *event : alarms};
+    bool is_pulse = SIGEV_GET_TYPE(&new.event) == SIGEV_PULSE;
+    int at = 0, error = is_pulse ? wrong_event(&new.event) : 0;
+    if (error || enter()) return error ? fail(error) : -1;
+    hold();
+    while (at < TIMERS && timers[at].is_used) at++;
+    int result = at == TIMERS ? fail(EAGAIN) : is_pulse ? watch_timer(&new, at) : open_hosts_timer(&new);
+    if (!result) timers[at] = new;
+    release();
+    return result ? -1 : at + 1;
 }
 
 int neutrino_timer_create(clockid_t id, struct sigevent *event, timer_t *timer) {
-    struct sigevent hosts;
-    if (event) hosts = hosts_event(event);
-    if (!event || hosts.sigev_notify != SIGEV_PULSE) return timer_create(id, event ? &hosts : NULL, timer);
-    int error = wrong_event(&hosts);
-    if (enter()) return -1;
-    if (error || !timer) return fail(error ? error : EFAULT);
-    hold();
-    int result = make_timer(id, &hosts, timer);
-    release();
-    return result;
+    int made = timer ? TimerCreate(id, event) : fail(EFAULT);
+    if (made == -1) return -1;
+    *timer = made;
+    return 0;
 }
 
 int neutrino_timer_settime(timer_t timer, int flags, const struct itimerspec *value, struct itimerspec *old) {
-    struct timer *t = own_timer(timer);
-    if (!t) return timer_settime(timer, flags, value, old);
-    if (!t->fd) return fail(EINVAL);
+    struct timer *t = timer_of(timer);
+    if (!t) return -1;
     t->overruns = 0;
+    t->flags = flags;
+    if (!t->fd) return hosts_settime(t->hosts, flags, value, old);
     return timerfd_settime(t->fd, flags & TIMER_ABSTIME ? TFD_TIMER_ABSTIME : 0, value, old);
 }
 
 int neutrino_timer_gettime(timer_t timer, struct itimerspec *value) {
-    const struct timer *t = own_timer(timer);
-    if (!t) return timer_gettime(timer, value);
-    return t->fd ? timerfd_gettime(t->fd, value) : fail(EINVAL);
+    const struct timer *t = timer_of(timer);
+    return !t ? -1 : t->fd ? timerfd_gettime(t->fd, value) : hosts_gettime(t->hosts, value);
 }
 
 int neutrino_timer_getoverrun(timer_t timer) {
-    const struct timer *t = own_timer(timer);
-    if (!t) return timer_getoverrun(timer);
-    return t->fd ? t->overruns : fail(EINVAL);
+    const struct timer *t = timer_of(timer);
+    return !t ? -1 : t->fd ? t->overruns : hosts_getoverrun(t->hosts);
 }
 
-int neutrino_timer_delete(timer_t timer) {
-    struct timer *t = own_timer(timer);
-    if (!t) return timer_delete(timer);
+int TimerDestroy(timer_t id) {
     hold();
-    int fd = t->fd;
-    t->fd = 0;
-    if (fd) close(fd);
+    struct timer *t = timer_of(id);
+    if (t && t->fd) close(t->fd);
+    else if (t) hosts_delete(t->hosts);
+    if (t) t->is_used = false;
     release();
-    return fd ? 0 : fail(EINVAL);
+    return t ? 0 : -1;
+}
+
+static uint64_t nanoseconds(const struct timespec *t) {
+    return (uint64_t)t->tv_sec * 1000000000u + (uint64_t)t->tv_nsec;
+}
+
+static struct _itimer itimer_of(const struct itimerspec *time) {
+    return (struct _itimer){nanoseconds(&time->it_value), nanoseconds(&time->it_interval)};
+}
+
+int TimerSettime(timer_t id, int flags, const struct _itimer *itime, struct _itimer *oitime) {
+    struct itimerspec value, old;
+    if (!itime) return fail(EFAULT);
+    nsec2timespec(&value.it_value, itime->nsec);
+    nsec2timespec(&value.it_interval, itime->interval_nsec);
+    if (neutrino_timer_settime(id, flags, &value, &old)) return -1;
+    if (oitime) *oitime = itimer_of(&old);
+    return 0;
+}
+
+int TimerInfo(pid_t pid, timer_t id, int flags, struct _timer_info *info) {
+    struct itimerspec left;
+    if (pid && pid != getpid()) return fail(ESRCH);
+    if (!info) return fail(EFAULT);
+    for (; flags & _NTO_TIMER_SEARCH && id >= 1 && id <= TIMERS && !timers[id - 1].is_used; id++) continue;
+    const struct timer *t = timer_of(id);
+    if (!t || neutrino_timer_gettime(id, &left)) return -1;
+    *info = (struct _timer_info){.otime = itimer_of(&left), .notify = t->event.sigev_notify, .clockid = t->clock,
+                                 .overruns = (uint32_t)neutrino_timer_getoverrun(id), .event = t->event};
+    info->itime = info->otime;
+    info->flags = (info->otime.nsec ? _NTO_TI_ACTIVE : 0u) | (t->flags & TIMER_ABSTIME ? _NTO_TI_ABSOLUTE : 0u);
+    return id;
 }
 
 /* Sends the pulses of a timer's expiries. By the front's own thread. */
@@ -97,7 +140,7 @@ static void expire(struct timer *t) {
     uint64_t times = 0;
     hold();
     struct sigevent event = t->event;
-    if (!t->fd || read(t->fd, &times, sizeof times) != sizeof times) times = 0;
+    if (!t->is_used || read(t->fd, &times, sizeof times) != sizeof times) times = 0;
     release();
     for (; times && !send_event_pulse(&event); times--) continue;
     hold();
@@ -105,11 +148,23 @@ static void expire(struct timer *t) {
     release();
 }
 
-/* ---- timeouts */
+/* ---- clocks, which no program sets */
 
-static uint64_t nanoseconds(const struct timespec *t) {
-    return (uint64_t)t->tv_sec * 1000000000u + (uint64_t)t->tv_nsec;
+int ClockTime(clockid_t id, const uint64_t *new, uint64_t *old) {
+    struct timespec time;
+    if (clock_gettime(id, &time)) return -1;
+    if (old) *old = nanoseconds(&time);
+    return !new ? 0 : fail(id == CLOCK_REALTIME ? EPERM : EINVAL);
 }
+
+int ClockPeriod(clockid_t id, const struct _clockperiod *new, struct _clockperiod *old, int reserved) {
+    struct timespec period;
+    if (id != CLOCK_REALTIME || reserved || clock_getres(id, &period)) return fail(EINVAL);
+    if (old) *old = (struct _clockperiod){(uint32_t)period.tv_nsec, 0};
+    return new ? fail(EPERM) : 0;
+}
+
+/* ---- timeouts */
 
 static _Thread_local uint64_t join_time; /* in which the next pthread_join has to end, and 1 more; 0: it has not to */
 
@@ -120,7 +175,7 @@ int neutrino_pthread_join(pthread_t thread, void **value) {
     if (!time) return pthread_join(thread, value);
     clock_gettime(CLOCK_REALTIME, &until);
     time += nanoseconds(&until) - 1;
-    until = (struct timespec){(time_t)(time / 1000000000u), (long)(time % 1000000000u)};
+    nsec2timespec(&until, time);
     return pthread_timedjoin_np(thread, value, &until);
 }
 
@@ -148,6 +203,6 @@ int timer_timeout(clockid_t id, int flags, const struct sigevent *notify, const 
     uint64_t time = ntime ? nanoseconds(ntime) : 0, old = 0;
     if (ntime && (ntime->tv_sec < 0 || ntime->tv_nsec < 0 || ntime->tv_nsec >= 1000000000)) return fail(EINVAL);
     if (TimerTimeout(id, flags, notify, ntime ? &time : NULL, &old)) return -1;
-    if (otime) *otime = (struct timespec){(time_t)(old / 1000000000u), (long)(old % 1000000000u)};
+    if (otime) nsec2timespec(otime, old);
     return 0;
 }

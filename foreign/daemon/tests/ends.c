@@ -40,7 +40,7 @@ static void client_dies(void) {
     check(rcvid > 0 && info.pid == child && info.tid == 1 && strcmp(room, "hello") == 0 && info.msglen == 6);
     check(ConnectClientInfo(info.scoid, &client, 8) == 0 && client.pid == child && client.cred.euid == geteuid());
     kill_child(child);
-    set_timeout(5000);
+    set_timeout(LATE);
     check(MsgReceive(name->chid, room, sizeof room, NULL) == 0);
     const struct _pulse *pulse = (const void *)room;
     check(pulse->code == _PULSE_CODE_DISCONNECT && pulse->scoid == info.scoid);
@@ -61,7 +61,7 @@ static void sender_dies(void) {
     until_seen(1);
     usleep(20000);
     kill_child(child);
-    set_timeout(5000);
+    set_timeout(LATE);
     check(MsgReceivePulse(name->chid, room, sizeof room, NULL) == 0);
     set_timeout(20);
     fails(MsgReceive(name->chid, room, sizeof room, NULL), ETIMEDOUT);
@@ -114,7 +114,7 @@ static void connection_dies(void) {
     pid_t server = spawn(hold_all, NULL);
     int coid = open_name("server");
     kill_child(server);
-    set_timeout(5000);
+    set_timeout(LATE);
     check(MsgReceivePulse(chid, &pulse, sizeof pulse, NULL) == 0);
     check(pulse.code == _PULSE_CODE_COIDDEATH && pulse.value.sival_int == coid);
     check(ConnectDetach(coid) == 0 && ChannelDestroy(chid) == 0);
@@ -149,7 +149,7 @@ static void full_channel(void) {
         check(pulse.code == 1 && pulse.value.sival_int == at);
         if (at == 0) usleep(50000);
     }
-    set_timeout(5000);
+    set_timeout(LATE);
     check(MsgReceivePulse(name->chid, &pulse, sizeof pulse, NULL) == 0 && pulse.code == _PULSE_CODE_DISCONNECT);
     check(name_detach(name, 0) == 0);
 }
@@ -169,7 +169,7 @@ static void thread_ends(void) {
     check(pthread_create(&thread, NULL, send_and_stay, (void *)(intptr_t)coid) == 0);
     rcvid_t rcvid = MsgReceive(chid, room, sizeof room, &info);
     check(rcvid > 0 && pthread_cancel(thread) == 0);
-    set_timeout(5000);
+    set_timeout(LATE);
     check(MsgReceive(chid, room, sizeof room, NULL) == 0);
     const struct _pulse *pulse = (const void *)room;
     check(pulse->code == _PULSE_CODE_UNBLOCK && pulse->value.sival_int == rcvid);
@@ -194,11 +194,10 @@ static void fork_and_exec(void) {
     pid_t child = spawn(exec_self, NULL);
     until_seen(1);
     name_attach_t *name = NULL;
-    for (int turn = 0; turn < 1000 && !name; turn++) {
+    while (!name) { /* until the daemon knows of its end */
         name = name_attach(NULL, "server", 0);
         if (!name) usleep(1000);
     }
-    check(name);
     kill_child(child);
     child = spawn(send_twice, NULL);
     rcvid_t rcvid = receive_answering_opens(name->chid, room, sizeof room, NULL);
@@ -224,12 +223,12 @@ static void interrupted(void) {
     action.sa_handler = ignore;
     int chid = ChannelCreate(0), coid = ConnectAttach(0, 0, chid, _NTO_SIDE_CHANNEL, 0);
     check(sigaction(SIGALRM, &action, NULL) == 0);
+    ualarm(2000, 2000); /* again and again, as a signal may come before the call */
     for (int turn = 0; turn < 20; turn++) {
-        ualarm(2000, 0);
         fails(MsgReceive(chid, NULL, 0, NULL), EINTR);
-        ualarm(2000, 0);
         fails(MsgSend(coid, NULL, 0, NULL, 0), EINTR);
     }
+    ualarm(0, 0);
     check(ConnectDetach(coid) == 0 && ChannelDestroy(chid) == 0);
 }
 

@@ -112,8 +112,8 @@ static void expect_progress(int but, const pid_t *pids) {
     for (int at = 0; at < WORKERS; at++) {
         while (at != but && progress[at].count == before[at]) {
             check(waitpid(pids[at], NULL, WNOHANG) == 0);
-            if (time(NULL) > start + 20) fprintf(stderr, "worker %d stands at step %d\n", at, progress[at].step);
-            check(time(NULL) <= start + 20);
+            if (time(NULL) > start + PATIENCE) fprintf(stderr, "worker %d stands at step %d\n", at, progress[at].step);
+            check(time(NULL) <= start + PATIENCE);
             usleep(100);
         }
     }
@@ -130,7 +130,7 @@ int main(int count, char **words) {
     for (int turn = 0; turn < kills; turn++) {
         int victim = rand() % WORKERS;
         usleep((useconds_t)(rand() % 3000));
-        if (turn % 50 == 0) alarm(120);
+        alarm(2 * PATIENCE);
         kill_child(pids[victim]);
         servers += victim < SERVERS;
         expect_progress(victim, pids);

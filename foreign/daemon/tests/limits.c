@@ -66,27 +66,30 @@ static void busy(void) {
     clock_gettime(CLOCK_MONOTONIC, &start);
     for (int turn = 0; turn < 10; turn++) expect_end(spawn(live, NULL));
     clock_gettime(CLOCK_MONOTONIC, &end);
-    check(end.tv_sec - start.tv_sec < 40);
+    check(end.tv_sec - start.tv_sec < PATIENCE);
     kill_child(flooding);
     kill_child(server);
 }
 
+static volatile int refused;
+
 static void *receive(void *chid) {
     char room[8];
-    return (void *)(intptr_t)(MsgReceive((int)(intptr_t)chid, room, sizeof room, NULL) == -1 ? errno : 0);
+    int error = MsgReceive((int)(intptr_t)chid, room, sizeof room, NULL) == -1 ? errno : 0;
+    if (error == EAGAIN) __sync_fetch_and_add(&refused, 1);
+    return (void *)(intptr_t)error;
 }
 
 static void threads(void) {
     pthread_t all[THREADS];
-    int chid = ChannelCreate(0), refused = 0;
+    int chid = ChannelCreate(0);
     for (int at = 0; at < THREADS; at++) check(pthread_create(&all[at], NULL, receive, (void *)(intptr_t)chid) == 0);
-    usleep(500000); /* until each has made its call */
+    while (!refused) usleep(1000); /* all seats are taken, and one has come too late */
     check(ChannelDestroy(chid) == 0);
     for (int at = 0; at < THREADS; at++) {
         void *error;
         check(pthread_join(all[at], &error) == 0);
         check((intptr_t)error == ESRCH || (intptr_t)error == EAGAIN);
-        refused += (intptr_t)error == EAGAIN;
     }
     check(refused == 1); /* the main thread has the fourth seat */
 }

@@ -25,6 +25,8 @@
     } while (0)
 #define fails(call, error) check((call) == -1 && errno == (error))
 
+enum { PATIENCE = 60, LATE = 1000 * PATIENCE }; /* seconds, milliseconds: in which all comes, also on a busy machine */
+
 static inline void set_timeout(int milliseconds) {
     uint64_t time = (uint64_t)milliseconds * 1000000u;
     int states = _NTO_TIMEOUT_SEND | _NTO_TIMEOUT_RECEIVE | _NTO_TIMEOUT_REPLY;
@@ -35,7 +37,7 @@ static inline void set_timeout(int milliseconds) {
 static inline pid_t spawn(void (*work)(void *argument), void *argument) {
     pid_t child = fork();
     if (child == 0) {
-        alarm(60);
+        alarm(5 * PATIENCE);
         work(argument);
         _exit(0);
     }

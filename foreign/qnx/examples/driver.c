@@ -91,7 +91,7 @@ static void read_for(long ms)
     message_t msg = {.type = DEV_READ};
     uint64_t timeout = (uint64_t)ms * 1000000;
 
-    TimerTimeout(CLOCK_MONOTONIC, _NTO_TIMEOUT_SEND | _NTO_TIMEOUT_REPLY, NULL, &timeout, NULL);
+    TimerTimeout(CLOCK_MONOTONIC, _NTO_TIMEOUT_REPLY, NULL, &timeout, NULL);
     if (MsgSend(coid, &msg, sizeof msg, NULL, 0) == -1)
         printf("main: %s\n", strerror(errno));
 }

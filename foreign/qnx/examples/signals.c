@@ -11,7 +11,7 @@
 #define CODE_CHILD (_PULSE_CODE_MINAVAIL + 3)
 
 static int coid;
-static volatile sig_atomic_t terminated;
+static volatile sig_atomic_t terminated, ended;
 
 static void on_term(int signo)
 {
@@ -28,8 +28,10 @@ static void *killer(void *arg)
 {
     delay(20);
     pthread_kill(*(pthread_t *)arg, SIGUSR1);
-    delay(20);
-    pthread_kill(*(pthread_t *)arg, SIGTERM);
+    do { /* until it comes while main waits in a call */
+        delay(20);
+        pthread_kill(*(pthread_t *)arg, SIGTERM);
+    } while (!ended);
     return NULL;
 }
 
@@ -38,7 +40,7 @@ int main(void)
     pthread_t self = pthread_self(), thread;
     struct sigaction action;
     struct _pulse pulse;
-    int chid = ChannelCreate(0), ended = 0, pulses = 0;
+    int chid = ChannelCreate(0), pulses = 0;
 
     coid = ConnectAttach(0, 0, chid, _NTO_SIDE_CHANNEL, 0);
     memset(&action, 0, sizeof action);
@@ -46,10 +48,10 @@ int main(void)
     sigaction(SIGUSR1, &action, NULL);
     signal(SIGTERM, on_term);
     pthread_create(&thread, NULL, killer, &self);
-    while (!terminated || !pulses) {
+    while (!ended || !pulses) {
         int rcvid = MsgReceive(chid, &pulse, sizeof pulse, NULL);
         if (rcvid == -1 && errno == EINTR) {
-            ended++;
+            ended = terminated;
         } else if (rcvid == 0) {
             pulses++;
             printf("pulse of the handler: code %s, %s\n", pulse.code == CODE_CHILD ? "right" : "wrong",

@@ -59,7 +59,7 @@ int main(void)
     set_timeout(_NTO_TIMEOUT_SEND | _NTO_TIMEOUT_REPLY, 5);
     if (MsgSend(to_plain, "a", 2, text, sizeof text) == -1)
         printf("SEND-blocked: %s\n", strerror(errno));
-    set_timeout(_NTO_TIMEOUT_SEND | _NTO_TIMEOUT_REPLY, 20);
+    set_timeout(_NTO_TIMEOUT_REPLY, 5); /* however long it is SEND-blocked before */
     if (MsgSend(to_told, "b", 2, text, sizeof text) == -1)
         printf("REPLY-blocked: %s\n", strerror(errno));
     TimerTimeout(CLOCK_MONOTONIC, _NTO_TIMEOUT_RECEIVE, NULL, NULL, NULL);

@@ -1,4 +1,4 @@
-/* Timers that send pulses: a periodic one, one shot, and a server that works between them. */
+/* Timers that send pulses: a periodic one, and one shot that the fifth tick starts. */
 #include <stdio.h>
 #include <stdlib.h>
 #include <string.h>
@@ -34,7 +34,7 @@ int main(void)
     int chid = ChannelCreate(0);
     int coid = ConnectAttach(ND_LOCAL_NODE, 0, chid, _NTO_SIDE_CHANNEL, 0);
     timer_t tick = make_timer(coid, PULSE_TICK, 10, 10);
-    timer_t end = make_timer(coid, PULSE_END, 500, 0);
+    timer_t end = 0; /* none */
 
     while (!ended) {
         int rcvid = MsgReceive(chid, &msg, sizeof msg, NULL);
@@ -43,6 +43,7 @@ int main(void)
         if (msg.pulse.code == PULSE_TICK && ++ticks == 5) {
             printf("five ticks, of value %d\n", msg.pulse.value.sival_int);
             timer_delete(tick);
+            end = make_timer(coid, PULSE_END, 20, 0);
         }
         ended = msg.pulse.code == PULSE_END;
     }

@@ -3,7 +3,7 @@
  *
  *   pthread_create               takes a null thread. A new thread has the priority of its creator, or with
  *                                PTHREAD_EXPLICIT_SCHED that of its attributes
- *   pthread_attr_setschedparam   takes a priority from 1 to 255 with any policy; one over 99 counts as 99. EINVAL
+ *   pthread_attr_setschedparam, pthread_attr_getschedparam   a priority from 1 to 255 with any policy. EINVAL
  *   pthread_setschedparam, pthread_setschedprio   change a thread's priority. EINVAL; ESRCH: it has no place in the
  *                                kernel, or has ended
  *   pthread_getschedparam        its priority, and the policy that was last set, or SCHED_RR. ESRCH as above
@@ -15,6 +15,7 @@
 #ifndef BALSAEUCHRE_QNX_NO_WRAPPERS
 #pragma redefine_extname pthread_create neutrino_pthread_create
 #pragma redefine_extname pthread_attr_setschedparam neutrino_pthread_attr_setschedparam
+#pragma redefine_extname pthread_attr_getschedparam neutrino_pthread_attr_getschedparam
 #pragma redefine_extname pthread_setschedparam neutrino_pthread_setschedparam
 #pragma redefine_extname pthread_getschedparam neutrino_pthread_getschedparam
 #pragma redefine_extname pthread_setschedprio neutrino_pthread_setschedprio

@@ -1,8 +1,12 @@
-/* The host's string.h, with strlcpy and strlcat where the host has none. */
+/* The host's string.h, with QNX's stricmp and strnicmp, and with strlcpy and strlcat where the host has none. */
 #pragma GCC system_header
 #include_next <string.h>
 #ifndef BALSAEUCHRE_QNX_STRING_H
 #define BALSAEUCHRE_QNX_STRING_H
+#include <strings.h>
+#define stricmp strcasecmp
+#define strnicmp strncasecmp
+
 #if !__GLIBC_PREREQ(2, 38)
 
 /* Copies as much as fits into so many bytes, with a closing 0. Returns the length of from. */

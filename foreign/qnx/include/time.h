@@ -1,13 +1,14 @@
-/* The host's time.h. A timer of SIGEV_PULSE sends a pulse over its connection at each expiry; timer_getoverrun counts
- * those that the kernel refused. Of timer_create: EAGAIN (64 such timers), EINVAL (the pulse's code or priority, or a
- * clock that has no timers), and what a first call fails with. A timer of another event is the host's. */
+/* The host's time.h, with QNX's timer_t. A timer of SIGEV_PULSE sends a pulse over its connection at each expiry;
+ * timer_getoverrun counts those that the kernel refused. A timer of another event is the host's. Of timer_create:
+ * EAGAIN (256 timers), EINVAL (the pulse's code or priority, or a clock that has no timers), EFAULT (no place for the
+ * id), and what a first call fails with. */
 #pragma GCC system_header
 #ifndef BALSAEUCHRE_QNX_NO_WRAPPERS
 #pragma redefine_extname timer_create neutrino_timer_create
 #pragma redefine_extname timer_settime neutrino_timer_settime
 #pragma redefine_extname timer_gettime neutrino_timer_gettime
 #pragma redefine_extname timer_getoverrun neutrino_timer_getoverrun
-#pragma redefine_extname timer_delete neutrino_timer_delete
+#pragma redefine_extname timer_delete TimerDestroy
 #endif
 #include_next <time.h>
 #if defined CLOCK_MONOTONIC && !defined BALSAEUCHRE_QNX_TIME_H
@@ -17,6 +18,7 @@ extern "C" {
 #endif
 
 #define CLOCK_SOFTTIME CLOCK_REALTIME
+typedef char neutrino_timer_t_is_qnxs[sizeof(timer_t) == sizeof(int) ? 1 : -1];
 
 /* A time in nanoseconds, and back. */
 static inline void nsec2timespec(struct timespec *time, unsigned long nanoseconds) {
@@ -27,6 +29,18 @@ static inline void nsec2timespec(struct timespec *time, unsigned long nanosecond
 static inline unsigned long timespec2nsec(const struct timespec *time) {
     return (unsigned long)time->tv_sec * 1000000000u + (unsigned long)time->tv_nsec;
 }
+
+/* Keep the processor busy for a time. Return EOK. */
+static inline int nanospin_ns(unsigned long nanoseconds) {
+    struct timespec now;
+    clock_gettime(CLOCK_MONOTONIC, &now);
+    unsigned long until = timespec2nsec(&now) + nanoseconds;
+    do clock_gettime(CLOCK_MONOTONIC, &now);
+    while (timespec2nsec(&now) < until);
+    return 0;
+}
+
+static inline int nanospin(const struct timespec *time) { return nanospin_ns(timespec2nsec(time)); }
 
 struct sigevent;
 

@@ -34,6 +34,7 @@ static void texts(void) {
     check(strlcpy(text, "abc", sizeof text) == 3 && strcmp(text, "abc") == 0 && text[4] == '-');
     check(strlcat(text, "defghij", sizeof text) == 10 && strcmp(text, "abcdefg") == 0);
     check(strlcpy(text, "0123456789", sizeof text) == 10 && strcmp(text, "0123456") == 0);
+    check(stricmp("aBc", "AbC") == 0 && strnicmp("abX", "ABY", 2) == 0 && stricmp("ab", "ac") < 0);
     check(strlcpy(text, "x", 0) == 1 && strlcat(text, "abc", 4) == 7 && strcmp(text, "0123456") == 0);
 }
 
@@ -63,7 +64,9 @@ void headers(void) {
     atomic_toggle(&shared, 1);
     check(shared == 5 && atomic_set_value(&shared, 2) == 5 && atomic_clr_value(&shared, 4) == 7);
     check(atomic_toggle_value(&shared, 1) == 3 && shared == 2);
-    usleep(2000);
+    struct timespec time = {0, 1500000};
+    check(nanospin_ns(500000) == EOK && nanospin(&time) == EOK);
     uint64_t past = ClockCycles() - before;
-    check(past >= SYSPAGE_ENTRY(qtime)->cycles_per_sec / 1000 && past < 10 * SYSPAGE_ENTRY(qtime)->cycles_per_sec);
+    check(_syspage_ptr->num_cpu == sysconf(_SC_NPROCESSORS_ONLN));
+    check(past >= SYSPAGE_ENTRY(qtime)->cycles_per_sec / 500 && past < 10 * SYSPAGE_ENTRY(qtime)->cycles_per_sec);
 }

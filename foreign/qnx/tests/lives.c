@@ -4,11 +4,13 @@
 enum { STOP = 7 };
 
 static int coid, chid;
-static _Atomic int answered;
+static _Atomic int answered, serving = 1;
 
 static void *serve(void *argument) {
     union { struct _pulse pulse; uint8_t bytes[32]; } message;
     struct _msg_info info;
+    check(getprio(0) > 0); /* takes a place */
+    while (!atomic_load(&serving)) usleep(100);
     for (;;) {
         int rcvid = MsgReceive(chid, &message, sizeof message, &info);
         if (rcvid == 0 && message.pulse.code == STOP) return argument;
@@ -63,12 +65,24 @@ void lives(void) {
     stop(servers, 2);
 }
 
-/* More threads at once than there are places: the others wait. */
+static int taken(void) {
+    int count = 0;
+    for (int tid = 1; tid <= 60; tid++) count += neutrino_state(tid) != -1;
+    return count;
+}
+
+/* More threads at once than there are places: the others wait. No message is answered before all places are taken, and
+ * some have come too late. */
 void crowds(void) {
     enum { AT_ONCE = 80 };
     pthread_t servers[8], threads[AT_ONCE];
+    atomic_store(&serving, 0);
     open_servers(servers, 8);
+    while (taken() < 9) usleep(5000);
     for (int at = 0; at < AT_ONCE; at++) threads[at] = start(ask, (void *)(intptr_t)at);
+    while (taken() < 60) usleep(5000);
+    usleep(20000);
+    atomic_store(&serving, 1);
     for (int at = 0; at < AT_ONCE; at++) result_of(threads[at]);
     check(atomic_load(&answered) == AT_ONCE);
     stop(servers, 8);

@@ -53,9 +53,9 @@ void sends(void), receives(void), replies(void), reads(void), infos(void), resta
 void vectors(void), wrong_parts(void), not_cancelled(void);
 void codes(void), values(void), notes(void), pulse_errors(void), pulses_received(void);
 void events(void), event_errors(void), verified(void);
-void pulse_timers(void), host_timers(void), timer_errors(void);
+void pulse_timers(void), host_timers(void), timer_errors(void), timer_calls(void), clocks(void);
 void timeouts(void), join_timeouts(void), timeout_errors(void);
-void priorities(void), inherited(void), policies(void), attributes(void);
+void priorities(void), inherited(void), policies(void), attributes(void), controls(void);
 void seats(void), reserved(void), deaths(void), first_calls(void), forks(void), delays(void);
 void interrupted(void), handlers(void), in_handlers(void), many_signals(void), cancelled(void), many_cancelled(void);
 void lives(void), crowds(void), echo_1_1(void), echo_40_8(void);

@@ -104,8 +104,38 @@ void policies(void) {
     fails(sched_getscheduler(getpid() + 1), ESRCH);
 }
 
+/* ThreadCtl: names, and what changes nothing. */
+void controls(void) {
+    union { struct _thread_name name; char room[sizeof(struct _thread_name) + 32]; } data = {.name = {3, 0, ""}};
+    char *text = data.name.name_buf, name[16];
+    int mask = 1;
+    memcpy(text, "abcdef", 7);
+    check(ThreadCtl(_NTO_TCTL_NAME, &data) == 0 && strcmp(text, "abcdef") == 0);
+    check(pthread_getname_np(pthread_self(), name, sizeof name) == 0 && strcmp(name, "abc") == 0);
+    data.name.new_name_len = -1;
+    data.name.old_name_len = 32;
+    returns_r(ThreadCtl_r(_NTO_TCTL_NAME, &data), EOK);
+    check(strcmp(text, "abc") == 0);
+    data.name.new_name_len = 20;
+    data.name.old_name_len = 3;
+    memcpy(text, "longer than 15 bytes", 20);
+    check(ThreadCtl(_NTO_TCTL_NAME, &data) == 0 && strcmp(text, "ab") == 0);
+    check(pthread_getname_np(pthread_self(), name, sizeof name) == 0 && strcmp(name, "longer than 15 ") == 0);
+    data.name.new_name_len = 0;
+    data.name.old_name_len = 32;
+    check(ThreadCtl(_NTO_TCTL_NAME, &data) == 0 && strcmp(text, "longer than 15 ") == 0);
+    check(pthread_getname_np(pthread_self(), name, sizeof name) == 0 && !*name);
+    data.name.new_name_len = 101;
+    fails(ThreadCtl(_NTO_TCTL_NAME, &data), E2BIG);
+    fails(ThreadCtl(_NTO_TCTL_NAME, NULL), EFAULT);
+    fails(ThreadCtl(1000, &data), EINVAL);
+    returns_r(ThreadCtl_r(0, &data), EINVAL);
+    check(ThreadCtl(_NTO_TCTL_IO, NULL) == 0 && ThreadCtl(_NTO_TCTL_RUNMASK, &mask) == 0 && mask == 1);
+    check(pthread_setname_np(pthread_self(), "tests") == 0);
+}
+
 void attributes(void) {
-    pthread_attr_t attributes;
+    pthread_attr_t attributes, copy;
     pthread_t thread;
     struct sched_param param = {.sched_priority = 0};
     check(pthread_attr_init(&attributes) == 0);
@@ -121,6 +151,12 @@ void attributes(void) {
     check(pthread_create(&thread, &attributes, answer_policy, NULL) == 0 && result_of(thread) == SCHED_FIFO);
     param.sched_priority = 200;
     check(pthread_attr_setschedparam(&attributes, &param) == 0);
+    check(pthread_attr_setstacksize(&attributes, 1 << 20) == 0);
+    check(pthread_create(&thread, &attributes, answer_priority, NULL) == 0 && result_of(thread) == 200);
+    copy = attributes;
+    param.sched_priority = 99;
+    check(pthread_attr_setschedparam(&attributes, &param) == 0 && pthread_attr_getschedparam(&attributes, &param) == 0);
+    check(param.sched_priority == 99 && pthread_attr_getschedparam(&copy, &param) == 0 && param.sched_priority == 200);
     check(pthread_create(&thread, &attributes, answer_priority, NULL) == 0 && result_of(thread) == 99);
     check(pthread_attr_setdetachstate(&attributes, PTHREAD_CREATE_DETACHED) == 0);
     check(pthread_create(NULL, &attributes, answer_priority, NULL) == 0);
@@ -275,7 +311,9 @@ void delays(void) {
     check(clock_gettime(CLOCK_MONOTONIC, &before) == 0 && delay(20) == 0);
     check(clock_gettime(CLOCK_MONOTONIC, &after) == 0);
     check((after.tv_sec - before.tv_sec) * 1000 + (after.tv_nsec - before.tv_nsec) / 1000000 >= 19);
-    check(signal(SIGALRM, on_alarm) != SIG_ERR && alarm(1) == 0);
+    check(signal(SIGALRM, on_alarm) != SIG_ERR);
+    ualarm(500000, 500000); /* again, in case it sleeps late */
     unsigned left = delay(60000);
-    check(left > 50000 && left < 60000 && signal(SIGALRM, SIG_DFL) == on_alarm);
+    ualarm(0, 0);
+    check(left > 0 && left < 60000 && signal(SIGALRM, SIG_DFL) == on_alarm);
 }

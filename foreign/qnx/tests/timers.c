@@ -1,13 +1,14 @@
 /* Timers and timeouts, with each of their errors. */
 #include "tests.h"
 
-static timer_t pulse_timer(int coid, int code, long first, long every) {
+static timer_t pulse_timer(int coid, int code, uint64_t first, long every) {
     struct sigevent event;
-    struct itimerspec time = {{0, every}, {0, first}}, old;
+    struct itimerspec time = {.it_interval = {0, every}}, old;
     timer_t id;
+    nsec2timespec(&time.it_value, first);
     SIGEV_PULSE_INIT(&event, coid, SIGEV_PULSE_PRIO_INHERIT, code, 11);
     check(timer_create(CLOCK_MONOTONIC, &event, &id) == 0 && timer_settime(id, 0, &time, &old) == 0);
-    check(old.it_value.tv_nsec == 0);
+    check(old.it_value.tv_sec == 0 && old.it_value.tv_nsec == 0);
     return id;
 }
 
@@ -22,14 +23,15 @@ void pulse_timers(void) {
         check(pulse.value.sival_int == 11 && timer_getoverrun(ticks) == 0);
     }
     check(timer_gettime(ticks, &time) == 0 && time.it_interval.tv_nsec == 10000000 && timer_delete(ticks) == 0);
-    usleep(15000);
-    set_timeout(_NTO_TIMEOUT_RECEIVE, 0);
-    while (MsgReceivePulse(chid, &pulse, sizeof pulse, NULL) == 0) set_timeout(_NTO_TIMEOUT_RECEIVE, 0);
-    timer_t once = pulse_timer(coid, 3, 999999999, 0);
+    timer_t once = pulse_timer(coid, 3, 1000000000000, 0);
     check(clock_gettime(CLOCK_MONOTONIC, &now) == 0);
     time = (struct itimerspec){{0, 0}, now};
-    check(timer_settime(once, TIMER_ABSTIME, &time, &left) == 0 && left.it_value.tv_nsec > 0); /* over at once */
-    check(MsgReceivePulse(chid, &pulse, sizeof pulse, NULL) == 0 && pulse.code == 3 && timer_delete(once) == 0);
+    check(timer_settime(once, TIMER_ABSTIME, &time, &left) == 0 && left.it_value.tv_sec > 900); /* over at once */
+    do check(MsgReceivePulse(chid, &pulse, sizeof pulse, NULL) == 0); /* a tick may have been under way */
+    while (pulse.code == -9);
+    check(pulse.code == 3 && timer_delete(once) == 0);
+    set_timeout(_NTO_TIMEOUT_RECEIVE, 30000000);
+    fails(MsgReceivePulse(chid, &pulse, sizeof pulse, NULL), ETIMEDOUT); /* no more ticks */
     ticks = pulse_timer(coid, 4, 1000000, 1000000);
     check(ConnectDetach(coid) == 0 && ChannelDestroy(chid) == 0);
     while (timer_getoverrun(ticks) == 0) usleep(100); /* it has no connection */
@@ -76,7 +78,7 @@ void host_timers(void) {
 }
 
 void timer_errors(void) {
-    static timer_t all[64];
+    static timer_t all[256];
     struct sigevent event;
     struct itimerspec time = {{0, 0}, {0, 1}}, wrong = {{0, 0}, {0, -1}};
     int chid = ChannelCreate(0), coid = attach(chid);
@@ -86,15 +88,72 @@ void timer_errors(void) {
     fails(timer_create(CLOCK_MONOTONIC, &event, &all[0]), EINVAL);
     SIGEV_PULSE_INIT(&event, coid, 1, 1, 1);
     fails(timer_create(9999, &event, &all[0]), EINVAL);
-    for (int at = 0; at < 64; at++) check(timer_create(CLOCK_REALTIME, &event, &all[at]) == 0);
+    fails(timer_create(CLOCK_REALTIME, &event, NULL), EFAULT);
+    for (int at = 0; at < 256; at++) check(timer_create(CLOCK_REALTIME, &event, &all[at]) == 0 && all[at] > 0);
     fails(timer_create(CLOCK_REALTIME, &event, &all[0]), EAGAIN);
     fails(timer_settime(all[3], 0, &wrong, NULL), EINVAL);
-    for (int at = 0; at < 64; at++) check(timer_delete(all[at]) == 0);
+    for (int at = 0; at < 256; at++) check(timer_delete(all[at]) == 0);
     fails(timer_delete(all[5]), EINVAL);
+    fails(timer_delete(0), EINVAL);
+    fails(timer_delete(257), EINVAL);
     fails(timer_settime(all[5], 0, &time, NULL), EINVAL);
     fails(timer_gettime(all[5], &time), EINVAL);
     fails(timer_getoverrun(all[5]), EINVAL);
     check(ConnectDetach(coid) == 0 && ChannelDestroy(chid) == 0);
+}
+
+/* QNX's own calls, over the same timers. */
+void timer_calls(void) {
+    struct _pulse pulse;
+    struct sigevent event;
+    struct _timer_info info;
+    struct _itimer time = {1000000000000, 2000000000}, old = {1, 1};
+    int chid = ChannelCreate(0), coid = attach(chid), id;
+    SIGEV_PULSE_INIT(&event, coid, 21, 7, 8);
+    check((id = TimerCreate(CLOCK_MONOTONIC, &event)) > 0 && TimerSettime(id, 0, &time, &old) == 0);
+    check(old.nsec == 0 && old.interval_nsec == 0 && TimerSettime(id, 0, &time, &old) == 0);
+    check(old.nsec > 900000000000 && old.nsec <= time.nsec && old.interval_nsec == time.interval_nsec);
+    check(TimerInfo(0, id, 0, &info) == id && info.otime.nsec > 900000000000 && info.otime.nsec <= time.nsec);
+    check(info.otime.interval_nsec == 2000000000 && info.flags == _NTO_TI_ACTIVE && info.clockid == CLOCK_MONOTONIC);
+    check(info.notify == SIGEV_PULSE && info.event.sigev_coid == coid && info.overruns == 0);
+    timer_t alarm = TimerCreate_r(CLOCK_REALTIME, NULL);
+    check(alarm > id && TimerInfo_r(getpid(), alarm, 0, &info) == alarm && info.notify == SIGEV_SIGNAL);
+    check(info.event.sigev_signo == SIGALRM && info.flags == 0);
+    returns_r(TimerDestroy_r(id), EOK);
+    check(TimerInfo(0, id, _NTO_TIMER_SEARCH, &info) == alarm && TimerDestroy(alarm) == 0);
+    fails(TimerInfo(0, id, _NTO_TIMER_SEARCH, &info), EINVAL);
+    check((id = TimerCreate(CLOCK_MONOTONIC, &event)) > 0 && ClockTime(CLOCK_MONOTONIC, NULL, &time.nsec) == 0);
+    time.interval_nsec = 0;
+    returns_r(TimerSettime_r(id, TIMER_ABSTIME, &time, NULL), EOK);
+    check(MsgReceivePulse(chid, &pulse, sizeof pulse, NULL) == 0 && pulse.code == 7 && pulse.value.sival_int == 8);
+    check(TimerInfo(0, id, 0, &info) == id && info.flags == _NTO_TI_ABSOLUTE && info.otime.nsec == 0);
+    fails(TimerSettime(id, 0, NULL, NULL), EFAULT);
+    fails(TimerInfo(0, id, 0, NULL), EFAULT);
+    fails(TimerInfo(getpid() + 1, id, 0, &info), ESRCH);
+    check(TimerDestroy(id) == 0);
+    fails(TimerDestroy(id), EINVAL);
+    returns_r(TimerSettime_r(id, 0, &time, NULL), EINVAL);
+    fails_r(TimerInfo_r(0, id, 0, &info), EINVAL);
+    fails_r(TimerCreate_r(9999, &event), EINVAL);
+    check(ConnectDetach(coid) == 0 && ChannelDestroy(chid) == 0);
+}
+
+void clocks(void) {
+    struct _clockperiod period = {0, 1};
+    struct timespec now;
+    uint64_t time = 0, later = 0;
+    check(clock_gettime(CLOCK_REALTIME, &now) == 0 && ClockTime(CLOCK_REALTIME, NULL, &time) == 0);
+    check(time >= timespec2nsec(&now) && ClockTime(CLOCK_REALTIME, NULL, NULL) == 0);
+    check(ClockTime(CLOCK_MONOTONIC, NULL, &time) == 0 && ClockTime(CLOCK_MONOTONIC, NULL, &later) == 0);
+    check(later >= time && later < time + 1000000000000);
+    fails(ClockTime(CLOCK_REALTIME, &time, &later), EPERM);
+    fails(ClockTime(CLOCK_MONOTONIC, &time, &later), EINVAL);
+    fails(ClockTime(9999, NULL, &later), EINVAL);
+    returns_r(ClockTime_r(9999, NULL, &later), EINVAL);
+    check(ClockPeriod(CLOCK_REALTIME, NULL, &period, 0) == 0 && period.nsec > 0 && period.fract == 0);
+    fails(ClockPeriod(CLOCK_MONOTONIC, NULL, &period, 0), EINVAL);
+    fails(ClockPeriod(CLOCK_REALTIME, NULL, &period, 1), EINVAL);
+    returns_r(ClockPeriod_r(CLOCK_REALTIME, &period, NULL, 0), EPERM);
 }
 
 void timeouts(void) {

@@ -26,7 +26,15 @@ impl Daemon {
     }
 
     fn connect(&self) -> Port {
-        Port::connect(&self.path).unwrap()
+        loop {
+            match Port::connect(&self.path) {
+                // It is about to listen, or has a place in a moment.
+                Err(error) if matches!(error.kind(), ErrorKind::ConnectionRefused | ErrorKind::WouldBlock) => {
+                    thread::sleep(Duration::from_millis(5));
+                }
+                port => return port.unwrap(),
+            }
+        }
     }
 
     /// Runs this test once more, as another program.
@@ -176,7 +184,6 @@ fn places_and_ends() {
     let mut ports: Vec<Port> = (0..4).map(|_| daemon.connect()).collect();
     assert_eq!(Port::connect(&daemon.path).err().unwrap().kind(), ErrorKind::WouldBlock);
     ports.pop();
-    thread::sleep(Duration::from_millis(50));
     ports.push(daemon.connect());
     let channel = ports[0].channel_create(ChannelFlags::NONE).unwrap();
     let mut waiter = ports.pop().unwrap();

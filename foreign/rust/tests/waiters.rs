@@ -105,10 +105,10 @@ fn a_timeout_is_tried_again() {
         let to = client.connect_attach(channel).unwrap();
         (0..1024).for_each(|value| other.msg_send_pulse(to, 1, 1, value).unwrap());
         thread::scope(|scope| {
-            let sent = scope.spawn(|| client.timeout(300 * MILLI).msg_send(to, b"a", &mut []).err());
+            let sent = scope.spawn(|| client.timeout(1000 * MILLI).msg_send(to, b"a", &mut []).err());
             until(&mut server, 2, ThreadState::SendBlocked(channel));
             let rcvid = message(server.msg_receive(channel, &mut []));
-            thread::sleep(400 * MILLI);
+            thread::sleep(1100 * MILLI);
             // There is room again, as the server takes the others.
             while server.msg_receive_pulse(channel).unwrap().what != What::Unblock(rcvid) {}
             server.msg_error(rcvid, 5).unwrap();

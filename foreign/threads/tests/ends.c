@@ -1,7 +1,7 @@
 /* Calls that wait and are ended by force: unblocked, timed out, detached, destroyed under, shut down. */
 #include "tests.h"
 
-enum { SHORT = 1000000, LONG = 300000000, SENDING = _NTO_TIMEOUT_SEND | _NTO_TIMEOUT_REPLY };
+enum { SHORT = 1000000, SENDING = _NTO_TIMEOUT_SEND | _NTO_TIMEOUT_REPLY };
 
 void unblocks(void) {
     neutrino *kernel = open_few();
@@ -43,6 +43,16 @@ void unblocks(void) {
     close_few(kernel);
 }
 
+/* Sends once thread 1 has waited for a while, so that its message is received at once. */
+static void *send_to_receiver(void *argument) {
+    struct job *job = argument;
+    check(neutrino_join(job->kernel, job->tid) == 0);
+    until_state(1, STATE_RECEIVE);
+    usleep(20000);
+    check(neutrino_leave() == 0);
+    return send_once(job);
+}
+
 void timeouts(void) {
     neutrino *kernel = open_few();
     struct _pulse pulse;
@@ -54,14 +64,13 @@ void timeouts(void) {
     fails(MsgReceive(plain, room, sizeof room, NULL), ETIMEDOUT); /* the message is gone */
     check(TimerTimeout(CLOCK_REALTIME, _NTO_TIMEOUT_RECEIVE, NULL, NULL, NULL) == 0);
     fails(MsgReceivePulse(plain, room, sizeof room, NULL), ETIMEDOUT);
-    job.time = LONG;
-    pthread_t client = start(send_once, &job);
+    pthread_t client = start(send_to_receiver, &job);
     int rcvid = MsgReceive(plain, room, sizeof room, NULL);
     check(rcvid > 0 && result_of(client) == -ETIMEDOUT);
     fails(MsgReply(rcvid, 0, NULL, 0), ESRCH);
     job.chid = told;
     job.coid = 0;
-    client = start(send_once, &job);
+    client = start(send_to_receiver, &job);
     rcvid = MsgReceive(told, room, sizeof room, NULL);
     check(rcvid > 0 && MsgReceivePulse(told, &pulse, sizeof pulse, NULL) == 0);
     check(pulse.code == _PULSE_CODE_UNBLOCK && pulse.value.sival_int == rcvid && neutrino_state(2) == STATE_REPLY);
@@ -83,11 +92,6 @@ static void timeout_errors(void) {
     fails(TimerTimeout(CLOCK_PROCESS_CPUTIME_ID, SENDING, NULL, &time, NULL), EINVAL);
 }
 
-static void *send_later(void *job) {
-    usleep(20000);
-    return send_once(job);
-}
-
 /* A timeout holds for its states alone, and for one call. */
 void timeout_states(void) {
     neutrino *kernel = open_few();
@@ -103,10 +107,10 @@ void timeout_states(void) {
     check(result_of(client) == -ETIMEDOUT);
     fails(MsgReply(rcvid, 0, NULL, 0), ESRCH);
     job.states = _NTO_TIMEOUT_SEND;
-    job.time = 50000000;
-    client = start(send_once, &job);
+    job.time = 5 * SHORT;
+    client = start(send_to_receiver, &job);
     rcvid = MsgReceive(chid, room, sizeof room, NULL);
-    usleep(100000);
+    usleep(50000);
     check(neutrino_state(2) == STATE_REPLY && MsgReply(rcvid, 8, NULL, 0) == 0 && result_of(client) == 8);
     job.states = _NTO_TIMEOUT_RECEIVE;
     job.time = 0;
@@ -117,7 +121,7 @@ void timeout_states(void) {
     set_timeout(_NTO_TIMEOUT_RECEIVE, 0);
     check(neutrino_state(0) == STATE_READY); /* takes the timeout */
     job.states = 0;
-    client = start(send_later, &job);
+    client = start(send_to_receiver, &job);
     check((rcvid = MsgReceive(chid, room, sizeof room, NULL)) > 0); /* waits */
     check(MsgReply(rcvid, 2, NULL, 0) == 0 && result_of(client) == 2);
     client = start(send_once, &job);

@@ -305,9 +305,70 @@ int MsgUnregisterEvent_r(const struct sigevent *event);
 int TimerTimeout(clockid_t id, int flags, const struct sigevent *notify, const uint64_t *ntime, uint64_t *otime);
 int TimerTimeout_r(clockid_t id, int flags, const struct sigevent *notify, const uint64_t *ntime, uint64_t *otime);
 
+/* In nanoseconds. An interval of 0: the timer expires once. */
+struct _itimer {
+    uint64_t nsec;
+    uint64_t interval_nsec;
+};
+
+#define _NTO_TI_ACTIVE 0x1u   /* it has a time to expire */
+#define _NTO_TI_ABSOLUTE 0x2u /* it was set last with TIMER_ABSTIME */
+#define _NTO_TIMER_SEARCH 0x1
+
+struct _timer_info {
+    struct _itimer itime; /* both: the time that is left, and the interval */
+    struct _itimer otime;
+    uint32_t flags;
+    int32_t tid; /* 0 */
+    int32_t notify;
+    clockid_t clockid;
+    uint32_t overruns;
+    struct sigevent event;
+};
+
+/* The timers of time.h: TimerCreate returns the id; an event of null is SIGALRM. TimerInfo returns the id of the timer
+ * that it tells of, which with _NTO_TIMER_SEARCH may be the next one. -1: EINVAL (no such timer), EFAULT (no itime or
+ * info), ESRCH (another process), and the errors of timer_create and timer_settime. */
+int TimerCreate(clockid_t id, const struct sigevent *event);
+int TimerCreate_r(clockid_t id, const struct sigevent *event);
+int TimerDestroy(timer_t id);
+int TimerDestroy_r(timer_t id);
+int TimerSettime(timer_t id, int flags, const struct _itimer *itime, struct _itimer *oitime);
+int TimerSettime_r(timer_t id, int flags, const struct _itimer *itime, struct _itimer *oitime);
+int TimerInfo(pid_t pid, timer_t id, int flags, struct _timer_info *info);
+int TimerInfo_r(pid_t pid, timer_t id, int flags, struct _timer_info *info);
+
+struct _clockperiod {
+    uint32_t nsec;
+    int32_t fract; /* 0 */
+};
+
+/* Give the nanoseconds of a clock since 1970, or since it began; and the period of CLOCK_REALTIME. No program sets them:
+ * EPERM if new is not null. EINVAL: no such clock; of ClockPeriod also another one, or reserved is not 0. */
+int ClockTime(clockid_t id, const uint64_t *new_time, uint64_t *old);
+int ClockTime_r(clockid_t id, const uint64_t *new_time, uint64_t *old);
+int ClockPeriod(clockid_t id, const struct _clockperiod *new_period, struct _clockperiod *old, int reserved);
+int ClockPeriod_r(clockid_t id, const struct _clockperiod *new_period, struct _clockperiod *old, int reserved);
+
 /* ---- threads */
 
 #define _NTO_THREAD_NAME_MAX 100 /* of which pthread_setname_np keeps 15 */
+
+struct _thread_name {
+    int32_t new_name_len; /* -1: the name stays */
+    int32_t old_name_len; /* how many bytes name_buf has for the old name; 0: it isn't wanted */
+    char name_buf[1];     /* and more behind: the new name, and then the old one with a closing 0 */
+};
+
+#define _NTO_TCTL_IO 1 /* these four change nothing: there is no hardware, and the host schedules */
+#define _NTO_TCTL_IO_PRIV 2
+#define _NTO_TCTL_IO_LEVEL 3
+#define _NTO_TCTL_RUNMASK 4
+#define _NTO_TCTL_NAME 11 /* data is a struct _thread_name */
+
+/* Controls the calling thread. EINVAL: another command; EFAULT: no data of a name; E2BIG: a name of over 100 bytes. */
+int ThreadCtl(int cmd, void *data);
+int ThreadCtl_r(int cmd, void *data);
 
 /* Sets the priority of a thread (0: the caller), or gets it and returns its policy, which is the one last set, or
  * SCHED_RR. A tid may also be what pthread_self returned. ESRCH: another process, or no such thread; EINVAL, EFAULT. */
