@@ -1,7 +1,8 @@
 //! Unproved: words and layout. Recognizes what is often written in a script by mistake, and says
 //! what to write in its place.
 
-use qreading::grammar::{CALLS, FLAGS, Form, Operand};
+use qbase::errno;
+use qreading::grammar::{CALLS, ERROR_WORDS, FLAGS, Form, Operand, errno_of};
 use qreading::lexing::token::{Sort, Token};
 use qreading::near::{quotation, unknown_call};
 use qreading::place::{Fault, ReadError, fault_in_words};
@@ -9,14 +10,20 @@ use qreading::reading::call::is;
 use std::alloc::{AllocError, Global};
 use std::str;
 
-/// Returns the form of the call that has this name, here or in QNX: there in any case, with or without underscores.
-pub fn form_meant(alloc: Global, word: &[u8]) -> Result<Option<Form>, AllocError> {
+/// Returns a word in lowercase, without underscores.
+fn lowercase(alloc: Global, word: &[u8]) -> Result<Vec<u8>, AllocError> {
     let mut plain = Vec::new(alloc);
     for byte in word {
         if *byte != b'_' {
             plain.push(byte.to_ascii_lowercase())?;
         }
     }
+    Ok(plain)
+}
+
+/// Returns the form of the call that has this name, here or in QNX: there in any case, with or without underscores.
+pub fn form_meant(alloc: Global, word: &[u8]) -> Result<Option<Form>, AllocError> {
+    let plain = lowercase(alloc, word)?;
     let mut forms = CALLS.iter().copied();
     Ok(forms.find(|form| {
         let mut names = form.qnx_names.iter();
@@ -122,11 +129,77 @@ pub fn push_operand_hint(
 ) -> Result<(), AllocError> {
     match operand {
         Operand::Flags => push_flag_hint(wanted, word),
+        Operand::ErrorCode => push_code_hint(wanted, word),
         Operand::Message | Operand::ReplyBuffer | Operand::Buffer | Operand::Data => {
             push_bytes_hint(wanted, word)
         }
         _ => Ok(()),
     }
+}
+
+/// QNX's errors with the names and the numbers that servers answer with: the front of its `errno.h`, and the timeout.
+static ERROR_CODES: [(&str, i32); 24] = [
+    ("EPERM", 1),
+    ("ENOENT", 2),
+    ("ESRCH", 3),
+    ("EINTR", 4),
+    ("EIO", 5),
+    ("ENXIO", 6),
+    ("E2BIG", 7),
+    ("EBADF", 9),
+    ("EAGAIN", 11),
+    ("ENOMEM", 12),
+    ("EACCES", 13),
+    ("EFAULT", 14),
+    ("EBUSY", 16),
+    ("EEXIST", 17),
+    ("ENODEV", 19),
+    ("EINVAL", 22),
+    ("ENFILE", 23),
+    ("EMFILE", 24),
+    ("ENOSPC", 28),
+    ("EROFS", 30),
+    ("EPIPE", 32),
+    ("ERANGE", 34),
+    ("EOK", 0),
+    ("ETIMEDOUT", 260),
+];
+
+/// Adds the number of an error that is given by its name in QNX, if it is known.
+fn push_code_hint(wanted: &mut String, word: &[u8]) -> Result<(), AllocError> {
+    let mut codes = ERROR_CODES.iter();
+    match codes.find(|(name, _)| is(word, name)) {
+        Some((_, code)) => write!(wanted, ": write {code}"),
+        None => Ok(()),
+    }
+}
+
+/// Returns the words for one that isn't a number of an ending, with its number if it names an error in QNX.
+pub fn number_words(alloc: Global, word: &[u8]) -> Result<String, AllocError> {
+    let mut text = String::from_str(alloc, "a number is wanted, or * for any")?;
+    push_code_hint(&mut text, word)?;
+    Ok(text)
+}
+
+/// Returns the word of the error that has this name in QNX, in any case; that of a timeout is that of an `unblock`.
+fn error_meant(alloc: Global, word: &[u8]) -> Result<Option<&'static str>, AllocError> {
+    let plain = lowercase(alloc, word)?;
+    let meant = match plain.as_slice() {
+        b"enomem" => b"nomemory".as_slice(),
+        b"etimedout" => b"intr".as_slice(),
+        [b'e', rest @ ..] => rest,
+        all => all,
+    };
+    Ok(errno_of(meant).map(errno::word))
+}
+
+/// Returns which words name errors, and what to write in place of this one, if it is the name of one in QNX.
+pub fn error_words(alloc: Global, word: &[u8]) -> Result<String, AllocError> {
+    let mut text = String::from_str(alloc, ERROR_WORDS)?;
+    if let Some(meant) = error_meant(alloc, word)? {
+        write!(text, ": write {meant}")?;
+    }
+    Ok(text)
 }
 
 /// Returns the number of a flag, given by its name in any of QNX's spellings or by its number.

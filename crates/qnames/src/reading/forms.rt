@@ -3,12 +3,13 @@
 ghost use Rattle.std.specs.Prelude.{◌≤◌, length};
 
 use crate::expectation::{Ending, Pattern};
+use crate::hints::{error_words, number_words};
 use crate::line::{Kind, Operand};
 use crate::reading::operands::id;
 use qbase::bytes::Bytes;
 use qbase::errno;
 use qreading::fault::ParseError;
-use qreading::grammar::{ERROR_WORDS, ERRORS, Operand as Slot, errno_of};
+use qreading::grammar::{ERRORS, Operand as Slot, errno_of};
 use qreading::lexing::name::is_name;
 use qreading::lexing::token::{Sort, Token};
 use qreading::lexing::values::{size_of, text_bytes, wanted, word_of};
@@ -93,7 +94,10 @@ fn form_of(table: Table, token: &Token<'_>) -> Option<(&'static str, &'static [P
 fn number(alloc: Global, token: &Token<'_>) -> Result<i128, ReadError> {
     match signed_number(token.bytes) {
         Some(value) if token.sort == Sort::Word => Ok(value),
-        _ => Err(wanted(alloc, token, "a number is wanted, or * for any")),
+        _ => {
+            let words = number_words(alloc, token.bytes)?;
+            Err(wanted(alloc, token, words.as_str()))
+        }
     }
 }
 
@@ -109,7 +113,8 @@ fn errno(alloc: Global, token: &Token<'_>) -> Result<&'static str, ReadError> {
         .map(|errno| errno::word(*errno))
         .collect(alloc)?;
     let word = quotation(token.bytes);
-    let what = no_such(alloc, word, words.as_slice(), "is no error", ERROR_WORDS);
+    let all = error_words(alloc, token.bytes)?;
+    let what = no_such(alloc, word, words.as_slice(), "is no error", all.as_str());
     Err(fault_at(token.place, what))
 }
 

@@ -1,6 +1,6 @@
 //! Reads the operands of a call.
 
-use crate::hints::text_hint;
+use crate::hints::{push_operand_hint, text_hint};
 use crate::line::{Kind, Mention, Operand};
 use qreading::grammar::{FLAGS, Operand as Slot};
 use qreading::lexing::name::is_name;
@@ -13,7 +13,9 @@ use std::alloc::Global;
 /// Reads a word as plain scripts have it.
 fn plain(alloc: Global, slot: Slot, token: &Token<'_>) -> Result<Operand, ReadError> {
     if token.sort != Sort::Word || slot.fault_of(alloc, token.bytes)?.is_some() {
-        return Err(wanted(alloc, token, slot.wanted_words()));
+        let mut what = String::from_str(alloc, slot.wanted_words())?;
+        push_operand_hint(&mut what, slot, token.bytes)?;
+        return Err(wanted(alloc, token, what.as_str()));
     }
     Ok(Operand::Plain(word_of(alloc, token.bytes)?))
 }

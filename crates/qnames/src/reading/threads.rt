@@ -128,10 +128,14 @@ pub fn state_line(
         let what = "a state is missing: THREAD is STATE";
         return Err(fault_in_words(alloc, is.behind(), what));
     };
+    let state = state(alloc, name)?;
+    if let ("ready", [first, ..]) = (state, rest) {
+        return Err(wanted(alloc, first, "a ready thread is blocked on no channel"));
+    }
     Ok(StateCheck {
         calls,
         thread: id(alloc, Kind::Thread, Slot::Thread, thread)?,
-        state: state(alloc, name)?,
+        state,
         channel: channel(alloc, rest)?,
         text,
         place: is.place,
