@@ -13,7 +13,7 @@ ghost use Rattle.balsaeuchre_uses.specs.Answered.{is_sent, ToldAfterAnswer};
 
 use crate::two_threads::serve;
 use balsaeuchre::calls::{
-    Answer, CallError, Caller, Endpoint, KernelPort, PortCaller, Result, State,
+    Answer, CallError, Caller, Calls, Endpoint, KernelPort, PortCaller, Result, State,
 };
 use balsaeuchre::laws::in_real_time;
 use balsaeuchre::shared::{Kept, Log, Parts, Seen, Shared, Tie};

@@ -3,7 +3,7 @@
 
 ghost use Rattle.balsaeuchre.specs.Naming.{AreParts};
 
-use balsaeuchre::calls::{CallError, Caller, Endpoint, Received, Result};
+use balsaeuchre::calls::{CallError, Caller, Calls, Endpoint, Received, Result};
 use balsaeuchre::shared::{Kept, Parts, Shared, Tie};
 use balsaeuchre::{ChannelFlags, ChannelId, Priority, ProcessNo, Roster, ThreadNo, What};
 use std::alloc::Global;

@@ -4,7 +4,7 @@
 ghost use Rattle.std.specs.Prelude.{◌≡◌, ◌++◌, [], ◌∷◌, true, false, IfOk, IfSome, IfNone, OnErr, Some, None, if◌then◌else◌};
 
 use crate::reply::Reply;
-use balsaeuchre::calls::{CallError, Received};
+use balsaeuchre::calls::{CallError, Calls, Received};
 use balsaeuchre::simulator::{Outcome, Simulator};
 use balsaeuchre::{
     ChannelFlags, ChannelId, ConnectionId, Errno, Priority, ProcessNo, ReceiveId, Roster, ThreadNo,
@@ -86,14 +86,16 @@ impl Client {
     ) -> Result<Client, CallError> {
         Ok(Client {
             thread,
-            coid: simulator.connect_attach(thread, chid)?,
+            coid: simulator.thread(thread).connect_attach(chid)?,
             call: 0,
         })
     }
 
     /// Sends a wish, which blocks the client.
     fn wish(&mut self, simulator: &mut Simulator, wish: u8) -> Result<(), CallError> {
-        let _blocked = simulator.msg_send(self.thread, self.coid, &[wish], 0)?;
+        let _blocked = simulator
+            .thread(self.thread)
+            .msg_send(self.coid, &[wish], 0)?;
         self.call = simulator.kernel().made();
         Ok(())
     }
@@ -137,19 +139,20 @@ fn serve_one(
     chid: ChannelId,
     resource: &mut Resource,
 ) -> Result<(), CallError> {
-    let Outcome::Done(Received::Message(request)) = simulator.msg_receive(SERVER, chid, 1)? else {
+    let Outcome::Done(Received::Message(request)) = simulator.thread(SERVER).msg_receive(chid, 1)?
+    else {
         return Err(CallError::Unexpected);
     };
     let next = match request.bytes() {
         [TAKE] => resource.ask(request.rcvid)?,
         [GIVE_BACK] => {
-            simulator.msg_reply(SERVER, request.rcvid, 0, b"")?;
+            simulator.thread(SERVER).msg_reply(request.rcvid, 0, b"")?;
             resource.give_back()
         }
         _ => return Err(CallError::Unexpected),
     };
     match next {
-        Some(rcvid) => simulator.msg_reply(SERVER, rcvid, 0, b""),
+        Some(rcvid) => simulator.thread(SERVER).msg_reply(rcvid, 0, b""),
         None => Ok(()),
     }
 }
@@ -170,7 +173,9 @@ fn ask(
 /// came.
 pub fn kept_waiting(alloc: Global) -> Result<Vec<Reply>, CallError> {
     let mut simulator = simulator_of_three(alloc)?;
-    let chid = simulator.channel_create(SERVER, ChannelFlags::of(0))?;
+    let chid = simulator
+        .thread(SERVER)
+        .channel_create(ChannelFlags::of(0))?;
     let mut first = Client::attach(&mut simulator, FIRST, chid)?;
     let mut second = Client::attach(&mut simulator, SECOND, chid)?;
     let mut resource = Resource::new(alloc);

@@ -2,7 +2,7 @@
 //! takes the answer.
 
 use crate::reply::Reply;
-use balsaeuchre::calls::{CallError, Received};
+use balsaeuchre::calls::{CallError, Calls, Received};
 use balsaeuchre::simulator::{Outcome, Simulator};
 use balsaeuchre::{
     ChannelFlags, ChannelId, ConnectionId, Errno, Priority, ProcessNo, Roster, ThreadNo,
@@ -29,23 +29,28 @@ fn roster_of_two(alloc: Global) -> Result<Roster, Errno> {
 
 /// Creates the server's channel, and attaches the client to it.
 fn connect(simulator: &mut Simulator) -> Result<(ChannelId, ConnectionId), CallError> {
-    let chid = simulator.channel_create(SERVER, ChannelFlags::of(0))?;
-    Ok((chid, simulator.connect_attach(CLIENT, chid)?))
+    let chid = simulator
+        .thread(SERVER)
+        .channel_create(ChannelFlags::of(0))?;
+    Ok((chid, simulator.thread(CLIENT).connect_attach(chid)?))
 }
 
 /// Lets the server receive a message, and answer it with the buffer into which it received it.
 fn serve(simulator: &mut Simulator, chid: ChannelId) -> Result<(), CallError> {
-    let Outcome::Done(Received::Message(request)) = simulator.msg_receive(SERVER, chid, 8)? else {
+    let Outcome::Done(Received::Message(request)) = simulator.thread(SERVER).msg_receive(chid, 8)?
+    else {
         return Err(CallError::Unexpected);
     };
-    simulator.msg_reply(SERVER, request.rcvid, 0, request.buffer.as_slice())
+    simulator
+        .thread(SERVER)
+        .msg_reply(request.rcvid, 0, request.buffer.as_slice())
 }
 
 /// Lets the client send a message, and the server answer it.
 pub fn echo(alloc: Global, message: &[u8]) -> Result<Reply, CallError> {
     let mut simulator = simulator_of_two(alloc)?;
     let (chid, coid) = connect(&mut simulator)?;
-    let _blocked = simulator.msg_send(CLIENT, coid, message, 8)?;
+    let _blocked = simulator.thread(CLIENT).msg_send(coid, message, 8)?;
     let call = simulator.kernel().made();
     serve(&mut simulator, chid)?;
     let ending = simulator.take(CLIENT).ok_or(CallError::Unexpected)?;

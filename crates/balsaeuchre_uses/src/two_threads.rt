@@ -4,7 +4,9 @@ ghost use Rattle.std.specs.Prelude.{IfOk};
 ghost use Rattle.balsaeuchre.specs.Closing.{IsPast};
 ghost use Rattle.balsaeuchre.specs.Naming.{AreParts};
 
-use balsaeuchre::calls::{CallError, Caller, Endpoint, Received, Result, close, two_callers};
+use balsaeuchre::calls::{
+    CallError, Caller, Calls, Endpoint, Received, Result, close, two_callers,
+};
 use balsaeuchre::shared::{Kept, Parts, Shared, Tie};
 use balsaeuchre::{ChannelFlags, ChannelId, Priority, ProcessNo, Roster, ThreadNo, Trace};
 use std::alloc::Global;

@@ -9,8 +9,7 @@ use Rattle.qshared.specs.declared.port.Called.TheVariants as called
 use Rattle.qshared.specs.declared.port.CalledBoth.{CalledBoth}
 use Rattle.qshared.specs.declared.port.CalledBoth.TheVariants.{Both, First}
 use Rattle.qcalls.specs.History.{History, told_by, told_by_both}
-use Rattle.qcalls.specs.Making.{MakesSome}
-use Rattle.qcalls.specs.Results.{done_in}
+use Rattle.qcalls.specs.Making.{MakesSome, ending_in}
 use Rattle.qcalls.specs.declared.error.CallError.{CallError}
 use Rattle.qcalls.specs.declared.error.CallError.TheVariants.{NoClock, NoMemory}
 
@@ -75,5 +74,5 @@ ComesOfBothBytes history seen came came_both before first second sees after resu
 -- the kernel is asked to shut down, and what the answer says holds
 pub record ShutsDown {E : Type 0} (history : E → History) (came : Says E) (before : E) (after : History)
     (seen : Trace) : Type 0 where
-  pub makes : MakesSome done_in Shutdown (history before) after
+  pub makes : MakesSome ending_in Shutdown (history before) after
   pub came_of : ComesOf history came before Shutdown seen after

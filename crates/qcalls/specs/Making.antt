@@ -79,3 +79,14 @@ abbrev pub MakesBothOfBytes : {A : Type 0} → Reading A → Call → Call → H
     → Result A CallError → Type 0
 MakesBothOfBytes read first second before after result =
     MakesBoth read first second before after result ⊎ ((after ≡ before) × (result ≡ Err NoMemory))
+
+-- this is said of the ending of a call, or of its error, and the result is read off that ending
+abbrev pub Reads : {A : Type 0} → Reading A → (Result Ending CallError → Type 0) → Result A CallError → Type 0
+Reads read said result =
+    (ending : Result Ending CallError) × said ending × (result ≡ read_off read ending)
+
+-- the same of a call with bytes, or there was no memory for them and nothing was done
+abbrev pub ReadsOfBytes : {A M : Type 0} → Reading A → (Result Ending CallError → Type 0) → M → M
+    → Result A CallError → Type 0
+ReadsOfBytes read said before after result =
+    Reads read said result ⊎ ((after ≡ before) × (result ≡ Err NoMemory))

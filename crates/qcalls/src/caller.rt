@@ -5,6 +5,7 @@ ghost use Rattle.qshared.specs.Counting.{pends};
 ghost use Rattle.qcalls.specs.Coming.{ComesOf, ComesOfBoth, ShutsDown};
 ghost use Rattle.qcalls.specs.Making.{Leads, Makes, MakesBoth, ending_in};
 
+use crate::calls::Calls;
 use crate::ending::Ending;
 use crate::endpoint::Endpoint;
 use crate::error::{CallError, refusal};
@@ -72,6 +73,18 @@ impl<'a, E: Endpoint, R: Wait> Caller<'a, E, R> {
         self.or_shutdown(done)
     }
 
+    /// Shuts the kernel down if a thread's work failed, so that no other thread is left blocked, and returns the result
+    /// of the work. An error of the shutdown is dropped.
+    pub fn or_shutdown<T, F>(&mut self, work: Result<T, F>) -> Result<T, F>
+        ensures same { result ≡ work }
+        ensures made { MatchResult work (λ _. (E.history self.new.endpoint ≡ E.history self.old.endpoint) × (E.seen self.new.endpoint ≡ E.seen self.old.endpoint)) (λ _. ShutsDown (λ e. E.history e) E.came self.old.endpoint (E.history self.new.endpoint) (E.seen self.new.endpoint)) }
+    {
+        if work.is_err() {
+            let _ = self.make(Call::Shutdown);
+        }
+        work
+    }
+
     /// Returns the ending of a call that had this answer, and waits for it if the call is blocked.
     fn ending_of(&mut self, called: Called) -> Result<Ending, CallError>
         requires { pends called false ≡ true → (E.history self.old.endpoint).pending ≡ true }
@@ -113,5 +126,17 @@ impl<'a, E: Endpoint, R: Wait> Caller<'a, E, R> {
                 self.make(second)
             }
         }
+    }
+}
+
+impl<'a, E: Endpoint, R: Wait> Calls for Caller<'a, E, R> {
+    ghost made = { λ before call after ending. Makes ending_in call (E.history before.endpoint) (E.history after.endpoint) ending × ComesOf (λ e. E.history e) E.came before.endpoint call (E.seen after.endpoint) (E.history after.endpoint) };
+
+    fn alloc(&self) -> Global {
+        self.alloc
+    }
+
+    fn complete(&mut self, call: Call) -> Result<Ending, CallError> {
+        self.make(call)
     }
 }

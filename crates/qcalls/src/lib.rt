@@ -3,20 +3,16 @@
 
 pub mod alarms;
 pub mod caller;
-mod channels;
+pub mod calls;
 pub mod ending;
 pub mod endpoint;
 pub mod error;
 mod messages;
 pub mod opening;
-mod polling;
-mod pulses;
-mod reply_receive;
 pub mod results;
-mod seen;
 pub mod simulator;
-mod threads;
 mod timekeeper;
+mod with_bytes;
 mod within;
 
 /// The result of a call.

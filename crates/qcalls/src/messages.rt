@@ -1,17 +1,20 @@
-//! Messages: sending, receiving and answering them.
+//! The calls in which a caller may wait: sends and receives.
 
-ghost use Rattle.std.specs.Prelude.{replicate};
-ghost use Rattle.qcalls.specs.Coming.{ComesOf, ComesOfBytes};
-ghost use Rattle.qcalls.specs.Making.{Makes, MakesOfBytes};
-ghost use Rattle.qcalls.specs.Results.{answer_in, bytes_in, count_in, done_in, info_in, received_in};
+ghost use Rattle.std.specs.Prelude.{◌≡◌, replicate};
+ghost use Rattle.qcalls.specs.Coming.{ComesOf, ComesOfBothBytes, ComesOfBytes};
+ghost use Rattle.qcalls.specs.Making.{Makes, MakesBothOfBytes, MakesOfBytes};
+ghost use Rattle.qcalls.specs.Polling.{Polls, StartsOfBytes, option_in};
+ghost use Rattle.qcalls.specs.Results.{answer_in, pulse_in, received_in};
 
 use crate::caller::Caller;
+use crate::ending::Ending;
 use crate::endpoint::Endpoint;
-use crate::error::CallError;
-use crate::results::{Answer, Received};
-use qbase::bytes::Bytes;
+use crate::error::{CallError, refusal};
+use crate::results::{Answer, Pulse, Received};
+use crate::with_bytes;
 use qbase::ids::{ChannelId, ConnectionId, ReceiveId};
-use qmodel::call::{Call, Info};
+use qmodel::call::{Call, Completion};
+use qshared::port::Called;
 use std::sync::Wait;
 
 impl<'a, E: Endpoint, R: Wait> Caller<'a, E, R> {
@@ -26,13 +29,7 @@ impl<'a, E: Endpoint, R: Wait> Caller<'a, E, R> {
         ensures makes { MakesOfBytes answer_in (Call.Send coid message.now (replicate reply_len 0)) (E.history self.old.endpoint) (E.history self.new.endpoint) result }
         ensures came { ComesOfBytes (λ e. E.history e) E.came self.old.endpoint (Call.Send coid message.now (replicate reply_len 0)) (E.seen self.old.endpoint) (E.seen self.new.endpoint) (E.history self.new.endpoint) result }
     {
-        let message = Bytes::copied(self.alloc, message)?;
-        let reply_buffer = Bytes::filled(self.alloc, 0, reply_len)?;
-        let send = Call::Send {
-            coid,
-            message,
-            reply_buffer,
-        };
+        let send = with_bytes::send(self.alloc, coid, message, reply_len)?;
         self.make(send)?.answer()
     }
 
@@ -42,84 +39,79 @@ impl<'a, E: Endpoint, R: Wait> Caller<'a, E, R> {
         ensures makes { MakesOfBytes received_in (Call.Receive chid (replicate len 0)) (E.history self.old.endpoint) (E.history self.new.endpoint) result }
         ensures came { ComesOfBytes (λ e. E.history e) E.came self.old.endpoint (Call.Receive chid (replicate len 0)) (E.seen self.old.endpoint) (E.seen self.new.endpoint) (E.history self.new.endpoint) result }
     {
-        let buffer = Bytes::filled(self.alloc, 0, len)?;
-        self.make(Call::Receive { chid, buffer })?.received()
+        let receive = with_bytes::receive(self.alloc, chid, len)?;
+        self.make(receive)?.received()
     }
 
-    /// Answers a held message with a status and bytes (`MsgReply`). Refused with `Srch` if the message isn't held, or
-    /// its channel is another process's.
-    pub fn msg_reply(
+    /// Takes a pulse of a channel, and waits for one if there is none; messages stay queued (`MsgReceivePulse`).
+    /// Refused with `Srch` if the channel isn't open or is another process's.
+    pub fn msg_receive_pulse(&mut self, chid: ChannelId) -> Result<Pulse, CallError>
+        ensures makes { Makes pulse_in (Call.ReceivePulse chid) (E.history self.old.endpoint) (E.history self.new.endpoint) result }
+        ensures came { ComesOf (λ e. E.history e) E.came self.old.endpoint (Call.ReceivePulse chid) (E.seen self.new.endpoint) (E.history self.new.endpoint) }
+    {
+        self.make(Call::ReceivePulse(chid))?.pulse()
+    }
+
+    /// Answers a held message with a status and bytes, and then receives from a channel into a buffer of `len` bytes:
+    /// `msg_reply` followed by `msg_receive`, with the kernel's lock taken once for both, for a server's loop. If the
+    /// reply is refused, nothing is received and its error is returned. Own profile: QNX has no such call.
+    pub fn msg_reply_receive(
         &mut self,
         rcvid: ReceiveId,
         status: i64,
         bytes: &[u8],
-    ) -> Result<(), CallError>
-        ensures makes { MakesOfBytes done_in (Call.Reply rcvid status bytes.now) (E.history self.old.endpoint) (E.history self.new.endpoint) result }
-        ensures came { ComesOfBytes (λ e. E.history e) E.came self.old.endpoint (Call.Reply rcvid status bytes.now) (E.seen self.old.endpoint) (E.seen self.new.endpoint) (E.history self.new.endpoint) result }
-    {
-        let bytes = Bytes::copied(self.alloc, bytes)?;
-        let reply = Call::Reply {
-            rcvid,
-            status,
-            bytes,
-        };
-        self.make(reply)?.done()
-    }
-
-    /// Answers a held message with a code and no bytes; the code 0 is a reply of status 0 (`MsgError`). Refused as
-    /// `msg_reply` is.
-    pub fn msg_error(&mut self, rcvid: ReceiveId, code: i32) -> Result<(), CallError>
-        ensures makes { Makes done_in (Call.Error rcvid code) (E.history self.old.endpoint) (E.history self.new.endpoint) result }
-        ensures came { ComesOf (λ e. E.history e) E.came self.old.endpoint (Call.Error rcvid code) (E.seen self.new.endpoint) (E.history self.new.endpoint) }
-    {
-        self.make(Call::Error { rcvid, code })?.done()
-    }
-
-    /// Reads at most `len` bytes of a held message, from the offset on (`MsgRead`). Refused as `msg_reply` is.
-    pub fn msg_read(
-        &mut self,
-        rcvid: ReceiveId,
-        offset: usize,
+        chid: ChannelId,
         len: usize,
-    ) -> Result<Bytes, CallError>
-        ensures makes { MakesOfBytes bytes_in (Call.Read rcvid offset (replicate len 0)) (E.history self.old.endpoint) (E.history self.new.endpoint) result }
-        ensures came { ComesOfBytes (λ e. E.history e) E.came self.old.endpoint (Call.Read rcvid offset (replicate len 0)) (E.seen self.old.endpoint) (E.seen self.new.endpoint) (E.history self.new.endpoint) result }
+    ) -> Result<Received, CallError>
+        ensures makes { MakesBothOfBytes received_in (Call.Reply rcvid status bytes.now) (Call.Receive chid (replicate len 0)) (E.history self.old.endpoint) (E.history self.new.endpoint) result }
+        ensures came { ComesOfBothBytes (λ e. E.history e) (λ e. E.seen e) E.came E.came_both self.old.endpoint (Call.Reply rcvid status bytes.now) (Call.Receive chid (replicate len 0)) (E.seen self.new.endpoint) (E.history self.new.endpoint) result }
     {
-        let buffer = Bytes::filled(self.alloc, 0, len)?;
-        let read = Call::Read {
-            rcvid,
-            offset,
-            buffer,
-        };
-        self.make(read)?.bytes()
+        let reply = with_bytes::reply(self.alloc, rcvid, status, bytes)?;
+        let receive = with_bytes::receive(self.alloc, chid, len)?;
+        self.make_both(reply, receive)?.received()
     }
 
-    /// Writes bytes into the reply buffer of a held message's sender, from the offset on, and returns the number of
-    /// bytes for which there was room (`MsgWrite`). Refused as `msg_reply` is.
-    pub fn msg_write(
+    /// Takes a message, into a buffer of `len` bytes, or a pulse of a channel, as `msg_receive` does, but doesn't wait
+    /// for one. If there is none it returns `None`, and the caller is RECEIVE-blocked: each call but `msg_receive_poll`
+    /// is refused with `Busy` until `msg_receive_poll` has returned the message or pulse.
+    pub fn msg_receive_start(
         &mut self,
-        rcvid: ReceiveId,
-        offset: usize,
-        bytes: &[u8],
-    ) -> Result<usize, CallError>
-        ensures makes { MakesOfBytes count_in (Call.Write rcvid offset bytes.now) (E.history self.old.endpoint) (E.history self.new.endpoint) result }
-        ensures came { ComesOfBytes (λ e. E.history e) E.came self.old.endpoint (Call.Write rcvid offset bytes.now) (E.seen self.old.endpoint) (E.seen self.new.endpoint) (E.history self.new.endpoint) result }
+        chid: ChannelId,
+        len: usize,
+    ) -> Result<Option<Received>, CallError>
+        ensures starts { StartsOfBytes received_in (Call.Receive chid (replicate len 0)) (E.history self.old.endpoint) (E.history self.new.endpoint) result }
+        ensures came { ComesOfBytes (λ e. E.history e) E.came self.old.endpoint (Call.Receive chid (replicate len 0)) (E.seen self.old.endpoint) (E.seen self.new.endpoint) (E.history self.new.endpoint) result }
     {
-        let bytes = Bytes::copied(self.alloc, bytes)?;
-        let write = Call::Write {
-            rcvid,
-            offset,
-            bytes,
-        };
-        self.make(write)?.count()
+        let receive = with_bytes::receive(self.alloc, chid, len)?;
+        match self.endpoint.call(self.rt, receive) {
+            Called::Done(completion) => received_by(false, completion),
+            Called::Blocked => Ok(None),
+            Called::Refused(errno, _) => Err(refusal(errno)),
+        }
     }
 
-    /// Returns the data of a held message: its sender, its connection, and its lengths in bytes (`MsgInfo`). Refused as
-    /// `msg_reply` is.
-    pub fn msg_info(&mut self, rcvid: ReceiveId) -> Result<Info, CallError>
-        ensures makes { Makes info_in (Call.Info rcvid) (E.history self.old.endpoint) (E.history self.new.endpoint) result }
-        ensures came { ComesOf (λ e. E.history e) E.came self.old.endpoint (Call.Info rcvid) (E.seen self.new.endpoint) (E.history self.new.endpoint) }
+    /// Returns the message or pulse of the receive that was started, if one has arrived. It never waits, and always
+    /// returns `None` if no receive was started.
+    pub fn msg_receive_poll(&mut self) -> Result<Option<Received>, CallError>
+        ensures polls { Polls received_in (E.history self.old.endpoint) (E.history self.new.endpoint) result }
+        ensures seen { E.seen self.new.endpoint ≡ E.seen self.old.endpoint }
     {
-        self.make(Call::Info(rcvid))?.info()
+        match self.endpoint.poll() {
+            Some(completion) => received_by(true, completion),
+            None => Ok(None),
+        }
     }
+}
+
+/// Returns the message or pulse of a receive that has ended.
+fn received_by(waited: bool, completion: Completion) -> Result<Option<Received>, CallError>
+    ensures { result ≡ option_in received_in waited completion.mark completion.buffer }
+{
+    let Completion { mark, buffer, .. } = completion;
+    let ending = Ending {
+        waited,
+        mark,
+        buffer,
+    };
+    Ok(Some(ending.received()?))
 }

@@ -1,9 +1,10 @@
-//! Making callers of the ports of a shared kernel, and closing the kernel.
+//! Callers of the ports of a shared kernel: how they are made, what they saw, and how the kernel is closed.
 
 ghost use Rattle.std.specs.Prelude.{◌≡◌, ◌≢◌, ◌≤◌, [], ◌∷◌, IfErr, IfOk, length, map, sum};
 ghost use Rattle.qrules.specs.Trace.{followed_by};
 ghost use Rattle.qshared.specs.Asking.{AreCallsOf};
 ghost use Rattle.qhandoff.specs.Words.{taken, thread_of};
+ghost use Rattle.qpast.specs.History.{Extends};
 ghost use Rattle.qshared.specs.Due.{collected};
 ghost use Rattle.qshared.specs.Naming.{AreAll};
 ghost use Rattle.qshared.specs.Past.{AreSeen};
@@ -17,6 +18,7 @@ use qkernel::trace::Trace;
 use qshared::kept::Kept;
 use qshared::log::Log;
 use qshared::port::Port;
+use qshared::seen::Seen;
 use qshared::shared::Shared;
 use qshared::tie::Tie;
 use std::alloc::Global;
@@ -43,6 +45,23 @@ impl<'a, 'p, K: Tie, L: Log, R: Wait> Caller<'a, KernelPort<'p, K, L>, R> {
         ensures { result ≡ self.entry.endpoint.port }
     {
         self.into_endpoint().into_port()
+    }
+
+    /// Returns what the caller saw of the past: all of it, as it was at its last call. It has no bytes, so it can go
+    /// beside a message of the program's own to another thread.
+    pub fn seen(&self) -> Seen<K>
+        ensures { result ≡ self.now.endpoint.port.seen.trace }
+    {
+        self.endpoint.seen()
+    }
+
+    /// Learns what another caller saw, so that the next call is known to come after it.
+    pub fn learn(&mut self, other: &Seen<K>)
+        ensures own { Extends self.new.endpoint.port.seen.trace self.old.endpoint.port.seen.trace }
+        ensures others { Extends self.new.endpoint.port.seen.trace other.entry.now }
+        ensures same { (self.new.endpoint.port.thread ≡ self.old.endpoint.port.thread) × (self.new.endpoint.port.asked ≡ self.old.endpoint.port.asked) × (self.new.endpoint.port.seat ≡ self.old.endpoint.port.seat) × (self.new.endpoint.port.turn.pending ≡ self.old.endpoint.port.turn.pending) × (self.new.endpoint.port.last ≡ self.old.endpoint.port.last) × (self.new.endpoint.told ≡ self.old.endpoint.told) }
+    {
+        self.endpoint.learn(other);
     }
 }
 

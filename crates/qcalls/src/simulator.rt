@@ -7,11 +7,8 @@ ghost use Rattle.qcalls.specs.Making.{ending_in};
 ghost use Rattle.qcalls.specs.Simulating.{done};
 ghost use Rattle.qcalls.specs.declared.error.CallError.TheVariants as error;
 
-mod channels;
 mod kept;
-mod messages;
-mod pulses;
-mod threads;
+mod thread;
 
 use crate::ending::Ending;
 use crate::error::{CallError, refusal};
@@ -25,6 +22,7 @@ use qstate::endings::Endings;
 use qtables::roster::{Roster, THREAD_LIMIT};
 use std::alloc::Global;
 use std::marker::Model;
+pub use thread::SimulatorThread;
 
 /// The outcome of a call in which its thread may be blocked.
 #[derive(Debug, Drop)]
@@ -39,10 +37,10 @@ pub enum Outcome<T> {
 /// calls of other threads: their endings are kept until `take` returns them. Contracts see the kernel's content, and
 /// the endings that are kept.
 ///
-/// Each method refuses a call before it is made, and then changes nothing: with `NoThread` if the thread isn't in the
-/// roster, `Exhausted` at 2^40 calls, and `Busy` if the ending of the thread's last call isn't taken yet. The kernel
-/// refuses a call with `Busy` if its thread is blocked, and with `Down` after `shutdown`; that is an event, which the
-/// kernel counts.
+/// `thread` gives the calls of a thread. Each refuses a call before it is made, and then changes nothing: with `NoThread`
+/// if the thread isn't in the roster, `Exhausted` at 2^40 calls, and `Busy` if the ending of the thread's last call isn't
+/// taken yet. The kernel refuses a call with `Busy` if its thread is blocked, and with `Down` after `shutdown`; that is
+/// an event, which the kernel counts.
 #[derive(Drop)]
 pub struct Simulator {
     alloc: Global,
@@ -97,6 +95,23 @@ impl Simulator {
         ensures { result.now ≡ self.now.kernel }
     {
         &self.kernel
+    }
+
+    /// Returns the allocator that the buffers of calls come from.
+    fn alloc(&self) -> Global {
+        self.alloc
+    }
+
+    /// Returns a thread, which makes its calls.
+    pub fn thread(&mut self, thread: ThreadNo) -> SimulatorThread<'_>
+        ensures simulator { result.simulator.ghost_name ≡ self.entry.ghost_name }
+        ensures now { result.simulator.now ≡ self.old }
+        ensures thread { result.thread ≡ thread }
+    {
+        SimulatorThread {
+            simulator: self,
+            thread,
+        }
     }
 
     /// Returns whether a thread is blocked in a call.

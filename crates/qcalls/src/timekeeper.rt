@@ -2,6 +2,7 @@
 
 use crate::alarms::{Alarm, Alarms};
 use crate::caller::Caller;
+use crate::calls::Calls;
 use crate::endpoint::Endpoint;
 use crate::error::CallError;
 use qbase::errno::Errno;

@@ -6,6 +6,7 @@ use crate::services::{ECHO, SUM};
 use crate::tally::Tally;
 use qbase::ids::ChannelId;
 use qcalls::caller::Caller;
+use qcalls::calls::Calls;
 use qcalls::endpoint::Endpoint;
 use qcalls::results::Answer;
 use std::sync::Wait;

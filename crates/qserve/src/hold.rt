@@ -8,6 +8,7 @@ use crate::tally::Tally;
 use crossbeam_utils::Backoff;
 use qbase::ids::ChannelId;
 use qcalls::caller::Caller;
+use qcalls::calls::Calls;
 use qcalls::endpoint::Endpoint;
 use qcalls::results::{Pulse, Received, Request};
 use qqueue::item::What;

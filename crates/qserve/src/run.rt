@@ -15,6 +15,7 @@ use crate::timing::{start_of, timing_of};
 use qbase::flags::ChannelFlags;
 use qbase::ids::ConnectionId;
 use qcalls::caller::Caller;
+use qcalls::calls::Calls;
 use qcalls::endpoint::Endpoint;
 use qkernel::trace::Trace;
 use qshared::kept::Kept;

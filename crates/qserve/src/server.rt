@@ -7,6 +7,7 @@ use crate::services::{Outcome, serve_one};
 use crate::tally::Tally;
 use qbase::ids::ChannelId;
 use qcalls::caller::Caller;
+use qcalls::calls::Calls;
 use qcalls::endpoint::Endpoint;
 use qcalls::error::CallError;
 use qcalls::results::{Received, Request};

@@ -1,7 +1,0 @@
-use Rattle.std.proofs.Common.{refl}
-use Rattle.qcalls.proofs.Reading.{makes_read}
-use Rattle.qcalls.specs.Results.{info_in}
-use Rattle.qcalls.proofs.caller.Caller.msg_info.Goals as goal
-
-pub returns-clause-makes : goal.returns-clause-makes
-returns-clause-makes g c = makes_read {read = info_in} c.make.ensures.makes refl c.in_ok-make.was c.info.ensures

@@ -1,8 +1,0 @@
-use Rattle.std.proofs.Common.{◌∙◌, ap, Ok, refl}
-use Rattle.qcalls.proofs.Simulated.{reads_unless_blocked}
-use Rattle.qcalls.specs.Results.{pulse_in}
-use Rattle.qcalls.specs.Simulating.{done}
-use Rattle.qcalls.proofs.simulator.Simulator.msg_receive_pulse.Goals as goal
-
-pub returns-in-Done : goal.returns-in-Done
-returns-in-Done c = reads_unless_blocked pulse_in c.make.ensures refl (c.in_ok-ending.was ∙ ap Ok c.in-Done.is) (c.done.ensures ∙ ap done c.pulse.ensures)

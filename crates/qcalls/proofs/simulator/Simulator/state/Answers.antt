@@ -1,7 +1,0 @@
-use Rattle.std.proofs.Common.{refl}
-use Rattle.qcalls.proofs.Simulated.{reads_at_once}
-use Rattle.qcalls.specs.Results.{state_in}
-use Rattle.qcalls.proofs.simulator.Simulator.state.Goals as goal
-
-pub returns : goal.returns
-returns c = reads_at_once state_in c.complete.ensures refl c.in_ok-complete.was c.state.ensures

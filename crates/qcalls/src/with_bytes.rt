@@ -1,0 +1,85 @@
+//! The calls with bytes, made of a program's own: those to be copied are copied, and buffers are filled with zeros.
+
+ghost use Rattle.std.specs.Prelude.{◌≡◌, replicate, MatchResult};
+ghost use Rattle.qcalls.specs.declared.error.CallError.TheVariants as error;
+
+use crate::error::CallError;
+use qbase::bytes::Bytes;
+use qbase::ids::{ChannelId, ConnectionId, ReceiveId};
+use qmodel::call::Call;
+use std::alloc::Global;
+
+/// Returns a send of these bytes, with a reply buffer of `reply_len` bytes.
+pub(crate) fn send(
+    alloc: Global,
+    coid: ConnectionId,
+    message: &[u8],
+    reply_len: usize,
+) -> Result<Call, CallError>
+    ensures { MatchResult result (λ call. call ≡ Call.Send coid message.now (replicate reply_len 0)) (λ e. e ≡ error.NoMemory) }
+{
+    Ok(Call::Send {
+        coid,
+        message: Bytes::copied(alloc, message)?,
+        reply_buffer: Bytes::filled(alloc, 0, reply_len)?,
+    })
+}
+
+/// Returns a receive into a buffer of `len` bytes.
+pub(crate) fn receive(alloc: Global, chid: ChannelId, len: usize) -> Result<Call, CallError>
+    ensures { MatchResult result (λ call. call ≡ Call.Receive chid (replicate len 0)) (λ e. e ≡ error.NoMemory) }
+{
+    let buffer = Bytes::filled(alloc, 0, len)?;
+    Ok(Call::Receive { chid, buffer })
+}
+
+/// Returns a reply of a status and these bytes.
+pub(crate) fn reply(
+    alloc: Global,
+    rcvid: ReceiveId,
+    status: i64,
+    bytes: &[u8],
+) -> Result<Call, CallError>
+    ensures { MatchResult result (λ call. call ≡ Call.Reply rcvid status bytes.now) (λ e. e ≡ error.NoMemory) }
+{
+    let bytes = Bytes::copied(alloc, bytes)?;
+    Ok(Call::Reply {
+        rcvid,
+        status,
+        bytes,
+    })
+}
+
+/// Returns a read, from the offset on, into a buffer of `len` bytes.
+pub(crate) fn read(
+    alloc: Global,
+    rcvid: ReceiveId,
+    offset: usize,
+    len: usize,
+) -> Result<Call, CallError>
+    ensures { MatchResult result (λ call. call ≡ Call.Read rcvid offset (replicate len 0)) (λ e. e ≡ error.NoMemory) }
+{
+    let buffer = Bytes::filled(alloc, 0, len)?;
+    Ok(Call::Read {
+        rcvid,
+        offset,
+        buffer,
+    })
+}
+
+/// Returns a write of these bytes, from the offset on.
+pub(crate) fn write(
+    alloc: Global,
+    rcvid: ReceiveId,
+    offset: usize,
+    bytes: &[u8],
+) -> Result<Call, CallError>
+    ensures { MatchResult result (λ call. call ≡ Call.Write rcvid offset bytes.now) (λ e. e ≡ error.NoMemory) }
+{
+    let bytes = Bytes::copied(alloc, bytes)?;
+    Ok(Call::Write {
+        rcvid,
+        offset,
+        bytes,
+    })
+}
