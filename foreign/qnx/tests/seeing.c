@@ -57,7 +57,7 @@ static int in_a_child(void (*work)(void), const char *asked, pid_t *pid) {
     check(pipe(ends) == 0);
     pid_t child = fork();
     if (child == 0) {
-        alarm(20);
+        alarm(HANGS);
         check(dup2(ends[1], STDERR_FILENO) == STDERR_FILENO && close(ends[1]) == 0);
         if (asked) check(setenv(asked, "1", 1) == 0);
         work();
@@ -97,6 +97,7 @@ static void quit_blocked(void) {
 void quits(void) {
     pid_t child;
     int fd = in_a_child(quit_blocked, NULL, &child), status;
-    check(reads_to(fd, "\n") && strstr(text, "pid tid name"));
+    check(reads_to(fd, "\n"));
+    check(strstr(text, "pid tid name"));
     check(close(fd) == 0 && kill(child, SIGKILL) == 0 && waitpid(child, &status, 0) == child);
 }

@@ -26,6 +26,7 @@
 #define returns_r(call, error) check((errno = 77, (call) == (error)) && errno == 77)
 
 enum { ATTACHED = _NTO_SIDE_CHANNEL };
+enum { HANGS = 300 }; /* seconds, after which a child that hangs is ended; the machine may be busy */
 
 extern int rounds; /* of long loops */
 

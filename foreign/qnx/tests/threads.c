@@ -240,7 +240,7 @@ static void in_the_child(int chid, int coid) {
     struct _pulse pulse;
     struct sigevent event;
     timer_t id;
-    alarm(20);
+    alarm(HANGS);
     fails(MsgReceivePulse(chid + 64, &pulse, sizeof pulse, NULL), ESRCH);
     fails(MsgSendPulse(coid, 1, 1, 0), EBADF);
     int own = ChannelCreate(_NTO_CHF_THREAD_DEATH), over = attach(own);
@@ -276,7 +276,7 @@ void first_calls(void) {
         int status;
         pid_t child = fork();
         if (child == 0) {
-            alarm(20);
+            alarm(HANGS);
             check(pthread_barrier_init(&together, NULL, MANY) == 0);
             for (int at = 0; at < MANY; at++) threads[at] = start(make_timer, NULL);
             for (int at = 0; at < MANY; at++) result_of(threads[at]);

@@ -111,7 +111,7 @@ void two_kernels(void) {
 
 /* In a child each function on the kernel is refused, though another thread had the lock as it was forked. */
 static void in_the_child(neutrino *kernel) {
-    alarm(10); /* ends a child that hangs */
+    alarm(300); /* ends a child that hangs */
     fails(ChannelCreate(0), EPERM);
     fails(MsgSend(1, NULL, 0, NULL, 0), EPERM);
     fails(neutrino_leave(), EPERM);
