@@ -128,7 +128,9 @@ def inside(trait, text, start):
         trait.methods.append(made(found, trait.file, start + at, lines))
         while kept and re.match(r" *(///|$)", kept[-1]):
             kept.pop()
-        at = next(end for end in range(at, len(text)) if text[end].endswith(";")) + 1
+        last = next(end for end in range(at, len(text)) if re.search(r";$|^    \{$| \{$", text[end]))
+        # (a body of its own ends with its brace)
+        at = (last if text[last].endswith(";") else text.index("    }", last)) + 1
     trait.signature = "\n".join(kept)
 
 

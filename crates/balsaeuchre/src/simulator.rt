@@ -5,4 +5,5 @@
 //! a blocked call once there is one.
 
 pub use qcalls::ending::Ending;
-pub use qcalls::simulator::{Outcome, Simulator, SimulatorThread};
+pub use qcalls::simulator::thread::SimulatorThread;
+pub use qcalls::simulator::{Outcome, Simulator};

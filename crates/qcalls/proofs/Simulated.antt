@@ -30,12 +30,10 @@ at_once-read : {A : Type 0} (read : Reading A) (x : Option Completion) → read_
 at_once-read read None = refl
 at_once-read read (Some x) = refl
 
-pub reads_at_once : {A : Type 0} (read : Reading A) {t : ℕ} {call asked : Call} {before after : Simulation} {made : Result Ending CallError} {e : Ending}
-    {result : Result A CallError} → Simulates (at_once ending_in) t asked before after made → asked ≡ call → made ≡ Ok e
-    → result ≡ read e.waited e.mark e.buffer → Simulates (at_once read) t call before after result
-reads_at_once {A} read {t} {call} {asked} {before} {after} {made} {e} {result} m same_call is r =
-    let same : result ≡ read_off read made = r ∙ sym (ap (read_off read) is) in
-    record { comes = rw (← same_call, same) (comes-read (read_off read) (at_once ending_in) (at_once read) (at_once-read read) (λ e. refl) t asked before after made (unmade before t) m.comes) }
+pub at_once_off : {A : Type 0} (read : Reading A) {t : ℕ} {call : Call} {before after : Simulation} {made : Result Ending CallError}
+    → Simulates (at_once ending_in) t call before after made → Simulates (at_once read) t call before after (read_off read made)
+at_once_off read {t} {call} {before} {after} {made} m =
+    record { comes = comes-read (read_off read) (at_once ending_in) (at_once read) (at_once-read read) (λ e. refl) t call before after made (unmade before t) m.comes }
 
 -- what is read off a call in which its thread may be blocked
 abbrev pub read_outcome : {A : Type 0} → Reading A → Result (Outcome Ending) CallError → Result (Outcome A) CallError

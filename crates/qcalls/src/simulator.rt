@@ -8,7 +8,7 @@ ghost use Rattle.qcalls.specs.Simulating.{done};
 ghost use Rattle.qcalls.specs.declared.error.CallError.TheVariants as error;
 
 mod kept;
-mod thread;
+pub mod thread;
 
 use crate::ending::Ending;
 use crate::error::{CallError, refusal};
@@ -22,7 +22,7 @@ use qstate::endings::Endings;
 use qtables::roster::{Roster, THREAD_LIMIT};
 use std::alloc::Global;
 use std::marker::Model;
-pub use thread::SimulatorThread;
+use thread::SimulatorThread;
 
 /// The outcome of a call in which its thread may be blocked.
 #[derive(Debug, Drop)]
