@@ -1,7 +1,8 @@
 //! Unproved: words and layout. Recognizes what is often written in a script by mistake, and says
 //! what to write in its place.
 
-use qreading::grammar::{CALLS, FLAGS, Form, Operand};
+use qmodel::kind::LISTED;
+use qreading::grammar::{FLAGS, Form, Operand};
 use qreading::lexing::token::{Sort, Token};
 use qreading::near::{quotation, unknown_call};
 use qreading::place::{Fault, ReadError, fault_in_words};
@@ -17,11 +18,14 @@ pub fn form_meant(alloc: Global, word: &[u8]) -> Result<Option<Form>, AllocError
             plain.push(byte.to_ascii_lowercase())?;
         }
     }
-    let mut forms = CALLS.iter().copied();
-    Ok(forms.find(|form| {
+    for kind in &LISTED {
+        let form = Form::of(*kind);
         let mut names = form.qnx_names.iter();
-        is(word, form.word) || names.any(|name| is(plain.as_slice(), name))
-    }))
+        if is(word, form.word) || names.any(|name| is(plain.as_slice(), name)) {
+            return Ok(Some(form));
+        }
+    }
+    Ok(None)
 }
 
 /// Returns the words for a word that names no call: the call that it names in QNX, or that it is near to.

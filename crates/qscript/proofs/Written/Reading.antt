@@ -13,7 +13,7 @@ use Rattle.qscript.specs.Printing.Words.{words_with_spaces}
 use Rattle.qmodel.specs.Kinds.{kind_named}
 use Rattle.qreading.specs.Reading.Call.{call_of}
 use Rattle.qreading.specs.Reading.Counts.{first_of}
-use Rattle.qreading.specs.Reading.Forms.{id_of, small_of, nothing_of, member_of, setprio_of, error_of, pulse_of, receive_of, send_of, reply_of, read_of, write_of}
+use Rattle.qreading.specs.Reading.Forms.{member_of}
 use Rattle.qreading.specs.Reading.Line.{is_text, call_line_of, roster_line_of, said_of, line_of}
 use Rattle.qreading.specs.Reading.Number.{number_of}
 use Rattle.qreading.specs.Reading.Steps.{◌>>=◌}
@@ -64,7 +64,7 @@ small n h = number_back 256 n h (omega (arith, h))
 
 -- the words of a call name it
 call_named : (call : Call) → IsTyped call → (first_of (call_words call) >>= (λ ws. call_of ws.0 ws.1)) ≡ Ok call
-unfolding call_words call_of kind_named id_of small_of nothing_of setprio_of error_of pulse_of receive_of send_of reply_of read_of write_of
+unfolding call_words call_of kind_named
 call_named (calls.ChannelCreate flags) h = rw (small _ h) refl
 call_named (calls.ConnectAttach chid) h = rw (number _ h) refl
 call_named (calls.Send coid message reply_buffer) h = rw (number _ h.0, bytes_back message h.1, bytes_back reply_buffer h.2) refl
