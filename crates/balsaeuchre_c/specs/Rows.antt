@@ -11,7 +11,7 @@ use Rattle.qmodel.specs.declared.call.Completion.{Completion}
 use Rattle.qmodel.specs.declared.call.Info.{Info}
 use Rattle.qmodel.specs.declared.call.Mark.{Mark}
 use Rattle.qmodel.specs.declared.call.Mark.TheVariants as mark
-use Rattle.balsaeuchre_c.specs.declared.error.TheConstants.{ERRNOS}
+use Rattle.qbase.specs.declared.errno.TheConstants.{ERRNOS}
 use Rattle.balsaeuchre_c.specs.declared.row.Row.{Row}
 use Rattle.balsaeuchre_c.specs.Numbers.{numbered}
 

@@ -1,24 +1,10 @@
 //! The numbers of errors.
 
 ghost use Rattle.std.specs.Prelude.{◌≡◌, ◌≤◌, Some};
+ghost use Rattle.qbase.specs.declared.errno.TheConstants.{ERRNOS};
 ghost use Rattle.balsaeuchre_c.specs.Numbers.{numbered};
 
 use qbase::errno::Errno;
-
-/// The errors; the first has number 1.
-pub const ERRNOS: [Errno; 11] = [
-    Errno::Srch,
-    Errno::Badf,
-    Errno::Inval,
-    Errno::Again,
-    Errno::Intr,
-    Errno::Busy,
-    Errno::NoMemory,
-    Errno::Down,
-    Errno::Exhausted,
-    Errno::TraceFull,
-    Errno::NoThread,
-];
 
 /// Returns the number of an error.
 pub fn errno_number(errno: Errno) -> u8

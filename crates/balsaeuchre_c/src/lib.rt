@@ -6,7 +6,7 @@ ghost use Rattle.std.specs.Prelude.{◌≡◌, ◌≤◌, length, Some};
 ghost use Rattle.qbase.specs.declared.errno.Errno.{Errno};
 ghost use Rattle.qstate.specs.Kept.{members_of};
 ghost use Rattle.balsaeuchre_c.specs.declared.session.Session.{Session};
-ghost use Rattle.balsaeuchre_c.specs.declared.error.TheConstants.{ERRNOS};
+ghost use Rattle.qbase.specs.declared.errno.TheConstants.{ERRNOS};
 ghost use Rattle.balsaeuchre_c.specs.Calling.{CallError, IsEvent};
 ghost use Rattle.balsaeuchre_c.specs.Numbers.{numbered};
 ghost use Rattle.balsaeuchre_c.specs.Opening.{IsNewOf, NewError};

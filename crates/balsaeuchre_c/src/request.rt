@@ -1,17 +1,17 @@
 //! A call in the form that C passes: only numbers.
 
-ghost use Rattle.std.specs.Prelude.{◌≡◌, ℕ, List, [], None, Some, IfNone, IfSome, MatchResult, false};
+ghost use Rattle.std.specs.Prelude.{◌≡◌, ℕ, List, Some, IfNone, IfSome, MatchResult, false};
 ghost use Rattle.qkernel.specs.LentCall.{call_lent};
-ghost use Rattle.balsaeuchre_c.specs.Requests.{borrows, call_as, IsRefusedAs};
+ghost use Rattle.balsaeuchre_c.specs.Requests.{borrows, call_as, is_priority, IsRefusedAs, operands_as, priority_as};
 
 use qbase::bytes::Bytes;
 use qbase::errno::Errno;
-use qbase::flags::ChannelFlags;
-use qbase::ids::{ChannelId, ConnectionId, ReceiveId, ThreadNo};
+use qbase::ids::{ProcessNo, ReceiveId, ThreadNo};
 use qbase::priority::Priority;
 use qkernel::call::Call;
 use qkernel::lent_call::LentCall;
 use qmodel::kind::CallKind;
+use qmodel::operands::{Operand, Operands};
 use std::alloc::Global;
 
 /// A call. `kind` says which, and each kind reads only the fields that it needs; its bytes and its buffer are passed
@@ -52,70 +52,42 @@ fn copy_bytes(alloc: Global, bytes: &[u8]) -> Result<Bytes, Errno>
     Ok(copy)
 }
 
+/// Returns whether a sort of operands is that of a priority.
+fn is_priority(sort: &Operand) -> bool
+    ensures { result ≡ is_priority sort.now }
+{
+    matches!(sort, Operand::Priority)
+}
+
 impl Request {
-    fn send(&self, alloc: Global, sent: &[u8], room: &[u8]) -> Result<Call, Errno>
-        ensures { MatchResult result
-            (λ call. call ≡ Call.Send self.now.id sent.now room.now)
-            (λ errno. errno ≡ Errno.NoMemory) }
+    /// Returns the priority of a call of this kind: the lowest one if it has none, or `None` if it has one and this is 0.
+    fn priority(&self, kind: CallKind) -> Option<Priority>
+        ensures { result ≡ priority_as kind self.now }
     {
-        Ok(Call::Send {
-            coid: ConnectionId(self.id),
-            message: copy_bytes(alloc, sent)?,
-            reply_buffer: copy_bytes(alloc, room)?,
-        })
+        if kind.form().operands.iter().any(|sort| is_priority(sort)) {
+            Priority::new(self.priority)
+        } else {
+            Some(Priority::lowest())
+        }
     }
 
-    fn receive(&self, alloc: Global, room: &[u8]) -> Result<Call, Errno>
-        ensures { MatchResult result
-            (λ call. call ≡ Call.Receive self.now.id room.now)
-            (λ errno. errno ≡ Errno.NoMemory) }
+    /// Returns the numbers of a call of this kind, or `None` if it has a priority and this is 0.
+    fn operands(&self, kind: CallKind) -> Option<Operands>
+        ensures { result ≡ operands_as kind self.now }
     {
-        Ok(Call::Receive {
-            chid: ChannelId(self.id),
-            buffer: copy_bytes(alloc, room)?,
-        })
-    }
-
-    fn read(&self, alloc: Global, room: &[u8]) -> Result<Call, Errno>
-        ensures { MatchResult result
-            (λ call. call ≡ Call.Read self.now.id self.now.offset room.now)
-            (λ errno. errno ≡ Errno.NoMemory) }
-    {
-        Ok(Call::Read {
-            rcvid: ReceiveId(self.id),
+        let priority = self.priority(kind)?;
+        Some(Operands {
+            id: self.id,
+            thread: ThreadNo(self.target),
+            process: ProcessNo(0),
+            priority,
+            flags: self.flags,
             offset: self.offset,
-            buffer: copy_bytes(alloc, room)?,
+            status: self.status,
+            code: self.code,
+            pulse_code: self.pulse_code,
+            value: self.value,
         })
-    }
-
-    fn pulse(&self) -> Result<Call, Errno>
-        ensures { MatchResult result
-            (λ call. call_as CallKind.Pulse self.now [] [] ≡ Some call)
-            (λ errno. (call_as CallKind.Pulse self.now [] [] ≡ None) × (errno ≡ Errno.Inval)) }
-    {
-        match Priority::new(self.priority) {
-            Some(priority) => Ok(Call::Pulse {
-                coid: ConnectionId(self.id),
-                priority,
-                code: self.pulse_code,
-                value: self.value,
-            }),
-            None => Err(Errno::Inval),
-        }
-    }
-
-    fn priority_set(&self) -> Result<Call, Errno>
-        ensures { MatchResult result
-            (λ call. call_as CallKind.PrioritySet self.now [] [] ≡ Some call)
-            (λ errno. (call_as CallKind.PrioritySet self.now [] [] ≡ None) × (errno ≡ Errno.Inval)) }
-    {
-        match Priority::new(self.priority) {
-            Some(priority) => Ok(Call::PrioritySet {
-                thread: ThreadNo(self.target),
-                priority,
-            }),
-            None => Err(Errno::Inval),
-        }
     }
 
     /// Returns the call of the request if this kind borrows its bytes, else `None`.
@@ -138,8 +110,8 @@ impl Request {
         }
     }
 
-    /// Returns the call of the request, of a kind that doesn't borrow its bytes. Fails with `Inval` if the request
-    /// means no call, since its priority is 0; else with `NoMemory`.
+    /// Returns the call of the request. Fails with `Inval` if the request means no call, since its priority is 0; else
+    /// with `NoMemory`.
     pub fn call_as(
         &self,
         kind: CallKind,
@@ -147,31 +119,15 @@ impl Request {
         sent: &[u8],
         room: &[u8],
     ) -> Result<Call, Errno>
-        requires { borrows kind ≡ false }
         ensures { MatchResult result
             (λ call. call_as kind self.now sent.now room.now ≡ Some call)
             (IsRefusedAs (call_as kind self.now sent.now room.now)) }
     {
-        match kind {
-            CallKind::ChannelCreate => Ok(Call::ChannelCreate(ChannelFlags::of(self.flags))),
-            CallKind::ConnectAttach => Ok(Call::ConnectAttach(ChannelId(self.id))),
-            CallKind::Send => self.send(alloc, sent, room),
-            CallKind::Receive => self.receive(alloc, room),
-            CallKind::Reply | CallKind::Write => unreachable!(),
-            CallKind::Error => Ok(Call::Error {
-                rcvid: ReceiveId(self.id),
-                code: self.code,
-            }),
-            CallKind::Read => self.read(alloc, room),
-            CallKind::Info => Ok(Call::Info(ReceiveId(self.id))),
-            CallKind::ReceivePulse => Ok(Call::ReceivePulse(ChannelId(self.id))),
-            CallKind::Pulse => self.pulse(),
-            CallKind::PrioritySet => self.priority_set(),
-            CallKind::State => Ok(Call::State(ThreadNo(self.target))),
-            CallKind::ChannelDestroy => Ok(Call::ChannelDestroy(ChannelId(self.id))),
-            CallKind::Shutdown => Ok(Call::Shutdown),
-            CallKind::Unblock => Ok(Call::Unblock(ThreadNo(self.target))),
-            CallKind::ConnectDetach => Ok(Call::ConnectDetach(ConnectionId(self.id))),
-        }
+        let Some(operands) = self.operands(kind) else {
+            return Err(Errno::Inval);
+        };
+        let bytes = copy_bytes(alloc, sent)?;
+        let buffer = copy_bytes(alloc, room)?;
+        Ok(Call::of(kind, operands, bytes, buffer))
     }
 }

@@ -8,6 +8,7 @@ use qbase::ids::ThreadNo;
 use qkernel::kernel::Kernel;
 use qmodel::call::{Completion, Mark};
 use qmodel::kind::CallKind;
+use qmodel::operands::Operand;
 use qnames::shown::Shown;
 use qnames::wording::Context;
 use rules::rule_words;
@@ -64,11 +65,9 @@ pub fn refusals(
 
 /// Returns what stands for the first operand of a call of this kind: a thread, an id or flags.
 pub fn operand_shown(names: Context<'_>, kind: CallKind, operand: u64) -> Shown<'_> {
-    match (kind, u8::try_from(operand)) {
-        (CallKind::ChannelCreate, _) => Shown::Number(operand),
-        (CallKind::PrioritySet | CallKind::State | CallKind::Unblock, Ok(thread)) => {
-            names.thread(ThreadNo(thread))
-        }
+    match (kind.form().operands.first(), u8::try_from(operand)) {
+        (Some(Operand::Flags), _) => Shown::Number(operand),
+        (Some(Operand::Thread), Ok(thread)) => names.thread(ThreadNo(thread)),
         _ => names.id(operand),
     }
 }

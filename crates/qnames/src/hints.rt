@@ -2,7 +2,8 @@
 //! what to write in its place.
 
 use qbase::errno;
-use qreading::grammar::{CALLS, ERROR_WORDS, FLAGS, Form, Operand, errno_of};
+use qmodel::kind::LISTED;
+use qreading::grammar::{ERROR_WORDS, FLAGS, Form, Operand, errno_of};
 use qreading::lexing::token::{Sort, Token};
 use qreading::near::{quotation, unknown_call};
 use qreading::place::{Fault, ReadError, fault_in_words};
@@ -24,11 +25,14 @@ fn lowercase(alloc: Global, word: &[u8]) -> Result<Vec<u8>, AllocError> {
 /// Returns the form of the call that has this name, here or in QNX: there in any case, with or without underscores.
 pub fn form_meant(alloc: Global, word: &[u8]) -> Result<Option<Form>, AllocError> {
     let plain = lowercase(alloc, word)?;
-    let mut forms = CALLS.iter().copied();
-    Ok(forms.find(|form| {
+    for kind in &LISTED {
+        let form = Form::of(*kind);
         let mut names = form.qnx_names.iter();
-        is(word, form.word) || names.any(|name| is(plain.as_slice(), name))
-    }))
+        if is(word, form.word) || names.any(|name| is(plain.as_slice(), name)) {
+            return Ok(Some(form));
+        }
+    }
+    Ok(None)
 }
 
 /// Returns the words for a word that names no call: the call that it names in QNX, or that it is near to.

@@ -1,6 +1,7 @@
 //! Finds the name that a misspelt word was meant to be.
 
-use crate::grammar::{CALLS, ROSTER};
+use crate::grammar::ROSTER;
+use qmodel::kind::LISTED;
 use std::alloc::{AllocError, Global};
 use std::str;
 use strsim::osa_distance;
@@ -86,8 +87,8 @@ fn nearest_keyword(
 /// Returns the name of the call that is nearest to a word, the first of the table if several are.
 fn near_call(alloc: Global, word: &[u8]) -> Result<Option<&'static str>, AllocError> {
     let mut words = Vec::new(alloc);
-    for form in &CALLS {
-        words.push(form.word)?;
+    for kind in &LISTED {
+        words.push(kind.word())?;
     }
     nearest_keyword(alloc, word, words.as_slice())
 }
@@ -100,8 +101,8 @@ pub fn unknown_call(alloc: Global, word: &str) -> Result<String, AllocError> {
         return Ok(text);
     }
     text.push_str("the calls are")?;
-    for form in &CALLS {
-        let name = form.word;
+    for kind in &LISTED {
+        let name = kind.word();
         write!(text, " {name}")?;
     }
     Ok(text)

@@ -4,4 +4,4 @@ pub mod Runnable
 pub mod Making
 pub mod OneText
 pub mod Written
-pub mod CallRow
+pub mod Rows

@@ -9,6 +9,7 @@ use qbase::state::ThreadState;
 use qkernel::kernel::Kernel;
 use qkernel::open_call::Blocked;
 use qmodel::kind::CallKind;
+use qmodel::operands::Operand;
 use qnames::wording::Context;
 use std::alloc::{AllocError, Global};
 
@@ -74,14 +75,12 @@ impl Refused<'_> {
 
     /// Returns what is wrong with what it names.
     fn badly_named(&self) -> Result<String, AllocError> {
-        match self.call.kind {
-            CallKind::ChannelCreate => self.bad_flags(),
-            CallKind::ChannelDestroy | CallKind::ConnectAttach => self.bad_channel(),
-            CallKind::Receive | CallKind::ReceivePulse => self.bad_channel(),
-            CallKind::ConnectDetach => self.bad_connection(),
-            CallKind::PrioritySet | CallKind::State | CallKind::Unblock => self.bad_thread(),
-            CallKind::Reply | CallKind::Error | CallKind::Info => self.bad_message(),
-            CallKind::Read | CallKind::Write => self.bad_message(),
+        match self.call.kind.form().operands.first() {
+            Some(Operand::Flags) => self.bad_flags(),
+            Some(Operand::Channel) => self.bad_channel(),
+            Some(Operand::Connection) => self.bad_connection(),
+            Some(Operand::Thread) => self.bad_thread(),
+            Some(Operand::ReceiveId) => self.bad_message(),
             _ => self.unknown(),
         }
     }

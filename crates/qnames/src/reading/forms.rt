@@ -8,8 +8,9 @@ use crate::line::{Kind, Operand};
 use crate::reading::operands::id;
 use qbase::bytes::Bytes;
 use qbase::errno;
+use qbase::errno::ERRNOS;
 use qreading::fault::ParseError;
-use qreading::grammar::{ERRORS, Operand as Slot, errno_of};
+use qreading::grammar::{CALL_ERRORS, Operand as Slot, errno_of};
 use qreading::lexing::name::is_name;
 use qreading::lexing::token::{Sort, Token};
 use qreading::lexing::values::{size_of, text_bytes, wanted, word_of};
@@ -108,8 +109,9 @@ fn errno(alloc: Global, token: &Token<'_>) -> Result<&'static str, ReadError> {
     {
         return Ok(errno::word(errno));
     }
-    let words: Vec<&str> = ERRORS
+    let words: Vec<&str> = ERRNOS
         .iter()
+        .take(CALL_ERRORS)
         .map(|errno| errno::word(*errno))
         .collect(alloc)?;
     let word = quotation(token.bytes);

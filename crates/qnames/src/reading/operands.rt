@@ -2,7 +2,7 @@
 
 use crate::hints::{push_operand_hint, text_hint};
 use crate::line::{Kind, Mention, Operand};
-use qreading::grammar::{FLAGS, Operand as Slot};
+use qreading::grammar::{FLAGS, Operand as Slot, fault_of, wanted_words};
 use qreading::lexing::name::is_name;
 use qreading::lexing::token::{Sort, Token};
 use qreading::lexing::values::{size_of, text_bytes, wanted, word_of};
@@ -12,8 +12,8 @@ use std::alloc::Global;
 
 /// Reads a word as plain scripts have it.
 fn plain(alloc: Global, slot: Slot, token: &Token<'_>) -> Result<Operand, ReadError> {
-    if token.sort != Sort::Word || slot.fault_of(alloc, token.bytes)?.is_some() {
-        let mut what = String::from_str(alloc, slot.wanted_words())?;
+    if token.sort != Sort::Word || fault_of(alloc, slot, token.bytes)?.is_some() {
+        let mut what = String::from_str(alloc, wanted_words(slot))?;
         push_operand_hint(&mut what, slot, token.bytes)?;
         return Err(wanted(alloc, token, what.as_str()));
     }
@@ -25,7 +25,7 @@ fn bytes(alloc: Global, slot: Slot, token: &Token<'_>) -> Result<Operand, ReadEr
     match token.sort {
         Sort::Text => Ok(Operand::Text(text_bytes(alloc, token)?)),
         Sort::Size => Ok(Operand::Zeros(size_of(alloc, token)?)),
-        Sort::Word if slot.fault_of(alloc, token.bytes)?.is_none() => {
+        Sort::Word if fault_of(alloc, slot, token.bytes)?.is_none() => {
             Ok(Operand::Plain(word_of(alloc, token.bytes)?))
         }
         _ => {

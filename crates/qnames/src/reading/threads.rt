@@ -3,7 +3,7 @@
 use crate::expectation::StateCheck;
 use crate::line::{Definition, Kind, Operand, Process, ThreadLine};
 use crate::reading::operands::id;
-use qreading::grammar::Operand as Slot;
+use qreading::grammar::{Operand as Slot, fault_of, wanted_words};
 use qreading::lexing::name::is_name;
 use qreading::lexing::token::{Sort, Token};
 use qreading::lexing::values::{wanted, word_of};
@@ -16,7 +16,7 @@ use std::alloc::Global;
 fn thread_number(alloc: Global, token: &Token<'_>) -> Result<u64, ReadError> {
     match small(token.bytes) {
         Ok(number) if token.sort == Sort::Word => Ok(u64::from(number)),
-        _ => Err(wanted(alloc, token, Slot::Thread.wanted_words())),
+        _ => Err(wanted(alloc, token, wanted_words(Slot::Thread))),
     }
 }
 
@@ -40,8 +40,8 @@ fn process(alloc: Global, token: &Token<'_>) -> Result<Process, ReadError> {
 /// Reads the priority of a thread.
 fn priority(alloc: Global, token: &Token<'_>) -> Result<Word, ReadError> {
     let slot = Slot::Priority;
-    if token.sort != Sort::Word || slot.fault_of(alloc, token.bytes)?.is_some() {
-        return Err(wanted(alloc, token, slot.wanted_words()));
+    if token.sort != Sort::Word || fault_of(alloc, slot, token.bytes)?.is_some() {
+        return Err(wanted(alloc, token, wanted_words(slot)));
     }
     Ok(word_of(alloc, token.bytes)?)
 }

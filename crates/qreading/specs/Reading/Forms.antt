@@ -1,104 +1,75 @@
--- The operands of a line, from the left: ids, receive ids and offsets are numbers of 64 bits, threads and
--- processes numbers of a byte.
+-- The operands of a line, by their sorts. Ids and offsets are numbers of 64 bits; threads, processes and
+-- flags are numbers of a byte.
 use Rattle.std.specs.Prelude.{ℕ, ◌^◌, List, [], ◌∷◌, Result, Ok, Err}
 use Rattle.qtables.specs.declared.member.Member.{Member}
-use Rattle.qmodel.specs.declared.call.Call.{Call}
-use Rattle.qmodel.specs.declared.call.Call.TheVariants as calls
+use Rattle.qmodel.specs.declared.operands.Operand.{Operand}
+use Rattle.qmodel.specs.declared.operands.Operand.TheVariants as sort
+use Rattle.qmodel.specs.declared.operands.Operands.{Operands}
+use Rattle.qmodel.specs.Operands.{no_operands}
 use Rattle.qreading.specs.declared.fault.LineFault.{LineFault}
 use Rattle.qreading.specs.declared.fault.LineFault.TheVariants.{WordCount}
+use Rattle.qreading.specs.declared.reading.forms.Values.{Values}
 use Rattle.qreading.specs.Reading.Steps.{◌>>=◌}
-use Rattle.qreading.specs.Reading.Counts.{one_of, two_of, three_of, four_of}
 use Rattle.qreading.specs.Reading.Number.{number_of, integer_of, priority_of}
 use Rattle.qreading.specs.Reading.Operand.{bytes_of}
 
--- one id: that of a channel, a connection or a message
-unfoldable pub id_of : List (List ℕ) → Result ℕ LineFault
-id_of operands = one_of operands >>= number_of (2 ^ 64)
+-- the values of no operands
+abbrev pub no_values : Values
+no_values = record { numbers = no_operands; bytes = []; buffer = [] }
 
--- one number of a byte: a thread, or a channel's flags
-unfoldable pub small_of : List (List ℕ) → Result ℕ LineFault
-small_of operands = one_of operands >>= number_of 256
+-- an id
+abbrev pub id_in : List ℕ → Values → Result Values LineFault
+id_in word v = number_of (2 ^ 64) word >>= (λ n. Ok (record v { numbers = record v.numbers { id = n } }))
 
--- no operands
-unfoldable pub nothing_of : List (List ℕ) → Result (Unit {0}) LineFault
-nothing_of [] = Ok tt
-nothing_of (word ∷ words) = Err WordCount
+-- a message or data
+abbrev pub bytes_in : List ℕ → Values → Result Values LineFault
+bytes_in word v = bytes_of word >>= (λ bytes. Ok (record v { bytes = bytes }))
+
+-- a buffer
+abbrev pub buffer_in : List ℕ → Values → Result Values LineFault
+buffer_in word v = bytes_of word >>= (λ buffer. Ok (record v { buffer = buffer }))
+
+-- the values with the word of an operand of this sort; a status is a signed number of 64 bits, a code or a
+-- value one of 32, but the code of a pulse one of 8
+abbrev pub value_of : Operand → List ℕ → Values → Result Values LineFault
+value_of sort.Thread word v =
+    number_of 256 word >>= (λ n. Ok (record v { numbers = record v.numbers { thread = n } }))
+value_of sort.Process word v =
+    number_of 256 word >>= (λ n. Ok (record v { numbers = record v.numbers { process = n } }))
+value_of sort.Priority word v =
+    priority_of word >>= (λ n. Ok (record v { numbers = record v.numbers { priority = n } }))
+value_of sort.Flags word v =
+    number_of 256 word >>= (λ n. Ok (record v { numbers = record v.numbers { flags = n } }))
+value_of sort.Channel word v = id_in word v
+value_of sort.Connection word v = id_in word v
+value_of sort.ReceiveId word v = id_in word v
+value_of sort.Offset word v =
+    number_of (2 ^ 64) word >>= (λ n. Ok (record v { numbers = record v.numbers { offset = n } }))
+value_of sort.Status word v =
+    integer_of (2 ^ 63) word >>= (λ n. Ok (record v { numbers = record v.numbers { status = n } }))
+value_of sort.ErrorCode word v =
+    integer_of (2 ^ 31) word >>= (λ n. Ok (record v { numbers = record v.numbers { code = n } }))
+value_of sort.PulseCode word v =
+    integer_of (2 ^ 7) word >>= (λ n. Ok (record v { numbers = record v.numbers { pulse_code = n } }))
+value_of sort.Value word v =
+    integer_of (2 ^ 31) word >>= (λ n. Ok (record v { numbers = record v.numbers { value = n } }))
+value_of sort.Message word v = bytes_in word v
+value_of sort.Data word v = bytes_in word v
+value_of sort.ReplyBuffer word v = buffer_in word v
+value_of sort.Buffer word v = buffer_in word v
+
+-- the values with the words of operands of these sorts, or the first fault; the count is wrong before all
+abbrev pub values_of : List Operand → List (List ℕ) → Result Values LineFault → Result Values LineFault
+values_of [] [] read = read
+values_of (s ∷ sorts) (word ∷ words) read = values_of sorts words (read >>= value_of s word)
+values_of sorts words read = Err WordCount
+
+-- the member of the roster with these numbers
+abbrev pub member_with : Operands → Member
+member_with o = record { thread = o.thread; process = o.process; priority = o.priority }
 
 -- a thread, its process and its base priority
 unfoldable pub member_of : List (List ℕ) → Result Member LineFault
 member_of operands = do
-  words ← three_of operands
-  thread ← number_of 256 words.0
-  process ← number_of 256 words.1
-  priority ← priority_of words.2
-  Ok (record { thread = thread; process = process; priority = priority })
-
--- a thread and its priority
-unfoldable pub setprio_of : List (List ℕ) → Result Call LineFault
-setprio_of operands = do
-  words ← two_of operands
-  thread ← number_of 256 words.0
-  priority ← priority_of words.1
-  Ok (calls.PrioritySet thread priority)
-
--- a receive id, and a code, which is a signed number of 32 bits
-unfoldable pub error_of : List (List ℕ) → Result Call LineFault
-error_of operands = do
-  words ← two_of operands
-  message ← number_of (2 ^ 64) words.0
-  code ← integer_of (2 ^ 31) words.1
-  Ok (calls.Error message code)
-
--- a connection, a priority, a code, which is a signed number of 8 bits, and a value, which is one of 32
-unfoldable pub pulse_of : List (List ℕ) → Result Call LineFault
-pulse_of operands = do
-  words ← four_of operands
-  connection ← number_of (2 ^ 64) words.0
-  priority ← priority_of words.1
-  code ← integer_of (2 ^ 7) words.2
-  value ← integer_of (2 ^ 31) words.3
-  Ok (calls.Pulse connection priority code value)
-
--- a channel and a buffer
-unfoldable pub receive_of : List (List ℕ) → Result Call LineFault
-receive_of operands = do
-  words ← two_of operands
-  channel ← number_of (2 ^ 64) words.0
-  buffer ← bytes_of words.1
-  Ok (calls.Receive channel buffer)
-
--- a connection, a message and a reply buffer
-unfoldable pub send_of : List (List ℕ) → Result Call LineFault
-send_of operands = do
-  words ← three_of operands
-  connection ← number_of (2 ^ 64) words.0
-  message ← bytes_of words.1
-  reply_buffer ← bytes_of words.2
-  Ok (calls.Send connection message reply_buffer)
-
--- a receive id, a status, which is a signed number of 64 bits, and data
-unfoldable pub reply_of : List (List ℕ) → Result Call LineFault
-reply_of operands = do
-  words ← three_of operands
-  message ← number_of (2 ^ 64) words.0
-  status ← integer_of (2 ^ 63) words.1
-  reply ← bytes_of words.2
-  Ok (calls.Reply message status reply)
-
--- a receive id, an offset and a buffer
-unfoldable pub read_of : List (List ℕ) → Result Call LineFault
-read_of operands = do
-  words ← three_of operands
-  message ← number_of (2 ^ 64) words.0
-  offset ← number_of (2 ^ 64) words.1
-  buffer ← bytes_of words.2
-  Ok (calls.Read message offset buffer)
-
--- a receive id, an offset and data
-unfoldable pub write_of : List (List ℕ) → Result Call LineFault
-write_of operands = do
-  words ← three_of operands
-  message ← number_of (2 ^ 64) words.0
-  offset ← number_of (2 ^ 64) words.1
-  bytes ← bytes_of words.2
-  Ok (calls.Write message offset bytes)
+  v ← values_of (sort.Thread ∷ sort.Process ∷ sort.Priority ∷ []) operands (Ok no_values)
+  Ok (member_with v.numbers)

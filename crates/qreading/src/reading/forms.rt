@@ -1,184 +1,117 @@
-//! Reads the operands of a line, from left to right. Each function refuses operands that are too few or too many.
+//! Reads the operands of a line, by their sorts.
 
-ghost use Rattle.std.specs.Prelude.{◌≡◌};
-ghost use Rattle.qreading.specs.Reading.Forms.{id_of, small_of, nothing_of, member_of, setprio_of, error_of, pulse_of, receive_of, send_of, reply_of, read_of, write_of};
-ghost use Rattle.qreading.specs.Reading.Steps.{Gives};
+ghost use Rattle.std.specs.Prelude.{◌≡◌, IfOk, Ok};
+ghost use Rattle.qreading.specs.Reading.Forms.{member_of, no_values, value_of, values_of};
+ghost use Rattle.qreading.specs.Reading.Steps.{◌>>=◌, Gives};
 ghost use Rattle.qreading.specs.Reading.Words.{words_of};
 
 use crate::fault::{LineFault, ParseError};
 use crate::reading::bytes::bytes_said;
 use crate::reading::number::{byte, narrow, number, priority, small, wide};
-use crate::reading::words::{four, next_word, one, three, two};
-use qbase::ids::{ChannelId, ConnectionId, ProcessNo, ReceiveId, ThreadNo};
-use qmodel::call::Call;
+use crate::reading::words::next_word;
+use qbase::bytes::Bytes;
+use qbase::ids::{ProcessNo, ThreadNo};
+use qmodel::operands::{Operand, Operands};
 use qtables::member::Member;
-use std::alloc::Global;
+use std::alloc::{AllocError, Global};
 
-/// Reads one id, of 64 bits: that of a channel, a connection or a message.
-#[tactic(auto, unfolding(crate::specs::Reading::Forms::id_of))]
-pub fn one_id(operands: &[u8]) -> Result<u64, LineFault>
-    ensures { result ≡ id_of (words_of operands.now) }
-{
-    let word = one(operands)?;
-    number(word)
+/// The values of the operands of a line.
+#[derive(Debug, Drop)]
+pub struct Values {
+    pub numbers: Operands,
+    /// A message, or data.
+    pub bytes: Bytes,
+    /// A buffer, or a reply buffer.
+    pub buffer: Bytes,
 }
 
-/// Reads one number below 256: a thread, or the flags of a channel.
-#[tactic(auto, unfolding(crate::specs::Reading::Forms::small_of))]
-pub fn one_small(operands: &[u8]) -> Result<u8, LineFault>
-    ensures { result ≡ small_of (words_of operands.now) }
-{
-    let word = one(operands)?;
-    small(word)
+impl Values {
+    /// Returns those of a line without operands.
+    pub fn none(alloc: Global) -> Values
+        ensures { result ≡ no_values }
+    {
+        Values {
+            numbers: Operands::none(),
+            bytes: Bytes::new(alloc),
+            buffer: Bytes::new(alloc),
+        }
+    }
+
+    /// Returns them with the word of an operand of this sort.
+    pub fn with(self, alloc: Global, sort: Operand, word: &[u8]) -> Result<Values, ParseError>
+        ensures { Gives result (value_of sort word.now self) }
+    {
+        let mut values = self;
+        match sort {
+            Operand::Thread => values.numbers.thread = ThreadNo(small(word)?),
+            Operand::Process => values.numbers.process = ProcessNo(small(word)?),
+            Operand::Priority => values.numbers.priority = priority(word)?,
+            Operand::Flags => values.numbers.flags = small(word)?,
+            Operand::Channel | Operand::Connection | Operand::ReceiveId => {
+                values.numbers.id = number(word)?
+            }
+            Operand::Offset => values.numbers.offset = number(word)? as usize,
+            Operand::Status => values.numbers.status = wide(word)?,
+            Operand::ErrorCode => values.numbers.code = narrow(word)?,
+            Operand::PulseCode => values.numbers.pulse_code = byte(word)?,
+            Operand::Value => values.numbers.value = narrow(word)?,
+            Operand::Message | Operand::Data => values.bytes = bytes_said(alloc, word)?,
+            Operand::ReplyBuffer | Operand::Buffer => values.buffer = bytes_said(alloc, word)?,
+        }
+        Ok(values)
+    }
+
+    /// Reads the words of operands of these sorts. A fault is the first one from the left, unless the words are too few
+    /// or too many.
+    pub fn read(alloc: Global, sorts: &[Operand], words: &[u8]) -> Result<Values, ParseError>
+        ensures { Gives result (values_of sorts.now (words_of words.now) (Ok no_values)) }
+    {
+        let mut read = Ok(Values::none(alloc));
+        let mut rest = words;
+        for sort in sorts {
+            let Some((word, behind)) = next_word(rest) else {
+                return Err(ParseError::Fault(LineFault::WordCount));
+            };
+            read = with_next(alloc, read, *sort, word)?;
+            rest = behind;
+        }
+        if next_word(rest).is_some() {
+            return Err(ParseError::Fault(LineFault::WordCount));
+        }
+        Ok(read?)
+    }
 }
 
-/// Checks that there are no operands.
-#[tactic(auto, unfolding(crate::specs::Reading::Forms::nothing_of))]
-pub fn nothing(operands: &[u8]) -> Result<(), LineFault>
-    ensures { result ≡ nothing_of (words_of operands.now) }
+/// Reads one more word, unless an earlier one was faulty.
+fn with_next(
+    alloc: Global,
+    read: Result<Values, LineFault>,
+    sort: Operand,
+    word: &[u8],
+) -> Result<Result<Values, LineFault>, AllocError>
+    ensures { IfOk result (λ next. next ≡ (read >>= value_of sort word.now)) }
 {
-    match next_word(operands) {
-        None => Ok(()),
-        Some(_) => Err(LineFault::WordCount),
+    let values = match read {
+        Ok(values) => values,
+        Err(fault) => return Ok(Err(fault)),
+    };
+    match values.with(alloc, sort, word) {
+        Ok(values) => Ok(Ok(values)),
+        Err(ParseError::Fault(fault)) => Ok(Err(fault)),
+        Err(ParseError::Memory) => Err(AllocError),
     }
 }
 
 /// Reads a thread, its process and its base priority.
 #[tactic(auto, unfolding(crate::specs::Reading::Forms::member_of))]
-pub fn member(operands: &[u8]) -> Result<Member, LineFault>
-    ensures { result ≡ member_of (words_of operands.now) }
+pub fn member(alloc: Global, operands: &[u8]) -> Result<Member, ParseError>
+    ensures { Gives result (member_of (words_of operands.now)) }
 {
-    let (thread, process, level) = three(operands)?;
-    let thread = small(thread)?;
-    let process = small(process)?;
-    let priority = priority(level)?;
+    let sorts = [Operand::Thread, Operand::Process, Operand::Priority];
+    let values = Values::read(alloc, &sorts, operands)?;
     Ok(Member {
-        thread: ThreadNo(thread),
-        process: ProcessNo(process),
-        priority,
-    })
-}
-
-/// Reads a thread and its priority.
-#[tactic(auto, unfolding(crate::specs::Reading::Forms::setprio_of))]
-pub fn setprio(operands: &[u8]) -> Result<Call, ParseError>
-    ensures { Gives result (setprio_of (words_of operands.now)) }
-{
-    let (thread, level) = two(operands)?;
-    let thread = small(thread)?;
-    let priority = priority(level)?;
-    Ok(Call::PrioritySet {
-        thread: ThreadNo(thread),
-        priority,
-    })
-}
-
-/// Reads a receive id and a code.
-#[tactic(auto, unfolding(crate::specs::Reading::Forms::error_of))]
-pub fn error(operands: &[u8]) -> Result<Call, ParseError>
-    ensures { Gives result (error_of (words_of operands.now)) }
-{
-    let (message, code) = two(operands)?;
-    let message = number(message)?;
-    let code = narrow(code)?;
-    Ok(Call::Error {
-        rcvid: ReceiveId(message),
-        code,
-    })
-}
-
-/// Reads a connection, a priority, a code and a value.
-#[tactic(auto, unfolding(crate::specs::Reading::Forms::pulse_of))]
-pub fn pulse(operands: &[u8]) -> Result<Call, ParseError>
-    ensures { Gives result (pulse_of (words_of operands.now)) }
-{
-    let (connection, level, code, value) = four(operands)?;
-    let connection = number(connection)?;
-    let priority = priority(level)?;
-    let code = byte(code)?;
-    let value = narrow(value)?;
-    Ok(Call::Pulse {
-        coid: ConnectionId(connection),
-        priority,
-        code,
-        value,
-    })
-}
-
-/// Reads a channel and a buffer.
-#[tactic(auto, unfolding(crate::specs::Reading::Forms::receive_of))]
-pub fn receive(alloc: Global, operands: &[u8]) -> Result<Call, ParseError>
-    ensures { Gives result (receive_of (words_of operands.now)) }
-{
-    let (channel, buffer) = two(operands)?;
-    let channel = number(channel)?;
-    let buffer = bytes_said(alloc, buffer)?;
-    Ok(Call::Receive {
-        chid: ChannelId(channel),
-        buffer,
-    })
-}
-
-/// Reads a connection, a message and a reply buffer.
-#[tactic(auto, unfolding(crate::specs::Reading::Forms::send_of))]
-pub fn send(alloc: Global, operands: &[u8]) -> Result<Call, ParseError>
-    ensures { Gives result (send_of (words_of operands.now)) }
-{
-    let (connection, message, reply_buffer) = three(operands)?;
-    let connection = number(connection)?;
-    let message = bytes_said(alloc, message)?;
-    let reply_buffer = bytes_said(alloc, reply_buffer)?;
-    Ok(Call::Send {
-        coid: ConnectionId(connection),
-        message,
-        reply_buffer,
-    })
-}
-
-/// Reads a receive id, a status and data.
-#[tactic(auto, unfolding(crate::specs::Reading::Forms::reply_of))]
-pub fn reply(alloc: Global, operands: &[u8]) -> Result<Call, ParseError>
-    ensures { Gives result (reply_of (words_of operands.now)) }
-{
-    let (message, status, reply) = three(operands)?;
-    let message = number(message)?;
-    let status = wide(status)?;
-    let reply = bytes_said(alloc, reply)?;
-    Ok(Call::Reply {
-        rcvid: ReceiveId(message),
-        status,
-        bytes: reply,
-    })
-}
-
-/// Reads a receive id, an offset and a buffer.
-#[tactic(auto, unfolding(crate::specs::Reading::Forms::read_of))]
-pub fn read(alloc: Global, operands: &[u8]) -> Result<Call, ParseError>
-    ensures { Gives result (read_of (words_of operands.now)) }
-{
-    let (message, offset, buffer) = three(operands)?;
-    let message = number(message)?;
-    let offset = number(offset)? as usize;
-    let buffer = bytes_said(alloc, buffer)?;
-    Ok(Call::Read {
-        rcvid: ReceiveId(message),
-        offset,
-        buffer,
-    })
-}
-
-/// Reads a receive id, an offset and data.
-#[tactic(auto, unfolding(crate::specs::Reading::Forms::write_of))]
-pub fn write(alloc: Global, operands: &[u8]) -> Result<Call, ParseError>
-    ensures { Gives result (write_of (words_of operands.now)) }
-{
-    let (message, offset, bytes) = three(operands)?;
-    let message = number(message)?;
-    let offset = number(offset)? as usize;
-    let bytes = bytes_said(alloc, bytes)?;
-    Ok(Call::Write {
-        rcvid: ReceiveId(message),
-        offset,
-        bytes,
+        thread: values.numbers.thread,
+        process: values.numbers.process,
+        priority: values.numbers.priority,
     })
 }

@@ -43,13 +43,13 @@ fn call_line(alloc: Global, caller: &[u8], rest: &[u8]) -> Result<Line, ParseErr
 
 /// Reads a roster line, which is refused if `is_late`, that is, behind call lines.
 #[tactic(auto, unfolding(crate::specs::Reading::Line::roster_line_of))]
-fn roster_line(is_late: bool, operands: &[u8]) -> Result<Line, LineFault>
-    ensures { result ≡ roster_line_of is_late (words_of operands.now) }
+fn roster_line(alloc: Global, is_late: bool, operands: &[u8]) -> Result<Line, ParseError>
+    ensures { Gives result (roster_line_of is_late (words_of operands.now)) }
 {
     if is_late {
-        return Err(LineFault::LateThread);
+        return Err(ParseError::Fault(LineFault::LateThread));
     }
-    let member = member(operands)?;
+    let member = member(alloc, operands)?;
     Ok(Line::Roster(member))
 }
 
@@ -76,7 +76,7 @@ fn said(alloc: Global, is_late: bool, line: &[u8]) -> Result<Line, ParseError>
         return Err(ParseError::Fault(LineFault::BadByte));
     }
     if is(first, "thread") {
-        return Ok(roster_line(is_late, rest)?);
+        return roster_line(alloc, is_late, rest);
     }
     call_line(alloc, first, rest)
 }

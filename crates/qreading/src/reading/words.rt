@@ -2,7 +2,7 @@
 
 ghost use Rattle.std.specs.Prelude.{◌≡◌, ◌<◌, ◌≤◌, [], ◌∷◌, drop, length, not, position, IfSome, MatchOption, MatchResult};
 ghost use Rattle.std.specs.List.{position_or_len};
-ghost use Rattle.qreading.specs.Reading.Counts.{one_of, two_of, three_of, four_of, first_of};
+ghost use Rattle.qreading.specs.Reading.Counts.{first_of};
 ghost use Rattle.qreading.specs.Reading.Words.{words_of, is_blank};
 
 use crate::fault::LineFault;
@@ -72,50 +72,4 @@ pub fn first(text: &[u8]) -> Result<(&[u8], &[u8]), LineFault>
         Some(next) => Ok(next),
         None => Err(LineFault::WordCount),
     }
-}
-
-/// Returns the word if there is just one.
-pub fn one(operands: &[u8]) -> Result<&[u8], LineFault>
-    ensures { MatchResult result (λ w. one_of (words_of operands.now) ≡ Ok w.now) (λ e. one_of (words_of operands.now) ≡ Err e) }
-{
-    let Some((word, rest)) = next_word(operands) else {
-        return Err(LineFault::WordCount);
-    };
-    match next_word(rest) {
-        None => Ok(word),
-        Some(_) => Err(LineFault::WordCount),
-    }
-}
-
-/// Returns the words if there are just two.
-pub fn two(operands: &[u8]) -> Result<(&[u8], &[u8]), LineFault>
-    ensures { MatchResult result (λ w. two_of (words_of operands.now) ≡ Ok (w.0.now, w.1.now)) (λ e. two_of (words_of operands.now) ≡ Err e) }
-{
-    let Some((first, rest)) = next_word(operands) else {
-        return Err(LineFault::WordCount);
-    };
-    let second = one(rest)?;
-    Ok((first, second))
-}
-
-/// Returns the words if there are just three.
-pub fn three(operands: &[u8]) -> Result<(&[u8], &[u8], &[u8]), LineFault>
-    ensures { MatchResult result (λ w. three_of (words_of operands.now) ≡ Ok (w.0.now, w.1.now, w.2.now)) (λ e. three_of (words_of operands.now) ≡ Err e) }
-{
-    let Some((first, rest)) = next_word(operands) else {
-        return Err(LineFault::WordCount);
-    };
-    let (second, third) = two(rest)?;
-    Ok((first, second, third))
-}
-
-/// Returns the words if there are just four.
-pub fn four(operands: &[u8]) -> Result<(&[u8], &[u8], &[u8], &[u8]), LineFault>
-    ensures { MatchResult result (λ w. four_of (words_of operands.now) ≡ Ok (w.0.now, w.1.now, w.2.now, w.3.now)) (λ e. four_of (words_of operands.now) ≡ Err e) }
-{
-    let Some((first, rest)) = next_word(operands) else {
-        return Err(LineFault::WordCount);
-    };
-    let (second, third, fourth) = three(rest)?;
-    Ok((first, second, third, fourth))
 }

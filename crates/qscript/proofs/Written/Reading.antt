@@ -1,5 +1,5 @@
 -- Lines that are written, read again.
-use Rattle.std.proofs.Common.{◌≡◌, ℕ, ◌<◌, ◌≤◌, ◌^◌, Bool, true, false, List, [], ◌∷◌, length, length-append, Ok, codes, decimal, refl, arith, inl, inr, subst}
+use Rattle.std.proofs.Common.{◌≡◌, ◌∙◌, ap, map, Some, ℕ, ◌<◌, ◌≤◌, ◌^◌, Bool, true, false, List, [], ◌∷◌, length, length-append, Ok, codes, decimal, refl, arith, inl, inr, subst}
 use Rattle.std.specs.List.{AllByRecursion, list_all}
 use Rattle.std.specs.Str.{all_ascii_digits, bytes_eq}
 use Rattle.std.proofs.lemmas.Bool.{le-ltb, cases_Bool}
@@ -10,16 +10,22 @@ use Rattle.qmodel.specs.declared.call.Call.{Call}
 use Rattle.qmodel.specs.declared.call.Call.TheVariants as calls
 use Rattle.qreading.specs.declared.reading.line.Line.TheVariants as lines
 use Rattle.qscript.specs.Printing.Words.{words_with_spaces}
-use Rattle.qmodel.specs.Kinds.{kind_named}
-use Rattle.qreading.specs.Reading.Call.{call_of}
+use Rattle.qmodel.specs.declared.kind.CallKind.{CallKind}
+use Rattle.qmodel.specs.declared.kind.CallKind.TheVariants as kind
+use Rattle.qmodel.specs.declared.operands.Operand.{Operand}
+use Rattle.qmodel.specs.declared.operands.Operand.TheVariants as sort
+use Rattle.qmodel.specs.Buffers.{buffer_of, bytes_of}
+use Rattle.qmodel.specs.Kinds.{call_with, kind_named, kind_of, operands_of, script_word, sorts_of}
+use Rattle.qreading.specs.declared.reading.forms.Values.{Values}
+use Rattle.qreading.specs.Reading.Call.{call_by, call_of}
 use Rattle.qreading.specs.Reading.Counts.{first_of}
-use Rattle.qreading.specs.Reading.Forms.{id_of, small_of, nothing_of, member_of, setprio_of, error_of, pulse_of, receive_of, send_of, reply_of, read_of, write_of}
+use Rattle.qreading.specs.Reading.Forms.{member_of, no_values, value_of, values_of}
 use Rattle.qreading.specs.Reading.Line.{is_text, call_line_of, roster_line_of, said_of, line_of}
 use Rattle.qreading.specs.Reading.Number.{number_of}
 use Rattle.qreading.specs.Reading.Steps.{◌>>=◌}
 use Rattle.qreading.specs.Reading.Words.{words_of}
-use Rattle.qscript.specs.Writing.Laws.{IsSmall, IsTyped, IsTypedMember}
-use Rattle.qscript.specs.Writing.Line.{call_words, call_line, member_line}
+use Rattle.qscript.specs.Writing.Laws.{IsSmall, IsTyped, IsTypedMember, IsTypedOperand}
+use Rattle.qscript.specs.Writing.Line.{call_words, call_line, member_line, operand_word}
 use Rattle.qreading.proofs.Texts.Digits.{own}
 use Rattle.qscript.proofs.Written.Bytes.{bytes_word, bytes_back}
 use Rattle.qscript.proofs.Written.Numbers.{number_back, priority_back, signed_word, integer_back}
@@ -33,26 +39,35 @@ small_word n h = number_word n (omega (arith, h))
 level_word : (n : ℕ) → n ≤ 255 → IsWord (decimal n)
 level_word n h = number_word n (omega (arith, h))
 
-call_are_words : (call : Call) → IsTyped call → AllByRecursion IsWord (call_words call)
+kind_is_word : (k : CallKind) → IsWord (script_word k)
+kind_is_word kind.Send = name_word (codes "send") (omega arith) refl
+kind_is_word k = name_word _ (omega arith) refl
+
+operand_is_word : (c : Call) (s : Operand) → IsTypedOperand c s → IsWord (operand_word c s)
+operand_is_word c sort.Thread h = small_word _ h
+operand_is_word c sort.Process h = small_word _ h
+operand_is_word c sort.Priority h = level_word _ h.1
+operand_is_word c sort.Flags h = small_word _ h
+operand_is_word c sort.Channel h = number_word _ h
+operand_is_word c sort.Connection h = number_word _ h
+operand_is_word c sort.ReceiveId h = number_word _ h
+operand_is_word c sort.Offset h = number_word _ h
+operand_is_word c sort.Status h = signed_word _ (2 ^ 63) h (omega arith)
+operand_is_word c sort.ErrorCode h = signed_word _ (2 ^ 31) h (omega arith)
+operand_is_word c sort.PulseCode h = signed_word _ (2 ^ 7) h (omega arith)
+operand_is_word c sort.Value h = signed_word _ (2 ^ 31) h (omega arith)
+operand_is_word c sort.Message h = bytes_word _ h
+operand_is_word c sort.Data h = bytes_word _ h
+operand_is_word c sort.ReplyBuffer h = bytes_word _ h
+operand_is_word c sort.Buffer h = bytes_word _ h
+
+operands_are_words : (c : Call) (sorts : List Operand) → AllByRecursion (IsTypedOperand c) sorts → AllByRecursion IsWord (map (operand_word c) sorts)
+operands_are_words c [] h = tt
+operands_are_words c (s ∷ sorts) h = (operand_is_word c s h.0, operands_are_words c sorts h.1)
+
+call_are_words : (c : Call) → IsTyped c → AllByRecursion IsWord (call_words c)
 unfolding call_words
-call_are_words (calls.ChannelCreate flags) h = (name_word (codes "create") (omega arith) refl, (small_word _ h, tt))
-call_are_words (calls.ConnectAttach chid) h = (name_word (codes "attach") (omega arith) refl, (number_word _ h, tt))
-call_are_words (calls.Send coid message reply_buffer) h = (name_word (codes "send") (omega arith) refl, (number_word _ h.0, (bytes_word _ h.1, (bytes_word _ h.2, tt))))
-call_are_words (calls.Receive chid buffer) h = (name_word (codes "receive") (omega arith) refl, (number_word _ h.0, (bytes_word _ h.1, tt)))
-call_are_words (calls.Reply rcvid status bytes) h = (name_word (codes "reply") (omega arith) refl, (number_word _ h.0, (signed_word status (2 ^ 63) h.1 (omega arith), (bytes_word _ h.2, tt))))
-call_are_words (calls.Error rcvid code) h = (name_word (codes "error") (omega arith) refl, (number_word _ h.0, (signed_word code (2 ^ 31) h.1 (omega arith), tt)))
-call_are_words (calls.Read rcvid offset buffer) h = (name_word (codes "read") (omega arith) refl, (number_word _ h.0, (number_word _ h.1, (bytes_word _ h.2, tt))))
-call_are_words (calls.Write rcvid offset bytes) h = (name_word (codes "write") (omega arith) refl, (number_word _ h.0, (number_word _ h.1, (bytes_word _ h.2, tt))))
-call_are_words (calls.Info rcvid) h = (name_word (codes "info") (omega arith) refl, (number_word _ h, tt))
-call_are_words (calls.ReceivePulse chid) h = (name_word (codes "receivepulse") (omega arith) refl, (number_word _ h, tt))
-call_are_words (calls.Pulse coid priority code value) h =
-    (name_word (codes "pulse") (omega arith) refl, (number_word _ h.0, (level_word _ h.1.1, (signed_word code (2 ^ 7) h.2 (omega arith), (signed_word value (2 ^ 31) h.3 (omega arith), tt)))))
-call_are_words (calls.PrioritySet thread priority) h = (name_word (codes "setprio") (omega arith) refl, (small_word _ h.0, (level_word _ h.1.1, tt)))
-call_are_words (calls.State thread) h = (name_word (codes "state") (omega arith) refl, (small_word _ h, tt))
-call_are_words (calls.ChannelDestroy chid) h = (name_word (codes "destroy") (omega arith) refl, (number_word _ h, tt))
-call_are_words calls.Shutdown h = (name_word (codes "shutdown") (omega arith) refl, tt)
-call_are_words (calls.Unblock thread) h = (name_word (codes "unblock") (omega arith) refl, (small_word _ h, tt))
-call_are_words (calls.ConnectDetach coid) h = (name_word (codes "detach") (omega arith) refl, (number_word _ h, tt))
+call_are_words c h = (kind_is_word (kind_of c), operands_are_words c (sorts_of (kind_of c)) h)
 
 -- ---- the call of the words
 
@@ -62,27 +77,72 @@ number n h = number_back (2 ^ 64) n h h
 small : (n : ℕ) → IsSmall n → number_of 256 (decimal n) ≡ Ok n
 small n h = number_back 256 n h (omega (arith, h))
 
+-- the values with a call's operand of this sort
+put : Call → Operand → Values → Values
+put c sort.Thread v = record v { numbers = record v.numbers { thread = (operands_of c).thread } }
+put c sort.Process v = record v { numbers = record v.numbers { process = (operands_of c).process } }
+put c sort.Priority v = record v { numbers = record v.numbers { priority = (operands_of c).priority } }
+put c sort.Flags v = record v { numbers = record v.numbers { flags = (operands_of c).flags } }
+put c sort.Channel v = record v { numbers = record v.numbers { id = (operands_of c).id } }
+put c sort.Connection v = record v { numbers = record v.numbers { id = (operands_of c).id } }
+put c sort.ReceiveId v = record v { numbers = record v.numbers { id = (operands_of c).id } }
+put c sort.Offset v = record v { numbers = record v.numbers { offset = (operands_of c).offset } }
+put c sort.Status v = record v { numbers = record v.numbers { status = (operands_of c).status } }
+put c sort.ErrorCode v = record v { numbers = record v.numbers { code = (operands_of c).code } }
+put c sort.PulseCode v = record v { numbers = record v.numbers { pulse_code = (operands_of c).pulse_code } }
+put c sort.Value v = record v { numbers = record v.numbers { value = (operands_of c).value } }
+put c sort.Message v = record v { bytes = bytes_of c }
+put c sort.Data v = record v { bytes = bytes_of c }
+put c sort.ReplyBuffer v = record v { buffer = buffer_of c }
+put c sort.Buffer v = record v { buffer = buffer_of c }
+
+puts : Call → List Operand → Values → Values
+puts c [] v = v
+puts c (s ∷ sorts) v = puts c sorts (put c s v)
+
+value_back : (c : Call) (s : Operand) (v : Values) → IsTypedOperand c s → value_of s (operand_word c s) v ≡ Ok (put c s v)
+value_back c sort.Thread v h = rw (small _ h) refl
+value_back c sort.Process v h = rw (small _ h) refl
+value_back c sort.Priority v h = rw (priority_back _ h.0 h.1) refl
+value_back c sort.Flags v h = rw (small _ h) refl
+value_back c sort.Channel v h = rw (number _ h) refl
+value_back c sort.Connection v h = rw (number _ h) refl
+value_back c sort.ReceiveId v h = rw (number _ h) refl
+value_back c sort.Offset v h = rw (number _ h) refl
+value_back c sort.Status v h = rw (integer_back (2 ^ 63) _ h (omega arith)) refl
+value_back c sort.ErrorCode v h = rw (integer_back (2 ^ 31) _ h (omega arith)) refl
+value_back c sort.PulseCode v h = rw (integer_back (2 ^ 7) _ h (omega arith)) refl
+value_back c sort.Value v h = rw (integer_back (2 ^ 31) _ h (omega arith)) refl
+value_back c sort.Message v h = rw (bytes_back _ h) refl
+value_back c sort.Data v h = rw (bytes_back _ h) refl
+value_back c sort.ReplyBuffer v h = rw (bytes_back _ h) refl
+value_back c sort.Buffer v h = rw (bytes_back _ h) refl
+
+values_back : (c : Call) (sorts : List Operand) (v : Values) → AllByRecursion (IsTypedOperand c) sorts
+    → values_of sorts (map (operand_word c) sorts) (Ok v) ≡ Ok (puts c sorts v)
+values_back c [] v h = refl
+values_back c (s ∷ sorts) v h = ap (values_of sorts (map (operand_word c) sorts)) (value_back c s v h.0) ∙ values_back c sorts (put c s v) h.1
+
+-- the values of all its operands make the call
+with_values : CallKind → Values → Call
+with_values k v = call_with k v.numbers v.bytes v.buffer
+
+call_made : (c : Call) → with_values (kind_of c) (puts c (sorts_of (kind_of c)) no_values) ≡ c
+call_made calls.Shutdown = refl
+call_made c = refl
+
+kind_back : (k : CallKind) → kind_named (script_word k) ≡ Some k
+unfolding kind_named
+kind_back kind.Shutdown = refl
+kind_back k = refl
+
 -- the words of a call name it
-call_named : (call : Call) → IsTyped call → (first_of (call_words call) >>= (λ ws. call_of ws.0 ws.1)) ≡ Ok call
-unfolding call_words call_of kind_named id_of small_of nothing_of setprio_of error_of pulse_of receive_of send_of reply_of read_of write_of
-call_named (calls.ChannelCreate flags) h = rw (small _ h) refl
-call_named (calls.ConnectAttach chid) h = rw (number _ h) refl
-call_named (calls.Send coid message reply_buffer) h = rw (number _ h.0, bytes_back message h.1, bytes_back reply_buffer h.2) refl
-call_named (calls.Receive chid buffer) h = rw (number _ h.0, bytes_back buffer h.1) refl
-call_named (calls.Reply rcvid status bytes) h = rw (number _ h.0, integer_back (2 ^ 63) status h.1 (omega arith), bytes_back bytes h.2) refl
-call_named (calls.Error rcvid code) h = rw (number _ h.0, integer_back (2 ^ 31) code h.1 (omega arith)) refl
-call_named (calls.Read rcvid offset buffer) h = rw (number rcvid h.0, number offset h.1, bytes_back buffer h.2) refl
-call_named (calls.Write rcvid offset bytes) h = rw (number rcvid h.0, number offset h.1, bytes_back bytes h.2) refl
-call_named (calls.Info rcvid) h = rw (number _ h) refl
-call_named (calls.ReceivePulse chid) h = rw (number _ h) refl
-call_named (calls.Pulse coid priority code value) h =
-    rw (number _ h.0, priority_back priority h.1.0 h.1.1, integer_back (2 ^ 7) code h.2 (omega arith), integer_back (2 ^ 31) value h.3 (omega arith)) refl
-call_named (calls.PrioritySet thread priority) h = rw (small _ h.0, priority_back priority h.1.0 h.1.1) refl
-call_named (calls.State thread) h = rw (small _ h) refl
-call_named (calls.ChannelDestroy chid) h = rw (number _ h) refl
-call_named calls.Shutdown h = refl
-call_named (calls.Unblock thread) h = rw (small _ h) refl
-call_named (calls.ConnectDetach coid) h = rw (number _ h) refl
+call_named : (c : Call) → IsTyped c → (first_of (call_words c) >>= (λ ws. call_of ws.0 ws.1)) ≡ Ok c
+unfolding call_words call_of
+call_named c h =
+    let sorts = sorts_of (kind_of c) in
+    ap (λ k. call_by k (map (operand_word c) sorts)) (kind_back (kind_of c))
+    ∙ ap (λ r. r >>= (λ v. Ok (with_values (kind_of c) v))) (values_back c sorts no_values h) ∙ ap Ok (call_made c)
 
 -- ---- lines
 

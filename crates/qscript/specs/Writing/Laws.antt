@@ -4,7 +4,10 @@ use Rattle.std.specs.List.{AllByRecursion}
 use Rattle.hex.specs.Hex.{IsBytes}
 use Rattle.qtables.specs.declared.member.Member.{Member}
 use Rattle.qmodel.specs.declared.call.Call.{Call}
-use Rattle.qmodel.specs.declared.call.Call.TheVariants as calls
+use Rattle.qmodel.specs.declared.operands.Operand.{Operand}
+use Rattle.qmodel.specs.declared.operands.Operand.TheVariants as sort
+use Rattle.qmodel.specs.Buffers.{buffer_of, bytes_of}
+use Rattle.qmodel.specs.Kinds.{kind_of, operands_of, sorts_of}
 use Rattle.qrules.specs.Lawful.{event_call}
 use Rattle.qmodel.specs.Trace.{Event}
 use Rattle.qreading.specs.Reading.Meaning.{Says, is_in, meaning}
@@ -25,27 +28,28 @@ IsNumber n = n < 2 ^ 64
 abbrev pub IsLevel : ℕ → Type 0
 IsLevel n = (1 ≤ n) × (n ≤ 255)
 
--- a call whose numbers, priorities and bytes are within the ranges of their types, as those of every call of
--- a program are
+-- a call's operand of this sort is within the range of its type
+abbrev pub IsTypedOperand : Call → Operand → Type 0
+IsTypedOperand c sort.Thread = IsSmall (operands_of c).thread
+IsTypedOperand c sort.Process = IsSmall (operands_of c).process
+IsTypedOperand c sort.Priority = IsLevel (operands_of c).priority
+IsTypedOperand c sort.Flags = IsSmall (operands_of c).flags
+IsTypedOperand c sort.Channel = IsNumber (operands_of c).id
+IsTypedOperand c sort.Connection = IsNumber (operands_of c).id
+IsTypedOperand c sort.ReceiveId = IsNumber (operands_of c).id
+IsTypedOperand c sort.Offset = IsNumber (operands_of c).offset
+IsTypedOperand c sort.Status = is_within (2 ^ 63) (operands_of c).status ≡ true
+IsTypedOperand c sort.ErrorCode = is_within (2 ^ 31) (operands_of c).code ≡ true
+IsTypedOperand c sort.PulseCode = is_within (2 ^ 7) (operands_of c).pulse_code ≡ true
+IsTypedOperand c sort.Value = is_within (2 ^ 31) (operands_of c).value ≡ true
+IsTypedOperand c sort.Message = IsBytes (bytes_of c)
+IsTypedOperand c sort.Data = IsBytes (bytes_of c)
+IsTypedOperand c sort.ReplyBuffer = IsBytes (buffer_of c)
+IsTypedOperand c sort.Buffer = IsBytes (buffer_of c)
+
+-- a call whose operands are within the ranges of their types, as those of every call of a program are
 abbrev pub IsTyped : Call → Type 0
-IsTyped (calls.ChannelCreate flags) = IsSmall flags.0
-IsTyped (calls.ConnectAttach chid) = IsNumber chid
-IsTyped (calls.Send coid message reply_buffer) = IsNumber coid × IsBytes message × IsBytes reply_buffer
-IsTyped (calls.Receive chid buffer) = IsNumber chid × IsBytes buffer
-IsTyped (calls.Reply rcvid status bytes) = IsNumber rcvid × (is_within (2 ^ 63) status ≡ true) × IsBytes bytes
-IsTyped (calls.Error rcvid code) = IsNumber rcvid × (is_within (2 ^ 31) code ≡ true)
-IsTyped (calls.Read rcvid offset buffer) = IsNumber rcvid × IsNumber offset × IsBytes buffer
-IsTyped (calls.Write rcvid offset bytes) = IsNumber rcvid × IsNumber offset × IsBytes bytes
-IsTyped (calls.Info rcvid) = IsNumber rcvid
-IsTyped (calls.ReceivePulse chid) = IsNumber chid
-IsTyped (calls.Pulse coid priority code value) =
-    IsNumber coid × IsLevel priority × (is_within (2 ^ 7) code ≡ true) × (is_within (2 ^ 31) value ≡ true)
-IsTyped (calls.PrioritySet thread priority) = IsSmall thread × IsLevel priority
-IsTyped (calls.State thread) = IsSmall thread
-IsTyped (calls.ChannelDestroy chid) = IsNumber chid
-IsTyped calls.Shutdown = Unit {0}
-IsTyped (calls.Unblock thread) = IsSmall thread
-IsTyped (calls.ConnectDetach coid) = IsNumber coid
+IsTyped c = AllByRecursion (IsTypedOperand c) (sorts_of (kind_of c))
 
 -- a thread whose numbers are within the ranges of their types
 abbrev pub IsTypedMember : Member → Type 0

@@ -1,36 +1,37 @@
 -- The lines of a written script.
-use Rattle.std.specs.Prelude.{ℕ, List, [], ◌∷◌, ◌++◌, codes, decimal}
+use Rattle.std.specs.Prelude.{ℕ, List, [], ◌∷◌, ◌++◌, codes, decimal, map}
 use Rattle.std.specs.Fmt.{signed_decimal}
 use Rattle.qtables.specs.declared.member.Member.{Member}
 use Rattle.qmodel.specs.declared.call.Call.{Call}
-use Rattle.qmodel.specs.declared.call.Call.TheVariants as calls
+use Rattle.qmodel.specs.declared.operands.Operand.{Operand}
+use Rattle.qmodel.specs.declared.operands.Operand.TheVariants as sort
+use Rattle.qmodel.specs.Buffers.{buffer_of, bytes_of}
+use Rattle.qmodel.specs.Kinds.{kind_of, operands_of, script_word, sorts_of}
 use Rattle.qscript.specs.Printing.Buffer.{buffer_word}
 use Rattle.qscript.specs.Printing.Words.{words_with_spaces}
 
+-- the word for a call's operand of this sort
+abbrev pub operand_word : Call → Operand → List ℕ
+operand_word c sort.Thread = decimal (operands_of c).thread
+operand_word c sort.Process = decimal (operands_of c).process
+operand_word c sort.Priority = decimal (operands_of c).priority
+operand_word c sort.Flags = decimal (operands_of c).flags
+operand_word c sort.Channel = decimal (operands_of c).id
+operand_word c sort.Connection = decimal (operands_of c).id
+operand_word c sort.ReceiveId = decimal (operands_of c).id
+operand_word c sort.Offset = decimal (operands_of c).offset
+operand_word c sort.Status = signed_decimal (operands_of c).status
+operand_word c sort.ErrorCode = signed_decimal (operands_of c).code
+operand_word c sort.PulseCode = signed_decimal (operands_of c).pulse_code
+operand_word c sort.Value = signed_decimal (operands_of c).value
+operand_word c sort.Message = buffer_word (bytes_of c)
+operand_word c sort.Data = buffer_word (bytes_of c)
+operand_word c sort.ReplyBuffer = buffer_word (buffer_of c)
+operand_word c sort.Buffer = buffer_word (buffer_of c)
+
 -- a call's name and its operands
 unfoldable pub call_words : Call → List (List ℕ)
-call_words (calls.ChannelCreate flags) = codes "create" ∷ decimal flags.0 ∷ []
-call_words (calls.ConnectAttach chid) = codes "attach" ∷ decimal chid ∷ []
-call_words (calls.Send coid message reply_buffer) =
-    codes "send" ∷ decimal coid ∷ buffer_word message ∷ buffer_word reply_buffer ∷ []
-call_words (calls.Receive chid buffer) = codes "receive" ∷ decimal chid ∷ buffer_word buffer ∷ []
-call_words (calls.Reply rcvid status bytes) =
-    codes "reply" ∷ decimal rcvid ∷ signed_decimal status ∷ buffer_word bytes ∷ []
-call_words (calls.Error rcvid code) = codes "error" ∷ decimal rcvid ∷ signed_decimal code ∷ []
-call_words (calls.Read rcvid offset buffer) =
-    codes "read" ∷ decimal rcvid ∷ decimal offset ∷ buffer_word buffer ∷ []
-call_words (calls.Write rcvid offset bytes) =
-    codes "write" ∷ decimal rcvid ∷ decimal offset ∷ buffer_word bytes ∷ []
-call_words (calls.Info rcvid) = codes "info" ∷ decimal rcvid ∷ []
-call_words (calls.ReceivePulse chid) = codes "receivepulse" ∷ decimal chid ∷ []
-call_words (calls.Pulse coid priority code value) =
-    codes "pulse" ∷ decimal coid ∷ decimal priority ∷ signed_decimal code ∷ signed_decimal value ∷ []
-call_words (calls.PrioritySet thread priority) = codes "setprio" ∷ decimal thread ∷ decimal priority ∷ []
-call_words (calls.State thread) = codes "state" ∷ decimal thread ∷ []
-call_words (calls.ChannelDestroy chid) = codes "destroy" ∷ decimal chid ∷ []
-call_words calls.Shutdown = codes "shutdown" ∷ []
-call_words (calls.Unblock thread) = codes "unblock" ∷ decimal thread ∷ []
-call_words (calls.ConnectDetach coid) = codes "detach" ∷ decimal coid ∷ []
+call_words c = script_word (kind_of c) ∷ map (operand_word c) (sorts_of (kind_of c))
 
 -- the line of a call: its thread, its name and its operands
 abbrev pub call_line : ℕ → Call → List ℕ
