@@ -37,7 +37,7 @@ pub record Copying (ts : List ℕ) (X : List Completion) (rooms rooms' : List �
   pub done : List Completion
   pub whole : done ++ left ≡ X
   pub copied : Copied ts done rooms rooms'
-  pub logged : log' ≡ record log { endings = log.endings ++ done; ending_room = log.ending_room - length done }
+  pub logged : log' ≡ record log { endings = log.endings ++ done; completion_room = log.completion_room - length done }
 
 pub copying_next : (ts : List ℕ) (X : List Completion) (rooms rooms' : List ℕ) (log log' : Logged) (x : Completion) (left : List Completion)
     → AreApart X → AllByRecursion (MayCopy ts rooms) X → Copying ts X rooms rooms' log log' (x ∷ left) → MayCopy ts rooms' x
@@ -48,25 +48,25 @@ copying_next ts X rooms rooms' log log' x left apart may h =
 
 -- there is room for the next
 pub copying_room : (ts : List ℕ) (X : List Completion) (rooms rooms' : List ℕ) (log log' : Logged) (x : Completion) (left : List Completion)
-    → length X ≤ log.ending_room → Copying ts X rooms rooms' log log' (x ∷ left) → 0 < log'.ending_room
+    → length X ≤ log.completion_room → Copying ts X rooms rooms' log log' (x ∷ left) → 0 < log'.completion_room
 copying_room ts X rooms rooms' log log' x left room h =
     let many : length (h.done ++ x ∷ left) ≡ length X = ap length h.whole in
     let parts : length (h.done ++ x ∷ left) ≡ length h.done + length (x ∷ left) = length-append h.done (x ∷ left) in
-    let here : log'.ending_room ≡ log.ending_room - length h.done = ap (λ l. l.ending_room) h.logged in
+    let here : log'.completion_room ≡ log.completion_room - length h.done = ap (λ l. l.completion_room) h.logged in
     omega arith
 
 pub copying_more : (ts : List ℕ) (X : List Completion) (rooms rooms' rooms'' : List ℕ) (log log' log'' : Logged) (x : Completion) (left : List Completion)
-    → Copying ts X rooms rooms' log log' (x ∷ left) → Copied ts (x ∷ []) rooms' rooms'' → log'' ≡ record log' { endings = log'.endings ++ x ∷ []; ending_room = log'.ending_room - 1 } → Copying ts X rooms rooms'' log log'' left
+    → Copying ts X rooms rooms' log log' (x ∷ left) → Copied ts (x ∷ []) rooms' rooms'' → log'' ≡ record log' { endings = log'.endings ++ x ∷ []; completion_room = log'.completion_room - 1 } → Copying ts X rooms rooms'' log log'' left
 copying_more ts X rooms rooms' rooms'' log log' log'' x left h one logged =
     let more : length (h.done ++ x ∷ []) ≡ length h.done + 1 = length-append h.done (x ∷ []) in
-    let room : log.ending_room - length h.done - 1 ≡ log.ending_room - length (h.done ++ x ∷ []) = omega arith in
+    let room : log.completion_room - length h.done - 1 ≡ log.completion_room - length (h.done ++ x ∷ []) = omega arith in
     record {
       done = h.done ++ x ∷ [];
       whole = append_assoc h.done (x ∷ []) left ∙ h.whole;
       copied = more_copied ts h.done (x ∷ []) rooms rooms' rooms'' h.copied one;
-      logged = logged ∙ ap (λ (l : Logged). record l { endings = l.endings ++ x ∷ []; ending_room = l.ending_room - 1 }) h.logged
-          ∙ ap (λ ys. record log { endings = ys; ending_room = log.ending_room - length h.done - 1 }) (append_assoc log.endings h.done (x ∷ []))
-          ∙ ap (λ n. record log { endings = log.endings ++ (h.done ++ x ∷ []); ending_room = n }) room;
+      logged = logged ∙ ap (λ (l : Logged). record l { endings = l.endings ++ x ∷ []; completion_room = l.completion_room - 1 }) h.logged
+          ∙ ap (λ ys. record log { endings = ys; completion_room = log.completion_room - length h.done - 1 }) (append_assoc log.endings h.done (x ∷ []))
+          ∙ ap (λ n. record log { endings = log.endings ++ (h.done ++ x ∷ []); completion_room = n }) room;
     }
 
 pub left_next : (X : List Completion) (i : ℕ) (d : Completion) → i < length X → drop i X ≡ get_or X i d ∷ drop (i + 1) X

@@ -106,14 +106,14 @@ finds roster limit threads rooms log c room ready t X v h z =
 
 -- a log with one more event
 abbrev pub with_event_of : Logged → Event → Logged
-with_event_of log e = record { events = log.events ++ e ∷ []; noted = []; endings = []; call_room = log.call_room - 1; ending_room = log.ending_room - length e.endings }
+with_event_of log e = record { events = log.events ++ e ∷ []; noted = []; endings = []; call_room = log.call_room - 1; completion_room = log.completion_room - length e.endings }
 
 -- endings are put, then their call is noted, and then it is an event
-pub next_log : (log copied noted next : Logged) (t : ℕ) (c : Call) (X : List Completion) → (log.noted ≡ []) × (log.endings ≡ []) → copied ≡ record log { endings = log.endings ++ X; ending_room = log.ending_room - length X }
+pub next_log : (log copied noted next : Logged) (t : ℕ) (c : Call) (X : List Completion) → (log.noted ≡ []) × (log.endings ≡ []) → copied ≡ record log { endings = log.endings ++ X; completion_room = log.completion_room - length X }
     → noted ≡ record copied { noted = copied.noted ++ (t, c) ∷ []; call_room = copied.call_room - 1 } → next ≡ with_next noted → next ≡ with_event_of log (record { thread = t; call = c; endings = X })
 next_log log copied noted next t c X none a b d =
-    let put : Logged = record log { endings = X; ending_room = log.ending_room - length X; noted = [] } in
-    let start : copied ≡ put = a ∙ ap (λ ys. record log { endings = ys ++ X; ending_room = log.ending_room - length X }) none.1 ∙ ap (λ ys. record log { endings = X; ending_room = log.ending_room - length X; noted = ys }) none.0 in
+    let put : Logged = record log { endings = X; completion_room = log.completion_room - length X; noted = [] } in
+    let start : copied ≡ put = a ∙ ap (λ ys. record log { endings = ys ++ X; completion_room = log.completion_room - length X }) none.1 ∙ ap (λ ys. record log { endings = X; completion_room = log.completion_room - length X; noted = ys }) none.0 in
     let mid : noted ≡ record put { noted = (t, c) ∷ []; call_room = put.call_room - 1 } = b ∙ ap (λ (l : Logged). record l { noted = l.noted ++ (t, c) ∷ []; call_room = l.call_room - 1 }) start in
     d ∙ ap with_next mid
 

@@ -74,9 +74,9 @@ fn copy_one(
 )
     requires sized { length rooms.old.items ≡ length (threads_of (members_of kernel.now.threads)) }
     requires may { MayCopy (threads_of (members_of kernel.now.threads)) rooms.old.items ending.now }
-    requires room { 0 < log.old.ending_room }
+    requires room { 0 < log.old.completion_room }
     ensures copied { Copied (threads_of (members_of kernel.now.threads)) (ending.now ∷ []) rooms.old.items rooms.new.items }
-    ensures logged { log.new ≡ record log.old { endings = log.old.endings ++ ending.now ∷ []; ending_room = log.old.ending_room - 1 } }
+    ensures logged { log.new ≡ record log.old { endings = log.old.endings ++ ending.now ∷ []; completion_room = log.old.completion_room - 1 } }
 {
     let Some(place) = place_of(kernel, ending.thread) else {
         unreachable!()
@@ -101,9 +101,9 @@ fn copy_all(
     requires sized { length rooms.old.items ≡ length (threads_of (members_of kernel.now.threads)) }
     requires apart { AreApart endings.now }
     requires may { AllByRecursion (MayCopy (threads_of (members_of kernel.now.threads)) rooms.old.items) endings.now }
-    requires room { length endings.now ≤ log.old.ending_room }
+    requires room { length endings.now ≤ log.old.completion_room }
     ensures copied { Copied (threads_of (members_of kernel.now.threads)) endings.now rooms.old.items rooms.new.items }
-    ensures logged { log.new ≡ record log.old { endings = log.old.endings ++ endings.now; ending_room = log.old.ending_room - length endings.now } }
+    ensures logged { log.new ≡ record log.old { endings = log.old.endings ++ endings.now; completion_room = log.old.completion_room - length endings.now } }
 {
     let mut i = 0;
     while i < endings.len() {

@@ -37,7 +37,7 @@ pub record Copied (threads : List ℕ) (X : List Completion) (rooms rooms' : Lis
 pub record HasRoomFor (limit : ℕ) (log : Logged) (noted : Call) (room : ℕ) : Type 0 where
   pub buffer : length (buffer_of noted) ≤ room
   pub event : (noted ≡ Shutdown)
-      ⊎ ((length log.events + 1 < limit) × (2 ≤ log.call_room) × (128 ≤ log.ending_room))
+      ⊎ ((length log.events + 1 < limit) × (2 ≤ log.call_room) × (128 ≤ log.completion_room))
 
 -- the invariant of a kept past: it is within its limit, and until the kernel is shut down there is room for
 -- one more event, and one event of the limit is left
@@ -50,6 +50,6 @@ pub record IsKept (roster : List Member) (limit : ℕ) (threads rooms : List ℕ
   pub has_rooms : HasRooms roster rooms (followed_by [] log.events)
   pub within : length log.events ≤ limit
   pub spare : is_down (followed_by [] log.events) ≡ false → (length log.events < limit)
-      × (1 ≤ log.call_room) × (64 ≤ log.ending_room)
+      × (1 ≤ log.call_room) × (64 ≤ log.completion_room)
   pub noted_room : ready ≡ true → HasRoomFor limit log noted room
   pub bounded : limit ≤ 2 ^ 20
