@@ -58,6 +58,7 @@ static int in_a_child(void (*work)(void), const char *asked, pid_t *pid) {
     pid_t child = fork();
     if (child == 0) {
         alarm(HANGS);
+        check(signal(SIGQUIT, SIG_DFL) != SIG_ERR); /* shells have their background jobs ignore it */
         check(dup2(ends[1], STDERR_FILENO) == STDERR_FILENO && close(ends[1]) == 0);
         if (asked) check(setenv(asked, "1", 1) == 0);
         work();
