@@ -27,7 +27,8 @@ pub trait Calls {
     /// Returns the allocator that the buffers of calls come from.
     fn alloc(&self) -> Global;
 
-    /// Makes a call, and returns its ending.
+    /// Makes a call, and returns its ending. If the call blocks, a `Caller` waits for it, and a simulator's thread
+    /// returns `Unexpected` and stays blocked.
     fn complete(&mut self, call: Call) -> Result<Ending, CallError>
         ensures { made self.old call self.new result };
 

@@ -37,10 +37,10 @@ pub enum Outcome<T> {
 /// calls of other threads: their endings are kept until `take` returns them. Contracts see the kernel's content, and
 /// the endings that are kept.
 ///
-/// `thread` gives the calls of a thread. Each refuses a call before it is made, and then changes nothing: with `NoThread`
-/// if the thread isn't in the roster, `Exhausted` at 2^40 calls, and `Busy` if the ending of the thread's last call isn't
-/// taken yet. The kernel refuses a call with `Busy` if its thread is blocked, and with `Down` after `shutdown`; that is
-/// an event, which the kernel counts.
+/// `thread` returns a thread, by which calls are made. A call is refused before it is made, and then changes nothing:
+/// with `NoThread` if the thread isn't in the roster, `Exhausted` at 2^40 calls, and `Busy` if the ending of the
+/// thread's last call isn't taken yet. The kernel refuses a call with `Busy` if its thread is blocked, and with `Down`
+/// after `shutdown`; that is an event, which the kernel counts.
 #[derive(Drop)]
 pub struct Simulator {
     alloc: Global,
