@@ -81,7 +81,8 @@ void timer_errors(void) {
     static timer_t all[256];
     struct sigevent event;
     struct itimerspec time = {{0, 0}, {0, 1}}, wrong = {{0, 0}, {0, -1}};
-    int chid = ChannelCreate(0), coid = attach(chid);
+    int chid = ChannelCreate(0), coid = attach(chid), lowest = dup(STDERR_FILENO);
+    check(close(lowest) == 0);
     SIGEV_PULSE_INIT(&event, coid, 0, 1, 1);
     fails(timer_create(CLOCK_MONOTONIC, &event, &all[0]), EINVAL);
     SIGEV_PULSE_INIT(&event, coid, 1, 200, 1);
@@ -93,6 +94,7 @@ void timer_errors(void) {
     fails(timer_create(CLOCK_REALTIME, &event, &all[0]), EAGAIN);
     fails(timer_settime(all[3], 0, &wrong, NULL), EINVAL);
     for (int at = 0; at < 256; at++) check(timer_delete(all[at]) == 0);
+    check(dup(STDERR_FILENO) == lowest && close(lowest) == 0); /* no file is left */
     fails(timer_delete(all[5]), EINVAL);
     fails(timer_delete(0), EINVAL);
     fails(timer_delete(257), EINVAL);
