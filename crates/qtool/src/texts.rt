@@ -283,7 +283,8 @@ its own. A program has these lines:
   end
   repeat N                N times, up to its end
   loop                    without an end, up to its end
-  leave                   goes out of the innermost repeat or loop
+  serve                   the same; who waits to receive in it is an idle server
+  leave                   goes out of the innermost repeat, loop or serve
   stop                    the program ends
   NAME = OTHER            NAME stands for what OTHER stands for
   forget NAME             NAME stands for nothing
@@ -321,7 +322,7 @@ that can follow is looked at: this is more than a computer with few processors d
 What is wrong is told with the fewest calls that lead to it:
 
   blocked for ever               nobody goes on, and somebody is left who is no server
-                                 that receives in a loop
+                                 that receives in a serve
   a call fails                   and no expect or if below it names fail
   an expectation doesn't hold    with what came
   a name stands for nothing      in a call
