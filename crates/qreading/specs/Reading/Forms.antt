@@ -58,10 +58,14 @@ value_of sort.Data word v = bytes_in word v
 value_of sort.ReplyBuffer word v = buffer_in word v
 value_of sort.Buffer word v = buffer_in word v
 
+-- the values with one more word, unless there was a fault before it
+abbrev pub value_behind : Result Values LineFault → Operand → List ℕ → Result Values LineFault
+value_behind read s word = read >>= value_of s word
+
 -- the values with the words of operands of these sorts, or the first fault; the count is wrong before all
 abbrev pub values_of : List Operand → List (List ℕ) → Result Values LineFault → Result Values LineFault
 values_of [] [] read = read
-values_of (s ∷ sorts) (word ∷ words) read = values_of sorts words (read >>= value_of s word)
+values_of (s ∷ sorts) (word ∷ words) read = values_of sorts words (value_behind read s word)
 values_of sorts words read = Err WordCount
 
 -- the member of the roster with these numbers
