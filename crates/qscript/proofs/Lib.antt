@@ -4,4 +4,3 @@ pub mod Runnable
 pub mod Making
 pub mod OneText
 pub mod Written
-pub mod Rows

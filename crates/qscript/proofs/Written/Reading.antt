@@ -41,7 +41,7 @@ level_word n h = number_word n (omega (arith, h))
 
 kind_is_word : (k : CallKind) → IsWord (script_word k)
 kind_is_word kind.Send = name_word (codes "send") (omega arith) refl
-kind_is_word k = name_word _ (omega arith) refl
+kind_is_word k = name_word (script_word k) (omega arith) refl
 
 operand_is_word : (c : Call) (s : Operand) → IsTypedOperand c s → IsWord (operand_word c s)
 operand_is_word c sort.Thread h = small_word _ h
@@ -78,7 +78,7 @@ small : (n : ℕ) → IsSmall n → number_of 256 (decimal n) ≡ Ok n
 small n h = number_back 256 n h (omega (arith, h))
 
 -- the values with a call's operand of this sort
-put : Call → Operand → Values → Values
+abbrev put : Call → Operand → Values → Values
 put c sort.Thread v = record v { numbers = record v.numbers { thread = (operands_of c).thread } }
 put c sort.Process v = record v { numbers = record v.numbers { process = (operands_of c).process } }
 put c sort.Priority v = record v { numbers = record v.numbers { priority = (operands_of c).priority } }
@@ -96,7 +96,7 @@ put c sort.Data v = record v { bytes = bytes_of c }
 put c sort.ReplyBuffer v = record v { buffer = buffer_of c }
 put c sort.Buffer v = record v { buffer = buffer_of c }
 
-puts : Call → List Operand → Values → Values
+abbrev puts : Call → List Operand → Values → Values
 puts c [] v = v
 puts c (s ∷ sorts) v = puts c sorts (put c s v)
 
@@ -124,7 +124,7 @@ values_back c [] v h = refl
 values_back c (s ∷ sorts) v h = ap (values_of sorts (map (operand_word c) sorts)) (value_back c s v h.0) ∙ values_back c sorts (put c s v) h.1
 
 -- the values of all its operands make the call
-with_values : CallKind → Values → Call
+abbrev with_values : CallKind → Values → Call
 with_values k v = call_with k v.numbers v.bytes v.buffer
 
 call_made : (c : Call) → with_values (kind_of c) (puts c (sorts_of (kind_of c)) no_values) ≡ c
