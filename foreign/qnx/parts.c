@@ -96,7 +96,8 @@ long MsgSendvs(int coid, const iov_t *siov, size_t sparts, void *rmsg, size_t rb
 }
 
 /* Receives by one of the layer's two functions. info is filled for a message alone. */
-static int receive_parts(typeof(layer_MsgReceive) *receive, int chid, struct whole room, struct _msg_info *info) {
+static int receive_parts(int (*receive)(int chid, void *bytes, size_t length, struct _msg_info *info), int chid,
+                         struct whole room, struct _msg_info *info) {
     struct _msg_info own;
     int rcvid = -1;
     if (enter_point()) return -1;
