@@ -2,7 +2,6 @@
 
 use crate::command::ExploreRun;
 use crate::ending::{end_failed, print_text, text_of};
-use crate::json::quoted;
 use crate::remarks;
 use qdesign::verdict::words::{Source, found_script};
 use qdesign::{Reading, read};
@@ -42,11 +41,8 @@ pub fn words_of(alloc: Global, file: &str, text: &[u8]) -> Result<Option<String>
         text,
         design: &design,
     };
-    let search = Search {
-        source,
-        script: false,
-        names: false,
-    };
+    let script = false;
+    let search = Search { source, script };
     let (words, _) = search.all(MOST_MOMENTS, &mut Nobody)?;
     Ok(Some(words))
 }
@@ -103,39 +99,8 @@ pub fn run_explore<R: Files + Input + Print + Eprint + AllocGlobal>(
         Err(error) => Err(error),
     };
     let (words, status) = told.map_err(|_| end_failed(rt, "out of memory"))?;
-    if run.json {
-        let object = object_of(rt.alloc(), file, words.as_str(), status);
-        let object = object.map_err(|_| end_failed(rt, "out of memory"))?;
-        print_text(rt, object.as_str())?;
-    } else if run.script && status != 1 {
-        // there is no run to print
-        let _ = eprint!(rt; "{words}");
-    } else {
-        print_text(rt, words.as_str())?;
-    }
+    print_text(rt, words.as_str())?;
     Ok(ExitCode::from(status))
-}
-
-/// Returns the outcome of a search as an object of JSON: the design's file, the outcome in a word, and the lines of its
-/// output.
-fn object_of(alloc: Global, file: &str, output: &str, status: u8) -> Result<String, AllocError> {
-    let outcome = match status {
-        0 => "nothing",
-        1 => "fault",
-        _ => "nothing so far",
-    };
-    let file = quoted(alloc, file)?;
-    let mut out = format!(in alloc;
-        "{{\"design\": {file}, \"outcome\": \"{outcome}\", \"lines\": ["
-    )?;
-    let mut between = "";
-    for line in output.lines() {
-        let line = quoted(alloc, line)?;
-        write!(out, "{between}{line}")?;
-        between = ", ";
-    }
-    out.push_str("]}\n")?;
-    Ok(out)
 }
 
 /// Returns the output of the search that is asked for, and the exit status.
@@ -150,11 +115,8 @@ fn told_of<R: Eprint + AllocGlobal>(
         steps: 0,
         shown: false,
     };
-    let search = Search {
-        source,
-        script: run.script,
-        names: run.names && !run.json,
-    };
+    let script = run.script;
+    let search = Search { source, script };
     let told = match run.random {
         Some(count) => search.some(u64::from(count), u64::from(run.seed), &mut progress),
         None => search.all(run.most as usize, &mut progress),
@@ -171,8 +133,6 @@ struct Search<'a> {
     source: Source<'a>,
     /// Whether only the run that shows a fault is printed, as a script.
     script: bool,
-    /// Whether that script has names.
-    names: bool,
 }
 
 impl Search<'_> {
@@ -205,10 +165,10 @@ impl Search<'_> {
     /// Returns the output for a fault; `which` says what kind of run shows it.
     fn fault(self, found: &Found, which: &str) -> Result<String, AllocError> {
         let source = self.source;
-        match (self.script, self.names) {
-            (true, true) => source.found_script_with_names(found),
-            (true, false) => found_script(source.alloc, source.design, found),
-            (false, names) => source.found_words(found, which, names),
+        if self.script {
+            found_script(source.alloc, source.design, found)
+        } else {
+            source.found_words(found, which)
         }
     }
 }

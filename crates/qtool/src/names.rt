@@ -25,13 +25,14 @@ pub fn named_of<R: Eprint + AllocGlobal>(rt: &R, source: Source<'_>) -> Result<N
     }
 }
 
-/// Runs the script with names in a file or in standard input, or prints its plain script: prints its trace, and reports
-/// what differs from the expectations.
+/// Runs the script with names in a file, or prints its plain script: prints its trace, and reports what differs from
+/// the expectations.
 pub fn run_named<R: Files + Input + Print + Eprint + AllocGlobal>(
     rt: &R,
     run: &ScriptRun,
-    file: Option<&str>,
+    name: &str,
 ) -> Result<ExitCode, ExitCode> {
+    let file = Some(name);
     let text = text_of(rt, file)?;
     let source = Source {
         file,

@@ -16,15 +16,14 @@ use std::process::ExitCode;
 use std::rt::Files;
 use std::{fs, io};
 
-/// Runs a script, from a file or from standard input; the name of the file, or `names_in`, decides whether it is plain,
-/// or has names. A faulty line is explained on a terminal, or if explanations are asked for.
+/// Runs a script, from a file or from standard input; the name of the file decides whether it is plain, or has names. A
+/// faulty line is explained on a terminal, or if explanations are asked for.
 pub fn run_script<R: Files + Input + Print + Eprint + AllocGlobal>(
     rt: &R,
     run: &ScriptRun,
 ) -> Result<ExitCode, ExitCode> {
     match run.file.as_deref() {
-        Some(name) if is_named(name) => run_named(rt, run, Some(name)),
-        None if run.names_in => run_named(rt, run, None),
+        Some(name) if is_named(name) => run_named(rt, run, name),
         _ if run.plain => Err(end_with(rt, "--plain wants a file NAME.names", 2)),
         None => run_plain(rt, run, rt.reader()),
         Some(name) => match fs::open(rt, name) {

@@ -18,9 +18,9 @@ A script goes in, and what its calls are answered comes out on standard output.
 
 Status: 0; 1 for a faulty script, a trace that differs, or a run that isn't as its
 script expects; 2 for a faulty command line; 3 where reading, writing or memory
-fails; 4 where a worker fails, or a search didn't look at everything. Where nobody
-reads the output any more, as behind '| head -1', the program ends without a message,
-with status 141.";
+fails; 4 where a worker fails, or a search didn't look at all. Where nobody reads the
+output any more, as behind '| head -1', the program ends without a message, with
+status 141.";
 
 /// The texts of a subcommand.
 pub struct Texts {
@@ -329,10 +329,7 @@ What is wrong is told with the fewest calls that lead to it:
   priorities are inverted        a client waits for a server that works below another
                                  thread, which is ready
 
-With --script only the run that shows it is printed, as a script; with --names, and
-on a terminal, that is a script with names. If nothing is wrong, the words go to
-standard error. docs/EXPLORE.md shows it by examples. 'qdemo help script' describes
-calls.",
+docs/EXPLORE.md shows it by examples. 'qdemo help script' describes calls.",
     "Example:
   $ qdemo explore designs/two-servers-mended.design
   designs/two-servers-mended.design: nothing found in all 2,218 interleavings: \

@@ -93,7 +93,6 @@ fn script_command<'a>(alloc: Global) -> Result<Command<'a>, AllocError> {
         EXPLAIN,
         JSON,
         NAMES,
-        ("names-in", "Read standard input as a script with names"),
         (
             "plain",
             "Print the plain script of one with names, and don't run it",
@@ -156,8 +155,7 @@ fn explore_command<'a>(alloc: Global) -> Result<Command<'a>, AllocError> {
         alloc,
         "The design's file; none or - is standard input",
     ))?;
-    let json = ("json", "Print an object of JSON in place of lines");
-    with_flags(alloc, command, &[("script", script), NAMES, json])?
+    with_flags(alloc, command, &[("script", script)])?
         .arg(number(alloc, "most", "N", count, most).default_value("1000000"))?
         .arg(number(alloc, "random", "N", count, random))?
         .arg(number(alloc, "seed", "S", any, seed).default_value("1"))
