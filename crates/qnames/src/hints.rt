@@ -2,6 +2,7 @@
 //! what to write in its place.
 
 use qbase::errno;
+use qbase::errno::Errno;
 use qmodel::kind::LISTED;
 use qreading::grammar::{ERROR_WORDS, FLAGS, Form, Operand, errno_of};
 use qreading::lexing::token::{Sort, Token};
@@ -189,12 +190,12 @@ pub fn number_words(alloc: Global, word: &[u8]) -> Result<String, AllocError> {
 fn error_meant(alloc: Global, word: &[u8]) -> Result<Option<&'static str>, AllocError> {
     let plain = lowercase(alloc, word)?;
     let meant = match plain.as_slice() {
-        b"enomem" => b"nomemory".as_slice(),
-        b"etimedout" => b"intr".as_slice(),
-        [b'e', rest @ ..] => rest,
-        all => all,
+        b"enomem" => Some(Errno::NoMemory),
+        b"etimedout" => Some(Errno::Intr),
+        [b'e', rest @ ..] => errno_of(rest),
+        all => errno_of(all),
     };
-    Ok(errno_of(meant).map(errno::word))
+    Ok(meant.map(errno::word))
 }
 
 /// Returns which words name errors, and what to write in place of this one, if it is the name of one in QNX.
