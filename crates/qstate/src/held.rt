@@ -3,9 +3,9 @@
 ghost use Rattle.std.specs.Prelude.{◌≡◌, None, Some, true, false, option_and_then, option_map, IfOk, IfErr, OnErr};
 ghost use Rattle.qbase.specs.Laying.{laid_count};
 ghost use Rattle.qmodel.specs.OpenCalls.{send_in};
-ghost use Rattle.qrules.specs.Records.{info_of_open, message_in, reply_buffer_in, unblocked_call, written_call};
+ghost use Rattle.qrules.specs.Records.{info_of_open, reply_buffer_in, unblocked_call, written_call};
 ghost use Rattle.qstate.specs.Held.{guarded_message_in, is_held_in};
-ghost use Rattle.qstate.specs.Thread.{is_sending, open_in, sender_in, ChangesOpen, SetsOpen};
+ghost use Rattle.qstate.specs.Thread.{is_sending, message_from, open_in, sender_in, ChangesOpen, SetsOpen};
 ghost use Rattle.qstate.specs.Threads.{IsSeatIn};
 
 use crate::objects::Objects;
@@ -66,6 +66,20 @@ impl Objects {
         }
     }
 
+    /// Returns the message that is held under this receive id on a channel of this process; `Srch` if there is none.
+    pub fn held_message(&self, process: ProcessNo, rcvid: ReceiveId) -> Result<&[u8], Errno>
+        ensures held { IfOk result (λ message. is_held_in self.now.threads self.now.channels process rcvid ≡ true) }
+        ensures message { IfOk result (λ message. message.now ≡ message_from self.now.threads rcvid) }
+        ensures none { IfErr result (λ e. is_held_in self.now.threads self.now.channels process rcvid ≡ false) }
+        ensures error { IfErr result (λ e. e ≡ Errno.Srch) }
+    {
+        let holder = self.holder(process, rcvid)?;
+        match self.threads.record(&holder).send() {
+            None => unreachable!(),
+            Some(send) => Ok(send.message.as_slice()),
+        }
+    }
+
     /// Ends the Send of the thread that `holder` finds, and returns it. `Srch` if there is no such thread; then nothing
     /// changes.
     #[inline(always)]
@@ -121,17 +135,6 @@ impl Thread {
             if let Some(receipt) = &mut send.receipt {
                 receipt.unblocked = true;
             }
-        }
-    }
-
-    /// Returns the message of the Send that the thread is blocked in.
-    pub fn message(&self) -> &[u8]
-        requires { is_sending self.now.open_call ≡ true }
-        ensures { result.now ≡ message_in self.now.open_call }
-    {
-        match self.send() {
-            None => unreachable!(),
-            Some(send) => send.message.as_slice(),
         }
     }
 

@@ -24,12 +24,11 @@ impl Kernel {
         requires { MayCall self.old caller.now endings.old.items }
         ensures { Makes self.old caller.now (Call.Read rcvid offset buffer) endings.new.items self.new }
     {
-        let holder = match self.objects.holder(caller.process, rcvid) {
-            Ok(holder) => holder,
+        let message = match self.objects.held_message(caller.process, rcvid) {
+            Ok(message) => message,
             Err(errno) => return caller.refuse(endings, errno, buffer),
         };
         let mut buffer = buffer;
-        let message = self.objects.threads.record(&holder).message();
         let copied = buffer.take(message, offset);
         put(endings, caller.completion_with(Mark::Count(copied), buffer));
     }

@@ -1,7 +1,4 @@
-use Rattle.std.proofs.Common.{◌≡◌, refl, sym, ap, ◌∙◌}
-use Rattle.qrules.specs.Records.{message_in}
-use Rattle.qstate.specs.Thread.{message_from}
-use Rattle.qstate.proofs.Senders.{message_sent}
+use Rattle.std.proofs.Common.{refl}
 use Rattle.qmodel.specs.declared.call.Call.TheVariants.{Read}
 use Rattle.qkernel.proofs.Steps.Held.{step_unheld}
 use Rattle.qkernel.proofs.Steps.Read.{step_read}
@@ -16,9 +13,5 @@ returns-in-Err c =
 pub returns : goal.returns
 returns c =
     let may = rw (← c.self.view_is) at c.requires in
-    let held = c.in-Ok.ensures.held in
-    let sent = c.in-Ok.ensures.sender in
-    let message : c.message-message.result.now ≡ message_from c.self.inside.objects.threads c.args.rcvid =
-    c.message-message.ensures ∙ ap message_in (sym c.record.ensures.open_call) ∙ sym (message_sent c.args.rcvid c.in-Ok.holder.thread c.self.inside.objects.threads sent) in
-    let ended = rw (c.completion_with.ensures, c.take-copied.ensures.count, c.take-copied.ensures.after, message, may.none) at c.put.ensures in
-    rw (← c.self.view_is, may.counted) (step_read _ c.args.caller.now.seat.thread _ c.args.rcvid may.sound may.among.known may.up may.free held c.args.offset c.args.buffer _ ended)
+    let ended = rw (c.completion_with.ensures, c.take-copied.ensures.count, c.take-copied.ensures.after, c.in-Ok.ensures.message, may.none) at c.put.ensures in
+    rw (← c.self.view_is, may.counted) (step_read _ c.args.caller.now.seat.thread _ c.args.rcvid may.sound may.among.known may.up may.free c.in-Ok.ensures.held c.args.offset c.args.buffer _ ended)
