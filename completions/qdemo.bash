@@ -8,11 +8,11 @@ _qdemo() {
     case "$command" in
         "") options="script check play chart explore serve help -h --help -V --version" ;;
         help) [ "$COMP_CWORD" -eq 2 ] && options="script check play chart explore serve" ;;
-        script) options="--explain --json --names --plain --strict -h --help" ;;
+        script) options="--explain --json --names --names-in --plain --strict -h --help" ;;
         check) options="--update --explain --json -h --help" ;;
         play) options="--names -h --help" ;;
         chart) options="-o --output --text --bytes --from --to -h --help" ;;
-        explore) options="--script --most --random --seed -h --help" ;;
+        explore) options="--script --names --json --most --random --seed -h --help" ;;
         serve) options="--clients --servers --rounds --hold --time --json --quiet --record -h --help" ;;
     esac
     case "$command $before" in

@@ -13,6 +13,7 @@ complete -c qdemo -n '__fish_seen_subcommand_from help; and not __fish_seen_subc
 complete -c qdemo -n 'not __fish_seen_subcommand_from help; and __fish_seen_subcommand_from script' -l explain -d 'Explain faulty lines, and of script also calls that fail and threads that wait'
 complete -c qdemo -n 'not __fish_seen_subcommand_from help; and __fish_seen_subcommand_from script' -l json -d 'Print an object of JSON in place of each line'
 complete -c qdemo -n 'not __fish_seen_subcommand_from help; and __fish_seen_subcommand_from script' -l names -d 'Print names in place of numbers, as is done on a terminal'
+complete -c qdemo -n 'not __fish_seen_subcommand_from help; and __fish_seen_subcommand_from script' -l names-in -d 'Read a script with names, whatever its file is called'
 complete -c qdemo -n 'not __fish_seen_subcommand_from help; and __fish_seen_subcommand_from script' -l plain -d 'Print the plain script of one with names, and don\'t run it'
 complete -c qdemo -n 'not __fish_seen_subcommand_from help; and __fish_seen_subcommand_from script' -l strict -d 'End with status 1 if a call failed'
 complete -c qdemo -n 'not __fish_seen_subcommand_from help; and __fish_seen_subcommand_from script' -s h -l help -d 'Print help (see more with \'--help\')'
@@ -33,6 +34,8 @@ complete -c qdemo -n 'not __fish_seen_subcommand_from help; and __fish_seen_subc
 complete -c qdemo -n 'not __fish_seen_subcommand_from help; and __fish_seen_subcommand_from chart' -s h -l help -d 'Print help (see more with \'--help\')'
 complete -c qdemo -n 'not __fish_seen_subcommand_from help; and __fish_seen_subcommand_from chart' -F
 complete -c qdemo -n 'not __fish_seen_subcommand_from help; and __fish_seen_subcommand_from explore' -l script -d 'Print the run that shows a fault alone, as a script'
+complete -c qdemo -n 'not __fish_seen_subcommand_from help; and __fish_seen_subcommand_from explore' -l names -d 'Print names in place of numbers, as is done on a terminal'
+complete -c qdemo -n 'not __fish_seen_subcommand_from help; and __fish_seen_subcommand_from explore' -l json -d 'Print an object of JSON in place of lines'
 complete -c qdemo -n 'not __fish_seen_subcommand_from help; and __fish_seen_subcommand_from explore' -l most -x -d 'Give up once more than N moments are known [default: 1000000]'
 complete -c qdemo -n 'not __fish_seen_subcommand_from help; and __fish_seen_subcommand_from explore' -l random -x -d 'Make N interleavings by chance, and not all'
 complete -c qdemo -n 'not __fish_seen_subcommand_from help; and __fish_seen_subcommand_from explore' -l seed -x -d 'What chance begins with; the same seed makes the same interleavings [default: 1]'

@@ -51,7 +51,15 @@ fn main(rt: HostRuntime) -> ExitCode {
         }
         Ok(Action::Explore(run)) => {
             let terminal = rt.stderr().is_terminal();
-            run_explore(&rt, &ExploreRun { terminal, ..run })
+            let names = run.names || rt.stdout().is_terminal();
+            run_explore(
+                &rt,
+                &ExploreRun {
+                    terminal,
+                    names,
+                    ..run
+                },
+            )
         }
         Ok(Action::Serve(run)) => Ok(run_serve(&rt, run, rt.stderr().is_terminal())),
         Err(error) => Err(end_without_action(&rt, &error)),

@@ -23,6 +23,11 @@ pub fn run_chart<R: Files + Input + Print + Eprint + AllocGlobal>(
         let why = format_args!("{output}: the drawing would be written over its script");
         return Err(end_with(rt, why, 2));
     }
+    if let Some(to) = run.to
+        && to < run.from
+    {
+        return Err(end_with(rt, "--to is a call before that of --from", 2));
+    }
     let text = text_of(rt, file)?;
     let text = text.as_slice();
     let view = view_of(run);

@@ -4,7 +4,7 @@ mod places;
 mod tally;
 
 use crate::command::CheckRun;
-use crate::designs::{is_design, words_of};
+use crate::designs::{faults_of as faults_of_design, is_design, words_of};
 use crate::difference::{Difference, difference_of};
 use crate::ending::{end_unwritten, tell_unread};
 use crate::example::{Outcome, outcome_of, printed};
@@ -12,8 +12,9 @@ use crate::json::quoted;
 use crate::lines::without_returns;
 use crate::names::{faults_of, is_named};
 use places::Example;
-use qexplain::explain;
+use qexplain::faults::faults;
 use qreading::parts::{Lines, call_lines};
+use qreading::place::Fault;
 use qscript::fault::ScriptFault;
 use std::fmt::Display;
 use std::path::Path;
@@ -83,14 +84,20 @@ impl<R: Files + Print + Eprint + AllocGlobal + Clone + Drop> Check<'_, R> {
     /// Runs a script with names, and prints what differs from its expectations.
     fn check_named(&mut self, example: &Example, text: &[u8]) -> io::Result<()> {
         let faults = faults_of(self.rt.alloc(), text)?;
-        let Example { name, script, .. } = example;
+        let name = example.name.as_str();
         if faults.is_empty() {
             self.tally.same = self.tally.same.saturating_add(1);
             return self.tell(name, "same", "as it expects");
         }
         self.tally.differ = self.tally.differ.saturating_add(1);
         self.tell(name, "differs", "not as it expects")?;
-        for fault in &faults {
+        self.tell_places(example, faults.as_slice())
+    }
+
+    /// Prints faults of an example, each by its place.
+    fn tell_places(&self, example: &Example, faults: &[Fault]) -> io::Result<()> {
+        let script = &example.script;
+        for fault in faults {
             self.tell_more(format_args!("  {script}:{fault}"))?;
         }
         Ok(())
@@ -103,7 +110,9 @@ impl<R: Files + Print + Eprint + AllocGlobal + Clone + Drop> Check<'_, R> {
         let file = Path::new(name).file_name().unwrap_or(name);
         let Some(words) = words_of(self.rt.alloc(), file, text)? else {
             self.tally.faulty = self.tally.faulty.saturating_add(1);
-            return self.tell(name, "faulty", "faulty");
+            self.tell(name, "faulty", "faulty")?;
+            let faults = faults_of_design(self.rt.alloc(), text)?;
+            return self.tell_places(example, faults.as_slice());
         };
         let words = words.as_str().as_bytes();
         match self.wanted(example) {
@@ -233,19 +242,26 @@ impl<R: Files + Print + Eprint + AllocGlobal + Clone + Drop> Check<'_, R> {
         self.tell_more(format_args!("  script: line {number}: {shown}{dots}"))
     }
 
-    /// Prints why a script has no run, and explains it if explanations are asked for.
+    /// Prints why a script has no run: each faulty line by its place, explained if explanations are asked for.
     fn tell_fault(&mut self, example: &Example, text: &[u8], fault: ScriptFault) -> io::Result<()> {
         if fault.status() == 3 {
             return Err(io::Error::from(io::ErrorKind::OutOfMemory));
         }
         self.tally.faulty = self.tally.faulty.saturating_add(1);
-        let name = example.name.as_str();
-        self.tell(name, "faulty", format_args!("{fault}"))?;
-        if let ScriptFault::Line { number, fault } = fault
-            && self.run.explain
-            && let Some(explanation) = explain(self.rt.alloc(), text, number, fault)?
-        {
-            self.tell_more(format_args!("{explanation}"))?;
+        let Example { name, script, .. } = example;
+        let ScriptFault::Line { .. } = fault else {
+            return self.tell(name.as_str(), "faulty", format_args!("{fault}"));
+        };
+        self.tell(name.as_str(), "faulty", "faulty")?;
+        for remark in &faults(self.rt.alloc(), text)? {
+            let (line, explanation) = (remark.line, &remark.explanation);
+            let column = explanation.column();
+            if let Some(fault) = remark.fault {
+                self.tell_more(format_args!("  {script}:{line}:{column}: {fault}"))?;
+            }
+            if self.run.explain {
+                self.tell_more(format_args!("{explanation}"))?;
+            }
         }
         Ok(())
     }

@@ -17,6 +17,8 @@ pub struct ScriptRun {
     pub names: bool,
     /// Whether the trace is printed as objects of JSON.
     pub json: bool,
+    /// Whether the script has names, whatever its file is called.
+    pub names_in: bool,
     /// Whether the plain script of one with names is printed instead of run.
     pub plain: bool,
     /// Whether a call that fails makes the exit status 1.
@@ -73,6 +75,10 @@ pub struct ExploreRun {
     pub file: Option<String>,
     /// Whether only the run that shows a fault is printed, as a script.
     pub script: bool,
+    /// Whether that script has names.
+    pub names: bool,
+    /// Whether the output is an object of JSON.
+    pub json: bool,
     /// The most moments of the search, at least 1.
     pub most: u32,
     /// The number of random interleavings; `None` to make all interleavings.
@@ -152,6 +158,7 @@ fn script_of(alloc: Global, matches: &ArgMatches<'_>) -> Result<ScriptRun, Alloc
         explain: matches.get_flag("explain"),
         names: matches.get_flag("names"),
         json: matches.get_flag("json"),
+        names_in: matches.get_flag("names-in"),
         plain: matches.get_flag("plain"),
         strict: matches.get_flag("strict"),
         terminal: false,
@@ -190,6 +197,8 @@ fn explore_of(alloc: Global, matches: &ArgMatches<'_>) -> Result<ExploreRun, All
     Ok(ExploreRun {
         file: file_of(alloc, matches, "file")?,
         script: matches.get_flag("script"),
+        names: matches.get_flag("names"),
+        json: matches.get_flag("json"),
         most: matches.get_one("most").unwrap_or(1_000_000),
         random: matches.get_one("random"),
         seed: matches.get_one("seed").unwrap_or(1),

@@ -2,12 +2,14 @@
 
 use crate::command::ExploreRun;
 use crate::ending::{end_failed, print_text, text_of};
+use crate::json::quoted;
 use crate::remarks;
 use qdesign::verdict::words::{Source, found_script};
 use qdesign::{Reading, read};
 use qexplore::fault::Found;
 use qexplore::random::try_some;
 use qexplore::search::{Verdict, Watch, explore};
+use qreading::place::Fault;
 use std::alloc::{AllocError, Global};
 use std::process::ExitCode;
 use std::rt::Files;
@@ -41,10 +43,21 @@ pub fn words_of(alloc: Global, file: &str, text: &[u8]) -> Result<Option<String>
         text,
         design: &design,
     };
-    let script = false;
-    let search = Search { source, script };
+    let search = Search {
+        source,
+        script: false,
+        names: false,
+    };
     let (words, _) = search.all(MOST_MOMENTS, &mut Nobody)?;
     Ok(Some(words))
+}
+
+/// Returns the faults of the text of a design.
+pub fn faults_of(alloc: Global, text: &[u8]) -> Result<Vec<Fault>, AllocError> {
+    match read(alloc, text)? {
+        Reading::Good(_) => Ok(Vec::new(alloc)),
+        Reading::Faulty(faults) => Ok(faults),
+    }
 }
 
 /// Returns whether a file has a design, by its name.
@@ -99,8 +112,39 @@ pub fn run_explore<R: Files + Input + Print + Eprint + AllocGlobal>(
         Err(error) => Err(error),
     };
     let (words, status) = told.map_err(|_| end_failed(rt, "out of memory"))?;
-    print_text(rt, words.as_str())?;
+    if run.json {
+        let object = object_of(rt.alloc(), file, words.as_str(), status);
+        let object = object.map_err(|_| end_failed(rt, "out of memory"))?;
+        print_text(rt, object.as_str())?;
+    } else if run.script && status != 1 {
+        // there is no run to print
+        let _ = eprint!(rt; "{words}");
+    } else {
+        print_text(rt, words.as_str())?;
+    }
     Ok(ExitCode::from(status))
+}
+
+/// Returns the outcome of a search as an object of JSON: the design's file, the outcome in a word, and the lines of its
+/// output.
+fn object_of(alloc: Global, file: &str, output: &str, status: u8) -> Result<String, AllocError> {
+    let outcome = match status {
+        0 => "nothing",
+        1 => "fault",
+        _ => "nothing so far",
+    };
+    let file = quoted(alloc, file)?;
+    let mut out = format!(in alloc;
+        "{{\"design\": {file}, \"outcome\": \"{outcome}\", \"lines\": ["
+    )?;
+    let mut between = "";
+    for line in output.lines() {
+        let line = quoted(alloc, line)?;
+        write!(out, "{between}{line}")?;
+        between = ", ";
+    }
+    out.push_str("]}\n")?;
+    Ok(out)
 }
 
 /// Returns the output of the search that is asked for, and the exit status.
@@ -115,8 +159,11 @@ fn told_of<R: Eprint + AllocGlobal>(
         steps: 0,
         shown: false,
     };
-    let script = run.script;
-    let search = Search { source, script };
+    let search = Search {
+        source,
+        script: run.script,
+        names: run.names && !run.json,
+    };
     let told = match run.random {
         Some(count) => search.some(u64::from(count), u64::from(run.seed), &mut progress),
         None => search.all(run.most as usize, &mut progress),
@@ -133,6 +180,8 @@ struct Search<'a> {
     source: Source<'a>,
     /// Whether only the run that shows a fault is printed, as a script.
     script: bool,
+    /// Whether that script has names.
+    names: bool,
 }
 
 impl Search<'_> {
@@ -165,10 +214,10 @@ impl Search<'_> {
     /// Returns the output for a fault; `which` says what kind of run shows it.
     fn fault(self, found: &Found, which: &str) -> Result<String, AllocError> {
         let source = self.source;
-        if self.script {
-            found_script(source.alloc, source.design, found)
-        } else {
-            source.found_words(found, which)
+        match (self.script, self.names) {
+            (true, true) => source.found_script_with_names(found),
+            (true, false) => found_script(source.alloc, source.design, found),
+            (false, names) => source.found_words(found, which, names),
         }
     }
 }

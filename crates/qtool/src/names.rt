@@ -2,7 +2,8 @@
 
 use crate::command::ScriptRun;
 use crate::ending::{end_failed, print_text, text_of};
-use crate::remarks::{Source, tell_run};
+use crate::oddities::oddities;
+use crate::remarks::{Source, tell_oddities, tell_run};
 use crate::scripts::print_trace;
 use qexplain::report::{Report, ReportedRun};
 use qnames::{Named, Reading, read};
@@ -25,14 +26,13 @@ pub fn named_of<R: Eprint + AllocGlobal>(rt: &R, source: Source<'_>) -> Result<N
     }
 }
 
-/// Runs the script with names in a file, or prints its plain script: prints its trace, and reports what differs from
-/// the expectations.
+/// Runs the script with names in a file or in standard input, or prints its plain script: prints its trace, and reports
+/// what differs from the expectations.
 pub fn run_named<R: Files + Input + Print + Eprint + AllocGlobal>(
     rt: &R,
     run: &ScriptRun,
-    name: &str,
+    file: Option<&str>,
 ) -> Result<ExitCode, ExitCode> {
-    let file = Some(name);
     let text = text_of(rt, file)?;
     let source = Source {
         file,
@@ -48,6 +48,9 @@ pub fn run_named<R: Files + Input + Print + Eprint + AllocGlobal>(
     let outcome = outcome.map_err(|_| end_failed(rt, "out of memory"))?;
     print_trace(rt, run, outcome.trace.as_str())?;
     if run.explain {
+        if let Ok(remarks) = oddities(rt.alloc(), text.as_slice()) {
+            let _ = tell_oddities(rt, file, remarks.as_slice());
+        }
         let _ = tell_run(rt, file, &outcome.report);
     }
     if outcome.faults.is_empty() {

@@ -153,6 +153,7 @@ impl<R: Files + Input + Print + Eprint + AllocGlobal> Play<'_, R> {
             }
             Order::Undo => self.undo()?,
             Order::Save(name) => self.save(name),
+            Order::Words => self.refuse("state, undo, help and quit stand alone in a line"),
             Order::Line => self.take(line)?,
         }
         Ok(true)

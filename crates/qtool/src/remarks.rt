@@ -48,33 +48,32 @@ impl Source<'_> {
     }
 }
 
-/// Tells the faults of a plain script: explains them, at most twenty, or else prints the place of the first. If the
-/// text has no file, the first fault has no line of its own, since it was printed before. What there is no memory for
-/// is left out.
+/// Prints the faults of a plain script: explains them, at most twenty, or else prints the first alone. Returns whether
+/// there was memory for that.
 pub fn tell_faults<R: Eprint + AllocGlobal>(
     rt: &R,
     file: Option<&str>,
     text: &[u8],
     explains: bool,
-) {
+) -> bool {
     let Ok(remarks) = faults(rt.alloc(), text) else {
-        return;
+        return false;
     };
-    for (index, remark) in remarks.iter().enumerate() {
-        if file.is_some() || index > 0 {
-            let _ = tell_place(rt, file, remark);
-        }
+    for remark in &remarks {
+        let _ = tell_place(rt, "qdemo: ", file, remark);
         if !explains {
             break;
         }
         let explanation = &remark.explanation;
         let _ = eprintln!(rt; "{explanation}");
     }
+    !remarks.is_empty()
 }
 
-/// Prints `FILE:LINE:COLUMN: FAULT`, or `line LINE: FAULT` if the script has no file.
+/// Prints `FILE:LINE:COLUMN: FAULT`, or `line LINE: FAULT` if the script has no file, behind these words.
 fn tell_place<R: Eprint + AllocGlobal>(
     rt: &R,
+    front: &str,
     file: Option<&str>,
     remark: &Remark,
 ) -> io::Result<()> {
@@ -85,8 +84,8 @@ fn tell_place<R: Eprint + AllocGlobal>(
         None => format!(in rt.alloc(); "line {line}")?,
     };
     match remark.fault {
-        Some(fault) => eprintln!(rt; "{place}: {fault}"),
-        None => eprintln!(rt; "{place}: warning"),
+        Some(fault) => eprintln!(rt; "{front}{place}: {fault}"),
+        None => eprintln!(rt; "{front}{place}: warning"),
     }
 }
 
@@ -97,12 +96,22 @@ pub fn tell_report<R: Eprint + AllocGlobal>(
     text: &[u8],
     report: &Report,
 ) -> io::Result<()> {
-    for remark in &oddities(rt.alloc(), text)? {
-        tell_place(rt, file, remark)?;
+    tell_oddities(rt, file, oddities(rt.alloc(), text)?.as_slice())?;
+    tell_run(rt, file, report)
+}
+
+/// Prints the oddities of a script, and explains them.
+pub fn tell_oddities<R: Eprint + AllocGlobal>(
+    rt: &R,
+    file: Option<&str>,
+    remarks: &[Remark],
+) -> io::Result<()> {
+    for remark in remarks {
+        tell_place(rt, "", file, remark)?;
         let explanation = &remark.explanation;
         eprintln!(rt; "{explanation}")?;
     }
-    tell_run(rt, file, report)
+    Ok(())
 }
 
 /// Prints why a script's calls failed, and who is blocked on whom at its end.

@@ -16,15 +16,20 @@ use std::process::ExitCode;
 use std::rt::Files;
 use std::{fs, io};
 
-/// Runs a script, from a file or from standard input; the name of the file decides whether it is plain, or has names. A
-/// faulty line is explained on a terminal, or if explanations are asked for.
+/// Runs a script, from a file or from standard input. It has names if its file is called so, or `names_in` says it, and
+/// is plain otherwise. A faulty line is explained on a terminal, or if explanations are asked for.
 pub fn run_script<R: Files + Input + Print + Eprint + AllocGlobal>(
     rt: &R,
     run: &ScriptRun,
 ) -> Result<ExitCode, ExitCode> {
     match run.file.as_deref() {
-        Some(name) if is_named(name) => run_named(rt, run, name),
-        _ if run.plain => Err(end_with(rt, "--plain wants a file NAME.names", 2)),
+        Some(name) if run.names_in || is_named(name) => run_named(rt, run, Some(name)),
+        None if run.names_in => run_named(rt, run, None),
+        _ if run.plain => Err(end_with(
+            rt,
+            "--plain wants a script with names: a file NAME.names, or --names-in",
+            2,
+        )),
         None => run_plain(rt, run, rt.reader()),
         Some(name) => match fs::open(rt, name) {
             Ok(file) => run_plain(rt, run, file),
@@ -91,7 +96,7 @@ pub fn print_trace<R: Print + Eprint + AllocGlobal>(
 }
 
 /// Ends the program for a script that has no run, and prints why: its faults with explanations if these are asked for,
-/// else the place of the first, if the script has a file.
+/// else the first, with its place if the script has a file.
 fn end_faulty<R: Eprint + AllocGlobal, S>(
     rt: &R,
     run: &ScriptRun,
@@ -102,9 +107,10 @@ fn end_faulty<R: Eprint + AllocGlobal, S>(
     if let (ScriptFault::Read, Some(name), Some(error)) = (&fault, file, source.error()) {
         return end_unread(rt, name, error);
     }
-    let code = end_with(rt, format_args!("{fault}"), fault.status());
-    if let (ScriptFault::Line { .. }, Some(text)) = (&fault, source.text()) {
-        tell_faults(rt, file, text, run.explain || run.terminal);
+    if let (ScriptFault::Line { .. }, Some(text)) = (&fault, source.text())
+        && tell_faults(rt, file, text, run.explain || run.terminal)
+    {
+        return ExitCode::from(fault.status());
     }
-    code
+    end_with(rt, format_args!("{fault}"), fault.status())
 }

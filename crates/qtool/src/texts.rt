@@ -18,9 +18,9 @@ A script goes in, and what its calls are answered comes out on standard output.
 
 Status: 0; 1 for a faulty script, a trace that differs, or a run that isn't as its
 script expects; 2 for a faulty command line; 3 where reading, writing or memory
-fails; 4 where a worker fails, or a search didn't look at all. Where nobody reads the
-output any more, as behind '| head -1', the program ends without a message, with
-status 141.";
+fails; 4 where a worker fails, or a search didn't look at everything. Where nobody
+reads the output any more, as behind '| head -1', the program ends without a message,
+with status 141.";
 
 /// The texts of a subcommand.
 pub struct Texts {
@@ -118,9 +118,9 @@ send, receive or reply:
   open CALL THREAD STATE CHANNEL
 
 A faulty script runs not at all: the first faulty line is told on standard
-error, as 'qdemo: line 2: word count', and for a file then its place, as
-'FILE:2:9: word count'. With --explain, and on a terminal, up to 20 faulty lines
-are shown, with what was wanted there.
+error, as 'qdemo: line 2: word count', or for a file with its place, as
+'qdemo: FILE:2:9: word count'. With --explain, and on a terminal, up to 20 faulty
+lines are shown, with what was wanted there.
 
 With --explain it is also told, after the output and on standard error, why each
 call failed, who waits for whom at the end, and which of them wait in a circle:
@@ -131,9 +131,10 @@ call failed, who waits for whom at the end, and which of them wait in a circle:
 
 A call that fails doesn't change the status, unless --strict is given.
 
-A file NAME.names is a script with names. A name in front of = stands for the
-thread, the channel, the connection or the message that its line makes. A line may
-say how its call has to end, and a line of its own in which state a thread is:
+A file NAME.names is a script with names; with --names-in so is any other, and
+standard input. A name in front of = stands for the thread, the channel, the
+connection or the message that its line makes. A line may say how its call has to
+end, and a line of its own in which state a thread is:
 
   server = thread disk 10
   ch = server create UNBLOCK|DISCONNECT  # flags by name, comments at the end
@@ -176,9 +177,10 @@ beside it is what it has to print, byte for byte but for a carriage return befor
 a line feed. The output has a line for each script, those of a folder in the order
 of their names, and a last line that counts. Where one prints something else, the
 first line that differs comes after it, as it was found and as it was wanted, and
-the line of the script that it comes from. A file NAME.names is a script with
-names, which says itself what it expects, and has no trace. A file NAME.design is a
-design, and NAME.verdict what 'qdemo explore' has to tell of it.
+the line of the script that it comes from. Where one is faulty, the places of its
+faults come after it. A file NAME.names is a script with names, which says itself
+what it expects, and has no trace. A file NAME.design is a design, and NAME.verdict
+what 'qdemo explore' has to tell of it.
 
 With --update a trace or a verdict that is missing or differs is written.",
     "Example:
@@ -329,7 +331,10 @@ What is wrong is told with the fewest calls that lead to it:
   priorities are inverted        a client waits for a server that works below another
                                  thread, which is ready
 
-docs/EXPLORE.md shows it by examples. 'qdemo help script' describes calls.",
+With --script only the run that shows it is printed, as a script; with --names, and
+on a terminal, that is a script with names. If nothing is wrong, the words go to
+standard error. docs/EXPLORE.md shows it by examples. 'qdemo help script' describes
+calls.",
     "Example:
   $ qdemo explore designs/two-servers-mended.design
   designs/two-servers-mended.design: nothing found in all 2,218 interleavings: \

@@ -94,6 +94,10 @@ fn script_command<'a>(alloc: Global) -> Result<Command<'a>, AllocError> {
         JSON,
         NAMES,
         (
+            "names-in",
+            "Read a script with names, whatever its file is called",
+        ),
+        (
             "plain",
             "Print the plain script of one with names, and don't run it",
         ),
@@ -155,7 +159,8 @@ fn explore_command<'a>(alloc: Global) -> Result<Command<'a>, AllocError> {
         alloc,
         "The design's file; none or - is standard input",
     ))?;
-    with_flags(alloc, command, &[("script", script)])?
+    let json = ("json", "Print an object of JSON in place of lines");
+    with_flags(alloc, command, &[("script", script), NAMES, json])?
         .arg(number(alloc, "most", "N", count, most).default_value("1000000"))?
         .arg(number(alloc, "random", "N", count, random))?
         .arg(number(alloc, "seed", "S", any, seed).default_value("1"))

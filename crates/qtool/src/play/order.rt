@@ -1,5 +1,6 @@
 //! Unproved: words and layout. The order of a line.
 
+use qreading::grammar::call_form;
 use qreading::reading::words::next_word;
 use std::str;
 
@@ -16,6 +17,8 @@ pub enum Order<'a> {
     Help,
     /// End the play.
     Quit,
+    /// None: a command is followed by a word, which it doesn't take.
+    Words,
     /// Add the line to the script.
     Line,
 }
@@ -29,6 +32,19 @@ fn only_word(line: &[u8]) -> Option<&[u8]> {
     }
 }
 
+/// Returns whether a line is a command and a word that no line of a script has behind its first.
+fn has_words(line: &[u8]) -> bool {
+    let Some((first, rest)) = next_word(line) else {
+        return false;
+    };
+    let Some((second, _)) = next_word(rest) else {
+        return false;
+    };
+    matches!(first, b"state" | b"undo" | b"help" | b"quit")
+        && !matches!(second, b"=" | b"is")
+        && call_form(second).is_none()
+}
+
 /// Returns the order of a line without its end.
 pub fn order_of(line: &[u8]) -> Order<'_> {
     if let Some((b"save", rest)) = next_word(line) {
@@ -39,6 +55,7 @@ pub fn order_of(line: &[u8]) -> Order<'_> {
         Ok("undo") => Order::Undo,
         Ok("help" | "?") => Order::Help,
         Ok("quit" | "exit") => Order::Quit,
+        _ if has_words(line) => Order::Words,
         _ => Order::Line,
     }
 }
