@@ -107,17 +107,47 @@ more_handed ts caller X Y d d' d'' a b = record {
 pub may_still : (ts : List ℕ) (caller : ℕ) (X : List Completion) (x : Completion) (d d' : Desk Completion) → Handed ts caller X d d' → gets X x.thread ≡ false → MayPut ts d x → MayPut ts d' x
 may_still ts caller X x d d' h none m = (m.0, m.1, h.opened x.thread m.0 m.1 ∙ ap (λ b. cond b false (line d m.0).opened) none ∙ m.2)
 
--- ---- the loop
+-- an ending that is put after others, none of which is for its thread, might as well be put before them
+or_turned : (a b : Bool) → (a || (b || false)) ≡ (b || a)
+or_turned true true = refl
+or_turned true false = refl
+or_turned false true = refl
+or_turned false false = refl
 
--- of the endings X some are put or are the caller's own, and these are left
+gets_turned : (t : ℕ) (X : List Completion) (x : Completion) → gets (X ++ x ∷ []) t ≡ gets (x ∷ X) t
+gets_turned t X x = list_any-append (λ z. eqb z.thread t) X (x ∷ []) ∙ or_turned (gets X t) (eqb x.thread t)
+
+of_turned : (t : ℕ) (X : List Completion) (x : Completion) → gets X x.thread ≡ false → of_thread t (X ++ x ∷ []) ≡ of_thread t (x ∷ X)
+of_turned t X x none = elim (cases_Bool (eqb x.thread t)) [
+  | inl e ↦
+      let empty : of_thread t X ≡ [] = of_none t X (subst (λ u. gets X u ≡ false) (eqb-true x.thread t e) none) in
+      filter-append (λ y. eqb y.thread t) X (x ∷ []) ∙ ap (λ ys. ys ++ of_thread t (x ∷ [])) empty ∙ rw e (sym (ap (λ ys. x ∷ ys) empty))
+  | inr e ↦ filter-append (λ y. eqb y.thread t) X (x ∷ []) ∙ ap (λ ys. of_thread t X ++ ys) (rw e refl) ∙ append-nil (of_thread t X) ∙ rw e refl
+]
+
+later_turned : (caller t : ℕ) (X : List Completion) (x : Completion) → gets X x.thread ≡ false → later_of caller t (X ++ x ∷ []) ≡ later_of caller t (x ∷ X)
+later_turned caller t X x none = elim (cases_Bool (eqb caller t)) [
+  | inl e ↦ rw e refl
+  | inr e ↦ rw e (of_turned t X x none)
+]
+
+handed_turned : (ts : List ℕ) (caller : ℕ) (X : List Completion) (x : Completion) (d d' : Desk Completion) → gets X x.thread ≡ false → Handed ts caller (X ++ x ∷ []) d d' → Handed ts caller (x ∷ X) d d'
+handed_turned ts caller X x d d' none h = record {
+  put = λ t i is. h.put t i is ∙ ap (λ ys. (line d i).put ++ ys) (later_turned caller t X x none);
+  opened = λ t i is. h.opened t i is ∙ ap (λ z. cond z false (line d i).opened) (gets_turned t X x);
+}
+
+-- ---- the loop, which puts the last ending first
+
+-- of the endings X some are put or are the caller's own, and these, the first of them, are left
 pub record Handing (ts : List ℕ) (X : List Completion) (d d' : Desk Completion) (caller : ℕ) (own : Option Completion) (left : List Completion) : Type 0 where
   pub done : List Completion
-  pub whole : done ++ left ≡ X
+  pub whole : left ++ done ≡ X
   pub handed : Handed ts caller done d d'
   pub own_is : of_thread caller done ≡ one own
 
 pub handing_start : (ts : List ℕ) (X : List Completion) (d : Desk Completion) (caller : ℕ) → Handing ts X d d caller None X
-handing_start ts X d caller = record { done = []; whole = refl; handed = none_handed ts caller d; own_is = refl }
+handing_start ts X d caller = record { done = []; whole = append-nil X; handed = none_handed ts caller d; own_is = refl }
 
 pub gets_middle : (X Y : List Completion) (x : Completion) → AreApart (X ++ x ∷ Y) → gets X x.thread ≡ false
 gets_middle [] Y x a = refl
@@ -130,33 +160,40 @@ gets_middle (y ∷ X) Y x a =
     turned : eqb x.thread y.thread ≡ false → eqb y.thread x.thread ≡ false
     turned e = ne_eqb y.thread x.thread (λ s. eqb-false x.thread y.thread e (sym s))
 
+apart_rest : (X Y : List Completion) → AreApart (X ++ Y) → AreApart Y
+apart_rest [] Y a = a
+apart_rest (x ∷ X) Y a = apart_rest X Y a.1
+
 pub all_middle : (P : Completion → Type 0) (X Y : List Completion) (x : Completion) → AllByRecursion P (X ++ x ∷ Y) → P x
 all_middle P [] Y x a = a.0
 all_middle P (y ∷ X) Y x a = all_middle P X Y x a.1
 
-module _ (ts : List ℕ) (X : List Completion) (d d' : Desk Completion) (caller : ℕ) (own : Option Completion) (x : Completion) (left : List Completion) (h : Handing ts X d d' caller own (x ∷ left)) where
+module _ (ts : List ℕ) (X : List Completion) (d d' : Desk Completion) (caller : ℕ) (own : Option Completion) (x : Completion) (left : List Completion) (h : Handing ts X d d' caller own (left ++ x ∷ [])) where
+  split : left ++ x ∷ h.done ≡ X
+  split = sym (append_assoc left (x ∷ []) h.done) ∙ h.whole
+
   fresh : AreApart X → gets h.done x.thread ≡ false
-  fresh apart = gets_middle h.done left x (subst AreApart (sym h.whole) apart)
+  fresh apart = (apart_rest left (x ∷ h.done) (subst AreApart (sym split) apart)).0
 
   -- the next ending may be put
   pub handing_next : AreApart X → AllByRecursion (MayPut ts d) X → MayPut ts d' x
-  handing_next apart may = may_still ts caller h.done x d d' h.handed (fresh apart) (all_middle (MayPut ts d) h.done left x (subst (AllByRecursion (MayPut ts d)) (sym h.whole) may))
+  handing_next apart may = may_still ts caller h.done x d d' h.handed (fresh apart) (all_middle (MayPut ts d) left h.done x (subst (AllByRecursion (MayPut ts d)) (sym split) may))
 
-  module _ (i : ℕ) (near : i < length d'.lines) where
+  module _ (i : ℕ) (near : i < length d'.lines) (apart : AreApart X) where
     -- one more ending is put
     pub handing_more : eqb x.thread caller ≡ false → place ts x.thread ≡ Some i → Handing ts X d (put_desk d' i x) caller own left
     handing_more foreign at = record {
-      done = h.done ++ x ∷ [];
-      whole = append_assoc h.done (x ∷ []) left ∙ h.whole;
-      handed = more_handed ts caller h.done (x ∷ []) d d' (put_desk d' i x) h.handed (one_handed ts caller x i d' foreign at near);
-      own_is = filter-append (λ y. eqb y.thread caller) h.done (x ∷ []) ∙ ap (λ ys. of_thread caller h.done ++ ys) (rw foreign refl) ∙ append-nil (of_thread caller h.done) ∙ h.own_is;
+      done = x ∷ h.done;
+      whole = split;
+      handed = handed_turned ts caller h.done x d (put_desk d' i x) (fresh apart) (more_handed ts caller h.done (x ∷ []) d d' (put_desk d' i x) h.handed (one_handed ts caller x i d' foreign at near));
+      own_is = rw foreign h.own_is;
     }
 
     -- the caller's own ending is there
-    pub handing_own : AreApart X → eqb x.thread caller ≡ true → place ts caller ≡ Some i → Handing ts X d (cancelled_desk d' i) caller (Some x) left
-    handing_own apart is at = record {
-      done = h.done ++ x ∷ [];
-      whole = append_assoc h.done (x ∷ []) left ∙ h.whole;
-      handed = more_handed ts caller h.done (x ∷ []) d d' (cancelled_desk d' i) h.handed (own_handed ts caller x i d' is at near);
-      own_is = filter-append (λ y. eqb y.thread caller) h.done (x ∷ []) ∙ ap (λ ys. ys ++ of_thread caller (x ∷ [])) (of_none caller h.done (subst (λ u. gets h.done u ≡ false) (eqb-true x.thread caller is) (fresh apart))) ∙ rw is refl;
+    pub handing_own : eqb x.thread caller ≡ true → place ts caller ≡ Some i → Handing ts X d (cancelled_desk d' i) caller (Some x) left
+    handing_own is at = record {
+      done = x ∷ h.done;
+      whole = split;
+      handed = handed_turned ts caller h.done x d (cancelled_desk d' i) (fresh apart) (more_handed ts caller h.done (x ∷ []) d d' (cancelled_desk d' i) h.handed (own_handed ts caller x i d' is at near));
+      own_is = rw is (ap (λ ys. x ∷ ys) (of_none caller h.done (subst (λ u. gets h.done u ≡ false) (eqb-true x.thread caller is) (fresh apart))));
     }

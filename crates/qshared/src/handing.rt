@@ -53,7 +53,8 @@ fn bit_of(place: usize) -> u64
 }
 
 /// Puts an event's endings into their threads' cells, but for that of the thread whose turn it is: closes this thread's
-/// cell, and returns its ending. Sets the bit of every other cell that is filled.
+/// cell, and returns its ending. Sets the bit of every other cell that is filled. No two endings are for one thread, so
+/// the last is put first.
 pub(crate) fn hand_out(
     seat: &mut KernelSeat<Completion>,
     cells: &Cells<Completion>,
@@ -75,7 +76,6 @@ pub(crate) fn hand_out(
     let own_place = turn.seat.index();
     let thread = turn.seat.thread();
     let endings = &mut *turn.endings;
-    endings.as_mut_slice().reverse();
     let mut own = None;
     while let Some(ending) = endings.pop() {
         if ending.thread == thread {

@@ -1,6 +1,5 @@
-use Rattle.std.proofs.Common.{◌≡◌, ◌<◌, length, reverse, sym, ap, subst, ◌∙◌, arith, eqb, true, false, refl, rules}
+use Rattle.std.proofs.Common.{◌≡◌, ◌<◌, length, sym, ap, subst, ◌∙◌, arith, eqb, true, false, refl, rules}
 use Rattle.std.specs.Prelude.{None, Some}
-use Rattle.std.specs.List.{refill}
 use Rattle.std.proofs.lemmas.Grind.{common_steps}
 use Rattle.std.proofs.lemmas.Bool.{eqb-true}
 use Rattle.std.proofs.lemmas.Option.{same_Some}
@@ -8,7 +7,6 @@ use Rattle.qrules.specs.Facts.{threads_of}
 use Rattle.qstate.specs.Kept.{members_of}
 use Rattle.qhandoff.specs.Words.{desk}
 use Rattle.qhandoff.specs.Rule.{line}
-use Rattle.qkernel.proofs.Running.{popped}
 use Rattle.qshared.specs.Due.{place}
 use Rattle.qshared.proofs.Puts.{Handing, handing_start, handing_next, handing_more, handing_own}
 use Rattle.qshared.proofs.handing.hand_out.Goals as goal
@@ -16,7 +14,7 @@ use Rattle.qshared.proofs.handing.hand_out.Goals as goal
 pub cancel-requires-clause-opened : goal.cancel-requires-clause-opened
 cancel-requires-clause-opened c =
     let ts = threads_of (members_of c.args.kernel.now.threads) in
-    let handing = rw (popped c.loop-ending.endings.items c.pop.new.self.items c.in-Some.ending c.in-Some.ensures.items) at c.loop-ending.invariant.handing in
+    let handing = rw c.in-Some.ensures.items at c.loop-ending.invariant.handing in
     let may = handing_next _ _ _ _ _ _ _ _ handing c.requires.apart c.requires.may in
     let caller : c.in-Some.ending.thread ≡ c.args.turn.now.seat.thread = eqb-true c.in-Some.ending.thread c.args.turn.now.seat.thread (search rules) in
     let same : may.0 ≡ c.index-own_place.result = same_Some _ _ (sym may.1 ∙ ap (place ts) caller ∙ c.requires.place ∙ ap Some (sym c.index-own_place.ensures)) in
@@ -24,7 +22,7 @@ cancel-requires-clause-opened c =
 
 pub loop-ending-preserved-then-eq : goal.loop-ending-preserved-then-eq
 loop-ending-preserved-then-eq c =
-    let handing = rw (popped c.loop-ending.endings.items c.pop.new.self.items c.in-Some.ending c.in-Some.ensures.items) at c.loop-ending.invariant.handing in
+    let handing = rw c.in-Some.ensures.items at c.loop-ending.invariant.handing in
     let caller : eqb c.in-Some.ending.thread c.thread-thread.result ≡ true = search rules in
     let near : c.index-own_place.result < length (desk c.loop-ending.seat).lines = search rules in
     record {
@@ -34,17 +32,17 @@ loop-ending-preserved-then-eq c =
 
 pub hand_one-place-requires-clause-may : goal.hand_one-place-requires-clause-may
 hand_one-place-requires-clause-may c =
-    let handing = rw (popped c.loop-ending.endings.items c.pop.new.self.items c.in-Some.ending c.in-Some.ensures.items) at c.loop-ending.invariant.handing in
+    let handing = rw c.in-Some.ensures.items at c.loop-ending.invariant.handing in
     handing_next _ _ _ _ _ _ _ _ handing c.requires.apart c.requires.may
 
 pub loop-ending-preserved : goal.loop-ending-preserved
 loop-ending-preserved c =
-    let handing = rw (popped c.loop-ending.endings.items c.pop.new.self.items c.in-Some.ending c.in-Some.ensures.items) at c.loop-ending.invariant.handing in
+    let handing = rw c.in-Some.ensures.items at c.loop-ending.invariant.handing in
     let foreign : eqb c.in-Some.ending.thread c.thread-thread.result ≡ false = search rules in
     let near : c.hand_one-place.result < length (desk c.loop-ending.seat).lines = search rules in
     record {
       cells = c.hand_one-place.ensures.cells ∙ c.loop-ending.invariant.cells;
-      handing = rw c.hand_one-place.ensures.put.1 (handing_more _ _ _ _ _ _ _ _ handing c.hand_one-place.result near foreign c.hand_one-place.ensures.put.0);
+      handing = rw c.hand_one-place.ensures.put.1 (handing_more _ _ _ _ _ _ _ _ handing c.hand_one-place.result near c.requires.apart foreign c.hand_one-place.ensures.put.0);
     }
 
 pub loop-ending-init : goal.loop-ending-init
@@ -52,5 +50,5 @@ loop-ending-init c =
     let ts = threads_of (members_of c.args.kernel.now.threads) in
     let X = c.args.turn.now.endings.value.items in
     let d = desk c.args.seat.now in
-    let turned : X ≡ reverse (refill (length c.deref_mut-endings.result.now.items) c.deref_mut-endings.result.now.items c.reverse.new.self) = grind (arith, common_steps) in
-    record { cells = refl; handing = subst (Handing ts X d d c.thread-thread.result None) turned (handing_start ts X d c.thread-thread.result) }
+    let same : X ≡ c.deref_mut-endings.result.now.items = grind (arith, common_steps) in
+    record { cells = refl; handing = subst (Handing ts X d d c.thread-thread.result None) same (handing_start ts X d c.thread-thread.result) }

@@ -1,4 +1,4 @@
-use Rattle.std.proofs.Common.{◌≡◌, length, reverse}
+use Rattle.std.proofs.Common.{◌≡◌, length}
 use Rattle.qhandoff.specs.Words.{kernel_id, desk}
 use Rattle.qrules.specs.Facts.{threads_of}
 use Rattle.qstate.specs.Kept.{members_of}
@@ -8,7 +8,7 @@ use Rattle.qshared.proofs.handing.hand_out.Given as goal
 abbrev pub invariant-loop-ending : goal.invariant-loop-ending
 invariant-loop-ending l = record {
   cells : kernel_id l.seat ≡ kernel_id l.fn.seat;
-  handing : Handing (threads_of (members_of l.kernel.threads)) l.fn.turn.endings.value.items (desk l.fn.seat) (desk l.seat) l.thread l.own (reverse l.endings.items);
+  handing : Handing (threads_of (members_of l.kernel.threads)) l.fn.turn.endings.value.items (desk l.fn.seat) (desk l.seat) l.thread l.own l.endings.items;
 }
 
 abbrev pub decreases-loop-ending : goal.decreases-loop-ending

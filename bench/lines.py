@@ -1,0 +1,319 @@
+#!/usr/bin/env python3
+"""Counts the cache lines that Send, Receive and Reply touch under the lock, and compares them with bench/lines.txt.
+
+    bench/lines.py             compares; a row with more lines is a fault, with status 1
+    bench/lines.py --write     writes the file anew
+    bench/lines.py --each      prints each line that the three calls touch, and compares nothing
+    bench/lines.py .. PROGRAM  takes another program than bench/out/qroundtrips (bench/build qroundtrips)
+
+One thread has the ports of a client and of a server, and makes 40 round trips in a kernel that keeps no past: the
+server blocks in a Receive, the client in a Send, and the server replies. Valgrind tells each load and store, and
+`blocks.c` each block of memory. Counted are the distinct lines of 64 bytes in the last round trip, from the store that
+takes the lock to that which frees it: those that are touched, those that are written, and those that move, which the
+other thread wrote last, or touched before this turn writes them. The figures are the same in each run of one program.
+
+What lies in a block is known from the function that takes it, and in the value under the lock from the offset. A line
+that holds two things counts for each, and once in the sum. What a program only reads, and the stack, don't count.
+"""
+
+import bisect
+import collections
+import os
+import pathlib
+import re
+import subprocess
+import sys
+import tempfile
+
+TOP = pathlib.Path(__file__).resolve().parent
+KEPT = TOP / "lines.txt"
+PROGRAM = TOP / "out" / "qroundtrips"
+ROUNDS = 40
+CALLS = ("Receive", "Send", "Reply")
+HEAD = """# lines under the lock (bench/lines.py): touched and written by Receive, Send, Reply and all, moved by all
+#          touched            written            moved
+#           Rec Send Repl  all Rec Send Repl  all  all
+"""
+LINE = 64
+
+# What lies in a block, by the function that takes it and the number of the block among those of the function.
+PLACES = {
+    "qshared::parts::Parts::new 6": "cell",
+    "qshared::parts::Parts::new 7": "cell",
+    "qshared::parts::Parts::new 8": "thread",
+    "qshared::shared::ports_for": "endings",
+    "qkernel::kernel::Kernel::make 1": "channel",
+    "qkernel::kernel::Kernel::make 2": "tables",
+    "qkernel::kernel::Kernel::make 3": "connection",
+    "qkernel::kernel::Kernel::make 4": "tables",
+    "qstate::channel::Channel::enqueue": "queue",
+    "qqueue::lane::Lane::make": "queue",
+    "qroundtrips::course::run_unkept 1": "locked",
+    "qroundtrips::workers::send_call": "bytes",
+    "qroundtrips::workers::receive_call": "bytes",
+    "qroundtrips::workers::reply_call": "bytes",
+    "qroundtrips::course::run_unkept": "bytes",
+}
+
+# Where the kernel lies in the value under the lock, and its parts there: the count of calls and the head of the
+# threads' records, the index, and the heads of the tables of channels and connections.
+KERNEL = 0
+PARTS = [(0, "kernel"), (40, "index"), (616, "tables"), (744, "log")]
+
+# What a program only reads, and what only its own thread touches.
+STILL = {"constants", "stack"}
+
+
+class Program:
+    """The program's functions, by address, and its compare-exchanges."""
+
+    def __init__(self, file):
+        symbols = re.findall(r"^([0-9a-f]+) [tTwW] (.*)$", self.said("nm", "-n", "--defined-only", file), re.M)
+        self.functions = [(int(at, 16), name) for at, name in symbols]
+        self.starts = [at for at, _ in self.functions]
+        listing = self.said("objdump", "-d", "--no-show-raw-insn", file)
+        self.exchanges = {int(at, 16) for at in re.findall(r"^ *([0-9a-f]+):\s+lock cmpxchg", listing, re.M)}
+
+    @staticmethod
+    def said(*words):
+        return subprocess.run(words, capture_output=True, text=True, check=True).stdout
+
+    def function(self, at):
+        """The name of the function at an address of the file."""
+        k = bisect.bisect(self.starts, at)
+        return self.functions[k - 1][1] if k else "?"
+
+
+class Blocks:
+    """The blocks of memory, as `blocks.c` tells them: where the program and its libraries lie, and each request."""
+
+    def __init__(self, text):
+        self.modules, self.requests = [], []
+        for line in text.splitlines():
+            words = line.split()
+            if words[0] == "module":
+                self.modules.append((*(int(it, 16) for it in words[1:4]), words[4] if len(words) > 4 else ""))
+            elif words[0] == "tell":
+                self.tell = int(words[1], 16)
+            else:
+                self.requests.append((int(words[0], 16), int(words[1], 16)))
+        self.base = self.modules[0][0]
+        self.first, self.last = next(it[1:3] for it in self.modules if it[3].endswith("blocks.so"))
+        self.live, self.starts = {}, []
+
+    def take(self, block, size, owner):
+        if block:
+            self.live[block] = (size, owner)
+            bisect.insort(self.starts, block)
+
+    def give_back(self, block):
+        if self.live.pop(block, None):
+            self.starts.remove(block)
+
+    def at(self, address):
+        """The block of an address, with the offset in it."""
+        k = bisect.bisect(self.starts, address)
+        if k:
+            start = self.starts[k - 1]
+            size, owner = self.live[start]
+            if address < start + size:
+                return owner, address - start
+        return None
+
+
+def traced(program, room):
+    """The trace of the program's loads and stores, as lines of text, and its blocks."""
+    library, trace, told = room / "blocks.so", room / "trace", room / "told"
+    subprocess.run(["cc", "-O2", "-shared", "-fPIC", "-o", library, TOP / "blocks.c"], check=True)
+    stripped = room / "program"
+    subprocess.run(["strip", "--strip-debug", "-o", stripped, program], check=True)
+    words = ["valgrind", "--tool=lackey", "--trace-mem=yes", "--basic-counts=no", f"--log-file={trace}", stripped]
+    environment = {"LD_PRELOAD": str(library), "PATH": os.environ["PATH"]}
+    with open(told, "w") as file:
+        os.dup2(file.fileno(), 9)
+    subprocess.run([*words, "alone", str(ROUNDS), "unkept"], env=environment, stdout=subprocess.DEVNULL, check=True,
+                   pass_fds=[9])
+    return trace.read_text().splitlines(), Blocks(told.read_text().rpartition("begin\n")[2])
+
+
+class Turn:
+    """What one call did under the lock: the places that each line holds, with the offsets, and what it wrote."""
+
+    def __init__(self):
+        self.touched, self.wrote, self.shown = {}, collections.defaultdict(set), collections.defaultdict(set)
+
+    def note(self, place, offset, address, size, writes):
+        for line in range(address // LINE, (address + size - 1) // LINE + 1):
+            self.touched.setdefault(line, set()).add(place)
+            self.shown[line].add((place, offset))
+            if writes:
+                self.wrote[line].add(place)
+
+    def lines(self, place=None):
+        """The lines touched at a place, or at all places whose lines can move."""
+        return {it for it, places in self.touched.items() if (place in places if place else places - STILL)}
+
+    def written(self, place=None):
+        """The lines written at a place, or at all places whose lines can move."""
+        return {it for it, places in self.wrote.items() if (place in places if place else places - STILL)}
+
+
+class Reader:
+    """Goes through a trace, and keeps the turns at the lock."""
+
+    def __init__(self, program, blocks):
+        self.program, self.blocks = program, blocks
+        self.requests = iter(blocks.requests)
+        self.calls, self.taken = [], collections.Counter()
+        self.turns, self.turn = [], None
+
+    def owner(self):
+        """The program's own function that takes a block, with the number of the block among those of the function."""
+        names = (self.program.function(it - self.blocks.base) for it in reversed(self.calls))
+        name = next((it for it in names if re.match(r"q\w+::", it) and "++" not in it), "?").partition("::<")[0]
+        self.taken[name] += 1
+        return f"{name} {self.taken[name]}"
+
+    def place(self, address):
+        """What lies at an address, and at which offset in its block."""
+        found = self.blocks.at(address)
+        if found:
+            owner, offset = found
+            place = PLACES.get(owner) or PLACES.get(owner.rpartition(" ")[0], owner)
+            if place == "locked":
+                place = next(name for start, name in reversed(PARTS) if start == 0 or start + KERNEL <= offset)
+            return place, offset
+        for base, first, last, name in self.blocks.modules:
+            if first <= address < last:
+                return ("allocator" if "/libc." in name else "constants"), address - base
+        return ("stack" if address >> 36 else "allocator"), 0
+
+    def step(self, at, before):
+        """Follows calls and returns. `before` tells of the last instruction where it ends, and whether it stored."""
+        end, stored = before
+        if self.calls and at == self.calls[-1]:
+            self.calls.pop()
+        elif at != end and stored:
+            self.calls.append(end)
+        if at == self.blocks.tell:
+            block, size = next(self.requests)
+            if size:
+                self.blocks.take(block, size, self.owner())
+            else:
+                self.blocks.give_back(block)
+
+    def read(self, trace, word):
+        """Goes through the trace. A compare-exchange of the lock's word takes the lock; what next meets it frees it."""
+        before, apart, locking, frees = (0, False), False, False, False
+        for line in trace:
+            kind, (start, _, size) = line[:2], line[3:].partition(",")
+            if kind == "I ":
+                if frees:
+                    self.turns.append(self.turn)
+                    self.turn = None
+                at, locking, frees = int(start, 16), False, False
+                self.step(at, before)
+                before = (at + int(size), False)
+                apart = self.blocks.first <= at < self.blocks.last
+            elif kind in (" L", " S", " M"):
+                address, size = int(start, 16), int(size)
+                if kind == " S" and size == 8:
+                    before = (before[0], True)
+                if address == word and not locking:
+                    locking, frees = True, self.turn is not None
+                    if at - self.blocks.base in self.program.exchanges:
+                        self.turn = self.turn or Turn()
+                if self.turn and not apart and not self.blocks.first <= address < self.blocks.last:
+                    place = ("lock", 0) if address == word else self.place(address)
+                    self.turn.note(*place, address, size, kind != " L")
+
+
+def lock_word(trace, program, base):
+    """The address that most compare-exchanges of the program meet: each call takes the lock, and opens one of two cells."""
+    met, at = collections.Counter(), 0
+    for line in trace:
+        if line.startswith("I "):
+            at = int(line[3:].partition(",")[0], 16) - base
+        elif at in program.exchanges and line[:2] == " M":
+            met[int(line[3:].partition(",")[0], 16)] += 1
+    return met.most_common(1)[0][0]
+
+
+def moved(turns):
+    """For each turn, the lines that the other thread wrote last, or touched before this turn writes them. The client
+    makes the second of each three calls."""
+    holders, found = {}, []
+    for k, turn in enumerate(turns):
+        thread = k % 3 == 1
+        lines = turn.lines()
+        found.append({it for it in lines if holders.get(it, {thread}) != {thread} and
+                      (it in turn.wrote or thread not in holders[it])})
+        for it in lines:
+            holders[it] = {thread} if it in turn.wrote else holders.get(it, set()) | {thread}
+    return found
+
+
+def rows(turns, moves):
+    """The rows of the table: for each place, and for all, the lines touched and written by each call and by all three,
+    and moved by all three."""
+    places = sorted({place for turn in turns for places in turn.touched.values() for place in places} - STILL)
+    for place in [*places, None]:
+        touched = [turn.lines(place) for turn in turns]
+        written = [turn.written(place) for turn in turns]
+        counts = [len(it) for it in touched] + [len(set().union(*touched))]
+        counts += [len(it) for it in written] + [len(set().union(*written))]
+        yield place or "all", *counts, sum(len(it & lines) for it, lines in zip(moves, touched))
+
+
+def show(turns, moves):
+    """Prints each line that the calls touch, with what lies there and at which offsets."""
+    for name, turn, moving in zip(CALLS, turns, moves):
+        print(name)
+        for line in sorted(turn.lines()):
+            places = collections.defaultdict(list)
+            for place, offset in sorted(turn.shown[line]):
+                places[place].append(str(offset))
+            words = "; ".join(f"{place} {' '.join(offsets)}" for place, offsets in places.items())
+            print(f"  {'written' if line in turn.wrote else 'read':8}{'moved' if line in moving else '':6} {words}")
+
+
+def measured(file):
+    """The turns of the last round trip, and what moved in them."""
+    program = Program(file)
+    with tempfile.TemporaryDirectory() as room:
+        trace, blocks = traced(file, pathlib.Path(room))
+    reader = Reader(program, blocks)
+    reader.read(trace, lock_word(trace, program, blocks.base))
+    # A channel is created and a connection attached first, and the kernel shut down last.
+    turns = reader.turns[2:-1]
+    if len(turns) != 3 * ROUNDS:
+        sys.exit(f"bench/lines.py: {len(turns)} calls where {3 * ROUNDS} are made")
+    return turns[-3:], moved(turns)[-3:]
+
+
+def main():
+    words = sys.argv[1:]
+    files = [it for it in words if not it.startswith("--")]
+    file = pathlib.Path(files[0]) if files else PROGRAM
+    if not file.exists():
+        sys.exit(f"bench/lines.py: no {file}; `bench/build qroundtrips` makes bench/out/qroundtrips")
+    turns, moves = measured(file)
+    if "--each" in words:
+        return show(turns, moves)
+    table = [f"{place:11}" + "".join(f"{it:5}" for it in counts) for place, *counts in rows(turns, moves)]
+    text = HEAD + "\n".join(table) + "\n"
+    if "--write" in words:
+        KEPT.write_text(text)
+        return None
+    print(text, end="")
+    now, kept = (list(map(int, it.splitlines()[-1].split()[1:])) for it in (text, KEPT.read_text()))
+    more = [it for it, (before, after) in enumerate(zip(kept, now)) if after > before]
+    print("MORE than in bench/lines.txt" if more else "ok: no more than in bench/lines.txt" if now == kept else "")
+    return sys.exit(1 if more else 0)
+
+
+if __name__ == "__main__":
+    if {"-h", "--help"} & set(sys.argv[1:]):
+        print(__doc__)
+        sys.exit()
+    main()
