@@ -18,6 +18,13 @@ static void show_blocked(FILE *to, const struct place *p) {
     else fprintf(to, ", of %d\n", (int)processes[owner].peer.pid);
 }
 
+/* The priority of a thread, which may be blocked. So the daemon's own thread asks. */
+static int shown_priority(const struct place *p) {
+    balsaeuchre_request request = balsaeuchre_request_of(BALSAEUCHRE_STATE, SYSTEM, 0);
+    request.target = p->tid;
+    return make_hidden(request) ? 0 : k->event.rows[0].priority;
+}
+
 static void show_thread(FILE *to, const struct client *c) {
     char name[20];
     static const char *const states[] = {"", "READY", "SEND", "RECEIVE", "REPLY"};
@@ -25,7 +32,7 @@ static void show_thread(FILE *to, const struct client *c) {
     pid_t pid = processes[c->process].peer.pid;
     int state = p->call ? p->state : STATE_READY;
     name_thread(pid, c->host_tid, name);
-    fprintf(to, "%8d %3d %-15s %4d ", (int)pid, c->tid, name, priority_of(k, p));
+    fprintf(to, "%8d %3d %-15s %4d ", (int)pid, c->tid, name, shown_priority(p));
     if (state == STATE_READY) fprintf(to, "READY\n");
     else fprintf(to, "%-8s ", states[state]), show_blocked(to, p);
 }
