@@ -11,7 +11,7 @@
 #include "balsaeuchre.h"
 #include "sys/neutrino.h"
 
-enum { WIRE_VERSION = 2, WIRE_MOST = 1 << 20, WIRE_NAME = 256, WIRE_GROUPS = 8 };
+enum { WIRE_VERSION = 3, WIRE_MOST = 1 << 20, WIRE_NAME = 256, WIRE_GROUPS = 8 };
 
 enum wire_op {
     OP_PROCESS = 1, /* the first of a program's socket: number is WIRE_VERSION; the result is its scoid */
