@@ -17,12 +17,19 @@ static balsaeuchre_request pulse_of(int priority, int code) {
     return (balsaeuchre_request){.kind = BALSAEUCHRE_PULSE, .priority = (uint8_t)priority, .pulse_code = (int8_t)code};
 }
 
+/* Has the clock of the program that an rcvid is from send a pulse over one of its connections; 0 is this program. */
+static long ask_for_pulse(int rcvid, int coid, balsaeuchre_request pulse, union sigval value, unsigned flags) {
+    struct wire_ask ask = {.op = OP_EVENT, .number = rcvid, .request = pulse, .flags = flags,
+                           .value = (uint64_t)(intptr_t)value.sival_ptr};
+    ask.request.id = (uint64_t)(uint32_t)coid;
+    return ask_plainly(&ask);
+}
+
 /* The front's own thread has no seat: the program's clock sends its pulses. */
 int neutrino_remote_pulse(int coid, int priority, int code, union sigval value) {
     struct call c = {.request = pulse_of(priority, code), .number = coid, .own_priority = priority == -1};
-    struct wire_ask ask = {.op = OP_CALL, .number = coid, .flags = priority == -1 ? WIRE_OWN_PRIORITY : 0,
-                           .value = (uint64_t)(intptr_t)value.sival_ptr, .request = c.request};
-    return (int)(self ? call_with(&c, ask.value, 0, 0) : ask_plainly(&ask));
+    if (self) return (int)call_with(&c, (uint64_t)(intptr_t)value.sival_ptr, 0, 0);
+    return (int)ask_for_pulse(0, coid, c.request, value, priority == -1 ? WIRE_OWN_PRIORITY : 0);
 }
 
 static long ask_by_name(struct wire_ask ask, const char *name, struct wire_answer *answer) {
@@ -53,12 +60,9 @@ int neutrino_remote_client(int scoid, struct wire_client *client) {
 pid_t neutrino_remote_sender(int rcvid) { return (pid_t)ask_about(OP_SENDER, rcvid); }
 
 int neutrino_remote_deliver(int rcvid, const struct sigevent *event, bool delivers) {
-    int priority = event->sigev_priority;
-    struct wire_ask ask = {.op = OP_EVENT, .number = rcvid, .request = pulse_of(priority, event->sigev_code),
-                           .flags = (priority == -1 ? WIRE_OWN_PRIORITY : 0) | (delivers ? 0 : WIRE_TESTS),
-                           .value = (uint64_t)(intptr_t)event->sigev_value.sival_ptr};
-    ask.request.id = (uint64_t)(uint32_t)event->sigev_coid;
-    return (int)ask_plainly(&ask);
+    balsaeuchre_request pulse = pulse_of(event->sigev_priority, event->sigev_code);
+    unsigned flags = (event->sigev_priority == -1 ? WIRE_OWN_PRIORITY : 0) | (delivers ? 0 : WIRE_TESTS);
+    return (int)ask_for_pulse(rcvid, event->sigev_coid, pulse, event->sigev_value, flags);
 }
 
 void neutrino_remote_death(int tid) { ask_about(OP_DEATH, tid); }

@@ -48,7 +48,7 @@ static uint32_t open_all(void) {
     size_t length = 0;
     memset(k->place_of, PLACES, sizeof k->place_of);
     for (int process = 1; process <= limits.processes; process++) {
-        for (int seat = 0; seat < limits.threads; seat++) {
+        for (int seat = 0; seat < threads_of(process); seat++) {
             uint8_t tid = (uint8_t)(length + 1);
             k->place_of[tid] = (uint8_t)length;
             k->places[length] = (struct place){.word = ENDED, .tid = tid, .pid = (uint8_t)process, .looks = -1};
@@ -187,13 +187,25 @@ static const char usage[] =
     "usage: balsaeuchred [--processes N] [--threads N] [--channels N] [--connections N] [--bytes N] [--group NAME]\n"
     "                    [--record FILE] [SOCKET]\n"
     "One kernel for the programs that run with BALSAEUCHRE_SYSTEM=SOCKET. Without SOCKET it is systemd's.\n"
-    "  --processes 12      programs at a time, and\n"
-    "  --threads 4         threads of each; N * (threads + 1) is at most 63\n"
+    "  --processes N       programs at a time, and\n"
+    "  --threads N         threads of each: processes * (threads + 1) is at most 63. Without these two options 12\n"
+    "                      programs have 12, 8, 6, 5, 4, 4, 3, 3, 2, 2, 1 and 1 threads, and the first has most\n"
     "  --channels 16       channels of each, of 64 in all\n"
     "  --connections 256   connections of each, of 1,024 in all\n"
     "  --bytes 8388608     bytes of the open calls of each\n"
     "  --group NAME        whose members may connect, too, beside the same user\n"
     "  --record FILE.names writes all calls as a script with names, for qdemo\n";
+
+/* Of processes and threads the one that isn't given is as great as it can be. Returns whether both fit. */
+static bool fill_limits(void) {
+    int *processes = &limits.processes, *threads = &limits.threads;
+    if (*processes >= PROCESSES || *threads >= PLACES - 1) return false;
+    if (!*processes && !*threads) *processes = sizeof usual_threads / sizeof *usual_threads;
+    else if (!*threads) *threads = (PLACES - 1) / *processes - 1;
+    else if (!*processes) *processes = (PLACES - 1) / (*threads + 1);
+    if (*processes >= PROCESSES) *processes = PROCESSES - 1;
+    return *processes * (*threads + 1) < PLACES;
+}
 
 /* Reads the options. Returns the words behind them, or null if an option is wrong. */
 static char **read_options(char **words) {
@@ -210,9 +222,7 @@ static char **read_options(char **words) {
         else if (group) limits.group = group->gr_gid, limits.has_group = true;
         if (at == count ? !group && record_file != words[1] : *options[at].limit < 1) return NULL;
     }
-    bool fits = limits.processes < PROCESSES && limits.threads < PLACES &&
-                limits.processes * (limits.threads + 1) < PLACES;
-    return fits && (!*words || !words[1]) ? words : NULL;
+    return fill_limits() && (!*words || !words[1]) ? words : NULL;
 }
 
 /* Opens the file of the record and the socket. Returns the one that it could not open, or null. */

@@ -57,7 +57,10 @@ static struct {
     int processes, threads, channels, connections, bytes;
     gid_t group; /* which may connect, too, if has_group */
     bool has_group;
-} limits = {12, 4, 16, 256, 8 << 20, 0, false};
+} limits = {0, 0, 16, 256, 8 << 20, 0, false};
+
+/* The threads of each process where limits says nothing. With a clock for each they are 63. */
+static const uint8_t usual_threads[] = {12, 8, 6, 5, 4, 4, 3, 3, 2, 2, 1, 1};
 
 static neutrino kernel_of_all, *const k = &kernel_of_all;
 static struct client clients[CLIENTS];
@@ -66,5 +69,7 @@ static struct process processes[PROCESSES];
 static int gone, ending; /* clients whose socket has ended; processes that end */
 
 static uint8_t clock_of(int process) { return (uint8_t)(CLOCKS + process); }
+
+static int threads_of(int process) { return limits.threads ? limits.threads : usual_threads[process - 1]; }
 
 #endif

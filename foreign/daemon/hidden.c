@@ -18,6 +18,8 @@ static struct note notes[NOTES];
 static int free_note = -1;
 static int pulses[CHANNEL_PLACES]; /* notes of a channel, by its place */
 
+static int chid_at(int place) { return (int)(k->channels[place].turn << CHANNEL_BITS) | place; }
+
 static int *pulses_of(int chid) { return &pulses[place_in(&k->tables[CHANNELS], chid)]; }
 
 static void open_notes(void) {
@@ -107,10 +109,9 @@ static void tell_process(int process, unsigned flag, int code, int value) {
     for (int place = 0; place < CHANNEL_PLACES; place++) {
         const struct name *channel = &k->channels[place];
         if (!channel->id || channel->owner != process || !(told[place].flags & flag)) continue;
-        int chid = (int)(channel->turn << CHANNEL_BITS) | place;
         balsaeuchre_request request = balsaeuchre_request_of(BALSAEUCHRE_PULSE, SYSTEM, told[place].connection);
         request.priority = USUAL;
-        send_pulse(request, &(struct note){0, chid, SCOID | process, (int8_t)code, value});
+        send_pulse(request, &(struct note){0, chid_at(place), SCOID | process, (int8_t)code, value});
     }
 }
 

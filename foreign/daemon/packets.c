@@ -25,17 +25,6 @@ static bool serve(struct client *c, const struct wire_ask *a, const uint8_t *byt
     return true;
 }
 
-/* A pulse of a thread that has no seat: the program's own socket, of which the clock makes it. */
-static void send_plain_pulse(struct client *c, const struct wire_ask *a) {
-    int coid = a->number & ~SIDE;
-    uint64_t id = id_of(k, CONNECTIONS, coid, c->process);
-    balsaeuchre_request request = balsaeuchre_request_of(BALSAEUCHRE_PULSE, clock_of(c->process), id);
-    request.priority = a->flags & WIRE_OWN_PRIORITY ? USUAL : a->request.priority;
-    int chid = k->connections[place_in(&k->tables[CONNECTIONS], coid)].peer;
-    struct note content = {0, chid, SCOID | c->process, a->request.pulse_code, (int64_t)a->value};
-    put_result(c, !id ? EBADF : !request.priority ? EINVAL : send_pulse(request, &content), 0);
-}
-
 /* The first packet of a socket says what it is. */
 static bool join(struct client *c, const struct wire_ask *a) {
     if (a->sent_len || (a->op != OP_PROCESS && a->op != OP_THREAD && a->op != OP_SHOW)) return false;
@@ -50,10 +39,7 @@ static bool take_ask(struct client *c, const struct wire_ask *a, const uint8_t *
     if (!c->is_process && !c->place) return join(c, a);
     if (c->place && c->place->call) return false;
     if (a->op != OP_CALL) return serve(c, a, bytes);
-    if (c->place) return begin_call(c, a, bytes);
-    if (a->request.kind != BALSAEUCHRE_PULSE || a->sent_len) return false;
-    send_plain_pulse(c, a);
-    return true;
+    return c->place && begin_call(c, a, bytes);
 }
 
 /* Takes a packet, which a thread that has a box sends none of. */

@@ -89,10 +89,9 @@ static void end_channels(int process) {
     for (int at = 0; at < CHANNEL_PLACES; at++) {
         struct name *name = &k->channels[at];
         if (!name->id || name->owner != process) continue;
-        int chid = (int)(name->turn << CHANNEL_BITS) | at;
         make_hidden(balsaeuchre_request_of(BALSAEUCHRE_CHANNEL_DESTROY, clock_of(process), name->id));
         name->id = 0;
-        end_channel(chid);
+        end_channel(chid_at(at));
     }
 }
 

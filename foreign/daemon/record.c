@@ -24,10 +24,11 @@ static const char *process_name(int process) {
 }
 
 static void add_thread(struct line *line, int tid) {
-    int seat = tid - 1;
+    int process = 1, seat = tid;
+    for (; process < limits.processes && seat > threads_of(process); process++) seat -= threads_of(process);
     if (tid == SYSTEM) add(line, "daemon");
     else if (tid > CLOCKS) add(line, "clock%d", tid - CLOCKS);
-    else add(line, "program%d.%d", seat / limits.threads + 1, seat % limits.threads + 1);
+    else add(line, "program%d.%d", process, seat);
 }
 
 /* Writes a line; or ends the record, where a script would be too long or the file takes no more. */

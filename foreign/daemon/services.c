@@ -37,7 +37,7 @@ static void look_up_name(struct client *c, const struct wire_ask *a, const uint8
     int error = read_name(a, bytes, name), place = error ? -1 : find_name(name);
     if (!error && place == -1) error = ENOENT;
     if (place != -1) c->answer.info.pid = processes[k->channels[place].owner].peer.pid;
-    put_result(c, error, error ? -1 : (int)(k->channels[place].turn << CHANNEL_BITS) | place);
+    put_result(c, error, error ? -1 : chid_at(place));
 }
 
 static void tell_client(struct client *c, const struct wire_ask *a) {

@@ -1,45 +1,43 @@
 /* What pidin prints. Tested, not proved. */
 
 /* Prints on whom a thread is blocked. */
-static void show_blocked(FILE *to, const struct place *p) {
-    const struct call *call = p->call;
-    int chid = p->state == STATE_RECEIVE ? call->number : p->chid, server = p->server;
-    if (p->state == STATE_SEND) {
-        chid = k->connections[place_in(&k->tables[CONNECTIONS], p->coid)].peer;
-        server = k->channels[place_in(&k->tables[CHANNELS], chid)].receiver;
-    }
-    fprintf(to, p->state == STATE_RECEIVE ? "chid %d\n" : "chid %d", chid);
-    if (p->state == STATE_RECEIVE) return;
-    const struct client *whom = k->place_of[server] == PLACES ? NULL : client_of[k->place_of[server]];
-    int owner = k->channels[place_in(&k->tables[CHANNELS], chid)].owner;
+static void show_blocked(FILE *to, const struct neutrino_blocked *blocked) {
+    int place = k->place_of[blocked->server], owner = k->channels[place_in(&k->tables[CHANNELS], blocked->chid)].owner;
+    const struct client *whom = place == PLACES ? NULL : client_of[place];
     char name[20];
+    fprintf(to, "chid %d", blocked->chid);
     if (whom) name_thread(processes[owner].peer.pid, whom->host_tid, name);
-    if (whom) fprintf(to, ", thread %d (%s) of %d\n", whom->tid, name, (int)processes[owner].peer.pid);
-    else fprintf(to, ", of %d\n", (int)processes[owner].peer.pid);
+    if (whom) fprintf(to, ", thread %d (%s)", whom->tid, name);
+    if (blocked->state != STATE_RECEIVE) fprintf(to, whom ? " of %d" : ", of %d", (int)processes[owner].peer.pid);
+    fprintf(to, "\n");
+}
+
+/* The priority of a thread, which may be blocked. So the daemon's own thread asks. */
+static int shown_priority(const struct place *p) {
+    balsaeuchre_request request = balsaeuchre_request_of(BALSAEUCHRE_STATE, SYSTEM, 0);
+    request.target = p->tid;
+    return make_hidden(request) ? 0 : k->event.rows[0].priority;
 }
 
 static void show_thread(FILE *to, const struct client *c) {
     char name[20];
     static const char *const states[] = {"", "READY", "SEND", "RECEIVE", "REPLY"};
-    const struct place *p = c->place;
+    struct neutrino_blocked blocked = look_at(k, c->place);
     pid_t pid = processes[c->process].peer.pid;
-    int state = p->call ? p->state : STATE_READY;
     name_thread(pid, c->host_tid, name);
-    fprintf(to, "%8d %3d %-15s %4d ", (int)pid, c->tid, name, priority_of(k, p));
-    if (state == STATE_READY) fprintf(to, "READY\n");
-    else fprintf(to, "%-8s ", states[state]), show_blocked(to, p);
+    fprintf(to, "%8d %3d %-15s %4d ", (int)pid, c->tid, name, shown_priority(c->place));
+    if (blocked.state == STATE_READY) fprintf(to, "READY\n");
+    else fprintf(to, "%-8s ", states[blocked.state]), show_blocked(to, &blocked);
 }
 
 static void show_channel(FILE *to, int place) {
     const struct name *channel = &k->channels[place];
-    int chid = (int)(channel->turn << CHANNEL_BITS) | place, sent = 0, held = 0, receive = 0;
+    int chid = chid_at(place), sent = 0, held = 0, receive = 0;
     for (int at = 0; at < PLACES; at++) {
-        const struct place *p = &k->places[at];
-        if (!p->call || p->state == STATE_READY) continue;
-        bool sends = p->state == STATE_SEND;
-        sent += sends && k->connections[place_in(&k->tables[CONNECTIONS], p->coid)].peer == chid;
-        held += p->state == STATE_REPLY && p->chid == chid;
-        receive += p->state == STATE_RECEIVE && p->call->number == chid;
+        struct neutrino_blocked blocked = look_at(k, &k->places[at]);
+        sent += blocked.state == STATE_SEND && blocked.chid == chid;
+        held += blocked.state == STATE_REPLY && blocked.chid == chid;
+        receive += blocked.state == STATE_RECEIVE && blocked.chid == chid;
     }
     fprintf(to, "%8d %4d %5d %5d %6d %9d %s\n", (int)processes[channel->owner].peer.pid, chid, sent, held,
             pulses[place], receive, names[place]);

@@ -24,15 +24,6 @@ int neutrino_cancel(neutrino *k, int tid) {
 
 void neutrino_set_hooks(neutrino *k, const struct neutrino_hooks *hooks) { k->hooks = *hooks; }
 
-/* What a thread waits for, under the lock. */
-static struct neutrino_blocked look_at(const neutrino *k, const struct place *p) {
-    if (!p->call) return (struct neutrino_blocked){STATE_READY, 0, 0, 0};
-    if (p->state == STATE_RECEIVE) return (struct neutrino_blocked){STATE_RECEIVE, p->call->number, 0, 0};
-    if (p->state == STATE_REPLY) return (struct neutrino_blocked){STATE_REPLY, p->chid, p->rcvid, p->server};
-    int chid = k->connections[place_in(&k->tables[CONNECTIONS], p->coid)].peer;
-    return (struct neutrino_blocked){STATE_SEND, chid, 0, k->channels[place_in(&k->tables[CHANNELS], chid)].receiver};
-}
-
 int neutrino_look(neutrino *k, struct neutrino_blocked *all) {
     if (refuse(k)) return -1;
     memset(all, 0, 256 * sizeof *all);

@@ -7,6 +7,15 @@ static uint8_t priority_of(neutrino *k, const struct place *p) {
     return error || k->event.rows[0].mark != BALSAEUCHRE_THREAD_STATE ? 1 : k->event.rows[0].priority;
 }
 
+/* What a thread waits for, under the lock. */
+static struct neutrino_blocked look_at(const neutrino *k, const struct place *p) {
+    if (!p->call) return (struct neutrino_blocked){STATE_READY, 0, 0, 0};
+    if (p->state == STATE_RECEIVE) return (struct neutrino_blocked){STATE_RECEIVE, p->call->number, 0, 0};
+    if (p->state == STATE_REPLY) return (struct neutrino_blocked){STATE_REPLY, p->chid, p->rcvid, p->server};
+    int chid = k->connections[place_in(&k->tables[CONNECTIONS], p->coid)].peer;
+    return (struct neutrino_blocked){STATE_SEND, chid, 0, k->channels[place_in(&k->tables[CHANNELS], chid)].receiver};
+}
+
 /* Returns the number of bytes of a call's buffer that the kernel gets. */
 static size_t visible_length(const struct call *c) {
     if (c->request.kind == BALSAEUCHRE_RECEIVE_PULSE) return 0;

@@ -232,6 +232,29 @@ static void interrupted(void) {
     check(ConnectDetach(coid) == 0 && ChannelDestroy(chid) == 0);
 }
 
+static void *wait_at_23(void *chid) {
+    const struct sched_param param = {.sched_priority = 23};
+    check(SchedSet(0, 0, SCHED_RR, &param) == 0);
+    return wait_on(chid);
+}
+
+/* What pidin prints has the priority of a thread that waits, too. */
+static void shown(void) {
+    pthread_t thread;
+    char text[16384], wanted[40];
+    int chid = ChannelCreate(0), ends[2];
+    snprintf(wanted, sizeof wanted, " 23 RECEIVE  chid %d\n", chid);
+    check(pipe(ends) == 0 && pthread_create(&thread, NULL, wait_at_23, (void *)(intptr_t)chid) == 0);
+    do {
+        usleep(1000);
+        neutrino_show(ends[1]);
+        ssize_t length = read(ends[0], text, sizeof text - 1);
+        check(length > 0);
+        text[length] = 0;
+    } while (!strstr(text, wanted));
+    check(ChannelDestroy(chid) == 0 && pthread_join(thread, NULL) == 0);
+}
+
 static void *kill_soon(void *daemon) {
     usleep((useconds_t)(getpid() * 7919L % 50000));
     check(kill((pid_t)(intptr_t)daemon, SIGKILL) == 0);
@@ -280,7 +303,7 @@ static void daemon_dies(void) {
 #define TEST(name) {#name, name}
 static const struct { const char *name; void (*run)(void); } tests[] = {
     TEST(client_dies), TEST(sender_dies), TEST(server_dies), TEST(connection_dies), TEST(full_channel),
-    TEST(thread_ends), TEST(fork_and_exec), TEST(interrupted), TEST(daemon_dies),
+    TEST(thread_ends), TEST(fork_and_exec), TEST(interrupted), TEST(shown), TEST(daemon_dies),
 };
 
 static void run(void *at) { tests[(intptr_t)at].run(); }

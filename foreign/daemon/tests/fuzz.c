@@ -78,7 +78,7 @@ int LLVMFuzzerTestOneInput(const uint8_t *data, size_t size) {
     static bool opened;
     if (!opened) {
         events = epoll_create1(0);
-        if (open_all()) abort();
+        if (!fill_limits() || open_all()) abort();
         opened = true;
     }
     for (int at = 0; at < SOCKETS; at++) all[at] = open_socket(at);

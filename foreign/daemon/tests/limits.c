@@ -1,5 +1,5 @@
 /* limits [NAME..]: what a process may have, clients that are stopped, long messages, and users that may not connect.
- * For a daemon with its usual limits. */
+ * For a daemon of 12 processes of 4 threads, or in threads of SEATS. */
 #define _GNU_SOURCE
 #include "tests.h"
 
@@ -81,17 +81,18 @@ static void *receive(void *chid) {
 }
 
 static void threads(void) {
-    pthread_t all[THREADS];
-    int chid = ChannelCreate(0);
-    for (int at = 0; at < THREADS; at++) check(pthread_create(&all[at], NULL, receive, (void *)(intptr_t)chid) == 0);
+    pthread_t all[64];
+    const char *seats = getenv("SEATS");
+    int chid = ChannelCreate(0), count = seats ? atoi(seats) : THREADS;
+    for (int at = 0; at < count; at++) check(pthread_create(&all[at], NULL, receive, (void *)(intptr_t)chid) == 0);
     while (!refused) usleep(1000); /* all seats are taken, and one has come too late */
     check(ChannelDestroy(chid) == 0);
-    for (int at = 0; at < THREADS; at++) {
+    for (int at = 0; at < count; at++) {
         void *error;
         check(pthread_join(all[at], &error) == 0);
         check((intptr_t)error == ESRCH || (intptr_t)error == EAGAIN);
     }
-    check(refused == 1); /* the main thread has the fourth seat */
+    check(refused == 1); /* the main thread has the last seat */
 }
 
 static void create_and_wait(void *line) {

@@ -18,7 +18,7 @@ use std::sync::{Arc, Mutex, Weak};
 use std::time::Duration;
 use std::{hint, process, ptr, thread};
 
-const VERSION: i32 = 2;
+const VERSION: i32 = 3;
 const MOST: usize = 1 << 20;
 const PROCESS: u32 = 1;
 const THREAD: u32 = 2;

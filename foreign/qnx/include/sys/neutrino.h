@@ -36,6 +36,7 @@
 #include <signal.h>
 #include <stddef.h>
 #include <stdint.h>
+#include <sys/missing.h>
 #include <sys/siginfo.h>
 #include <sys/types.h>
 #include <sys/uio.h>
