@@ -19,20 +19,16 @@ use Rattle.qtables.specs.declared.member.Member.{Member}
 use Rattle.qrules.specs.Outcome.{completion_to, Answers}
 use Rattle.qrules.specs.Rules.{row_of}
 use Rattle.qrules.specs.Rules.Connections as connect_detach
-use Rattle.qrules.proofs.Traces.Parts.{error_finish}
+use Rattle.qrules.proofs.Traces.Parts.{error_finish, reply_finish}
 use Rattle.qrules.specs.Rules.Held.{info_of}
-use Rattle.qrules.proofs.Words.Items.{info_completion}
+use Rattle.qrules.proofs.Words.Items.{info_completion, message_item, names}
 use Rattle.qrules.specs.Rules.Pulse as pulse
-use Rattle.qrules.proofs.Traces.Parts.{reply_finish}
-use Rattle.qrules.proofs.Words.Items.{message_item}
 use Rattle.qrules.specs.Rules.Unblock as unblock
-use Rattle.qrules.specs.Delivery.{is_on}
+use Rattle.qrules.specs.Delivery.{is_on, refusal_if_full_for}
 use Rattle.qrules.proofs.Words.Effects.{attaches, creates, detaches}
 use Rattle.qrules.proofs.Words.Facts.{count_to, is_of_process, message, route, sender, threads_of, Facts}
 use Rattle.qrules.proofs.Words.Lawful as old
 use Rattle.qrules.proofs.Words.Past as past_of
-use Rattle.qrules.specs.Delivery.{refusal_if_full_for}
-use Rattle.qrules.proofs.Words.Items.{names}
 use Rattle.qrules.proofs.Words.Step.{one_for}
 use Rattle.qmodel.specs.Trace.{Event, Trace}
 use Rattle.qmodel.specs.declared.call.Call.{Call}

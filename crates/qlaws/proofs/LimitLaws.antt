@@ -23,9 +23,8 @@ use Rattle.qlaws.proofs.Lists.{fewer_left}
 use Rattle.qrules.proofs.Words.Lawful.{facts_of, IsLawful}
 use Rattle.qrules.proofs.Words.Past.{pending_items, made_on}
 use Rattle.qrules.proofs.Words.Effects.{closes, makes, sets}
-use Rattle.qrules.proofs.Words.Items.{Received, message_numbered, names, pulse_item, item_sent_over}
+use Rattle.qrules.proofs.Words.Items.{Received, message_numbered, names, pulse_item, item_sent_over, receipt_of}
 use Rattle.qrules.proofs.Words.Step.{is_cancelled, uncancelled_items, items_with_priority_set, pending_after, unreceived_items}
-use Rattle.qrules.proofs.Words.Items.{receipt_of}
 use Rattle.qmodel.specs.declared.call.Call.{Call}
 use Rattle.qmodel.specs.declared.call.Call.TheVariants.{Send, Pulse, Unblock, ConnectDetach}
 use Rattle.qrules.proofs.Traces.Past.Ends.{passes_of}

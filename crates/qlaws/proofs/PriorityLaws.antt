@@ -9,15 +9,13 @@ use Rattle.qqueue.specs.declared.item.Item.{Item}
 use Rattle.qtables.specs.declared.connection.Connection.{Connection}
 use Rattle.qtables.specs.declared.member.Member.{Member}
 use Rattle.qrules.specs.Outcome.{Outcome}
-use Rattle.qrules.proofs.Words.Items.{receipt_of}
-use Rattle.qrules.proofs.Words.Items.{message_item as message_of}
+use Rattle.qrules.proofs.Words.Items.{receipt_of, message_item as message_of, Received, item_sent_over, priority_set_for}
 use Rattle.qrules.proofs.Words.Effects.{makes, sets, thread_of_send}
 use Rattle.qrules.proofs.Words.Facts.{Facts}
 use Rattle.qrules.specs.Records.{is_fixed, is_for_receipt}
 use Rattle.qlaws.specs.Pending as laws
 use Rattle.qrules.proofs.Words.Lawful.{IsLawful, facts_of}
 use Rattle.qrules.proofs.Words.Past.{is_accepted, is_gone, is_received, item_of, priority_of_thread, sender_of, current_priority}
-use Rattle.qrules.proofs.Words.Items.{Received, item_sent_over, priority_set_for}
 use Rattle.qmodel.specs.Trace.{SentItem, Trace}
 use Rattle.qrules.proofs.Words.Step.{priority_taken}
 use Rattle.qmodel.specs.declared.call.Call.{Call}

@@ -41,8 +41,7 @@ pub record IsRouted (f : Facts) (s : OpenSend) : Type 0 where
 
 -- each open Send is routed
 abbrev pub OpenSendsAreRouted : Type 0
-OpenSendsAreRouted =
-    AfterEach (λ roster past. AllByRecursion (IsRouted (facts_of roster past))
+OpenSendsAreRouted = AfterEach (λ roster past. AllByRecursion (IsRouted (facts_of roster past))
     (open_sends (facts_of roster past)))
 
 -- message i is received, and its Send isn't ended

@@ -1,9 +1,6 @@
 //! Laws of the endings of one event.
 
-ghost use Rattle.qlaws.specs.Endings.{BlockedUnlessEnded, CallerGetsItsOwn, EndingsAreApart, EndingsGoToBlocked};
-ghost use Rattle.qlaws.specs.Endings.{EndingsKeepLength, EndingsNameOwnCalls, EndingsRiseByThread, EndsOrWaits};
-ghost use Rattle.qlaws.specs.Endings.{NothingFromDestroyed, OnlyRefusedWhenDown, ReceivedWasSent};
-ghost use Rattle.qlaws.specs.Endings.{RefusedChangesNothing};
+ghost use Rattle.qlaws.specs.Endings.{BlockedUnlessEnded, CallerGetsItsOwn, EndingsAreApart, EndingsGoToBlocked, EndingsKeepLength, EndingsNameOwnCalls, EndingsRiseByThread, EndsOrWaits, NothingFromDestroyed, OnlyRefusedWhenDown, ReceivedWasSent, RefusedChangesNothing};
 
 /// Each completion goes to the thread that made the call that it ends.
 pub fn endings_name_own_calls()

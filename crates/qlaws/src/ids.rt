@@ -1,7 +1,6 @@
 //! Laws of ids: of the channels that are open, and of the connections that are live.
 
-ghost use Rattle.qlaws.specs.Ids.{ChannelsAreLimited, ConnectionsAreLimited, DestroyedStaysDestroyed};
-ghost use Rattle.qlaws.specs.Ids.{DetachedStaysDetached};
+ghost use Rattle.qlaws.specs.Ids.{ChannelsAreLimited, ConnectionsAreLimited, DestroyedStaysDestroyed, DetachedStaysDetached};
 
 /// No more than 64 channels are open.
 pub fn channels_are_limited()

@@ -1,8 +1,6 @@
 //! Laws of the calls that threads wait in.
 
-ghost use Rattle.qlaws.specs.OpenCalls.{AtMostOneOpen, HeldIsOpenSend, NewestIsLast, NobodyWaitsAfterShutdown};
-ghost use Rattle.qlaws.specs.OpenCalls.{NoneIsNewest, NothingPendingForWaiting, OpenIsUnended, OpenSendsAreRouted};
-ghost use Rattle.qlaws.specs.OpenCalls.{ReceiveBuffersKeepLength, ReplyBuffersKeepLength};
+ghost use Rattle.qlaws.specs.OpenCalls.{AtMostOneOpen, HeldIsOpenSend, NewestIsLast, NobodyWaitsAfterShutdown, NoneIsNewest, NothingPendingForWaiting, OpenIsUnended, OpenSendsAreRouted, ReceiveBuffersKeepLength, ReplyBuffersKeepLength};
 
 /// At most one of a thread's accepted calls that may wait isn't ended, and the thread waits in exactly that one.
 pub fn one_open_call()

@@ -1,8 +1,6 @@
 //! Laws of the items that wait to be received.
 
-ghost use Rattle.qlaws.specs.Pending.{FirstGoesFirst, NonePendingIsHeld, OneUnblockPulse, OthersKeepTheirOrder};
-ghost use Rattle.qlaws.specs.Pending.{PendingFollowsItsSender, PendingIsOpen, PendingRises, PlacesFall};
-ghost use Rattle.qlaws.specs.Pending.{PulsesAreLimited, SettingMovesItsOwn};
+ghost use Rattle.qlaws.specs.Pending.{FirstGoesFirst, NonePendingIsHeld, OneUnblockPulse, OthersKeepTheirOrder, PendingFollowsItsSender, PendingIsOpen, PendingRises, PlacesFall, PulsesAreLimited, SettingMovesItsOwn};
 
 /// The items that are pending on a channel are in rising number, and none is held. The sender of each message waits in
 /// its Send, and has the same priority as the message.

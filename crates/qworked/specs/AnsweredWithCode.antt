@@ -9,8 +9,7 @@ use Rattle.qworked.specs.Setting.{connected}
 
 -- nine calls, of both threads of the server
 abbrev pub events : List Event
-events = connected (
-    event 2 (Send 2 (0x01 ∷ 0x02 ∷ []) (0x00 ∷ 0x00 ∷ [])) []
+events = connected (event 2 (Send 2 (0x01 ∷ 0x02 ∷ []) (0x00 ∷ 0x00 ∷ [])) []
     ∷ event 1 (Receive 1 []) (ended 4 1 (mark.Message 3 0) [] ∷ [])
     ∷ event 1 (Write 3 18446744073709551615 (0xff ∷ [])) (ended 5 1 (mark.Count 0) [] ∷ [])
     ∷ event 1 (Read 3 2 (0xaa ∷ [])) (ended 6 1 (mark.Count 0) (0xaa ∷ []) ∷ [])

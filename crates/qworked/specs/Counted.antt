@@ -7,9 +7,8 @@ use Rattle.qmodel.specs.declared.call.Call.TheVariants.{ConnectDetach, Send, Rec
 use Rattle.qmodel.specs.declared.call.Mark.TheVariants as mark
 use Rattle.qrules.specs.Facts.{Facts}
 use Rattle.qrules.specs.Lawful.{facts_of}
-use Rattle.qrules.specs.Trace.{followed_by}
+use Rattle.qrules.specs.Trace.{followed_by, Event}
 use Rattle.qqueue.specs.Best.{is_pulse}
-use Rattle.qrules.specs.Trace.{Event}
 use Rattle.qworked.specs.Runs.{event, ended, flags_of}
 use Rattle.qworked.specs.ThreeProcesses.{attached, roster}
 
@@ -17,8 +16,7 @@ use Rattle.qworked.specs.ThreeProcesses.{attached, roster}
 -- and a ConnectDetach; two pulses and a message are pending on channel 1, where a third pulse was received,
 -- and a pulse on channel 4
 abbrev pub events : List Event
-events = attached (
-    event 35 (ChannelCreate (flags_of 0)) (ended 4 35 (mark.Channel 4) [] ∷ [])
+events = attached (event 35 (ChannelCreate (flags_of 0)) (ended 4 35 (mark.Channel 4) [] ∷ [])
     ∷ event 54 (ConnectAttach 4) (ended 5 54 (mark.Connection 5) [] ∷ [])
     ∷ event 42 (ConnectAttach 1) (ended 6 42 (mark.Connection 6) [] ∷ [])
     ∷ event 42 (ConnectDetach 2) (ended 7 42 mark.Ok [] ∷ [])
@@ -33,8 +31,7 @@ events = attached (
     ∷ event 54 (Pulse 3 53 (pos 77) (pos 88)) (ended 16 54 mark.Ok [] ∷ [])
     ∷ event 54 (Pulse 3 54 (negsuc 0) (pos 88)) (ended 17 54 (mark.Failed Inval) [] ∷ [])
     ∷ event 43 (Send 6 [] []) []
-    ∷ event 31 (ReceivePulse 1) (ended 19 31 (mark.Pulse 16 53 (what.User (pos 77) (pos 88))) [] ∷ [])
-    ∷ [])
+    ∷ event 31 (ReceivePulse 1) (ended 19 31 (mark.Pulse 16 53 (what.User (pos 77) (pos 88))) [] ∷ []) ∷ [])
 
 -- the facts after these events
 abbrev pub facts : Facts

@@ -12,8 +12,7 @@ use Rattle.qworked.specs.Setting.{connected}
 -- a held message, a pending one and a receiver; then calls that name the channel, its connection and its
 -- messages
 abbrev pub events : List Event
-events = connected (
-    event 2 (Send 2 (0xaa ∷ []) []) []
+events = connected (event 2 (Send 2 (0xaa ∷ []) []) []
     ∷ event 1 (Receive 1 []) (ended 4 1 (mark.Message 3 0) [] ∷ [])
     ∷ event 3 (Send 2 (0xbb ∷ []) []) []
     ∷ event 4 (ReceivePulse 1) []
@@ -26,17 +25,14 @@ events = connected (
     ∷ event 4 (ReceivePulse 1) (ended 11 4 (mark.Failed Srch) [] ∷ [])
     ∷ event 1 (ChannelDestroy 1) (ended 12 1 (mark.Failed Inval) [] ∷ [])
     ∷ event 1 (Reply 3 (pos 0) []) (ended 13 1 (mark.Failed Srch) [] ∷ [])
-    ∷ event 3 (ConnectAttach 1) (ended 14 3 (mark.Failed Srch) [] ∷ [])
-    ∷ [])
+    ∷ event 3 (ConnectAttach 1) (ended 14 3 (mark.Failed Srch) [] ∷ []) ∷ [])
 
 -- a receiver waits on a second channel as its fellow destroys the first one, where a pulse is pending
 abbrev pub others_stay : List Event
-others_stay = connected (
-    event 1 (ChannelCreate (flags_of 0)) (ended 3 1 (mark.Channel 3) [] ∷ [])
+others_stay = connected (event 1 (ChannelCreate (flags_of 0)) (ended 3 1 (mark.Channel 3) [] ∷ [])
     ∷ event 1 (ReceivePulse 3) []
     ∷ event 2 (Pulse 2 20 (pos 0) (pos 0)) (ended 5 2 mark.Ok [] ∷ [])
     ∷ event 4 (ChannelDestroy 1) (ended 6 4 mark.Ok [] ∷ [])
     ∷ event 3 (ConnectAttach 3) (ended 7 3 (mark.Connection 7) [] ∷ [])
     ∷ event 2 (Pulse 7 30 (pos 5) (pos 6))
-    (ended 4 1 (mark.Pulse 8 30 (what.User (pos 5) (pos 6))) [] ∷ ended 8 2 mark.Ok [] ∷ [])
-    ∷ [])
+    (ended 4 1 (mark.Pulse 8 30 (what.User (pos 5) (pos 6))) [] ∷ ended 8 2 mark.Ok [] ∷ []) ∷ [])

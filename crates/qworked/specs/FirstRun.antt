@@ -13,13 +13,11 @@ roster = member 1 1 10 ∷ member 2 2 20 ∷ []
 
 -- five calls
 abbrev pub events : List Event
-events =
-    event 1 (ChannelCreate (flags_of 0)) (ended 1 1 (mark.Channel 1) [] ∷ [])
+events = event 1 (ChannelCreate (flags_of 0)) (ended 1 1 (mark.Channel 1) [] ∷ [])
     ∷ event 2 (ConnectAttach 1) (ended 2 2 (mark.Connection 2) [] ∷ [])
     ∷ event 2 (Send 2 [] []) []
     ∷ event 1 (Receive 1 []) (ended 4 1 (mark.Message 3 0) [] ∷ [])
-    ∷ event 1 (Reply 3 (pos 0) []) (ended 5 1 mark.Ok [] ∷ ended 3 2 (mark.Replied (pos 0) 0) [] ∷ [])
-    ∷ []
+    ∷ event 1 (Reply 3 (pos 0) []) (ended 5 1 mark.Ok [] ∷ ended 3 2 (mark.Replied (pos 0) 0) [] ∷ []) ∷ []
 
 -- the sender gets no completion for the answer to its message
 abbrev pub one_left_out : List Event

@@ -11,13 +11,11 @@ use Rattle.qworked.specs.Setting.{connected}
 
 -- the later of two messages has the greater priority
 abbrev pub events : List Event
-events = connected (
-    event 4 (ConnectAttach 1) (ended 3 4 (mark.Connection 3) [] ∷ [])
+events = connected (event 4 (ConnectAttach 1) (ended 3 4 (mark.Connection 3) [] ∷ [])
     ∷ event 4 (Send 3 [] []) []
     ∷ event 2 (Send 2 [] []) []
     ∷ event 1 (Receive 1 []) (ended 6 1 (mark.Message 5 0) [] ∷ [])
-    ∷ event 1 (Receive 1 []) (ended 7 1 (mark.Message 4 0) [] ∷ [])
-    ∷ [])
+    ∷ event 1 (Receive 1 []) (ended 7 1 (mark.Message 4 0) [] ∷ []) ∷ [])
 
 -- the second Receive doesn't end
 abbrev pub one_left_out : List Event
@@ -42,15 +40,13 @@ one_moved = with_endings 6 []
 
 -- two of three messages are of equal priority
 abbrev pub ties : List Event
-ties = connected (
-    event 4 (ConnectAttach 1) (ended 3 4 (mark.Connection 3) [] ∷ [])
+ties = connected (event 4 (ConnectAttach 1) (ended 3 4 (mark.Connection 3) [] ∷ [])
     ∷ event 4 (Send 3 (0x01 ∷ []) []) []
     ∷ event 2 (Send 2 (0x02 ∷ []) []) []
     ∷ event 3 (Send 2 (0x03 ∷ []) []) []
     ∷ event 1 (Receive 1 (0x00 ∷ [])) (ended 7 1 (mark.Message 5 1) (0x02 ∷ []) ∷ [])
     ∷ event 1 (Receive 1 (0x00 ∷ [])) (ended 8 1 (mark.Message 6 1) (0x03 ∷ []) ∷ [])
-    ∷ event 1 (Receive 1 (0x00 ∷ [])) (ended 9 1 (mark.Message 4 1) (0x01 ∷ []) ∷ [])
-    ∷ [])
+    ∷ event 1 (Receive 1 (0x00 ∷ [])) (ended 9 1 (mark.Message 4 1) (0x01 ∷ []) ∷ []) ∷ [])
 
 -- all three messages are held after these events
 abbrev pub all_wait : List Blocked

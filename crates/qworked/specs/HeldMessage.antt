@@ -4,30 +4,17 @@ use Rattle.qbase.specs.declared.errno.Errno.TheVariants.{Srch}
 use Rattle.qmodel.specs.declared.call.Call.TheVariants.{Send, Receive, Reply, Read, Write, Info}
 use Rattle.qmodel.specs.declared.call.Mark.TheVariants as mark
 use Rattle.qrules.specs.Trace.{Event}
-use Rattle.qworked.specs.Runs.{event, ended}
+use Rattle.qworked.specs.Runs.{ended, event, info}
 use Rattle.qworked.specs.Setting.{connected}
 
 -- seven calls
 abbrev pub events : List Event
-events = connected (
-    event 2 (Send 2 (0x01 ∷ 0x02 ∷ 0x03 ∷ []) (0x00 ∷ 0x00 ∷ [])) []
+events = connected (event 2 (Send 2 (0x01 ∷ 0x02 ∷ 0x03 ∷ []) (0x00 ∷ 0x00 ∷ [])) []
     ∷ event 1 (Receive 1 (0x00 ∷ 0x00 ∷ [])) (ended 4 1 (mark.Message 3 2) (0x01 ∷ 0x02 ∷ []) ∷ [])
-    ∷ event 1 (Info 3)
-    (ended 5 1
-    (mark.Info
-    (record {
-      process = 2;
-      thread = 2;
-      connection = 2;
-      msglen = 2;
-      srcmsglen = 3;
-      dstmsglen = 2;
-      priority = 20;
-    })) [] ∷ [])
+    ∷ event 1 (Info 3) (ended 5 1 (info 2 2 2 2 3 2 20) [] ∷ [])
     ∷ event 1 (Read 3 1 (0xff ∷ 0xff ∷ 0xff ∷ 0xff ∷ []))
     (ended 6 1 (mark.Count 2) (0x02 ∷ 0x03 ∷ 0xff ∷ 0xff ∷ []) ∷ [])
     ∷ event 1 (Write 3 1 (0xaa ∷ 0xbb ∷ [])) (ended 7 1 (mark.Count 1) [] ∷ [])
     ∷ event 1 (Reply 3 (pos 0) [])
     (ended 8 1 mark.Ok [] ∷ ended 3 2 (mark.Replied (pos 0) 0) (0x00 ∷ 0xaa ∷ []) ∷ [])
-    ∷ event 1 (Info 3) (ended 9 1 (mark.Failed Srch) [] ∷ [])
-    ∷ [])
+    ∷ event 1 (Info 3) (ended 9 1 (mark.Failed Srch) [] ∷ []) ∷ [])

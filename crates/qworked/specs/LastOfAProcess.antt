@@ -14,8 +14,7 @@ use Rattle.qworked.specs.ThreeProcesses.{attached}
 -- detaching thread. The pulse that was sent over the connection before its end is still received, and so is
 -- the other process's message
 abbrev pub two_processes : List Event
-two_processes = attached (
-    event 42 (ConnectAttach 1) (ended 4 42 (mark.Connection 4) [] ∷ [])
+two_processes = attached (event 42 (ConnectAttach 1) (ended 4 42 (mark.Connection 4) [] ∷ [])
     ∷ event 42 (Send 4 (0xaa ∷ []) (0x11 ∷ [])) []
     ∷ event 54 (Send 3 (0xbb ∷ []) (0x22 ∷ [])) []
     ∷ event 43 (ConnectDetach 2) (ended 7 43 mark.Ok [] ∷ [])
@@ -24,15 +23,12 @@ two_processes = attached (
     ∷ event 43 (ConnectDetach 4) (ended 5 42 (mark.Failed Badf) (0x11 ∷ []) ∷ ended 10 43 mark.Ok [] ∷ [])
     ∷ event 31 (ReceivePulse 1) (ended 11 31 (mark.Pulse 9 50 (what.User (pos 77) (negsuc 87))) [] ∷ [])
     ∷ event 31 (ReceivePulse 1) (ended 12 31 (mark.Pulse 10 38 (what.Disconnect 152)) [] ∷ [])
-    ∷ event 35 (Receive 1 (0x00 ∷ 0x00 ∷ [])) (ended 13 35 (mark.Message 6 1) (0xbb ∷ 0x00 ∷ []) ∷ [])
-    ∷ [])
+    ∷ event 35 (Receive 1 (0x00 ∷ 0x00 ∷ [])) (ended 13 35 (mark.Message 6 1) (0xbb ∷ 0x00 ∷ []) ∷ []) ∷ [])
 
 -- a connection whose channel is destroyed is still detached, once
 abbrev pub destroyed : List Event
-destroyed = attached (
-    event 43 (Send 2 [] (0x11 ∷ [])) []
+destroyed = attached (event 43 (Send 2 [] (0x11 ∷ [])) []
     ∷ event 31 (ChannelDestroy 1) (ended 5 31 mark.Ok [] ∷ ended 4 43 (mark.Failed Srch) (0x11 ∷ []) ∷ [])
     ∷ event 42 (ConnectDetach 2) (ended 6 42 mark.Ok [] ∷ [])
     ∷ event 43 (ConnectDetach 2) (ended 7 43 (mark.Failed Inval) [] ∷ [])
-    ∷ event 54 (ConnectDetach 3) (ended 8 54 mark.Ok [] ∷ [])
-    ∷ [])
+    ∷ event 54 (ConnectDetach 3) (ended 8 54 mark.Ok [] ∷ []) ∷ [])

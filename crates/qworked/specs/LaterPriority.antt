@@ -12,8 +12,7 @@ use Rattle.qworked.specs.ThreeProcesses.{attached}
 -- a thread's priority is set, taken from a message, set, and taken from a pulse, on a channel without the
 -- flag for fixed priorities
 abbrev pub events : List Event
-events = attached (
-    event 35 (ChannelCreate (flags_of 0)) (ended 4 35 (mark.Channel 4) [] ∷ [])
+events = attached (event 35 (ChannelCreate (flags_of 0)) (ended 4 35 (mark.Channel 4) [] ∷ [])
     ∷ event 54 (ConnectAttach 4) (ended 5 54 (mark.Connection 5) [] ∷ [])
     ∷ event 54 (Pulse 5 9 (pos 77) (pos 88)) (ended 6 54 mark.Ok [] ∷ [])
     ∷ event 54 (Send 5 [] []) []
@@ -23,5 +22,4 @@ events = attached (
     ∷ event 35 (PrioritySet 35 45) (ended 11 35 mark.Ok [] ∷ [])
     ∷ event 35 (State 35) (ended 12 35 (mark.State Ready 45) [] ∷ [])
     ∷ event 35 (ReceivePulse 4) (ended 13 35 (mark.Pulse 6 9 (what.User (pos 77) (pos 88))) [] ∷ [])
-    ∷ event 35 (State 35) (ended 14 35 (mark.State Ready 9) [] ∷ [])
-    ∷ [])
+    ∷ event 35 (State 35) (ended 14 35 (mark.State Ready 9) [] ∷ []) ∷ [])

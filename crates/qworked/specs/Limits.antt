@@ -11,9 +11,8 @@ use Rattle.qrules.specs.Outcome.{Answers}
 use Rattle.qrules.specs.Rule.{buffer_of}
 use Rattle.qrules.specs.Facts.{Facts}
 use Rattle.qrules.specs.Lawful.{facts_of}
-use Rattle.qrules.specs.Trace.{followed_by}
+use Rattle.qrules.specs.Trace.{followed_by, Event}
 use Rattle.qqueue.specs.declared.item.What.TheVariants.{Message, User}
-use Rattle.qrules.specs.Trace.{Event}
 use Rattle.qworked.specs.Runs.{event, ended, flags_of}
 use Rattle.qworked.specs.Detached.{twice_attached}
 use Rattle.qworked.specs.Setting.{roster, connected}
@@ -25,8 +24,7 @@ facts_after events = facts_of roster (followed_by [] events)
 
 -- the only answer to the call is a refusal with this error
 abbrev pub IsRefusedWith : Facts → ℕ → Call → Errno → Type 0
-IsRefusedWith f t c e =
-    Answers f t c (ended f.number t (mark.Failed e) (buffer_of c) ∷ [])
+IsRefusedWith f t c e = Answers f t c (ended f.number t (mark.Failed e) (buffer_of c) ∷ [])
     × ((endings : List Completion) → Answers f t c endings → endings ≡ ended f.number t (mark.Failed e)
     (buffer_of c) ∷ [])
 

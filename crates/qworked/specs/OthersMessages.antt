@@ -10,8 +10,7 @@ use Rattle.qworked.specs.Setting.{connected}
 
 -- calls on a message, from its sending until after its answer
 abbrev pub events : List Event
-events = connected (
-    event 2 (Send 2 (0x01 ∷ []) (0x00 ∷ [])) []
+events = connected (event 2 (Send 2 (0x01 ∷ []) (0x00 ∷ [])) []
     ∷ event 1 (Read 3 0 (0x07 ∷ [])) (ended 4 1 (mark.Failed Srch) (0x07 ∷ []) ∷ [])
     ∷ event 1 (Receive 1 []) (ended 5 1 (mark.Message 3 0) [] ∷ [])
     ∷ event 3 (Reply 3 (pos 0) (0x09 ∷ [])) (ended 6 3 (mark.Failed Srch) [] ∷ [])
@@ -22,5 +21,4 @@ events = connected (
     ∷ event 4 (Reply 3 (pos 0) [])
     (ended 3 2 (mark.Replied (pos 0) 0) (0x00 ∷ []) ∷ ended 11 4 mark.Ok [] ∷ [])
     ∷ event 4 (Error 3 (pos 5)) (ended 12 4 (mark.Failed Srch) [] ∷ [])
-    ∷ event 4 (Write 3 0 (0x09 ∷ [])) (ended 13 4 (mark.Failed Srch) [] ∷ [])
-    ∷ [])
+    ∷ event 4 (Write 3 0 (0x09 ∷ [])) (ended 13 4 (mark.Failed Srch) [] ∷ []) ∷ [])

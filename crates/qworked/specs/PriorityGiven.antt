@@ -12,8 +12,7 @@ use Rattle.qworked.specs.Setting.{connected}
 
 -- a pulse is received, and a fellow thread sets the receiver's priority; another process can't
 abbrev pub events : List Event
-events = connected (
-    event 1 (Receive 1 []) []
+events = connected (event 1 (Receive 1 []) []
     ∷ event 3 (Pulse 2 33 (pos 1) (pos 0))
     (ended 3 1 (mark.Pulse 4 33 (what.User (pos 1) (pos 0))) [] ∷ ended 4 3 mark.Ok [] ∷ [])
     ∷ event 1 (State 1) (ended 5 1 (mark.State Ready 33) [] ∷ [])
@@ -24,5 +23,4 @@ events = connected (
     ∷ event 2 (PrioritySet 9 5) (ended 10 2 (mark.Failed Srch) [] ∷ [])
     ∷ event 2 (State 9) (ended 11 2 (mark.Failed Srch) [] ∷ [])
     ∷ event 1 (State 1) (ended 12 1 (mark.State Ready 12) [] ∷ [])
-    ∷ event 1 (State 4) (ended 13 1 (mark.State Ready 10) [] ∷ [])
-    ∷ [])
+    ∷ event 1 (State 4) (ended 13 1 (mark.State Ready 10) [] ∷ []) ∷ [])

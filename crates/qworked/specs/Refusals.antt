@@ -19,5 +19,4 @@ events = connected (
     ∷ event 2 (Receive 1 (0x07 ∷ 0x08 ∷ [])) (ended 9 2 (mark.Failed Busy) (0x07 ∷ 0x08 ∷ []) ∷ [])
     ∷ event 1 (Reply 8 (pos 0) (0x01 ∷ [])) (ended 10 1 (mark.Failed Srch) [] ∷ [])
     ∷ event 1 (Receive 6 (0x07 ∷ [])) (ended 11 1 (mark.Failed Srch) (0x07 ∷ []) ∷ [])
-    ∷ event 1 (Receive 1 (0x07 ∷ [])) (ended 12 1 (mark.Message 8 1) (0x01 ∷ []) ∷ [])
-    ∷ [])
+    ∷ event 1 (Receive 1 (0x07 ∷ [])) (ended 12 1 (mark.Message 8 1) (0x01 ∷ []) ∷ []) ∷ [])

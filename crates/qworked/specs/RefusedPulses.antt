@@ -10,12 +10,10 @@ use Rattle.qworked.specs.Setting.{connected}
 
 -- calls that are all refused, and a Receive that finds the channel open and no pulse pending
 abbrev pub events : List Event
-events = connected (
-    event 2 (Pulse 2 20 (negsuc 0) (pos 0)) (ended 3 2 (mark.Failed Inval) [] ∷ [])
+events = connected (event 2 (Pulse 2 20 (negsuc 0) (pos 0)) (ended 3 2 (mark.Failed Inval) [] ∷ [])
     ∷ event 1 (Pulse 2 20 (negsuc 0) (pos 0)) (ended 4 1 (mark.Failed Badf) [] ∷ [])
     ∷ event 2 (Pulse 2 20 (negsuc 127) (pos 5)) (ended 5 2 (mark.Failed Inval) [] ∷ [])
     ∷ event 2 (ReceivePulse 1) (ended 6 2 (mark.Failed Srch) [] ∷ [])
     ∷ event 2 (ChannelDestroy 1) (ended 7 2 (mark.Failed Inval) [] ∷ [])
     ∷ event 1 (ChannelDestroy 9) (ended 8 1 (mark.Failed Inval) [] ∷ [])
-    ∷ event 1 (Receive 1 []) []
-    ∷ [])
+    ∷ event 1 (Receive 1 []) [] ∷ [])

@@ -14,8 +14,7 @@ use Rattle.qrules.specs.Facts.{threads_of, waiting_number, Facts}
 use Rattle.qrules.specs.Rules.Threads.{state_of}
 use Rattle.qrules.specs.Rule.{buffer_of}
 use Rattle.qrules.specs.Lawful.{facts_of, IsLawful}
-use Rattle.qrules.specs.Trace.{followed_by}
-use Rattle.qrules.specs.Trace.{Event}
+use Rattle.qrules.specs.Trace.{followed_by, Event}
 
 -- a thread, its process and its priority
 abbrev pub member : ℕ → ℕ → ℕ → Member
@@ -28,6 +27,19 @@ event t c endings = record { thread = t; call = c; endings = endings }
 -- call n of thread t ends
 abbrev pub ended : ℕ → ℕ → Mark → List ℕ → Completion
 ended n t mark buffer = record { call = n; thread = t; mark = mark; buffer = buffer }
+
+-- what Info returns: the sender's process, its thread and its connection, the bytes that were received, those
+-- of the message and of the reply buffer, and the priority
+abbrev pub info : ℕ → ℕ → ℕ → ℕ → ℕ → ℕ → ℕ → Mark
+info p t k received sent room priority = mark.Info (record {
+  process = p;
+  thread = t;
+  connection = k;
+  msglen = received;
+  srcmsglen = sent;
+  dstmsglen = room;
+  priority = priority;
+})
 
 -- thread t is blocked in call n
 abbrev pub blocked : ℕ → ℕ → ThreadState → Blocked
@@ -87,7 +99,6 @@ EndsOnlySo roster events n = (endings : List Completion) → MayEnd roster event
 
 -- event n can only be refused for lack of memory, or have the endings that are written
 abbrev pub EndsOnlySoWithMemory : List Member → List Event → ℕ → Type 0
-EndsOnlySoWithMemory roster events n =
-    MayEnd roster events n (refused_at n events)
+EndsOnlySoWithMemory roster events n = MayEnd roster events n (refused_at n events)
     × ((endings : List Completion) → MayEnd roster events n endings → (endings ≡ endings_at n events) ⊎
     (endings ≡ refused_at n events))

@@ -12,7 +12,5 @@ roster = member 1 1 10 ∷ member 2 2 20 ∷ member 3 2 20 ∷ member 4 1 10 ∷
 
 -- the server has channel 1, the client has connection 2 to it, and then these events follow
 abbrev pub connected : List Event → List Event
-connected events =
-    event 1 (ChannelCreate (flags_of 0)) (ended 1 1 (mark.Channel 1) [] ∷ [])
-    ∷ event 2 (ConnectAttach 1) (ended 2 2 (mark.Connection 2) [] ∷ [])
-    ∷ events
+connected events = event 1 (ChannelCreate (flags_of 0)) (ended 1 1 (mark.Channel 1) [] ∷ [])
+    ∷ event 2 (ConnectAttach 1) (ended 2 2 (mark.Connection 2) [] ∷ []) ∷ events

@@ -11,24 +11,20 @@ use Rattle.qworked.specs.Setting.{connected}
 
 -- the calls of a receiver are refused with Busy until the client shuts the kernel down
 abbrev pub events : List Event
-events = connected (
-    event 1 (Receive 1 []) []
+events = connected (event 1 (Receive 1 []) []
     ∷ event 1 (State 1) (ended 4 1 (mark.Failed Busy) [] ∷ [])
     ∷ event 2 Shutdown (ended 3 1 (mark.Failed Srch) [] ∷ ended 5 2 mark.Ok [] ∷ [])
     ∷ event 1 (ChannelCreate (flags_of 0)) (ended 6 1 (mark.Failed Down) [] ∷ [])
     ∷ event 2 (Send 2 (0xaa ∷ []) (0x09 ∷ [])) (ended 7 2 (mark.Failed Down) (0x09 ∷ []) ∷ [])
-    ∷ event 3 Shutdown (ended 8 3 (mark.Failed Down) [] ∷ [])
-    ∷ [])
+    ∷ event 3 Shutdown (ended 8 3 (mark.Failed Down) [] ∷ []) ∷ [])
 
 -- a held message with bytes written, a pending one and a receiver that waits for pulses
 abbrev pub all_ended : List Event
-all_ended = connected (
-    event 2 (Send 2 (0xaa ∷ []) (0x07 ∷ [])) []
+all_ended = connected (event 2 (Send 2 (0xaa ∷ []) (0x07 ∷ [])) []
     ∷ event 1 (Receive 1 []) (ended 4 1 (mark.Message 3 0) [] ∷ [])
     ∷ event 1 (Write 3 0 (0xff ∷ [])) (ended 5 1 (mark.Count 1) [] ∷ [])
     ∷ event 3 (Send 2 (0xbb ∷ []) (0x08 ∷ [])) []
     ∷ event 4 (ReceivePulse 1) []
     ∷ event 1 Shutdown
     (ended 8 1 mark.Ok [] ∷ ended 3 2 (mark.Failed Srch) (0xff ∷ []) ∷ ended 6 3 (mark.Failed Srch)
-    (0x08 ∷ []) ∷ ended 7 4 (mark.Failed Srch) [] ∷ [])
-    ∷ [])
+    (0x08 ∷ []) ∷ ended 7 4 (mark.Failed Srch) [] ∷ []) ∷ [])

@@ -15,8 +15,6 @@ roster = member 31 107 14 ∷ member 35 107 17 ∷ member 42 152 20 ∷ member 4
 -- the server has channel 1 with all three flags, the clients have connections 2 and 3 to it, and then these
 -- events follow
 abbrev pub attached : List Event → List Event
-attached events =
-    event 31 (ChannelCreate (flags_of 7)) (ended 1 31 (mark.Channel 1) [] ∷ [])
+attached events = event 31 (ChannelCreate (flags_of 7)) (ended 1 31 (mark.Channel 1) [] ∷ [])
     ∷ event 42 (ConnectAttach 1) (ended 2 42 (mark.Connection 2) [] ∷ [])
-    ∷ event 54 (ConnectAttach 1) (ended 3 54 (mark.Connection 3) [] ∷ [])
-    ∷ events
+    ∷ event 54 (ConnectAttach 1) (ended 3 54 (mark.Connection 3) [] ∷ []) ∷ events

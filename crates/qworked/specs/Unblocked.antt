@@ -11,8 +11,7 @@ use Rattle.qworked.specs.Setting.{connected}
 -- a message is cancelled before its receipt and never received; another process's thread and an unknown one
 -- are refused
 abbrev pub events : List Event
-events = connected (
-    event 2 (Send 2 (0xaa ∷ []) (0x00 ∷ [])) []
+events = connected (event 2 (Send 2 (0xaa ∷ []) (0x00 ∷ [])) []
     ∷ event 3 (Unblock 2) (ended 3 2 (mark.Failed Intr) (0x00 ∷ []) ∷ ended 4 3 mark.Ok [] ∷ [])
     ∷ event 3 (Unblock 2) (ended 5 3 mark.Ok [] ∷ [])
     ∷ event 3 (Unblock 1) (ended 6 3 (mark.Failed Srch) [] ∷ [])
@@ -20,5 +19,4 @@ events = connected (
     ∷ event 1 (ReceivePulse 1) []
     ∷ event 4 (Unblock 1) (ended 8 1 (mark.Failed Intr) [] ∷ ended 9 4 mark.Ok [] ∷ [])
     ∷ event 2 (Pulse 2 9 (pos 3) (pos 7)) (ended 10 2 mark.Ok [] ∷ [])
-    ∷ event 1 (Receive 1 []) (ended 11 1 (mark.Pulse 10 9 (what.User (pos 3) (pos 7))) [] ∷ [])
-    ∷ [])
+    ∷ event 1 (Receive 1 []) (ended 11 1 (mark.Pulse 10 9 (what.User (pos 3) (pos 7))) [] ∷ []) ∷ [])

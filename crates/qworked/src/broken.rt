@@ -1,20 +1,14 @@
 //! Runs that break one of the properties of lawful traces. Each contract says that the property doesn't hold of them.
 
 ghost use Rattle.std.specs.Prelude.{[]};
-ghost use Rattle.qrules.specs.Properties.{AnsweredToSender};
-ghost use Rattle.qrules.specs.Properties.{BestFirst};
-ghost use Rattle.qrules.specs.Properties.{CopiedExactly};
-ghost use Rattle.qrules.specs.Properties.{ReceivedOnce};
-ghost use Rattle.qrules.specs.Properties.{SentOrder};
-ghost use Rattle.qrules.specs.Properties.{ShutForGood};
-ghost use Rattle.qrules.specs.Lawful.{IsLawful};
+ghost use Rattle.qrules.specs.Properties.{AnsweredToSender, BestFirst, CopiedExactly, ReceivedOnce, SentOrder, ShutForGood};
+ghost use Rattle.qrules.specs.Lawful.{IsLawful, HadMemory};
 ghost use Rattle.qworked.specs.Broken.Answered as answered;
 ghost use Rattle.qworked.specs.Broken.Copied as copied;
 ghost use Rattle.qworked.specs.Broken.Held.{held, run_of, sent};
 ghost use Rattle.qworked.specs.Broken.Received as received;
 ghost use Rattle.qworked.specs.Broken.Shut as shut;
 ghost use Rattle.qworked.specs.Broken.Taken as taken;
-ghost use Rattle.qrules.specs.Lawful.{HadMemory};
 ghost use Rattle.qworked.specs.FirstRun as first;
 ghost use Rattle.qworked.specs.Runs.{refused_at, with_endings};
 ghost use Rattle.qworked.specs.ThreeProcesses.{roster};

@@ -46,12 +46,10 @@ unreceived = sent (event 31 (Reply 4 (pos 61) (0xdd ∷ [])) (ended 5 31 mark.Ok
 
 -- a Reply to message 4 answers message 6 as well
 abbrev pub another_too : Trace
-another_too = held (
-    event 42 (Send 2 [] []) []
+another_too = held (event 42 (Send 2 [] []) []
     ∷ event 35 (Receive 1 []) (ended 7 35 (mark.Message 6 0) [] ∷ [])
     ∷ event 31 (Reply 4 (pos 61) (0xdd ∷ []))
-    (ended 8 31 mark.Ok [] ∷ ended 6 42 (mark.Replied (pos 61) 0) [] ∷ answered 43 ∷ [])
-    ∷ [])
+    (ended 8 31 mark.Ok [] ∷ ended 6 42 (mark.Replied (pos 61) 0) [] ∷ answered 43 ∷ []) ∷ [])
 
 -- a call that answers nothing answers message 4
 abbrev pub by_a_receive : Trace
@@ -59,21 +57,17 @@ by_a_receive = held (event 31 (ReceivePulse 1) (answered 43 ∷ []) ∷ [])
 
 -- a code goes to a thread that didn't send the message
 abbrev pub code_to_another_thread : Trace
-code_to_another_thread = held
-    (event 31 (Error 4 (pos 61))
+code_to_another_thread = held (event 31 (Error 4 (pos 61))
     (ended 6 31 mark.Ok [] ∷ ended 4 42 (mark.Errored (pos 61)) (0x11 ∷ 0x22 ∷ 0x33 ∷ []) ∷ []) ∷ [])
 
 -- a thread whose process doesn't own the channel answers with a code
 abbrev pub code_by_another_process : Trace
-code_by_another_process = held
-    (event 54 (Error 4 (pos 61))
+code_by_another_process = held (event 54 (Error 4 (pos 61))
     (ended 4 43 (mark.Errored (pos 61)) (0x11 ∷ 0x22 ∷ 0x33 ∷ []) ∷ ended 6 54 mark.Ok [] ∷ []) ∷ [])
 
 -- message 4 is answered a second time, though its Send has ended
 abbrev pub after_the_end : Trace
-after_the_end = held (
-    event 31 (Reply 4 (pos 61) [])
+after_the_end = held (event 31 (Reply 4 (pos 61) [])
     (ended 6 31 mark.Ok [] ∷ ended 4 43 (mark.Replied (pos 61) 0) (0x11 ∷ 0x22 ∷ 0x33 ∷ []) ∷ [])
     ∷ event 31 (Reply 4 (pos 61) [])
-    (ended 7 31 mark.Ok [] ∷ ended 4 43 (mark.Replied (pos 61) 0) (0x11 ∷ 0x22 ∷ 0x33 ∷ []) ∷ [])
-    ∷ [])
+    (ended 7 31 mark.Ok [] ∷ ended 4 43 (mark.Replied (pos 61) 0) (0x11 ∷ 0x22 ∷ 0x33 ∷ []) ∷ []) ∷ [])

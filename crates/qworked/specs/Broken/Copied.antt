@@ -7,61 +7,51 @@ use Rattle.qmodel.specs.declared.call.Call.TheVariants.{ChannelCreate, ConnectAt
 use Rattle.qmodel.specs.declared.call.Call.TheVariants.{Read, Write, Info, Pulse, Unblock, State}
 use Rattle.qmodel.specs.declared.call.Mark.TheVariants as mark
 use Rattle.qrules.specs.Trace.{Trace}
-use Rattle.qworked.specs.Runs.{event, ended, flags_of}
+use Rattle.qworked.specs.Runs.{ended, event, flags_of, info}
 use Rattle.qworked.specs.Broken.Held.{held, run_of, sent}
 
 -- the second byte that is received isn't the one that was sent
 abbrev pub message_byte : Trace
-message_byte = sent
-    (event 31 (Receive 1 (0x00 ∷ 0x00 ∷ 0x00 ∷ []))
+message_byte = sent (event 31 (Receive 1 (0x00 ∷ 0x00 ∷ 0x00 ∷ []))
     (ended 5 31 (mark.Message 4 2) (0xaa ∷ 0xba ∷ 0x00 ∷ []) ∷ []) ∷ [])
 
 -- the rest of the receiver's buffer is changed
 abbrev pub message_rest : Trace
-message_rest = sent
-    (event 31 (Receive 1 (0x44 ∷ 0x44 ∷ 0x44 ∷ []))
+message_rest = sent (event 31 (Receive 1 (0x44 ∷ 0x44 ∷ 0x44 ∷ []))
     (ended 5 31 (mark.Message 4 2) (0xaa ∷ 0xbb ∷ 0x00 ∷ []) ∷ []) ∷ [])
 
 -- two bytes are received, and three counted
 abbrev pub message_count : Trace
-message_count = sent
-    (event 31 (Receive 1 (0x00 ∷ 0x00 ∷ 0x00 ∷ []))
+message_count = sent (event 31 (Receive 1 (0x00 ∷ 0x00 ∷ 0x00 ∷ []))
     (ended 5 31 (mark.Message 4 3) (0xaa ∷ 0xbb ∷ 0x00 ∷ []) ∷ []) ∷ [])
 
 -- a pulse clears the buffer of its receiver
 abbrev pub pulse_buffer : Trace
-pulse_buffer = run_of (
-    event 31 (Receive 1 (0x44 ∷ 0x55 ∷ [])) []
+pulse_buffer = run_of (event 31 (Receive 1 (0x44 ∷ 0x55 ∷ [])) []
     ∷ event 54 (Pulse 3 44 (pos 77) (pos 88))
     (ended 4 31 (mark.Pulse 5 44 (what.User (pos 77) (pos 88))) (0x00 ∷ 0x00 ∷ [])
-    ∷ ended 5 54 mark.Ok [] ∷ [])
-    ∷ [])
+    ∷ ended 5 54 mark.Ok [] ∷ []) ∷ [])
 
 -- the byte of the reply isn't the one that the server passed
 abbrev pub reply_byte : Trace
-reply_byte = held
-    (event 31 (Reply 4 (pos 61) (0xdd ∷ []))
+reply_byte = held (event 31 (Reply 4 (pos 61) (0xdd ∷ []))
     (ended 6 31 mark.Ok [] ∷ ended 4 43 (mark.Replied (pos 61) 1) (0xdc ∷ 0x22 ∷ 0x33 ∷ []) ∷ []) ∷ [])
 
 -- one byte is replied, and none counted
 abbrev pub reply_count : Trace
-reply_count = held
-    (event 31 (Reply 4 (pos 61) (0xdd ∷ []))
+reply_count = held (event 31 (Reply 4 (pos 61) (0xdd ∷ []))
     (ended 6 31 mark.Ok [] ∷ ended 4 43 (mark.Replied (pos 61) 0) (0xdd ∷ 0x22 ∷ 0x33 ∷ []) ∷ []) ∷ [])
 
 -- the status isn't the one that the server passed
 abbrev pub reply_status : Trace
-reply_status = held
-    (event 31 (Reply 4 (pos 61) (0xdd ∷ []))
+reply_status = held (event 31 (Reply 4 (pos 61) (0xdd ∷ []))
     (ended 6 31 mark.Ok [] ∷ ended 4 43 (mark.Replied (pos 60) 1) (0xdd ∷ 0x22 ∷ 0x33 ∷ []) ∷ []) ∷ [])
 
 -- the bytes of a Write aren't in the buffer at the answer
 abbrev pub write_lost : Trace
-write_lost = held (
-    event 31 (Write 4 1 (0xcc ∷ [])) (ended 6 31 (mark.Count 1) [] ∷ [])
+write_lost = held (event 31 (Write 4 1 (0xcc ∷ [])) (ended 6 31 (mark.Count 1) [] ∷ [])
     ∷ event 31 (Reply 4 (pos 61) (0xdd ∷ []))
-    (ended 7 31 mark.Ok [] ∷ ended 4 43 (mark.Replied (pos 61) 1) (0xdd ∷ 0x22 ∷ 0x33 ∷ []) ∷ [])
-    ∷ [])
+    (ended 7 31 mark.Ok [] ∷ ended 4 43 (mark.Replied (pos 61) 1) (0xdd ∷ 0x22 ∷ 0x33 ∷ []) ∷ []) ∷ [])
 
 -- one byte fits, and two are counted
 abbrev pub write_count : Trace
@@ -79,14 +69,12 @@ read_count = held
 
 -- a code comes with a byte of the reply buffer changed
 abbrev pub code_buffer : Trace
-code_buffer = held
-    (event 31 (Error 4 (pos 61))
+code_buffer = held (event 31 (Error 4 (pos 61))
     (ended 6 31 mark.Ok [] ∷ ended 4 43 (mark.Errored (pos 61)) (0x11 ∷ 0x22 ∷ 0x00 ∷ []) ∷ []) ∷ [])
 
 -- a Send fails with a byte of its reply buffer changed
 abbrev pub failed_buffer : Trace
-failed_buffer = sent
-    (event 42 (Unblock 43)
+failed_buffer = sent (event 42 (Unblock 43)
     (ended 5 42 mark.Ok [] ∷ ended 4 43 (mark.Failed Intr) (0x11 ∷ 0x22 ∷ 0x00 ∷ []) ∷ []) ∷ [])
 
 -- a call that brings no buffer gives one back
@@ -104,19 +92,7 @@ connection_buffer = run_of (event 43 (ConnectAttach 1) (ended 4 43 (mark.Connect
 
 -- an Info ends with a buffer
 abbrev pub info_buffer : Trace
-info_buffer = held
-    (event 31 (Info 4)
-    (ended 6 31
-    (mark.Info
-    (record {
-      process = 152;
-      thread = 43;
-      connection = 2;
-      msglen = 1;
-      srcmsglen = 2;
-      dstmsglen = 3;
-      priority = 23;
-    })) (0xaa ∷ []) ∷ []) ∷ [])
+info_buffer = held (event 31 (Info 4) (ended 6 31 (info 152 43 2 1 2 3 23) (0xaa ∷ []) ∷ []) ∷ [])
 
 -- a State ends with a buffer
 abbrev pub state_buffer : Trace

@@ -2,8 +2,7 @@
 use Rattle.std.specs.Prelude.{List, [], ◌∷◌}
 use Rattle.qmodel.specs.declared.call.Call.TheVariants.{Send, Receive}
 use Rattle.qmodel.specs.declared.call.Mark.TheVariants as mark
-use Rattle.qrules.specs.Trace.{followed_by}
-use Rattle.qrules.specs.Trace.{Event, Trace}
+use Rattle.qrules.specs.Trace.{followed_by, Event, Trace}
 use Rattle.qworked.specs.Runs.{event, ended}
 use Rattle.qworked.specs.ThreeProcesses.{attached}
 

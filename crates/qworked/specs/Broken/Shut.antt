@@ -9,11 +9,9 @@ use Rattle.qworked.specs.Broken.Held.{held, run_of, sent}
 
 -- message 4 is received after its Send has failed with the channel
 abbrev pub received : Trace
-received = sent (
-    event 31 (ChannelDestroy 1)
+received = sent (event 31 (ChannelDestroy 1)
     (ended 5 31 mark.Ok [] ∷ ended 4 43 (mark.Failed Srch) (0x11 ∷ 0x22 ∷ 0x33 ∷ []) ∷ [])
-    ∷ event 31 (Receive 1 []) (ended 6 31 (mark.Message 4 0) [] ∷ [])
-    ∷ [])
+    ∷ event 31 (Receive 1 []) (ended 6 31 (mark.Message 4 0) [] ∷ []) ∷ [])
 
 -- a Send whose message isn't received stays open
 abbrev pub send_left : Trace
@@ -25,14 +23,10 @@ held_left = held (event 31 (ChannelDestroy 1) (ended 6 31 mark.Ok [] ∷ []) ∷
 
 -- a receiver stays blocked
 abbrev pub receiver_left : Trace
-receiver_left = run_of (
-    event 35 (ReceivePulse 1) []
-    ∷ event 31 (ChannelDestroy 1) (ended 5 31 mark.Ok [] ∷ [])
-    ∷ [])
+receiver_left = run_of (event 35 (ReceivePulse 1) []
+    ∷ event 31 (ChannelDestroy 1) (ended 5 31 mark.Ok [] ∷ []) ∷ [])
 
 -- a Send stays open over a connection that was detached before
 abbrev pub detached_left : Trace
-detached_left = sent (
-    event 42 (ConnectDetach 2) (ended 5 42 mark.Ok [] ∷ [])
-    ∷ event 31 (ChannelDestroy 1) (ended 6 31 mark.Ok [] ∷ [])
-    ∷ [])
+detached_left = sent (event 42 (ConnectDetach 2) (ended 5 42 mark.Ok [] ∷ [])
+    ∷ event 31 (ChannelDestroy 1) (ended 6 31 mark.Ok [] ∷ []) ∷ [])

@@ -1,11 +1,10 @@
 use Rattle.std.proofs.Common.{ap, refl, rules, ◌≡◌, ◌∷◌, [], ℕ, sym, ◌∙◌}
-use Rattle.std.specs.Prelude.{option_map, Some}
+use Rattle.std.specs.Prelude.{option_map, Some, List}
 use Rattle.std.proofs.lemmas.Option.{same_Some}
 use Rattle.qqueue.specs.Best.{best_of}
 use Rattle.qqueue.specs.declared.item.Kind.TheVariants.{Any, PulseOnly}
 use Rattle.qtables.specs.declared.member.Member.{Member}
 use Rattle.qmodel.specs.declared.call.Completion.{Completion}
-use Rattle.std.specs.Prelude.{List}
 use Rattle.qrules.specs.Properties.{request_of, takeable, TakesBest}
 use Rattle.qrules.specs.Rule.{ReceiveRequest}
 use Rattle.qrules.specs.Trace.{Event, Trace}
