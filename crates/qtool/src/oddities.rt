@@ -49,7 +49,7 @@ fn oddity(alloc: Global, line: &[u8]) -> Result<Option<Explanation>, AllocError>
 }
 
 /// Returns the buffer of a call's line, if it is a plain word.
-fn buffer_of<'a, 'b>(tokens: &'b [Token<'a>]) -> Option<&'b Token<'a>> {
+fn buffer_of<'a>(tokens: &[Token<'a>]) -> Option<Token<'a>> {
     let call = match tokens {
         [_, equals, call @ ..] if equals.sort == Sort::Equals => call,
         call => call,
@@ -61,7 +61,7 @@ fn buffer_of<'a, 'b>(tokens: &'b [Token<'a>]) -> Option<&'b Token<'a>> {
     let form = call_form(verb.bytes)?;
     let buffer = operands.get(form.operands.len().saturating_sub(1))?;
     match form.operands.last() {
-        Some(Operand::Buffer | Operand::ReplyBuffer) if buffer.sort == Sort::Word => Some(buffer),
+        Some(Operand::Buffer | Operand::ReplyBuffer) if buffer.sort == Sort::Word => Some(*buffer),
         _ => None,
     }
 }
