@@ -3,6 +3,7 @@
 #define _GNU_SOURCE
 #include <link.h>
 #include <stddef.h>
+#include <stdlib.h>
 #include <string.h>
 
 void *__libc_malloc(size_t);
@@ -90,6 +91,7 @@ static int module(struct dl_phdr_info *info, size_t size, void *unused) {
     return 0;
 }
 
+// All blocks lie so many bytes further on as BLOCKS_SHIFT says.
 __attribute__((constructor)) static void begin(void) {
     char line[17];
     put("begin\n", 6);
@@ -97,4 +99,7 @@ __attribute__((constructor)) static void begin(void) {
     put("tell ", 5);
     hex(line, (size_t)blocks_tell)[-1] = '\n';
     put(line, sizeof line);
+    const char *shift = getenv("BLOCKS_SHIFT");
+    if (shift && !malloc(24 + atoi(shift)))
+        abort();
 }

@@ -6,11 +6,13 @@
     bench/lines.py --each      prints each line that the three calls touch, and compares nothing
     bench/lines.py .. PROGRAM  takes another program than bench/out/qroundtrips (bench/build qroundtrips)
 
-One thread has the ports of a client and of a server, and makes 40 round trips in a kernel that keeps no past: the
-server blocks in a Receive, the client in a Send, and the server replies. Valgrind tells each load and store, and
-`blocks.c` each block of memory. Counted are the distinct lines of 64 bytes in the last round trip, from the store that
-takes the lock to that which frees it: those that are touched, those that are written, and those that move, which the
-other thread wrote last, or touched before this turn writes them. The figures are the same in each run of one program.
+One thread has the ports of a client and of a server, and makes 40 round trips in a kernel that keeps no past: in one
+run the server receives before the client sends, and in another after it, so that the message waits in the channel's
+queue. Valgrind tells each load and store, and `blocks.c` each block of memory. Counted are the distinct lines of 64
+bytes in the last round trip, from the store that takes the lock to that which frees it: those that are touched, those
+that are written, and those that move, which the other thread wrote last, or touched before this turn writes them.
+Where blocks begin is chance, so a figure is the mean of four runs, in which all blocks lie 0, 16, 32 and 48 bytes
+further on. The figures are the same each time.
 
 What lies in a block is known from the function that takes it, and in the value under the lock from the offset. A line
 that holds two things counts for each, and once in the sum. What a program only reads, and the stack, don't count.
@@ -29,11 +31,10 @@ TOP = pathlib.Path(__file__).resolve().parent
 KEPT = TOP / "lines.txt"
 PROGRAM = TOP / "out" / "qroundtrips"
 ROUNDS = 40
-CALLS = ("Receive", "Send", "Reply")
-HEAD = """# lines under the lock (bench/lines.py): touched and written by Receive, Send, Reply and all, moved by all
-#          touched            written            moved
-#           Rec Send Repl  all Rec Send Repl  all  all
-"""
+# The calls of a round trip in the order in which they are made, with what the program is told to make them so.
+ORDERS = [(("Receive", "Send", "Reply"), []), (("Send", "Receive", "Reply"), ["ahead"])]
+HEAD = "# lines under the lock (bench/lines.py): touched and written by each call and by all, and moved by all\n"
+SHIFTS = (0, 16, 32, 48)
 LINE = 64
 
 # What lies in a block, by the function that takes it and the number of the block among those of the function.
@@ -68,6 +69,7 @@ class Program:
     """The program's functions, by address, and its compare-exchanges."""
 
     def __init__(self, file):
+        self.file = file
         symbols = re.findall(r"^([0-9a-f]+) [tTwW] (.*)$", self.said("nm", "-n", "--defined-only", file), re.M)
         self.functions = [(int(at, 16), name) for at, name in symbols]
         self.starts = [at for at, _ in self.functions]
@@ -121,18 +123,18 @@ class Blocks:
         return None
 
 
-def traced(program, room):
+def traced(program, room, order, shift):
     """The trace of the program's loads and stores, as lines of text, and its blocks."""
     library, trace, told = room / "blocks.so", room / "trace", room / "told"
     subprocess.run(["cc", "-O2", "-shared", "-fPIC", "-o", library, TOP / "blocks.c"], check=True)
     stripped = room / "program"
     subprocess.run(["strip", "--strip-debug", "-o", stripped, program], check=True)
     words = ["valgrind", "--tool=lackey", "--trace-mem=yes", "--basic-counts=no", f"--log-file={trace}", stripped]
-    environment = {"LD_PRELOAD": str(library), "PATH": os.environ["PATH"]}
+    environment = {"LD_PRELOAD": str(library), "PATH": os.environ["PATH"], "BLOCKS_SHIFT": str(shift)}
     with open(told, "w") as file:
         os.dup2(file.fileno(), 9)
-    subprocess.run([*words, "alone", str(ROUNDS), "unkept"], env=environment, stdout=subprocess.DEVNULL, check=True,
-                   pass_fds=[9])
+    words += ["alone", str(ROUNDS), *order, "unkept"]
+    subprocess.run(words, env=environment, stdout=subprocess.DEVNULL, check=True, pass_fds=[9])
     return trace.read_text().splitlines(), Blocks(told.read_text().rpartition("begin\n")[2])
 
 
@@ -229,7 +231,7 @@ class Reader:
 
 
 def lock_word(trace, program, base):
-    """The address that most compare-exchanges of the program meet: each call takes the lock, and opens one of two cells."""
+    """The address that most compare-exchanges of the program meet: each call takes the lock, and opens one cell."""
     met, at = collections.Counter(), 0
     for line in trace:
         if line.startswith("I "):
@@ -239,12 +241,12 @@ def lock_word(trace, program, base):
     return met.most_common(1)[0][0]
 
 
-def moved(turns):
+def moved(turns, calls):
     """For each turn, the lines that the other thread wrote last, or touched before this turn writes them. The client
-    makes the second of each three calls."""
+    makes the Sends."""
     holders, found = {}, []
     for k, turn in enumerate(turns):
-        thread = k % 3 == 1
+        thread = calls[k % 3] == "Send"
         lines = turn.lines()
         found.append({it for it in lines if holders.get(it, {thread}) != {thread} and
                       (it in turn.wrote or thread not in holders[it])})
@@ -253,21 +255,20 @@ def moved(turns):
     return found
 
 
-def rows(turns, moves):
-    """The rows of the table: for each place, and for all, the lines touched and written by each call and by all three,
-    and moved by all three."""
+def counts(turns, moves):
+    """For each place, and for all, the lines touched and written by each call and by all three, and moved by all."""
     places = sorted({place for turn in turns for places in turn.touched.values() for place in places} - STILL)
     for place in [*places, None]:
         touched = [turn.lines(place) for turn in turns]
         written = [turn.written(place) for turn in turns]
-        counts = [len(it) for it in touched] + [len(set().union(*touched))]
-        counts += [len(it) for it in written] + [len(set().union(*written))]
-        yield place or "all", *counts, sum(len(it & lines) for it, lines in zip(moves, touched))
+        figures = [len(it) for it in touched] + [len(set().union(*touched))]
+        figures += [len(it) for it in written] + [len(set().union(*written))]
+        yield place or "all", [*figures, sum(len(it & lines) for it, lines in zip(moves, touched))]
 
 
-def show(turns, moves):
+def show(calls, turns, moves):
     """Prints each line that the calls touch, with what lies there and at which offsets."""
-    for name, turn, moving in zip(CALLS, turns, moves):
+    for name, turn, moving in zip(calls, turns, moves):
         print(name)
         for line in sorted(turn.lines()):
             places = collections.defaultdict(list)
@@ -275,20 +276,35 @@ def show(turns, moves):
                 places[place].append(str(offset))
             words = "; ".join(f"{place} {' '.join(offsets)}" for place, offsets in places.items())
             print(f"  {'written' if line in turn.wrote else 'read':8}{'moved' if line in moving else '':6} {words}")
+    print()
 
 
-def measured(file):
+def measured(program, calls, order, shift):
     """The turns of the last round trip, and what moved in them."""
-    program = Program(file)
     with tempfile.TemporaryDirectory() as room:
-        trace, blocks = traced(file, pathlib.Path(room))
+        trace, blocks = traced(program.file, pathlib.Path(room), order, shift)
     reader = Reader(program, blocks)
     reader.read(trace, lock_word(trace, program, blocks.base))
     # A channel is created and a connection attached first, and the kernel shut down last.
     turns = reader.turns[2:-1]
     if len(turns) != 3 * ROUNDS:
         sys.exit(f"bench/lines.py: {len(turns)} calls where {3 * ROUNDS} are made")
-    return turns[-3:], moved(turns)[-3:]
+    return turns[-3:], moved(turns, calls)[-3:]
+
+
+def table(calls, runs):
+    """The means of some runs as text, beneath the names of the calls."""
+    names = "".join(f"{it[:4]:>6}" for it in (*calls, "all"))
+    lines = [f"#{'touched':>17}{'written':>24}{'moved':>22}", f"{'#':10}{names}{names}{'all':>6}"]
+    for rows in zip(*(counts(*it) for it in runs)):
+        means = [sum(it) / len(runs) for it in zip(*(figures for _, figures in rows))]
+        lines.append(f"{rows[0][0]:10}" + "".join(f"{it:6.1f}" for it in means))
+    return "\n".join(lines) + "\n"
+
+
+def sums(text):
+    """The figures of the last row of each table."""
+    return [float(it) for line in text.splitlines() if line.startswith("all ") for it in line.split()[1:]]
 
 
 def main():
@@ -297,19 +313,22 @@ def main():
     file = pathlib.Path(files[0]) if files else PROGRAM
     if not file.exists():
         sys.exit(f"bench/lines.py: no {file}; `bench/build qroundtrips` makes bench/out/qroundtrips")
-    turns, moves = measured(file)
+    program = Program(file)
     if "--each" in words:
-        return show(turns, moves)
-    table = [f"{place:11}" + "".join(f"{it:5}" for it in counts) for place, *counts in rows(turns, moves)]
-    text = HEAD + "\n".join(table) + "\n"
+        for calls, order in ORDERS:
+            show(calls, *measured(program, calls, order, 0))
+        return
+    text = HEAD
+    for calls, order in ORDERS:
+        text += table(calls, [measured(program, calls, order, it) for it in SHIFTS])
     if "--write" in words:
         KEPT.write_text(text)
-        return None
+        return
     print(text, end="")
-    now, kept = (list(map(int, it.splitlines()[-1].split()[1:])) for it in (text, KEPT.read_text()))
-    more = [it for it, (before, after) in enumerate(zip(kept, now)) if after > before]
-    print("MORE than in bench/lines.txt" if more else "ok: no more than in bench/lines.txt" if now == kept else "")
-    return sys.exit(1 if more else 0)
+    kept, now = sums(KEPT.read_text()), sums(text)
+    more = [it for it in zip(kept, now) if it[1] > it[0]]
+    print("MORE than in bench/lines.txt" if more else "ok: no more than in bench/lines.txt")
+    sys.exit(1 if more else 0)
 
 
 if __name__ == "__main__":
