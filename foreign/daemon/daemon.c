@@ -189,7 +189,7 @@ static const char usage[] =
     "One kernel for the programs that run with BALSAEUCHRE_SYSTEM=SOCKET. Without SOCKET it is systemd's.\n"
     "  --processes N       programs at a time, and\n"
     "  --threads N         threads of each: processes * (threads + 1) is at most 63. Without these two options 12\n"
-    "                      programs have 12, 8, 6, 5, 4, 4, 3, 3, 2, 2, 1 and 1 threads, and the first has most\n"
+    "                      programs have 18, 8, 5, 4, 3, 3, 2, 2, 2, 2, 1 and 1 threads, in this turn\n"
     "  --channels 16       channels of each, of 64 in all\n"
     "  --connections 256   connections of each, of 1,024 in all\n"
     "  --bytes 8388608     bytes of the open calls of each\n"

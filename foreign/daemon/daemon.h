@@ -60,7 +60,7 @@ static struct {
 } limits = {0, 0, 16, 256, 8 << 20, 0, false};
 
 /* The threads of each process where limits says nothing. With a clock for each they are 63. */
-static const uint8_t usual_threads[] = {12, 8, 6, 5, 4, 4, 3, 3, 2, 2, 1, 1};
+static const uint8_t usual_threads[] = {18, 8, 5, 4, 3, 3, 2, 2, 2, 2, 1, 1};
 
 static neutrino kernel_of_all, *const k = &kernel_of_all;
 static struct client clients[CLIENTS];

@@ -35,31 +35,30 @@ static uint32_t fill_groups(gid_t *groups, int most) {
 /* Fills a client of the daemon, of whom the host tells one user and group. */
 static int fill_remote(int scoid, struct _client_info *info, int most) {
     struct wire_client client;
+    struct _cred_info *cred = &info->cred;
     if (neutrino_remote_client(scoid, &client)) return -1;
-    memset(info, 0, sizeof *info);
-    info->nd = ND_LOCAL_NODE;
     info->pid = client.pid;
     info->sid = getsid(client.pid);
-    info->cred.ruid = info->cred.euid = info->cred.suid = client.uid;
-    info->cred.rgid = info->cred.egid = info->cred.sgid = client.gid;
-    while (info->cred.ngroups < client.ngroups && (int)info->cred.ngroups < most) {
-        info->cred.grouplist[info->cred.ngroups] = client.groups[info->cred.ngroups];
-        info->cred.ngroups++;
-    }
+    cred->ruid = cred->euid = cred->suid = client.uid;
+    cred->rgid = cred->egid = cred->sgid = client.gid;
+    for (; cred->ngroups < client.ngroups && (int)cred->ngroups < most; cred->ngroups++)
+        cred->grouplist[cred->ngroups] = client.groups[cred->ngroups];
     return 0;
+}
+
+static int fill_own(struct _client_info *info, int most) {
+    struct _cred_info *cred = &info->cred;
+    info->pid = program;
+    info->sid = getsid(0);
+    cred->ngroups = fill_groups(cred->grouplist, most);
+    return getresuid(&cred->ruid, &cred->euid, &cred->suid) || getresgid(&cred->rgid, &cred->egid, &cred->sgid) ? -1 : 0;
 }
 
 int ConnectClientInfo(int scoid, struct _client_info *info, int ngroups) {
     if (enter()) return -1;
     if (!info) return fail(EFAULT);
     bool is_own = scoid == (neutrino_remote() ? neutrino_remote_scoid() : SIDE | PROGRAM);
-    if (!is_own) return neutrino_remote() ? fill_remote(scoid, info, ngroups) : fail(EINVAL);
-    memset(info, 0, sizeof *info);
-    info->nd = ND_LOCAL_NODE;
-    info->pid = program;
-    info->sid = getsid(0);
-    if (getresuid(&info->cred.ruid, &info->cred.euid, &info->cred.suid)) return -1;
-    if (getresgid(&info->cred.rgid, &info->cred.egid, &info->cred.sgid)) return -1;
-    info->cred.ngroups = fill_groups(info->cred.grouplist, ngroups);
-    return 0;
+    if (!is_own && !neutrino_remote()) return fail(EINVAL);
+    *info = (struct _client_info){.nd = ND_LOCAL_NODE};
+    return is_own ? fill_own(info, ngroups) : fill_remote(scoid, info, ngroups);
 }

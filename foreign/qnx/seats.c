@@ -114,9 +114,12 @@ static neutrino *open_program(void) {
     return opened;
 }
 
-/* Joins the kernel with a seat. */
+/* Joins the kernel with a seat. The daemon may have no room for one more thread, for which it waits, too. */
 static int join(int tid) {
-    if (neutrino_join(kernel, tid)) return -1;
+    for (int left = PATIENCE * 100; neutrino_join(kernel, tid); left--) {
+        if (errno != EAGAIN || !left) return -1;
+        usleep(10000);
+    }
     seat = tid;
     return neutrino_interruptible();
 }

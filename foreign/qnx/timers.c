@@ -103,12 +103,8 @@ int TimerDestroy(timer_t id) {
     return t ? 0 : -1;
 }
 
-static uint64_t nanoseconds(const struct timespec *t) {
-    return (uint64_t)t->tv_sec * 1000000000u + (uint64_t)t->tv_nsec;
-}
-
 static struct _itimer itimer_of(const struct itimerspec *time) {
-    return (struct _itimer){nanoseconds(&time->it_value), nanoseconds(&time->it_interval)};
+    return (struct _itimer){timespec2nsec(&time->it_value), timespec2nsec(&time->it_interval)};
 }
 
 int TimerSettime(timer_t id, int flags, const struct _itimer *itime, struct _itimer *oitime) {
@@ -153,7 +149,7 @@ static void expire(struct timer *t) {
 int ClockTime(clockid_t id, const uint64_t *new, uint64_t *old) {
     struct timespec time;
     if (clock_gettime(id, &time)) return -1;
-    if (old) *old = nanoseconds(&time);
+    if (old) *old = timespec2nsec(&time);
     return !new ? 0 : fail(id == CLOCK_REALTIME ? EPERM : EINVAL);
 }
 
@@ -174,7 +170,7 @@ int neutrino_pthread_join(pthread_t thread, void **value) {
     join_time = 0;
     if (!time) return pthread_join(thread, value);
     clock_gettime(CLOCK_REALTIME, &until);
-    time += nanoseconds(&until) - 1;
+    time += timespec2nsec(&until) - 1;
     nsec2timespec(&until, time);
     return pthread_timedjoin_np(thread, value, &until);
 }
@@ -191,7 +187,7 @@ int TimerTimeout(clockid_t id, int flags, const struct sigevent *notify, const u
     if (flags & TIMER_ABSTIME) {
         struct timespec now;
         if (clock_gettime(id, &now)) return -1;
-        left = left > nanoseconds(&now) ? left - nanoseconds(&now) : 0;
+        left = left > timespec2nsec(&now) ? left - timespec2nsec(&now) : 0;
     }
     flags &= ~TIMER_ABSTIME;
     join_time = flags & _NTO_TIMEOUT_JOIN && left < INT64_MAX / 2 ? left + 1 : 0;
@@ -200,7 +196,7 @@ int TimerTimeout(clockid_t id, int flags, const struct sigevent *notify, const u
 
 int timer_timeout(clockid_t id, int flags, const struct sigevent *notify, const struct timespec *ntime,
                   struct timespec *otime) {
-    uint64_t time = ntime ? nanoseconds(ntime) : 0, old = 0;
+    uint64_t time = ntime ? timespec2nsec(ntime) : 0, old = 0;
     if (ntime && (ntime->tv_sec < 0 || ntime->tv_nsec < 0 || ntime->tv_nsec >= 1000000000)) return fail(EINVAL);
     if (TimerTimeout(id, flags, notify, ntime ? &time : NULL, &old)) return -1;
     if (otime) nsec2timespec(otime, old);

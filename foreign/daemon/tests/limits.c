@@ -80,12 +80,16 @@ static void *receive(void *chid) {
     return (void *)(intptr_t)error;
 }
 
+static int seats(void) {
+    const char *count = getenv("SEATS");
+    return count ? atoi(count) : THREADS;
+}
+
 static void threads(void) {
     pthread_t all[64];
-    const char *seats = getenv("SEATS");
-    int chid = ChannelCreate(0), count = seats ? atoi(seats) : THREADS;
+    int chid = ChannelCreate(0), count = seats();
     for (int at = 0; at < count; at++) check(pthread_create(&all[at], NULL, receive, (void *)(intptr_t)chid) == 0);
-    while (!refused) usleep(1000); /* all seats are taken, and one has come too late */
+    while (!refused) usleep(1000); /* all seats are taken, and one has waited in vain */
     check(ChannelDestroy(chid) == 0);
     for (int at = 0; at < count; at++) {
         void *error;
@@ -93,6 +97,29 @@ static void threads(void) {
         check((intptr_t)error == ESRCH || (intptr_t)error == EAGAIN);
     }
     check(refused == 1); /* the main thread has the last seat */
+}
+
+static volatile int there;
+
+static void *come_and_receive(void *chid) {
+    int own = ChannelCreate(0);
+    check(own > 0 && ChannelDestroy(own) == 0);
+    __sync_fetch_and_add(&there, 1);
+    return receive(chid);
+}
+
+/* A thread that comes as all seats are taken waits until one is free. */
+static void late(void) {
+    pthread_t all[64];
+    int chid = ChannelCreate(0), count = seats();
+    for (int at = 0; at < count; at++) {
+        while (at == count - 1 && there < at) usleep(1000);
+        check(pthread_create(&all[at], NULL, come_and_receive, (void *)(intptr_t)chid) == 0);
+    }
+    usleep(50000);
+    check(there == count - 1 && ChannelDestroy(chid) == 0);
+    for (int at = 0; at < count; at++) check(pthread_join(all[at], NULL) == 0);
+    check(there == count && refused == 0);
 }
 
 static void create_and_wait(void *line) {
@@ -233,7 +260,7 @@ static void lives(void) {
 
 #define TEST(name) {#name, name}
 static const struct { const char *name; void (*run)(void); } tests[] = {
-    TEST(channels), TEST(connections), TEST(pulses), TEST(threads), TEST(processes), TEST(lengths), TEST(writes),
+    TEST(channels), TEST(connections), TEST(pulses), TEST(threads), TEST(late), TEST(processes), TEST(lengths), TEST(writes),
     TEST(stopped), TEST(users), TEST(lives), TEST(busy),
 };
 
