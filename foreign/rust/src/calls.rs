@@ -1,11 +1,79 @@
-//! The calls, under QNX Neutrino's names. Each waits until the call ends, and returns its result.
+//! The calls, and a method for each under QNX Neutrino's name, which waits until the call ends and returns its result.
 
 use crate::errors::{CallError, Result};
 use crate::ids::{ChannelFlags, ChannelId, ConnectionId, ReceiveId};
-use crate::kernel::{Call, Mark};
+use crate::kernel::{Mark, RawRequest};
 use crate::port::Port;
 use crate::results::{Answer, Info, Pulse, Received, Request, State};
 use crate::shared::FRONT;
+
+/// A call. Its bytes and its buffer are borrowed, and the kernel copies them. Offsets are in bytes.
+#[derive(Clone, Copy, Debug)]
+#[allow(missing_docs)] // a field is what its name says
+pub enum Call<'a> {
+    /// Creates a channel that the thread's process owns.
+    ChannelCreate { flags: ChannelFlags },
+    /// Attaches the thread's process to an open channel.
+    ConnectAttach { chid: ChannelId },
+    /// Sends a message, and waits for its answer in the reply buffer.
+    Send { coid: ConnectionId, message: &'a [u8], reply_buffer: &'a [u8] },
+    /// Receives a message or a pulse of a channel, or waits for one.
+    Receive { chid: ChannelId, buffer: &'a [u8] },
+    /// Answers a held message.
+    Reply { rcvid: ReceiveId, status: i64, bytes: &'a [u8] },
+    /// Answers a held message with a code; the code 0 is a reply of status 0.
+    Error { rcvid: ReceiveId, code: i32 },
+    /// Copies from a held message, from the offset on, to the front of the buffer.
+    Read { rcvid: ReceiveId, offset: usize, buffer: &'a [u8] },
+    /// Copies bytes over the reply buffer of a held message's sender, from the offset on.
+    Write { rcvid: ReceiveId, offset: usize, bytes: &'a [u8] },
+    /// Returns the sender, the connection and the lengths of a held message.
+    Info { rcvid: ReceiveId },
+    /// Receives a pulse of a channel, or waits for one.
+    ReceivePulse { chid: ChannelId },
+    /// Sends a pulse with a code, 0 to 127, and a value.
+    Pulse { coid: ConnectionId, priority: u8, code: i8, value: i32 },
+    /// Sets the priority of a thread of the caller's process.
+    PrioritySet { thread: u8, priority: u8 },
+    /// Returns a thread's state and priority.
+    State { thread: u8 },
+    /// Destroys a channel of the caller's process, and ends each call that is blocked on it.
+    ChannelDestroy { chid: ChannelId },
+    /// Ends every open call; every later call is refused.
+    Shutdown,
+    /// Ends the call that a thread of the caller's process is blocked in, or sends its server a pulse.
+    Unblock { thread: u8 },
+    /// Detaches a connection of the caller's process, and ends each send over it.
+    ConnectDetach { coid: ConnectionId },
+}
+
+impl<'a> Call<'a> {
+    /// Returns the request, its bytes, and its buffer.
+    pub(crate) fn raw(self, thread: u8) -> (RawRequest, &'a [u8], &'a [u8]) {
+        let of = |kind, id| RawRequest { kind, thread, id, ..RawRequest::default() };
+        match self {
+            Call::ChannelCreate { flags } => (RawRequest { flags: flags.0, ..of(1, 0) }, &[], &[]),
+            Call::ConnectAttach { chid } => (of(2, chid.0), &[], &[]),
+            Call::Send { coid, message, reply_buffer } => (of(3, coid.0), message, reply_buffer),
+            Call::Receive { chid, buffer } => (of(4, chid.0), &[], buffer),
+            Call::Reply { rcvid, status, bytes } => (RawRequest { status, ..of(5, rcvid.0) }, bytes, &[]),
+            Call::Error { rcvid, code } => (RawRequest { code, ..of(6, rcvid.0) }, &[], &[]),
+            Call::Read { rcvid, offset, buffer } => (RawRequest { offset, ..of(7, rcvid.0) }, &[], buffer),
+            Call::Write { rcvid, offset, bytes } => (RawRequest { offset, ..of(8, rcvid.0) }, bytes, &[]),
+            Call::Info { rcvid } => (of(9, rcvid.0), &[], &[]),
+            Call::ReceivePulse { chid } => (of(10, chid.0), &[], &[]),
+            Call::Pulse { coid, priority, code, value } => {
+                (RawRequest { priority, pulse_code: code, value, ..of(11, coid.0) }, &[], &[])
+            }
+            Call::PrioritySet { thread: target, priority } => (RawRequest { target, priority, ..of(12, 0) }, &[], &[]),
+            Call::State { thread: target } => (RawRequest { target, ..of(13, 0) }, &[], &[]),
+            Call::ChannelDestroy { chid } => (of(14, chid.0), &[], &[]),
+            Call::Shutdown => (of(15, 0), &[], &[]),
+            Call::Unblock { thread: target } => (RawRequest { target, ..of(16, 0) }, &[], &[]),
+            Call::ConnectDetach { coid } => (of(17, coid.0), &[], &[]),
+        }
+    }
+}
 
 /// The result of a mark.
 macro_rules! result {

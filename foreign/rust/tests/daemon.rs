@@ -18,7 +18,7 @@ impl Daemon {
     fn start(name: &str) -> Option<Daemon> {
         let program = env::var_os("BALSAEUCHRE_DAEMON")?;
         let path = env::temp_dir().join(format!("balsaeuchre-{}-{name}", std::process::id()));
-        let process = Command::new(program).arg(&path).spawn().unwrap();
+        let process = Command::new(program).args(["--threads", "4"]).arg(&path).spawn().unwrap();
         while !path.exists() {
             thread::sleep(Duration::from_millis(5));
         }
