@@ -260,8 +260,8 @@ static void lives(void) {
 
 #define TEST(name) {#name, name}
 static const struct { const char *name; void (*run)(void); } tests[] = {
-    TEST(channels), TEST(connections), TEST(pulses), TEST(threads), TEST(late), TEST(processes), TEST(lengths), TEST(writes),
-    TEST(stopped), TEST(users), TEST(lives), TEST(busy),
+    TEST(channels), TEST(connections), TEST(pulses), TEST(threads), TEST(late), TEST(processes), TEST(lengths),
+    TEST(writes), TEST(stopped), TEST(users), TEST(lives), TEST(busy),
 };
 
 static void run(void *at) { tests[(intptr_t)at].run(); }
