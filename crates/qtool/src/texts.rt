@@ -289,6 +289,7 @@ its own. A program has these lines:
   leave                   goes out of the innermost repeat, loop or serve
   stop                    the program ends
   NAME = OTHER            NAME stands for what OTHER stands for
+  set NAME                NAME stands for something, a flag
   forget NAME             NAME stands for nothing
   push ROW NAME           puts what NAME stands for behind a row
   pop NAME ROW            takes the first one out of a row
