@@ -313,7 +313,8 @@ stands for a channel and a connection; numbers may be left out from the last one
   bytes BYTES             the buffer begins so
   has NAME                the name stands for something
   is NAME NAME            both names stand for the same
-  in NAME ROW             the message is in the row
+  in NAME ROW             what NAME stands for is in the row
+  atleast N ROW           the row has N entries or more
   any                     it ended in any way
 
 Another thread's name is THREAD.NAME. A call that names what another thread hasn't
