@@ -269,10 +269,10 @@ pub static EXPLORE: Texts = texts!(
     "A design is a small system of servers and clients. A line begins the section of a
 thread, and the lines up to the next section are its program:
 
-  thread NAME PROCESS PRIORITY [COPIES]
+  thread NAME PROCESS PRIORITY [COPIES [together]]
 
 With COPIES the section stands for NAME.1, NAME.2 and so on, each in a process of
-its own. A program has these lines:
+its own, or all in one process with 'together'. A program has these lines:
 
   CALL OPERANDS           a call of a script, with names for ids and threads
   NAME = CALL OPERANDS    the same; NAME stands for what it gives: the channel, the
