@@ -269,10 +269,10 @@ pub static EXPLORE: Texts = texts!(
     "A design is a small system of servers and clients. A line begins the section of a
 thread, and the lines up to the next section are its program:
 
-  thread NAME PROCESS PRIORITY [COPIES]
+  thread NAME PROCESS PRIORITY [COPIES [together]]
 
 With COPIES the section stands for NAME.1, NAME.2 and so on, each in a process of
-its own. A program has these lines:
+its own, or all in one process with 'together'. A program has these lines:
 
   CALL OPERANDS           a call of a script, with names for ids and threads
   NAME = CALL OPERANDS    the same; NAME stands for what it gives: the channel, the
@@ -289,6 +289,7 @@ its own. A program has these lines:
   leave                   goes out of the innermost repeat, loop or serve
   stop                    the program ends
   NAME = OTHER            NAME stands for what OTHER stands for
+  set NAME                NAME stands for something, a flag
   forget NAME             NAME stands for nothing
   push ROW NAME           puts what NAME stands for behind a row
   pop NAME ROW            takes the first one out of a row
@@ -312,7 +313,8 @@ stands for a channel and a connection; numbers may be left out from the last one
   bytes BYTES             the buffer begins so
   has NAME                the name stands for something
   is NAME NAME            both names stand for the same
-  in NAME ROW             the message is in the row
+  in NAME ROW             what NAME stands for is in the row
+  atleast N ROW           the row has N entries or more
   any                     it ended in any way
 
 Another thread's name is THREAD.NAME. A call that names what another thread hasn't

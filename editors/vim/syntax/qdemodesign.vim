@@ -26,10 +26,10 @@ syntax match qdemodesignNumber3 /\v-?\d+%([0-9A-Za-z_.]|-\>@!)@!/ contained next
 syntax match qdemodesignOperator1 /\v\=/ contained nextgroup=qdemodesignCall,qdemodesignCall1,qdemodesignCall2 skipwhite
 syntax match qdemodesignDefinition1 /\v[A-Za-z_]%([0-9A-Za-z_.]|-\>@!)*/ contained
 syntax match qdemodesignThread /\v^\s*\zsthread%([0-9A-Za-z_.]|-\>@!)@!/ nextgroup=qdemodesignDefinition1 skipwhite
-syntax match qdemodesignKeyword /\v^\s*\zs%(expect|if|else|end|repeat|loop|serve|leave|stop|forget|push|pop|remove|check)%([0-9A-Za-z_.]|-\>@!)@!/ nextgroup=qdemodesignKeyword2 skipwhite
+syntax match qdemodesignKeyword /\v^\s*\zs%(expect|if|else|end|repeat|loop|serve|leave|stop|set|forget|push|pop|remove|check)%([0-9A-Za-z_.]|-\>@!)@!/ nextgroup=qdemodesignKeyword2 skipwhite
 syntax match qdemodesignKeyword2 /\vinversion%([0-9A-Za-z_.]|-\>@!)@!/ contained
 syntax match qdemodesignKeyword3 /\v^\s*\zs%(expect|if)%([0-9A-Za-z_.]|-\>@!)@!/ nextgroup=qdemodesignResults skipwhite
-syntax match qdemodesignResult /\v[0-9A-Za-z_.-]@1<!%(ok|fail|channel|connection|reply|message|pulse|error|count|state|info|bytes|has|is|in|any|user|unblock|disconnect|ready|send|receive)%([0-9A-Za-z_.]|-\>@!)@!/ contained
+syntax match qdemodesignResult /\v[0-9A-Za-z_.-]@1<!%(ok|fail|channel|connection|reply|message|pulse|error|count|state|info|bytes|has|is|in|atleast|any|user|unblock|disconnect|ready|send|receive)%([0-9A-Za-z_.]|-\>@!)@!/ contained
 syntax match qdemodesignResult3 /\v[0-9A-Za-z_.-]@1<!%(message|reply|count)%([0-9A-Za-z_.]|-\>@!)@!/ contained
 syntax match qdemodesignResult4 /\v[0-9A-Za-z_.-]@1<!state%([0-9A-Za-z_.]|-\>@!)@!/ contained nextgroup=qdemodesignResult5 skipwhite
 syntax match qdemodesignResult5 /\v%(ready|send|receive|reply)%([0-9A-Za-z_.]|-\>@!)@!/ contained
