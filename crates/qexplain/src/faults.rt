@@ -1,19 +1,19 @@
 //! Unproved: words and layout. Finds all faults of a text, and its oddities.
 
-use crate::explanation::{Explanation, explain_line, explanation_of, form_of};
+use crate::explanation::{Explanation, explain_line, explanation_of};
 use qnames::hints::{buffer_hint, is_utf_16};
+use qnames::named::MOST_FAULTS;
 use qreading::fault::{LineFault, ParseError};
-use qreading::grammar::Operand;
-use qreading::parts::{Lines, Word, words};
+use qreading::grammar::{Operand, call_form};
+use qreading::lexing::token::{Sort, Token, tokens};
+use qreading::parts::{Lines, Place};
+use qreading::place::ReadError;
 use qreading::reading::line::Line;
 use qreading::reading::number::small;
 use qreading::reading::script::line_behind;
 use qreading::reading::words::next_word;
 use qtables::member::Member;
 use std::alloc::{AllocError, Global};
-
-/// The most faults, or oddities, that are reported.
-pub const MOST_FAULTS: usize = 20;
 
 /// A remark on a line: its number, counted from 1, its fault if it has one, and the explanation.
 #[derive(Drop)]
@@ -98,8 +98,8 @@ impl Reader {
     }
 }
 
-/// Returns the words of a script without faults that may mean something else than they seem to, at most `MOST_FAULTS`:
-/// buffers that look like lengths.
+/// Returns the words of a text without faults that may mean something else than they seem to, at most `MOST_FAULTS`:
+/// buffers that look like lengths. The text is a script, plain or with names, or a design.
 pub fn oddities(alloc: Global, text: &[u8]) -> Result<Vec<Remark>, AllocError> {
     let mut remarks = Vec::new(alloc);
     let mut number = 0usize;
@@ -120,24 +120,36 @@ pub fn oddities(alloc: Global, text: &[u8]) -> Result<Vec<Remark>, AllocError> {
 }
 
 fn oddity(alloc: Global, line: &[u8]) -> Result<Option<Explanation>, AllocError> {
-    let words = words(alloc, line)?;
-    let Some(word) = buffer_word(words.as_slice()) else {
+    let tokens = match tokens(alloc, line, 1) {
+        Ok(tokens) => tokens,
+        Err(ReadError::Memory) => return Err(AllocError),
+        Err(ReadError::Fault(_fault)) => return Ok(None),
+    };
+    let Some(buffer) = buffer_of(tokens.as_slice()) else {
         return Ok(None);
     };
-    match buffer_hint(alloc, word.bytes)? {
-        Some(hint) => Ok(Some(explanation_of(alloc, line, word.place, hint)?)),
+    let place = Place {
+        at: buffer.place.column.saturating_sub(1) as usize,
+        len: buffer.bytes.len(),
+    };
+    match buffer_hint(alloc, buffer.bytes)? {
+        Some(hint) => Ok(Some(explanation_of(alloc, line, place, hint)?)),
         None => Ok(None),
     }
 }
 
-/// Returns the last word of a call's line, if it is a buffer.
-fn buffer_word<'a>(words: &[Word<'a>]) -> Option<Word<'a>> {
-    if words.first()?.bytes.starts_with(b"#") {
-        return None;
-    }
-    let (form, _) = form_of(words)?;
+/// Returns the buffer of a call's line, with its caller or without, if it is a plain word.
+fn buffer_of<'a>(tokens: &[Token<'a>]) -> Option<Token<'a>> {
+    let call = match tokens {
+        [_, equals, call @ ..] if equals.sort == Sort::Equals => call,
+        call => call,
+    };
+    let is_verb = |token: &Token<'_>| call_form(token.bytes).is_some();
+    let front = call.iter().take(2).position(is_verb)?;
+    let form = call_form(call.get(front)?.bytes)?;
+    let buffer = call.get(front.saturating_add(form.operands.len()))?;
     match form.operands.last() {
-        Some(Operand::Buffer | Operand::ReplyBuffer) => words.last().copied(),
+        Some(Operand::Buffer | Operand::ReplyBuffer) if buffer.sort == Sort::Word => Some(*buffer),
         _ => None,
     }
 }

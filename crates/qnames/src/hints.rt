@@ -23,8 +23,10 @@ fn lowercase(alloc: Global, word: &[u8]) -> Result<Vec<u8>, AllocError> {
     Ok(plain)
 }
 
-/// Returns the form of the call that has this name, here or in QNX: there in any case, with or without underscores.
+/// Returns the form of the call that has this name, up to a parenthesis, here or in QNX: there in any case, with or
+/// without underscores.
 pub fn form_meant(alloc: Global, word: &[u8]) -> Result<Option<Form>, AllocError> {
+    let word = word.split(|byte| *byte == b'(').next().unwrap_or(word);
     let plain = lowercase(alloc, word)?;
     for kind in &LISTED {
         let form = Form::of(*kind);
@@ -92,15 +94,17 @@ pub const NAMES_HINT: &str = "; a script with names is a file NAME.names";
 
 /// Returns whether a word is a sign that only scripts with names have.
 pub fn is_names_sign(word: &[u8]) -> bool {
-    is(word, "=") || is(word, "->")
+    is(word, "=") || is(word, "->") || is(word, "=>")
 }
 
-/// Returns the hint for a word that is too many; empty if it begins no comment.
+/// Returns the hint for a word of a plain script that is too many; empty if there is none.
 pub fn extra_hint(word: &[u8]) -> &'static str {
     if word.starts_with(b"#") {
         "; a comment has a line of its own"
     } else if is_comment(word) {
         "; a comment begins with # and has a line of its own"
+    } else if is(word, "|") {
+        "; flags have no spaces around |"
     } else {
         ""
     }
@@ -215,10 +219,10 @@ fn flag_number(word: &[u8]) -> Option<u8> {
     flags.find(is_it).map(|(_, flag)| *flag)
 }
 
-/// Adds the sum of flags that are given by their names, with `|` or `+` between, if each of them is known.
+/// Adds the sum of flags that are given by their names, with `|`, `+` or `,` between, if each of them is known.
 fn push_flag_hint(wanted: &mut String, word: &[u8]) -> Result<(), AllocError> {
     let mut sum = 0u8;
-    for part in word.split(|byte| *byte == b'|' || *byte == b'+') {
+    for part in word.split(|byte| matches!(byte, b'|' | b'+' | b',')) {
         match flag_number(part) {
             Some(flag) => sum |= flag,
             None => return Ok(()),
@@ -236,7 +240,7 @@ fn is_decimal(word: &[u8]) -> bool {
 fn push_bytes_hint(wanted: &mut String, word: &[u8]) -> Result<(), AllocError> {
     match word {
         [b'0', b'x' | b'X', ..] => wanted.push_str("; they have no 0x before them"),
-        [b'"', ..] => wanted.push_str("; text in quotes is no form of bytes"),
+        [b'"' | b'\'', ..] => wanted.push_str("; text in quotes is no form of bytes"),
         [b'[', count @ .., b']'] => push_count_hint(wanted, count),
         _ if is_decimal(word) => push_count_hint(wanted, word),
         _ if word.contains(&b'x') => push_equal_hint(wanted, word),

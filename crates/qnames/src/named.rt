@@ -3,13 +3,16 @@
 use crate::expectation::Extent;
 use crate::expecting::check::Check;
 use crate::expecting::names::NameCheck;
+use crate::hints::is_utf_16;
 use crate::label::NameFault;
 use crate::line::{CallLine, Line, Operand, Process};
+use crate::plain::plain_of;
 use crate::reading::script::{Lined, lines_behind};
 use crate::scope::Scope;
 use crate::translation::{Refusal, translate};
 use crate::wording::{Context, Usage, Use};
 use qreading::fault::{LineFault, ScriptFault};
+use qreading::parts::Lines;
 use qreading::place::{Fault, Place};
 use qreading::word::Word;
 use qreading::{MOST_TEXT, Script};
@@ -35,9 +38,12 @@ pub struct Named {
 pub enum Reading {
     /// It can run.
     Good(Named),
-    /// The faults, in the order of its lines.
+    /// The faults, in the order of its lines, at most `MOST_FAULTS`.
     Faulty(Vec<Fault>),
 }
+
+/// The most faults of a text that are reported.
+pub const MOST_FAULTS: usize = 20;
 
 /// The first byte of the first line of a text.
 const START: Place = Place { line: 1, column: 1 };
@@ -95,14 +101,14 @@ fn use_at<'a>(lines: &'a [Line], place: Place) -> Option<Use<'a>> {
     None
 }
 
-/// Returns the faults of the names of the lines, in words.
+/// Returns the first faults of the names of the lines, in words.
 pub fn name_faults(
     lines: &[Line],
     context: Context<'_>,
     faults: &[NameFault],
 ) -> Result<Vec<Fault>, AllocError> {
     let mut told = Vec::new(context.alloc);
-    for fault in faults {
+    for fault in faults.iter().take(MOST_FAULTS) {
         let place = fault.place;
         if let Some(used) = use_at(lines, place) {
             let what = context.words(used, fault.error)?;
@@ -184,6 +190,47 @@ fn refusal_faults(
     }
 }
 
+/// Returns whether a fault is about a name that no line defines, and that one of these lines has.
+fn follows(fault: &Fault, faulty: &[&[u8]]) -> bool {
+    let mut words = fault.what.as_str().split(' ');
+    let name = match (words.next(), words.next(), words.last()) {
+        (Some(name), Some("isn't"), _) => name,
+        (Some("no"), Some("thread's"), Some(name)) => name,
+        _ => return false,
+    };
+    let is_end = |byte: &u8| !byte.is_ascii_alphanumeric() && !b"_-.".contains(byte);
+    let mut lines = faulty.iter();
+    lines.any(|line| line.split(is_end).any(|word| word == name.as_bytes()))
+}
+
+/// Returns the faults of lines, and those of the other lines' names that don't follow from them.
+fn all_faults(
+    alloc: Global,
+    text: &[u8],
+    lined: Lined,
+    extent: Extent,
+) -> Result<Vec<Fault>, AllocError> {
+    let mut faults = lined.faults;
+    faults.truncate(if is_utf_16(text) { 1 } else { MOST_FAULTS });
+    let mut faulty = Vec::new(alloc);
+    for fault in &faults {
+        let number = fault.place.line.saturating_sub(1) as usize;
+        faulty.push(Lines(text).nth(number).unwrap_or(&[]))?;
+    }
+    let plain = plain_of(alloc, lined.lines.as_slice())?;
+    let check = Check::new(alloc, plain.scope, lined.calls, lined.states);
+    let context = check.context();
+    let named = name_faults(lined.lines.as_slice(), context, plain.faults.as_slice())?;
+    for fault in named.into_iter().chain(expectation_faults(&check, extent)?) {
+        if !follows(&fault, faulty.as_slice()) {
+            faults.push(fault)?;
+        }
+    }
+    faults.sort_by_key(|fault| fault.place.line)?;
+    faults.truncate(MOST_FAULTS);
+    Ok(faults)
+}
+
 /// Reads the text of a script with names.
 pub fn read(alloc: Global, text: &[u8]) -> Result<Reading, AllocError> {
     read_lines(alloc, text, Extent::Whole)
@@ -202,7 +249,7 @@ fn read_lines(alloc: Global, text: &[u8], extent: Extent) -> Result<Reading, All
     }
     let lined = lines_behind(alloc, text, 0, 0)?;
     if !lined.faults.is_empty() {
-        return Ok(Reading::Faulty(lined.faults));
+        return Ok(Reading::Faulty(all_faults(alloc, text, lined, extent)?));
     }
     let translation = match translate(alloc, lined.lines.as_slice()) {
         Ok(translation) => translation,

@@ -106,6 +106,9 @@ pub fn run_explore<R: Files + Input + Print + Eprint + AllocGlobal>(
                 text,
                 design: &design,
             };
+            if run.terminal {
+                let _ = remarks::tell_oddities(rt, run.file.as_deref(), text);
+            }
             told_of(rt, run, source)
         }
         Ok(Reading::Faulty(faults)) => return Err(source.end_faulty(rt, faults.as_slice())),

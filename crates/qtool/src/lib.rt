@@ -12,7 +12,6 @@ pub mod example;
 pub mod json;
 pub mod lines;
 pub mod names;
-pub mod oddities;
 pub mod play;
 pub mod remarks;
 pub mod scripts;

@@ -2,8 +2,7 @@
 
 use crate::command::ScriptRun;
 use crate::ending::{end_failed, print_text, text_of};
-use crate::oddities::oddities;
-use crate::remarks::{Source, tell_oddities, tell_run};
+use crate::remarks::{Source, tell_report};
 use crate::scripts::print_trace;
 use qexplain::report::{Report, ReportedRun};
 use qnames::{Named, Reading, read};
@@ -48,10 +47,7 @@ pub fn run_named<R: Files + Input + Print + Eprint + AllocGlobal>(
     let outcome = outcome.map_err(|_| end_failed(rt, "out of memory"))?;
     print_trace(rt, run, outcome.trace.as_str())?;
     if run.explain {
-        if let Ok(remarks) = oddities(rt.alloc(), text.as_slice()) {
-            let _ = tell_oddities(rt, file, remarks.as_slice());
-        }
-        let _ = tell_run(rt, file, &outcome.report);
+        let _ = tell_report(rt, file, text.as_slice(), &outcome.report);
     }
     if outcome.faults.is_empty() {
         return Ok(ExitCode::SUCCESS);

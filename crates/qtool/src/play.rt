@@ -10,6 +10,7 @@ use crate::names::is_named;
 use crate::remarks::Source;
 use order::{Order, order_of};
 use qexplain::explain;
+use qexplain::faults::oddities;
 use qreading::place::Fault;
 use qscript::fault::{LineFault, ScriptFault};
 use sheet::{Sheet, Taken};
@@ -203,6 +204,10 @@ impl<R: Files + Input + Print + Eprint + AllocGlobal> Play<'_, R> {
                 self.print(printed.as_slice())?;
                 self.tell_typed(faults.as_slice(), &[])?;
                 if self.terminal {
+                    for remark in &oddities(self.rt.alloc(), line)? {
+                        let explanation = &remark.explanation;
+                        eprintln!(self.rt; "{explanation}")?;
+                    }
                     self.tell_more()?;
                 }
                 Ok(())

@@ -89,24 +89,13 @@ fn tell_place<R: Eprint + AllocGlobal>(
     }
 }
 
-/// Prints the oddities of a script, why its calls failed, and who is blocked on whom at its end.
-pub fn tell_report<R: Eprint + AllocGlobal>(
-    rt: &R,
-    file: Option<&str>,
-    text: &[u8],
-    report: &Report,
-) -> io::Result<()> {
-    tell_oddities(rt, file, oddities(rt.alloc(), text)?.as_slice())?;
-    tell_run(rt, file, report)
-}
-
-/// Prints the oddities of a script, and explains them.
+/// Prints the oddities of a script or a design, and explains them.
 pub fn tell_oddities<R: Eprint + AllocGlobal>(
     rt: &R,
     file: Option<&str>,
-    remarks: &[Remark],
+    text: &[u8],
 ) -> io::Result<()> {
-    for remark in remarks {
+    for remark in &oddities(rt.alloc(), text)? {
         tell_place(rt, "", file, remark)?;
         let explanation = &remark.explanation;
         eprintln!(rt; "{explanation}")?;
@@ -114,8 +103,14 @@ pub fn tell_oddities<R: Eprint + AllocGlobal>(
     Ok(())
 }
 
-/// Prints why a script's calls failed, and who is blocked on whom at its end.
-pub fn tell_run<R: Eprint>(rt: &R, file: Option<&str>, report: &Report) -> io::Result<()> {
+/// Prints the oddities of a script, why its calls failed, and who is blocked on whom at its end.
+pub fn tell_report<R: Eprint + AllocGlobal>(
+    rt: &R,
+    file: Option<&str>,
+    text: &[u8],
+    report: &Report,
+) -> io::Result<()> {
+    tell_oddities(rt, file, text)?;
     for (line, refusal) in &report.refusals {
         match file {
             Some(name) => eprintln!(rt; "{name}:{line}: {refusal}")?,

@@ -222,8 +222,7 @@ who waits for whom, and which threads wait in a circle. Elsewhere nothing is
 printed but the answers, and at the end the threads that are blocked: so the output
 is that of 'qdemo script' for the same lines.
 
-For each line the script is run anew, so that 'undo' can go back. It is meant for
-some thousand lines, or some hundred with names, not for more.",
+Only 'undo', and the first line with names, run the lines above again.",
     "Example:
   $ qdemo play
   > thread 1 1 10
@@ -319,7 +318,8 @@ stands for a channel and a connection; numbers may be left out from the last one
 
 Another thread's name is THREAD.NAME. A call that names what another thread hasn't
 made yet waits for it. Calls 'create' and 'attach' with which programs begin are made
-first, in the order of the text.
+first, in the order of the text; in any order, if a program destroys, detaches or
+shuts down.
 
 From each moment on each thread that isn't blocked may make its next call, and all
 that can follow is looked at: this is more than a computer with few processors does.
@@ -327,6 +327,7 @@ What is wrong is told with the fewest calls that lead to it:
 
   blocked for ever               nobody goes on, and somebody is left who is no server
                                  that receives in a serve
+  can't end any more             the threads go on, and can never come to rest
   a call fails                   and no expect or if below it names fail
   an expectation doesn't hold    with what came
   a name stands for nothing      in a call

@@ -46,8 +46,9 @@ fn flag(alloc: Global, token: &Token<'_>, name: &[u8]) -> Result<u8, ReadError> 
     let names: Vec<&str> = FLAGS.iter().map(|(flag, _)| *flag).collect(alloc)?;
     let all =
         "the flags are FIXED_PRIORITY, UNBLOCK and DISCONNECT, with | between, and 0 for none";
-    let what = no_such(alloc, quotation(name), names.as_slice(), "is no flag", all);
-    Err(fault_at(token.place, what))
+    let mut what = no_such(alloc, quotation(name), names.as_slice(), "is no flag", all)?;
+    push_operand_hint(&mut what, Slot::Flags, token.bytes)?;
+    Err(fault_at(token.place, Ok(what)))
 }
 
 /// Reads flags: their names with `|` between, or a number.
