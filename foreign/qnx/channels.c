@@ -17,7 +17,7 @@ struct connection {
 };
 
 static struct told told[CHANNELS];
-static struct connection connections[CONNECTIONS];
+static struct connection connections[ENTRIES];
 
 static void forget_notes(int chid);
 static int send_noted(int coid, int chid, int priority, int code, union sigval value);
@@ -52,9 +52,9 @@ static void tell_death(int tid) {
 
 /* Tells of each connection to a channel that was destroyed. */
 static void tell_disconnects(int chid) {
-    int coids[CONNECTIONS], count = 0;
+    int coids[ENTRIES], count = 0;
     hold();
-    for (int at = 0; at < CONNECTIONS; at++) {
+    for (int at = 0; at < ENTRIES; at++) {
         if (connections[at].coid && connections[at].chid == chid) coids[count++] = connections[at].coid;
     }
     release();
@@ -110,8 +110,9 @@ int ChannelDestroy(int chid) {
 
 /* Returns the entry of a connection, under the lock, or null. */
 static struct connection *connection_of(int coid) {
-    for (unsigned looked = 0; coid != -1 && looked < CONNECTIONS; looked++) {
-        struct connection *c = &connections[((unsigned)plain(coid) + looked) % CONNECTIONS];
+    unsigned first = (unsigned)plain(coid) % CONNECTIONS;
+    for (unsigned looked = 0; coid != -1 && looked < ENTRIES; looked++) {
+        struct connection *c = &connections[(first + looked) % ENTRIES];
         if (c->coid && plain(c->coid) == plain(coid)) return c;
     }
     return NULL;
@@ -126,16 +127,6 @@ static struct connection connection_as_is(int coid) {
     return found;
 }
 
-/* Enters a connection, under the lock. There is a place, as each is left before its connection is detached. */
-static void add_connection(const struct connection *new) {
-    unsigned at = (unsigned)plain(new->coid) % CONNECTIONS;
-    while (connections[at].coid) at = (at + 1) % CONNECTIONS;
-    connections[at].chid = new->chid;
-    connections[at].flags = new->flags;
-    connections[at].pid = new->pid;
-    atomic_store(&connections[at].coid, new->coid);
-}
-
 int ConnectAttach(uint32_t nd, pid_t pid, int chid, unsigned index, int flags) {
     if (enter()) return -1;
     bool is_remote = neutrino_remote();
@@ -145,8 +136,13 @@ int ConnectAttach(uint32_t nd, pid_t pid, int chid, unsigned index, int flags) {
                          : layer_ConnectAttach(ND_LOCAL_NODE, PROGRAM, chid, 0, 0);
     if (coid == -1) return -1;
     coid |= (int)index & SIDE;
+    unsigned at = (unsigned)plain(coid) % CONNECTIONS;
     hold();
-    add_connection(&(struct connection){coid, chid, (unsigned)flags, pid});
+    while (connections[at].coid) at = (at + 1) % ENTRIES;
+    connections[at].chid = chid;
+    connections[at].flags = (unsigned)flags;
+    connections[at].pid = pid;
+    atomic_store(&connections[at].coid, coid);
     release();
     return coid;
 }
@@ -154,16 +150,12 @@ int ConnectAttach(uint32_t nd, pid_t pid, int chid, unsigned index, int flags) {
 int ConnectDetach(int coid) {
     if (enter()) return -1;
     if (is_scoid(coid)) return 0; /* it goes when the client's is detached */
+    if (layer_ConnectDetach(plain(coid))) return -1;
     hold();
-    struct connection *c = connection_of(coid), kept = c ? *c : (struct connection){0};
+    struct connection *c = connection_of(coid);
     if (c) c->coid = 0;
     release();
-    if (!layer_ConnectDetach(plain(coid))) return 0;
-    int error = errno;
-    hold();
-    if (kept.coid) add_connection(&kept); /* the kernel refused the disconnect pulse */
-    release();
-    return fail(error);
+    return 0;
 }
 
 int ConnectFlags(pid_t pid, int coid, unsigned mask, unsigned bits) {

@@ -28,7 +28,8 @@ enum { SEATS = 60, TICKER, SYSTEM };
 enum { PROGRAM = 1, SYSTEM_PROCESS = 2 };
 enum { LOWEST = 1, USUAL = 10, HIGHEST = 255 }; /* priorities */
 enum { SIDE = _NTO_SIDE_CHANNEL, SCOIDS = 255 };
-enum { CHANNELS = 64, CONNECTIONS = 1024, TIMERS = 256, NAMES = 64, NAME_LENGTH = 256, THREAD_NAME = 16 };
+enum { CHANNELS = 64, CONNECTIONS = 1024, ENTRIES = CONNECTIONS + SEATS }; /* each thread may have just detached one */
+enum { TIMERS = 256, NAMES = 64, NAME_LENGTH = 256, THREAD_NAME = 16 };
 
 static pthread_mutex_t front = PTHREAD_MUTEX_INITIALIZER;
 static _Thread_local volatile sig_atomic_t holding; /* the front's lock, for the thread's own signal handlers */

@@ -3,7 +3,7 @@
  * The buffers are the seat's, so a cancelled thread leaves none behind. A thread's handler makes no call meanwhile. */
 enum side { SENT, ROOM };
 
-/* Parts as one buffer: the only part, or the seat's buffer. */
+/* Parts as one buffer: the only part, or the seat's buffer. A buffer of the caller has no parts. */
 struct whole {
     const iov_t *parts;
     size_t count;
@@ -11,9 +11,14 @@ struct whole {
     size_t length;
 };
 
+static struct whole many(const iov_t *parts, size_t count) { return (struct whole){parts, count, NULL, 0}; }
+
+static struct whole one(const void *bytes, size_t length) {
+    return (struct whole){NULL, 0, (void *)(uintptr_t)bytes, length};
+}
+
 /* Finds the whole length. Returns -1 for parts that can't be. */
 static int measure(struct whole *whole) {
-    whole->length = 0;
     if (whole->count && !whole->parts) return fail(EFAULT);
     for (size_t at = 0; at < whole->count; at++) {
         const iov_t *part = &whole->parts[at];
@@ -27,7 +32,7 @@ static int measure(struct whole *whole) {
 /* Makes one buffer of the parts, with their bytes if it copies. */
 static int gather(struct whole *whole, enum side side, bool copies) {
     if (measure(whole)) return -1;
-    whole->bytes = whole->count == 1 ? whole->parts[0].iov_base : NULL;
+    if (whole->count == 1) whole->bytes = whole->parts[0].iov_base;
     if (whole->count <= 1 || !whole->length) return 0;
     struct seat *s = &seats[seat];
     if (s->longest[side] < whole->length) {
@@ -68,33 +73,6 @@ static long send_parts(int coid, struct whole sent, struct whole room) {
     return status;
 }
 
-static struct whole many(const iov_t *parts, size_t count) { return (struct whole){parts, count, NULL, 0}; }
-
-/* A buffer as its only part, which the caller keeps. */
-static struct whole one(iov_t *part, const void *bytes, size_t length) {
-    *part = (iov_t){(void *)(uintptr_t)bytes, length};
-    return many(part, 1);
-}
-
-long MsgSend(int coid, const void *smsg, size_t sbytes, void *rmsg, size_t rbytes) {
-    iov_t sent, room;
-    return send_parts(coid, one(&sent, smsg, sbytes), one(&room, rmsg, rbytes));
-}
-
-long MsgSendv(int coid, const iov_t *siov, size_t sparts, const iov_t *riov, size_t rparts) {
-    return send_parts(coid, many(siov, sparts), many(riov, rparts));
-}
-
-long MsgSendsv(int coid, const void *smsg, size_t sbytes, const iov_t *riov, size_t rparts) {
-    iov_t sent;
-    return send_parts(coid, one(&sent, smsg, sbytes), many(riov, rparts));
-}
-
-long MsgSendvs(int coid, const iov_t *siov, size_t sparts, void *rmsg, size_t rbytes) {
-    iov_t room;
-    return send_parts(coid, many(siov, sparts), one(&room, rmsg, rbytes));
-}
-
 /* Receives by one of the layer's two functions. info is filled for a message alone. */
 static int receive_parts(int (*receive)(int chid, void *bytes, size_t length, struct _msg_info *info), int chid,
                          struct whole room, struct _msg_info *info) {
@@ -113,23 +91,15 @@ static int receive_parts(int (*receive)(int chid, void *bytes, size_t length, st
     return rcvid;
 }
 
-rcvid_t MsgReceive(int chid, void *msg, size_t bytes, struct _msg_info *info) {
-    iov_t room;
-    return receive_parts(layer_MsgReceive, chid, one(&room, msg, bytes), info);
-}
-
-rcvid_t MsgReceivev(int chid, const iov_t *riov, size_t rparts, struct _msg_info *info) {
-    return receive_parts(layer_MsgReceive, chid, many(riov, rparts), info);
-}
-
-int MsgReceivePulse(int chid, void *pulse, size_t bytes, struct _msg_info *info) {
-    iov_t room;
-    return receive_parts(layer_MsgReceivePulse, chid, one(&room, pulse, bytes), info);
-}
-
-int MsgReceivePulsev(int chid, const iov_t *piov, size_t parts, struct _msg_info *info) {
-    return receive_parts(layer_MsgReceivePulse, chid, many(piov, parts), info);
-}
+/* A receive into one buffer or many parts, by one of the layer's functions. */
+#define RECEIVE(type, name, R, room, receive) \
+    type name(int chid, R rmsg, size_t rlength, struct _msg_info *info) { \
+        return receive_parts(receive, chid, room(rmsg, rlength), info); \
+    }
+RECEIVE(rcvid_t, MsgReceive, void *, one, layer_MsgReceive)
+RECEIVE(rcvid_t, MsgReceivev, const iov_t *, many, layer_MsgReceive)
+RECEIVE(int, MsgReceivePulse, void *, one, layer_MsgReceivePulse)
+RECEIVE(int, MsgReceivePulsev, const iov_t *, many, layer_MsgReceivePulse)
 
 /* Begins a call with parts that does not wait. */
 static int begin_parts(struct whole *whole, enum side side) {

@@ -8,7 +8,7 @@ int ConnectServerInfo(pid_t pid, int coid, struct _server_info *info) {
     info->nd = info->srcnd = ND_LOCAL_NODE;
     info->scoid = neutrino_remote() ? neutrino_remote_scoid() : SIDE | PROGRAM;
     hold();
-    for (int at = 0; at < CONNECTIONS; at++) {
+    for (int at = 0; at < ENTRIES; at++) {
         const struct connection *c = &connections[at];
         if (!c->coid || c->coid < coid || (found && c->coid > found)) continue;
         info->coid = found = c->coid;
@@ -51,7 +51,8 @@ static int fill_own(struct _client_info *info, int most) {
     info->pid = program;
     info->sid = getsid(0);
     cred->ngroups = fill_groups(cred->grouplist, most);
-    return getresuid(&cred->ruid, &cred->euid, &cred->suid) || getresgid(&cred->rgid, &cred->egid, &cred->sgid) ? -1 : 0;
+    if (getresuid(&cred->ruid, &cred->euid, &cred->suid)) return -1;
+    return getresgid(&cred->rgid, &cred->egid, &cred->sgid);
 }
 
 int ConnectClientInfo(int scoid, struct _client_info *info, int ngroups) {

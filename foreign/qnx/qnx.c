@@ -15,6 +15,7 @@
 #include "names.c"
 #include "threads.c"
 #include "signals.c"
+#include "sleepon.c"
 #include "show.c"
 #include "record_lines.c"
 #include "record.c"

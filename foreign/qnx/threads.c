@@ -159,6 +159,24 @@ int SchedGet(pid_t pid, int tid, struct sched_param *param) {
     return s.policy;
 }
 
+int SchedInfo(pid_t pid, int policy, struct _sched_info *info) {
+    if (pid && pid != getpid()) return fail(ESRCH);
+    if (!info) return fail(EFAULT);
+    if (sched_get_priority_min(policy) == -1) return -1;
+    *info = (struct _sched_info){0, LOWEST, HIGHEST, HIGHEST + 1, {0}};
+    return 0;
+}
+
+/* The host has a clock for each thread and each of its processes. */
+int ClockId(pid_t pid, int tid) {
+    clockid_t id;
+    if (enter()) return -1;
+    struct seat s = seat_of(named_tid(tid));
+    if ((pid && pid != program) || s.use == FREE || !s.thread) return fail(ESRCH);
+    int error = tid ? pthread_getcpuclockid(s.thread, &id) : clock_getcpuclockid(0, &id);
+    return error ? fail(error) : id;
+}
+
 int SchedYield(void) { return sched_yield(); }
 
 int getprio(pid_t pid) {

@@ -31,6 +31,7 @@
 #pragma pop_macro("__nonnull")
 #ifndef BALSAEUCHRE_QNX_PTHREAD_H
 #define BALSAEUCHRE_QNX_PTHREAD_H
+#include <stdint.h>
 #ifdef __cplusplus
 extern "C" {
 #endif
@@ -38,6 +39,16 @@ extern "C" {
 /* The host declares them for _GNU_SOURCE alone. */
 int pthread_setname_np(pthread_t thread, const char *name) __THROW;
 int pthread_getname_np(pthread_t thread, char *name, size_t length) __THROW;
+
+/* One lock of the program, and threads that sleep on an address under it until another one signals that address, which
+ * wakes the one that has slept longest, or with broadcast all. timedwait ends with ETIMEDOUT after so many nanoseconds;
+ * 0 is no limit. They return 0 or an error; the waits are cancellation points, after which the lock is held. */
+int pthread_sleepon_lock(void);
+int pthread_sleepon_unlock(void);
+int pthread_sleepon_wait(const volatile void *addr);
+int pthread_sleepon_timedwait(const volatile void *addr, uint64_t nsec);
+int pthread_sleepon_signal(const volatile void *addr);
+int pthread_sleepon_broadcast(const volatile void *addr);
 
 #ifdef __cplusplus
 }

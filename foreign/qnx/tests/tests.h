@@ -58,6 +58,7 @@ void pulse_timers(void), host_timers(void), timer_errors(void), timer_calls(void
 void timeouts(void), join_timeouts(void), timeout_errors(void);
 void priorities(void), inherited(void), policies(void), attributes(void), controls(void);
 void seats(void), reserved(void), deaths(void), first_calls(void), forks(void), delays(void);
+void sleepers(void);
 void interrupted(void), handlers(void), in_handlers(void), many_signals(void), cancelled(void), many_cancelled(void);
 void lives(void), crowds(void), echo_1_1(void), echo_40_8(void);
 void headers(void), names(void), shown(void), circles(void), quits(void);

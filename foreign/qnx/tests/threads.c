@@ -85,6 +85,12 @@ static void *answer_tid(void *argument) {
 /* The host's functions on a pid, which work on the calling thread. */
 void policies(void) {
     struct sched_param param = {.sched_priority = 200}, none = {.sched_priority = 0};
+    struct _sched_info info;
+    check(SchedInfo(0, SCHED_FIFO, &info) == 0 && info.priority_min == 1 && info.priority_max == 255);
+    check(SchedInfo_r(getpid(), SCHED_OTHER, &info) == EOK && info.interval == 0 && info.priority_priv > 255);
+    fails(SchedInfo(getpid() + 1, SCHED_RR, &info), ESRCH);
+    fails(SchedInfo(0, -1, &info), EINVAL);
+    returns_r(SchedInfo_r(0, SCHED_RR, NULL), EFAULT);
     check(gettid() == 1 && result_of(start(answer_tid, NULL)) == 2);
     for (int policy = SCHED_OTHER; policy <= SCHED_RR; policy++)
         check(sched_get_priority_min(policy) == 1 && sched_get_priority_max(policy) == 255);
@@ -316,4 +322,47 @@ void delays(void) {
     unsigned left = delay(60000);
     ualarm(0, 0);
     check(left > 0 && left < 60000 && signal(SIGALRM, SIG_DFL) == on_alarm);
+}
+
+static int slept_on, other;
+static atomic_int asleep, woken;
+
+static void unlock_sleepon(void *unused) {
+    (void)unused;
+    check(pthread_sleepon_unlock() == 0);
+}
+
+static void *sleep_on(void *address) {
+    pthread_sleepon_lock();
+    pthread_cleanup_push(unlock_sleepon, NULL);
+    asleep++;
+    check(pthread_sleepon_wait(address) == 0);
+    woken++;
+    pthread_cleanup_pop(1);
+    return NULL;
+}
+
+static pthread_t start_sleeper(void *address) {
+    int before = asleep;
+    pthread_t thread = start(sleep_on, address);
+    while (asleep == before) delay(1);
+    return thread;
+}
+
+/* One signal wakes one thread, the first one, of this address alone; a broadcast wakes all of them. */
+void sleepers(void) {
+    pthread_t first = start_sleeper(&slept_on), elsewhere = start_sleeper(&other), cancelled = start_sleeper(&slept_on);
+    check(pthread_sleepon_lock() == 0 && pthread_sleepon_signal(&slept_on) == 0 && pthread_sleepon_unlock() == 0);
+    result_of(first);
+    check(woken == 1 && pthread_cancel(cancelled) == 0 && result_of(cancelled) == (long)(intptr_t)PTHREAD_CANCELED);
+    check(pthread_sleepon_lock() == 0 && pthread_sleepon_timedwait(&slept_on, 1000000) == ETIMEDOUT);
+    check(pthread_sleepon_broadcast(&slept_on) == 0 && pthread_sleepon_unlock() == 0);
+    pthread_t all[] = {start_sleeper(&slept_on), start_sleeper(&slept_on)};
+    check(pthread_sleepon_lock() == 0 && woken == 1 && pthread_sleepon_broadcast(&slept_on) == 0);
+    check(pthread_sleepon_unlock() == 0);
+    for (int at = 0; at < 2; at++) result_of(all[at]);
+    check(woken == 3 && pthread_sleepon_lock() == 0 && pthread_sleepon_signal(&other) == 0);
+    check(pthread_sleepon_unlock() == 0);
+    result_of(elsewhere);
+    check(woken == 4);
 }

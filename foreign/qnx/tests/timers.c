@@ -140,6 +140,21 @@ void timer_calls(void) {
     check(ConnectDetach(coid) == 0 && ChannelDestroy(chid) == 0);
 }
 
+/* Clocks of the processor time of the program and of threads. */
+static void *of_threads(void *own) {
+    uint64_t before = 0, after = 0, program = 0;
+    int clock = ClockId(0, gettid()), whole = ClockId(getpid(), 0);
+    check(clock != -1 && whole != -1 && ClockId(0, (int)pthread_self()) == clock);
+    check(ClockTime(clock, NULL, &before) == 0);
+    do check(ClockTime(clock, NULL, &after) == 0 && ClockTime(whole, NULL, &program) == 0);
+    while (after == before);
+    check(program > after - before);
+    fails(ClockId(getpid() + 1, 0), ESRCH);
+    fails(ClockId(getpid() + 1, gettid()), ESRCH);
+    fails(ClockId(0, 60), ESRCH);
+    return own;
+}
+
 void clocks(void) {
     struct _clockperiod period = {0, 1};
     struct timespec now;
@@ -156,6 +171,7 @@ void clocks(void) {
     fails(ClockPeriod(CLOCK_MONOTONIC, NULL, &period, 0), EINVAL);
     fails(ClockPeriod(CLOCK_REALTIME, NULL, &period, 1), EINVAL);
     returns_r(ClockPeriod_r(CLOCK_REALTIME, &period, NULL, 0), EPERM);
+    result_of(start(of_threads, NULL));
 }
 
 void timeouts(void) {

@@ -22,7 +22,7 @@ extern "C" {
 NEUTRINO_MISSING(ChannelConnectAttr);
 NEUTRINO_MISSING(ChannelCreatePulsePool);
 NEUTRINO_MISSING(ClockAdjust);
-NEUTRINO_MISSING(ClockId);
+NEUTRINO_MISSING(ClockId_r);
 NEUTRINO_MISSING(ConnectClientInfoAble);
 NEUTRINO_MISSING(ConnectClientInfoExt);
 NEUTRINO_MISSING(InterruptAttach);
@@ -42,7 +42,6 @@ NEUTRINO_MISSING(MsgReadiov);
 NEUTRINO_MISSING(MsgReceiveAsync);
 NEUTRINO_MISSING(MsgSendAsync);
 NEUTRINO_MISSING(SchedCtl);
-NEUTRINO_MISSING(SchedInfo);
 NEUTRINO_MISSING(SignalAction);
 NEUTRINO_MISSING(SignalKill);
 NEUTRINO_MISSING(SignalProcmask);

@@ -351,6 +351,10 @@ int ClockTime_r(clockid_t id, const uint64_t *new_time, uint64_t *old);
 int ClockPeriod(clockid_t id, const struct _clockperiod *new_period, struct _clockperiod *old, int reserved);
 int ClockPeriod_r(clockid_t id, const struct _clockperiod *new_period, struct _clockperiod *old, int reserved);
 
+/* Returns the clock of the processor time of the program, or of a thread (tid) of it. A clock may be negative, so there
+ * is no form in _r. ESRCH: no such thread, or another program. */
+int ClockId(pid_t pid, int tid);
+
 /* ---- threads */
 
 #define _NTO_THREAD_NAME_MAX 100 /* of which pthread_setname_np keeps 15 */
@@ -377,6 +381,18 @@ int SchedSet(pid_t pid, int tid, int policy, const struct sched_param *param);
 int SchedSet_r(pid_t pid, int tid, int policy, const struct sched_param *param);
 int SchedGet(pid_t pid, int tid, struct sched_param *param);
 int SchedGet_r(pid_t pid, int tid, struct sched_param *param);
+
+struct _sched_info {
+    uint64_t interval; /* of a time slice: 0, as nothing is scheduled here */
+    int32_t priority_min;
+    int32_t priority_max;
+    int32_t priority_priv; /* the first that needs a privilege: none does */
+    int32_t reserved[11];
+};
+
+/* Tells of a policy. ESRCH: another process; EINVAL: no such policy; EFAULT: no info. */
+int SchedInfo(pid_t pid, int policy, struct _sched_info *info);
+int SchedInfo_r(pid_t pid, int policy, struct _sched_info *info);
 int SchedYield(void);
 int SchedYield_r(void);
 

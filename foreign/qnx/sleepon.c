@@ -1,0 +1,56 @@
+/* Threads that sleep on an address, under one lock of the program. Tested, not proved. */
+struct sleeper {
+    const volatile void *addr; /* null: it was woken */
+    struct sleeper *next;
+};
+
+static struct sleeper *sleepers; /* in the order in which they came */
+static pthread_mutex_t sleepon = PTHREAD_MUTEX_INITIALIZER;
+static pthread_cond_t woken = PTHREAD_COND_INITIALIZER;
+
+int pthread_sleepon_lock(void) { return pthread_mutex_lock(&sleepon); }
+
+int pthread_sleepon_unlock(void) { return pthread_mutex_unlock(&sleepon); }
+
+static void stop_sleeping(void *own) {
+    struct sleeper **at = &sleepers;
+    while (*at != own) at = &(*at)->next;
+    *at = (*at)->next;
+}
+
+/* Waits until it is woken, or until a time that isn't null. */
+static int sleep_until(struct sleeper *own, const struct timespec *until) {
+    int error = 0;
+    while (own->addr && !error)
+        error = until ? pthread_cond_timedwait(&woken, &sleepon, until) : pthread_cond_wait(&woken, &sleepon);
+    return own->addr ? error : 0;
+}
+
+int pthread_sleepon_timedwait(const volatile void *addr, uint64_t nsec) {
+    struct sleeper own = {addr, NULL}, **last = &sleepers;
+    struct timespec until;
+    int result;
+    clock_gettime(CLOCK_REALTIME, &until);
+    nsec2timespec(&until, timespec2nsec(&until) + nsec);
+    while (*last) last = &(*last)->next;
+    *last = &own;
+    pthread_cleanup_push(stop_sleeping, &own);
+    result = sleep_until(&own, nsec ? &until : NULL);
+    pthread_cleanup_pop(1);
+    return result;
+}
+
+int pthread_sleepon_wait(const volatile void *addr) { return pthread_sleepon_timedwait(addr, 0); }
+
+static int wake_sleepers(const volatile void *addr, bool all) {
+    for (struct sleeper *at = sleepers; at; at = at->next) {
+        if (at->addr != addr) continue;
+        at->addr = NULL;
+        if (!all) break;
+    }
+    return pthread_cond_broadcast(&woken);
+}
+
+int pthread_sleepon_signal(const volatile void *addr) { return wake_sleepers(addr, false); }
+
+int pthread_sleepon_broadcast(const volatile void *addr) { return wake_sleepers(addr, true); }
