@@ -287,13 +287,21 @@ its own, or all in one process with 'together'. A program has these lines:
   serve                   the same; who waits to receive in it is an idle server
   leave                   goes out of the innermost repeat, loop or serve
   stop                    the program ends
+  inside LOCK             up to its end, a thread at a call is inside the lock
   NAME = OTHER            NAME stands for what OTHER stands for
   set NAME                NAME stands for something, a flag
   forget NAME             NAME stands for nothing
   push ROW NAME           puts what NAME stands for behind a row
   pop NAME ROW            takes the first one out of a row
   remove ROW NAME         takes what NAME stands for out of a row
-  check inversion         on top: an inversion of priorities is a fault too
+
+In front of all sections may stand what else is a fault:
+
+  check inversion         an inversion of priorities
+  at most N inside LOCK   more than N threads inside the lock
+  never THREAD is STATE [on THREAD.NAME] [and ..]
+                          all of this at once; a STATE is ready, SEND-blocked,
+                          RECEIVE-blocked or REPLY-blocked
 
 A PATTERN has one or more of these with 'or' between them. '*' is any number, and
 stands for a channel and a connection; numbers may be left out from the last one on:
@@ -333,6 +341,8 @@ What is wrong is told with the fewest calls that lead to it:
   a name stands for nothing      in a call
   priorities are inverted        a client waits for a server that works below another
                                  thread, which is ready
+  too many are inside            a lock, with who they are
+  a claim doesn't hold           with the states of its threads
 
 With --script only the run that shows it is printed, as a script; with --names, and
 on a terminal, that is a script with names. If nothing is wrong, the words go to
