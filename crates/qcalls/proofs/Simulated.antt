@@ -25,16 +25,6 @@ comes-read f read other same errors t call before after made (Some e) (kept, is)
 comes-read f read other same errors t call before after made None (inl (endings, event, is)) = inl (endings, event, ap f is ∙ same (ending_of t endings))
 comes-read f read other same errors t call before after made None (inr (kept, is)) = inr (kept, ap f is ∙ errors _)
 
--- a call that ended in its own event
-at_once-read : {A : Type 0} (read : Reading A) (x : Option Completion) → read_off read (at_once ending_in x) ≡ at_once read x
-at_once-read read None = refl
-at_once-read read (Some x) = refl
-
-pub at_once_off : {A : Type 0} (read : Reading A) {t : ℕ} {call : Call} {before after : Simulation} {made : Result Ending CallError}
-    → Simulates (at_once ending_in) t call before after made → Simulates (at_once read) t call before after (read_off read made)
-at_once_off read {t} {call} {before} {after} {made} m =
-    record { comes = comes-read (read_off read) (at_once ending_in) (at_once read) (at_once-read read) (λ e. refl) t call before after made (unmade before t) m.comes }
-
 -- what is read off a call in which its thread may be blocked
 abbrev pub read_outcome : {A : Type 0} → Reading A → Result (Outcome Ending) CallError → Result (Outcome A) CallError
 read_outcome read (Ok (Done e)) = done (read e.waited e.mark e.buffer)

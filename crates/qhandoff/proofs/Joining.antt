@@ -22,8 +22,6 @@ pub record Joining {T : Type 0} (old : Desk T) (all : List (ThreadSeat T)) (left
   pub after : (t : ℕ) → length left ≤ t → t < length all → line now t ≡ record (line old t) { taken = Some (took (get_elem? all t)) }
 
 module _ {T : Type 0} where
-  pub joining_none : (old : Desk T) (all : List (ThreadSeat T)) → Joining old all all old
-  joining_none old all = record { long = refl; few = omega arith; same = λ k s e. e; before = λ t h. refl; after = λ t h g. absurd (omega arith) }
 
   pub joining_one : (old : Desk T) (all left : List (ThreadSeat T)) (s : ThreadSeat T) (now : Desk T) → Joining old all (left ++ s ∷ []) now → s.thread ≡ length left → length all ≤ length old.lines
       → Joining old all left (joined_at now s.thread (taken s))

@@ -30,10 +30,6 @@ answers_of : (accept : Bool) (f : Facts) (t : ℕ) (c : Call) (X : List Completi
 answers_of true f t c X a = inl a
 answers_of false f t c X a = inr a
 
--- the roster stays
-pub steps_roster : (old : State) (t : ℕ) (c : Call) (X : List Completion) (new : State) → Steps old t c X new → members_of new.threads ≡ members_of old.threads
-steps_roster old t c X new step = step.1.follows.roster
-
 pub step_at_traces : (old : State) (t : ℕ) (c : Call) (X : List Completion) (new : State) → IsRoster (members_of old.threads) → is_some (member_at (members_of old.threads) t) ≡ true → Steps old t c X new → AnswersAtTraces old t c X new
 step_at_traces old t c X new rises known step roster past lawful stands =
     let accept = step.0 in

@@ -33,10 +33,6 @@ on_from false level p kind same = rw (kind, eq-eqb p.0.priority level same) refl
 
 -- ---- what is under the keys
 
-pub first_all : (P : ℕ → Type 0) (keys : List ℕ) (k : ℕ) → AllByRecursion P keys → first_of keys ≡ Some k → P k
-first_all P [] k all first = absurd (cc)
-first_all P (x ∷ keys) k all first = let same : x ≡ k = cc in subst P same all.0
-
 -- a key that is used by an item of this kind and level
 abbrev pub IsOf : Slab Node → Bool → ℕ → ℕ → Type 0
 IsOf s pulse level k = (item : Item) × (item_of s k ≡ Some item) × (is_pulse item.what ≡ pulse) × (item.priority ≡ level)

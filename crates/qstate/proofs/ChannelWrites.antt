@@ -56,17 +56,6 @@ pub sets_queue : (channels : List (ℕ × Channel)) (h : ℕ) (c : Channel) (q :
     → SetsItems h items channels (with_record channels h (record { owner = c.owner; flags = c.flags; queue = q }))
 sets_queue channels h c q items is now = sets_items channels h c (record { owner = c.owner; flags = c.flags; queue = q }) items is refl refl now
 
--- no item of a channel that is gone gets another priority
-pub sets_gone : (channels : List (ℕ × Channel)) (h n priority : ℕ) → entry_at channels h ≡ None → SetsItems h (with_item_priority n priority (pending_in channels h)) channels channels
-sets_gone channels h n priority gone = record {
-  ids = refl;
-  channel = λ k. refl;
-  pending = λ k. elim (eqb k h) as (λ b. eqb k h ≡ b → pending_in channels k ≡ cond b (with_item_priority n priority (pending_in channels h)) (pending_in channels k)) [
-    | true ↦ λ e. ap (pending_in channels) (eqb-true k h e) ∙ rw gone refl
-    | false ↦ λ e. refl
-  ] refl;
-}
-
 -- what holds where there is a channel holds where one is open
 on_open : {P : Type 0} (o : Option Channel) → is_some (option_map open_channel_of o) ≡ true → OnSome o P → P
 on_open None there h = absurd (true≢false (sym there))

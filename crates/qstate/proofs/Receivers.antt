@@ -108,12 +108,6 @@ waits_among h item m (t ∷ threads) u e =
       | false ↦ λ e. waits_among h item m threads u e
     ] e
 
--- what waits for an item takes one
-pub waits_takes : (h m : ℕ) (item : Item) (message : List ℕ) (u : ℕ) (o : Option OpenCall) → wait_on h item o ≡ Some m → is_some (takes item message u o) ≡ true
-waits_takes h m item message u None e = absurd (none-some m e)
-waits_takes h m item message u (Some (Send s)) e = absurd (none-some m e)
-waits_takes h m item message u (Some (Receive r)) e = refl
-
 -- how it ends is of its thread
 pub ended_thread : (item : Item) (message : List ℕ) (r : ℕ) (o : Option OpenCall) (y : Completion) → takes item message r o ≡ Some y → y.thread ≡ r
 ended_thread item message r None y e = absurd (none-some y e)

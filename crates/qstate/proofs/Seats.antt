@@ -141,14 +141,6 @@ wakes u p old mid new takes ends = record {
 
 -- ---- a thread that stands nowhere
 
-nowhere_from : (u : ℕ) (threads : List Thread) (i : ℕ) → position_from (λ t. eqb t.member.thread u) i threads ≡ None → open_in threads u ≡ None
-nowhere_from u [] i e = refl
-nowhere_from u (t ∷ threads) i e =
-    elim (eqb t.member.thread u) as (λ b. cond b (Some i) (position_from (λ t. eqb t.member.thread u) (i + 1) threads) ≡ None → cond b t.open_call (open_in threads u) ≡ None) [
-      | true ↦ λ e. absurd (none-some i (sym e))
-      | false ↦ λ e. nowhere_from u threads (i + 1) e
-    ] e
-
 -- what the thread at a seat is blocked in is changed
 pub changes_open : (u : ℕ) (change : OpenCall → OpenCall) (threads : List Thread) (k : ℕ) (d x : Thread) → IsFirstAt threads u k → x.member ≡ (get_or threads k d).member → x.priority ≡ (get_or threads k d).priority
     → x.open_call ≡ option_map change (get_or threads k d).open_call → ChangesOpen u change threads (set threads k x)
@@ -168,9 +160,6 @@ pub record_there : (u : ℕ) (threads : List Thread) (k : ℕ) (d : Thread) → 
 record_there u threads k d e =
     let first = first_at u threads k e in
     record { member = first_member u threads k d first; open_call = first_open u threads k d first; priority = first_level u threads k d first }
-
-pub nowhere_open : (u : ℕ) (threads : List Thread) → seat_in threads u ≡ None → open_in threads u ≡ None
-nowhere_open u threads e = nowhere_from u threads 0 (sym (position_from-zero (λ t. eqb t.member.thread u) threads) ∙ e)
 
 -- ---- seats go by the members
 

@@ -166,24 +166,6 @@ held_none channels p i threads none = rw none refl
 pub held_sent : (channels : List (ℕ × Channel)) (p i u : ℕ) (threads : List Thread) → sender_in threads i ≡ Some u → is_held_in threads channels p i ≡ option_map_or (is_held_of channels p) (open_in threads u) false
 held_sent channels p i u threads sent = rw sent refl
 
--- a Send is held where it is received, and its channel is the process's
-pub held_send : (channels : List (ℕ × Channel)) (p : ℕ) (o : Option OpenCall) (s : OpenSend) → option_and_then send_in o ≡ Some s → option_map_or (is_held_of channels p) o false ≡ (is_some s.receipt && is_of p (channel_in channels s.channel))
-held_send channels p None s e = absurd (none-some s e)
-held_send channels p (Some (Receive r)) s e = absurd (none-some s e)
-held_send channels p (Some (Send x)) s e = ap (λ (x : OpenSend). is_some x.receipt && is_of p (channel_in channels x.channel)) (same_Some x s e)
-
--- the message of the Send that the open call is
-pub message_of_send : (o : Option OpenCall) (s : OpenSend) → option_and_then send_in o ≡ Some s → message_in o ≡ s.message
-message_of_send None s e = absurd (none-some s e)
-message_of_send (Some (Receive r)) s e = absurd (none-some s e)
-message_of_send (Some (Send x)) s e = ap (λ (x : OpenSend). x.message) (same_Some x s e)
-
--- and what is no Send isn't
-pub held_no_send : (channels : List (ℕ × Channel)) (p : ℕ) (o : Option OpenCall) → option_and_then send_in o ≡ None → option_map_or (is_held_of channels p) o false ≡ false
-held_no_send channels p None e = refl
-held_no_send channels p (Some (Receive r)) e = refl
-held_no_send channels p (Some (Send x)) e = absurd (none-some x (sym e))
-
 pub call_sent : (i u : ℕ) (threads : List Thread) → sender_in threads i ≡ Some u → sent_call threads i ≡ open_in threads u
 call_sent i u threads sent = rw sent refl
 

@@ -25,10 +25,6 @@ use Rattle.qkernel.proofs.Steps.Common.{counted, count_same, owned_by_member, st
 use Rattle.qkernel.proofs.Steps.Cancelling.{endings_cancelled, open_after, sound_cancelled}
 
 module _ (s : State) (t chid : ℕ) (m : Member) (known : member_at (members_of s.threads) t ≡ Some m) (up : s.down ≡ false) (free : open_in s.threads t ≡ None) where
-  pub step_destroy_refused : (X : List Completion) → is_of m.process (channel_in s.channels chid) ≡ false → X ≡ refusal_completion (facts_in s) t (ChannelDestroy chid) Inval ∷ [] → Steps s t (ChannelDestroy chid) X (counted s)
-  step_destroy_refused X other is =
-      let not_own : owns (facts_in s) t chid ≡ false = owned_by_member (facts_in s) t m (channel_in s.channels chid) known ∙ other in
-      step_refused_alone s t (ChannelDestroy chid) Inval X (inl (rw (up, free, not_own) refl)) is
 
   module _ (threads : List Thread) (cancel closed : List (ℕ × Channel)) (are : AreCancelled (On chid) Srch s.threads threads) (lose : LoseCancelled (On chid) Srch s.threads s.channels cancel)
       (closes : ClosesIn chid cancel closed) where

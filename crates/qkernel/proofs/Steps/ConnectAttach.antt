@@ -22,10 +22,6 @@ use Rattle.qbase.proofs.Lists.{all_append}
 use Rattle.qkernel.proofs.Steps.Common.{uncancelled, counted, step_refused_alone, all_up_to, stays_free, up_to_below}
 use Rattle.qkernel.proofs.Tables.{entry_at-push, length-push, rising_push}
 
-pub step_attach_nowhere : (s : State) (t chid : ℕ) (X : List Completion) → s.down ≡ false → open_in s.threads t ≡ None → is_some (channel_in s.channels chid) ≡ false
-    → X ≡ refusal_completion (facts_in s) t (ConnectAttach chid) Srch ∷ [] → Steps s t (ConnectAttach chid) X (counted s)
-step_attach_nowhere s t chid X up free closed is = step_refused_alone s t (ConnectAttach chid) Srch X (inl (rw (up, free, closed) refl)) is
-
 -- the table's refusal is the row's, or want of memory
 may_refuse : (s : State) (t chid : ℕ) (e : Errno) → s.down ≡ false → open_in s.threads t ≡ None → is_some (channel_in s.channels chid) ≡ true → e ≡ cond (nat_lt (length s.connections) 1024) NoMemory Again
     → MayRefuse (facts_in s) t (ConnectAttach chid) e

@@ -31,9 +31,6 @@ use Rattle.qkernel.proofs.Steps.Delivering.{sound_threads}
 use Rattle.qkernel.proofs.Steps.Common.{count_same, counted, stays_free, step_refused_alone}
 
 module _ (s : State) (t thread priority : ℕ) (m : Member) (known : member_at (members_of s.threads) t ≡ Some m) (up : s.down ≡ false) (free : open_in s.threads t ≡ None) where
-  pub step_set_refused : (X : List Completion) → is_in_process m.process (member_at (members_of s.threads) thread) ≡ false → X ≡ refusal_completion (facts_in s) t (PrioritySet thread priority) Srch ∷ []
-      → Steps s t (PrioritySet thread priority) X (counted s)
-  step_set_refused X other is = step_refused_alone s t (PrioritySet thread priority) Srch X (inl (rw (up, free, known, other) refl)) is
 
   -- how the call ends
   abbrev mine : Completion

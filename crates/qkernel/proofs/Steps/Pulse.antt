@@ -37,16 +37,6 @@ natural code e = e
 -- ---- refusals
 
 module _ (s : State) (t coid priority : ℕ) (code value : ℤ) (m : Member) (known : member_at (members_of s.threads) t ≡ Some m) (up : s.down ≡ false) (free : open_in s.threads t ≡ None) where
-  pub step_pulse_nowhere : (X : List Completion) → route_in m.process s.channels (entry_at s.connections coid) ≡ None → X ≡ refusal_completion (facts_in s) t (Pulse coid priority code value) Badf ∷ [] → Steps s t (Pulse coid priority code value) X (counted s)
-  step_pulse_nowhere X none is =
-      let no_way : route (facts_in s) t coid ≡ None = route-leads_to s t m (entry_at s.connections coid) known ∙ none in
-      step_refused_alone s t (Pulse coid priority code value) Badf X (inl (rw (up, free, no_way) refl)) is
-
-  pub step_pulse_negative : (X : List Completion) (h : ℕ) → route_in m.process s.channels (entry_at s.connections coid) ≡ Some h → int_lt code (pos 0) ≡ true → X ≡ refusal_completion (facts_in s) t (Pulse coid priority code value) Inval ∷ []
-      → Steps s t (Pulse coid priority code value) X (counted s)
-  step_pulse_negative X h found negative is =
-      let there : route (facts_in s) t coid ≡ Some h = route-leads_to s t m (entry_at s.connections coid) known ∙ found in
-      step_refused_alone s t (Pulse coid priority code value) Inval X (inl (rw (up, free, there, negative) refl)) is
 
   -- with the channel full, and with no memory for the pulse to wait in
   pub pulse_full : (h : ℕ) → route_in m.process s.channels (entry_at s.connections coid) ≡ Some h → int_lt code (pos 0) ≡ false → has_room s.channels h ≡ false → MayRefuse (facts_in s) t (Pulse coid priority code value) Again

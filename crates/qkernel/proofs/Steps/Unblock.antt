@@ -112,9 +112,6 @@ one_guards s (Some (Send x)) g e =
 -- ---- the step
 
 module _ (s : State) (t thread : ℕ) (m : Member) (sound : IsSound s) (known : member_at (members_of s.threads) t ≡ Some m) (up : s.down ≡ false) (free : open_in s.threads t ≡ None) where
-  pub step_unblock_refused : (X : List Completion) → is_in_process m.process (member_at (members_of s.threads) thread) ≡ false → X ≡ refusal_completion (facts_in s) t (Unblock thread) Srch ∷ []
-      → Steps s t (Unblock thread) X (counted s)
-  step_unblock_refused X other is = step_refused_alone s t (Unblock thread) Srch X (inl (rw (up, free, known, other) refl)) is
 
   module _ (fellow : is_in_process m.process (member_at (members_of s.threads) thread) ≡ true) where
     -- the thread's open call is cancelled

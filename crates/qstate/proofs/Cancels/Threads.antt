@@ -32,11 +32,6 @@ swept f zero threads = threads
 swept f (suc i) [] = []
 swept f (suc i) (t ∷ threads) = f t ∷ swept f i threads
 
-pub swept_length : (f : Thread → Thread) (i : ℕ) (threads : List Thread) → length (swept f i threads) ≡ length threads
-swept_length f zero threads = refl
-swept_length f (suc i) [] = refl
-swept_length f (suc i) (t ∷ threads) = ap suc (swept_length f i threads)
-
 pub swept_at : (f : Thread → Thread) (i : ℕ) (threads : List Thread) (d : Thread) → get_or (swept f i threads) i d ≡ get_or threads i d
 swept_at f zero threads d = refl
 swept_at f (suc i) [] d = refl
