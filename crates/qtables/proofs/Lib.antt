@@ -1,5 +1,4 @@
 pub mod Counts
-pub mod Fresh
 pub mod LookUps
 pub mod Places
 pub mod Rosters

@@ -6,8 +6,11 @@ use Rattle.std.specs.Option.{option_map}
 use Rattle.std.proofs.lemmas.Bool.{ne_eqb, eqb-true, eqb-false}
 use Rattle.std.proofs.lemmas.Option.{same_Some}
 use Rattle.qtables.specs.Entries.{entry_at, with_record, without_entry, IsRising}
-use Rattle.qtables.proofs.Fresh.{Below}
 use Rattle.qbase.proofs.Lists.{cond_same, eqb_either}
+
+-- all numbers are below n
+abbrev pub Below : {R : Type 0} → ℕ → List (ℕ × R) → Type 0
+Below n entries = AllByRecursion (λ e. e.0 < n) entries
 
 module _ {R : Type 0} where
   -- a new entry changes just its own number

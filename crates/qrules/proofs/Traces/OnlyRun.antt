@@ -1,20 +1,13 @@
 -- Where memory doesn't run out, a run is a function of its calls.
 use Rattle.std.proofs.Common.{◌≡◌, ℕ, List, [], ◌∷◌, map, refl, ap, sym, subst, ◌∙◌, inl, inr}
-use Rattle.std.specs.Prelude.{Some}
-use Rattle.std.specs.List.{AllByRecursion}
-use Rattle.std.proofs.lemmas.Option.{none-some}
-use Rattle.qbase.specs.declared.errno.Errno.{Errno}
 use Rattle.qbase.specs.declared.errno.Errno.TheVariants.{NoMemory}
-use Rattle.qtables.specs.declared.member.Member.{Member}
-use Rattle.qmodel.specs.declared.call.Call.{Call}
-use Rattle.qmodel.specs.declared.call.Completion.{Completion}
-use Rattle.qmodel.specs.declared.call.Mark.TheVariants as mark
 use Rattle.qrules.specs.Outcome.{Answers, MayRefuse, refusal_of}
 use Rattle.qrules.proofs.Words.Items.{refusal_completion}
 use Rattle.qrules.proofs.Words.Facts.{Facts}
 use Rattle.qrules.proofs.Words.Lawful.{IsLawful, facts_of, followed_by}
 use Rattle.qrules.specs.Lawful.{event_call, HadMemory, IsOnlyRun}
-use Rattle.qmodel.specs.Trace.{Event, Trace}
+use Rattle.qrules.proofs.Common.{Some, AllByRecursion, none-some, Errno, Member, Call, Completion, Event, Trace}
+use Rattle.qmodel.specs.declared.call.Mark.TheVariants as mark
 
 -- no completion says that there was no memory
 abbrev Fine : List Completion → Type 0

@@ -1,22 +1,14 @@
 -- Parts of the look-ups, each by what was found so far, which is what the proofs split on.
 use Rattle.std.specs.Prelude.{◌&&◌, ◌==◌, Bool, false, int_lt, is_some, List, ℕ, ℤ, pos, Option, None, Some, if◌then◌else◌}
 use Rattle.std.specs.Option.{option_and_then, option_map_or}
-use Rattle.qbase.specs.declared.errno.Errno.{Errno}
-use Rattle.qbase.specs.declared.errno.Errno.TheVariants.{Badf, Inval}
-use Rattle.qtables.specs.declared.connection.Connection.{Connection}
-use Rattle.qmodel.specs.declared.open_call.OpenCall.{OpenCall}
-use Rattle.qbase.specs.Laying.{laid_count, lay_over}
-use Rattle.qmodel.specs.declared.call.Mark.TheVariants as mark
 use Rattle.qrules.proofs.Words.Items.{Finish}
-use Rattle.qrules.specs.Records.{error_mark}
-use Rattle.qrules.proofs.Words.Facts.{count_to}
-use Rattle.qrules.specs.Records.{tells_disconnect}
-use Rattle.qrules.specs.Records.{disconnect_item}
-use Rattle.qrules.proofs.Words.Facts.{Facts, is_of_process}
+use Rattle.qrules.specs.Records.{error_mark, tells_disconnect, disconnect_item}
+use Rattle.qrules.proofs.Words.Facts.{count_to, Facts, is_of_process, is_held_by}
 use Rattle.qmodel.specs.Trace.{OpenChannel, ChannelId, ProcessNo, ThreadNo, SentItem}
-use Rattle.qrules.proofs.Words.Facts.{is_held_by}
 use Rattle.qrules.specs.Delivery.{refusal_if_full}
 use Rattle.qrules.specs.Rules.Unblock.{due_pulse_of}
+use Rattle.qrules.proofs.Common.{Errno, Badf, Inval, Connection, OpenCall, laid_count, lay_over}
+use Rattle.qmodel.specs.declared.call.Mark.TheVariants as mark
 
 -- this channel is of the thread's process
 abbrev pub is_owned_by : Facts → ThreadNo → Option OpenChannel → Bool

@@ -1,13 +1,9 @@
 -- The threads of a roster, in rising number, and what they give where one of them gets something.
 use Rattle.std.proofs.Common.{◌≡◌, ℕ, ◌<◌, List, [], ◌∷◌, refl, ap, sym, subst, ◌∙◌, cond, arith, true, false, eqb}
 use Rattle.std.specs.Prelude.{Option, None, Some, is_some, ◌||◌}
-use Rattle.std.specs.List.{filter_map, cons_option, AllByRecursion}
-use Rattle.std.specs.Option.{option_to_list}
 use Rattle.std.proofs.lemmas.Bool.{eqb-true, ne_eqb, true≢false}
-use Rattle.qtables.specs.Members.{member_at, IsRoster}
-use Rattle.qtables.specs.declared.member.Member.{Member}
 use Rattle.qrules.proofs.Words.Facts.{threads_of}
-use Rattle.qbase.proofs.Lists.{is_among}
+use Rattle.qrules.proofs.Common.{filter_map, cons_option, AllByRecursion, option_to_list, member_at, IsRoster, Member, is_among}
 
 -- the numbers rise
 abbrev pub Rises : List ℕ → Type 0

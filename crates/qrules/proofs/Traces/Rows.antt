@@ -1,27 +1,17 @@
 -- The endings of rows, each by the open call that it ends.
 use Rattle.std.proofs.Common.{◌≡◌, ◌∙◌, ℕ, List, [], refl, ap, sym, cond, eqb, true, false}
 use Rattle.std.specs.Prelude.{Option, None, Some, is_some, not, option_and_then, option_map, ◌&&◌, ◌==◌}
-use Rattle.qqueue.specs.declared.item.Item.{Item}
 use Rattle.qmodel.specs.declared.call.Call.TheVariants.{Send as SendCall, Unblock as UnblockCall}
-use Rattle.qbase.specs.declared.errno.Errno.TheVariants.{Intr}
-use Rattle.qqueue.specs.declared.item.What.TheVariants as what
-use Rattle.std.proofs.lemmas.Bool.{eqb-true}
-use Rattle.std.proofs.lemmas.Option.{none-some}
-use Rattle.std.specs.Option.{option_or}
 use Rattle.qbase.proofs.Lists.{or_none}
 use Rattle.qrules.specs.Rules.Unblock.{due_pulse_of, guards, unblock_pulse}
-use Rattle.qmodel.specs.declared.open_call.OpenCall.{OpenCall}
 use Rattle.qmodel.specs.declared.open_call.OpenCall.TheVariants.{Receive, Send}
-use Rattle.qmodel.specs.Trace.{SentItem}
 use Rattle.qrules.specs.Delivery.{cancel_call, cancels, deliver, newest_receiver, receipt_completion}
 use Rattle.qrules.specs.Facts.{has_flag, receive_in, receive_of, route, send_in, send_of, Facts}
-use Rattle.qrules.proofs.Words.Items.{answer_completion, delivers, ends_receiver, ends_sender, message_item, receiver}
-use Rattle.qrules.specs.Records.{takes}
-use Rattle.qrules.proofs.Words.Items.{ends_unblocked, Finish}
-use Rattle.qrules.specs.Records.{cancel_where}
-use Rattle.qrules.specs.Rules.{row_of}
+use Rattle.qrules.proofs.Words.Items.{answer_completion, delivers, ends_receiver, ends_sender, message_item, receiver, ends_unblocked, Finish}
 use Rattle.qrules.proofs.Traces.Calls.Delivering.{sent_way}
 use Rattle.qrules.proofs.Traces.Routes.{has_way}
+use Rattle.qrules.proofs.Common.{Item, Intr, eqb-true, none-some, option_or, OpenCall, SentItem, takes, cancel_where, row_of}
+use Rattle.qqueue.specs.declared.item.What.TheVariants as what
 
 takes_same : (item : Item) (message : List ℕ) (u : ℕ) (o : Option OpenCall) → option_map (λ r. receipt_completion item message u r.number r.buffer) (option_and_then receive_in o) ≡ takes item message u o
 takes_same item message u None = refl

@@ -1,14 +1,10 @@
 -- What each call does, by its rule; and the items that it makes.
 use Rattle.std.specs.Prelude.{Bool, Option, None, Some}
 use Rattle.std.specs.Option.{option_and_then, option_map}
-use Rattle.qtables.specs.declared.connection.Connection.{Connection}
-use Rattle.qtables.specs.declared.member.Member.{Member}
-use Rattle.qmodel.specs.declared.call.Call.{Call}
-use Rattle.qmodel.specs.declared.call.Call.TheVariants as calls
 use Rattle.qmodel.specs.Trace.{ChannelId, ConnectionId, OpenChannel, SentItem, ThreadNo}
-use Rattle.qrules.specs.Rule.{PriorityChange, Transfer}
-use Rattle.qrules.specs.Rules.{effect_of}
 use Rattle.qrules.proofs.Words.Facts.{Facts}
+use Rattle.qrules.proofs.Common.{Connection, Member, Call, PriorityChange, Transfer, effect_of}
+use Rattle.qmodel.specs.declared.call.Call.TheVariants as calls
 pub use Rattle.qrules.specs.Past.{asks}
 
 -- ---- channels and connections

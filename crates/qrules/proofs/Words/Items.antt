@@ -4,34 +4,18 @@ pub use Rattle.qrules.specs.Records.{disconnect_item, pulses_among, wait_on, is_
 pub use Rattle.qrules.specs.Records.{is_newest, newest_receiver_among, takes_into, takes, cancel_where}
 pub use Rattle.qrules.specs.Records.{error_mark, receive_of}
 use Rattle.std.specs.Option.{option_and_then, option_map, option_map_or}
-use Rattle.std.specs.Prelude.{ℕ, ℤ, ◌&&◌, ◌==◌, Bool, false, List, not, Option, None, Some}
-use Rattle.std.specs.Prelude.{if◌then◌else◌, []}
-use Rattle.qqueue.specs.declared.item.Item.{Item}
-use Rattle.qqueue.specs.declared.item.Kind.{Kind}
-use Rattle.qqueue.specs.declared.item.Kind.TheVariants.{Any, PulseOnly}
-use Rattle.qqueue.specs.Best.{best_of, is_pulse}
+use Rattle.std.specs.Prelude.{ℕ, ℤ, ◌&&◌, ◌==◌, Bool, false, List, not, Option, None, Some, if◌then◌else◌, []}
 use Rattle.qqueue.specs.declared.item.What.TheVariants.{Message, User}
-use Rattle.qqueue.specs.declared.item.What.TheVariants as what
-use Rattle.qtables.specs.declared.connection.Connection.{Connection}
-use Rattle.qmodel.specs.declared.call.Call.{Call}
-use Rattle.qmodel.specs.declared.call.Call.TheVariants as calls
-use Rattle.qmodel.specs.declared.call.Completion.{Completion}
 use Rattle.qmodel.specs.declared.call.Info.{Info}
-use Rattle.qmodel.specs.declared.call.Mark.{Mark}
-use Rattle.qmodel.specs.declared.call.Mark.TheVariants as mark
-use Rattle.qmodel.specs.declared.open_call.Receipt.{Receipt}
-use Rattle.qmodel.specs.declared.open_call.OpenCall.{OpenCall}
 use Rattle.qmodel.specs.Trace.{SentItem, CallNo, ChannelId, Priority, ReceiveId, ThreadNo}
-use Rattle.qrules.specs.Rule.{PriorityChange}
+use Rattle.qrules.specs.Rule.{PriorityChange, buffer_of, own_completion}
 use Rattle.qrules.proofs.Words.Facts.{Facts, message, route, sender}
-use Rattle.qbase.specs.declared.errno.Errno.{Errno}
-use Rattle.qbase.specs.declared.errno.Errno.TheVariants.{Intr}
 use Rattle.qmodel.specs.declared.open_call.OpenCall.TheVariants.{Receive, Send}
-use Rattle.qrules.specs.Rule.{buffer_of, own_completion}
-use Rattle.qrules.specs.Delivery.{newest_receiver, receipt_completion}
-use Rattle.qrules.specs.Rules.Connections.{disconnect_pulse}
 use Rattle.qrules.specs.Rules.Pulse.{pulse_over}
-use Rattle.qrules.specs.Rules.Unblock.{guards, unblock_pulse}
+use Rattle.qrules.proofs.Common.{Item, Kind, Any, PulseOnly, best_of, is_pulse, Connection, Call, Completion, Mark, Receipt, OpenCall, Errno, Intr, newest_receiver, receipt_completion, disconnect_pulse, guards, unblock_pulse}
+use Rattle.qqueue.specs.declared.item.What.TheVariants as what
+use Rattle.qmodel.specs.declared.call.Call.TheVariants as calls
+use Rattle.qmodel.specs.declared.call.Mark.TheVariants as mark
 pub use Rattle.qrules.specs.Past.{buffer_after_write, item_in}
 
 -- ---- items

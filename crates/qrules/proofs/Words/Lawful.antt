@@ -1,8 +1,6 @@
 -- A past with one more event.
 use Rattle.std.specs.Prelude.{List, ◌∷◌}
-use Rattle.qmodel.specs.declared.call.Call.{Call}
-use Rattle.qmodel.specs.declared.call.Completion.{Completion}
-use Rattle.qmodel.specs.Trace.{ThreadNo, Trace}
+use Rattle.qrules.proofs.Common.{Call, Completion, ThreadNo, Trace}
 pub use Rattle.qrules.specs.Lawful.{facts_of, IsLawful}
 pub use Rattle.qrules.specs.Trace.{followed_by}
 

@@ -1,16 +1,11 @@
 -- Searches in the list of all past calls, which has the newest event first.
-use Rattle.std.specs.Prelude.{ℕ, ◌==◌, ◌&&◌, Bool, List, [], ◌∷◌, length, Option, None, Some, if◌then◌else◌}
-use Rattle.std.specs.Prelude.{option_and_then, ◌+◌, is_some}
-use Rattle.std.specs.List.{list_any}
-use Rattle.std.specs.Option.{option_map_or}
-use Rattle.qqueue.specs.declared.item.Item.{Item}
-use Rattle.qtables.specs.declared.member.Member.{Member}
-use Rattle.qmodel.specs.declared.call.Completion.{Completion}
-use Rattle.qmodel.specs.declared.open_call.OpenCall.{OpenCall}
-use Rattle.qmodel.specs.Trace.{CallNo, ChannelId, Priority, ThreadNo, Event, Trace, OpenChannel, SentItem}
-use Rattle.qmodel.specs.Trace.{ReceiveId}
+use Rattle.std.specs.Prelude.{ℕ, ◌==◌, ◌&&◌, Bool, List, [], ◌∷◌, length, Option, None, Some, if◌then◌else◌, option_and_then, ◌+◌, is_some}
+use Rattle.qmodel.specs.Trace.{CallNo, ChannelId, Priority, ThreadNo, Event, Trace, OpenChannel, SentItem, ReceiveId}
 use Rattle.qrules.proofs.Words.Facts.{count_to, is_fixed, with_buffer, held_call}
 use Rattle.qrules.proofs.Words.Items.{item_in}
+use Rattle.qmodel.specs.OpenCalls.{number_of}
+use Rattle.qrules.specs.Lawful.{facts_of, item_made_by, items_and_priorities}
+use Rattle.qrules.proofs.Common.{list_any, option_map_or, Item, Member, Completion, OpenCall, channel_of}
 pub use Rattle.qrules.specs.Past.{accepted_at, attached_connection, channel_at, connection_at}
 pub use Rattle.qrules.specs.Past.{is_accepted, is_destroyed, is_ended, is_failure, is_unblock_for}
 pub use Rattle.qrules.specs.Past.{item_among, priority_set_by, sender_of, was_done, with_writes}
@@ -18,9 +13,6 @@ pub use Rattle.qrules.specs.Past.{copied_count_of, current_priority}
 pub use Rattle.qrules.specs.Past.{first_among, is_gone, is_received, items_by_now, pending_among}
 pub use Rattle.qrules.specs.Past.{priority_set_since, ReceivedItem}
 pub use Rattle.qrules.specs.Past.{asks, call_by_now, newest_block, open_call_by, send_by_now}
-use Rattle.qmodel.specs.OpenCalls.{number_of}
-use Rattle.qrules.specs.Past.{channel_of}
-use Rattle.qrules.specs.Lawful.{facts_of, item_made_by, items_and_priorities}
 pub use Rattle.qrules.specs.Properties.{items, priority_before}
 
 -- ---- accepted, ended

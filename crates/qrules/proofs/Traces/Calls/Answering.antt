@@ -1,21 +1,13 @@
 -- Calls that answer a held message.
 use Rattle.std.proofs.Common.{◌≡◌, ◌∙◌, ℕ, List, ap, sym, is_some}
-use Rattle.std.specs.Prelude.{None, Some}
-use Rattle.std.proofs.lemmas.Option.{none-some, same_Some}
-use Rattle.qrules.proofs.Words.Items.{receipt_of}
-use Rattle.qrules.specs.Rules.{row_of}
+use Rattle.qrules.proofs.Words.Items.{receipt_of, Finish, ends_sender, item_in}
 use Rattle.qrules.proofs.Words.Facts.{Facts, sender}
-use Rattle.qrules.specs.Rules.Held.{refusal_unless_held}
-use Rattle.qrules.proofs.Words.Items.{Finish, ends_sender}
 use Rattle.qrules.proofs.Words.Effects.{makes, writes}
-use Rattle.qrules.proofs.Words.Items.{item_in}
-use Rattle.qmodel.specs.declared.call.Call.{Call}
-use Rattle.qmodel.specs.declared.call.Completion.{Completion}
 use Rattle.qrules.proofs.Traces.Calls.Alone.{IsPlain}
 use Rattle.qrules.proofs.Traces.Calls.Held.{SenderEnds, sender_ends}
 use Rattle.qrules.proofs.Traces.Past.Laws.{IsOfOpen, IsSettled, RowLaws, is_settled}
-use Rattle.qrules.specs.Rule.{Transfer}
 use Rattle.qmodel.specs.declared.open_call.OpenCall.TheVariants.{Send}
+use Rattle.qrules.proofs.Common.{None, Some, none-some, same_Some, row_of, refusal_unless_held, Call, Completion, Transfer}
 
 of_open : (f : Facts) (t rcvid : ℕ) (finish : Finish) (u : ℕ) (y : Completion) → SenderEnds f t rcvid finish u y → IsOfOpen f u y
 of_open f t rcvid finish u y s = record {

@@ -2,21 +2,12 @@
 use Rattle.std.proofs.Common.{◌≡◌, ◌∙◌, ℕ, ap, refl, sym, cond, true, false}
 use Rattle.std.specs.Prelude.{Bool, Option, None, Some}
 use Rattle.std.proofs.lemmas.Bool.{true≢false}
-use Rattle.std.proofs.lemmas.Option.{none-some, same_Some}
-use Rattle.qbase.specs.declared.errno.Errno.{Errno}
-use Rattle.qrules.proofs.Words.Items.{receipt_of}
-use Rattle.qrules.specs.Rules.{row_of}
-use Rattle.qrules.specs.Delivery.{cancel_call, cancels}
-use Rattle.qrules.specs.Records.{cancel_where}
+use Rattle.qrules.proofs.Words.Items.{receipt_of, item_in}
 use Rattle.qrules.proofs.Words.Facts.{Facts, sender}
 use Rattle.qrules.proofs.Words.Effects.{makes, writes}
-use Rattle.qrules.proofs.Words.Items.{item_in}
-use Rattle.qmodel.specs.declared.call.Call.{Call}
-use Rattle.qmodel.specs.declared.call.Completion.{Completion}
-use Rattle.qmodel.specs.declared.open_call.OpenCall.{OpenCall}
 use Rattle.qrules.proofs.Traces.Calls.Alone.{IsPlain}
 use Rattle.qrules.proofs.Traces.Past.Laws.{RowLaws, is_forceful}
-use Rattle.qrules.specs.Rule.{Transfer}
+use Rattle.qrules.proofs.Common.{none-some, same_Some, Errno, row_of, cancel_call, cancels, cancel_where, Call, Completion, OpenCall, Transfer}
 
 -- the completion is of an open call that is cancelled
 pub record IsCancelledCall (is_cancelled : OpenCall → Bool) (e : Errno) (u : ℕ) (o : Option OpenCall) (y : Completion) : Type 0 where

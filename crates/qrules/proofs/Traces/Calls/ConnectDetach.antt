@@ -3,33 +3,16 @@ use Rattle.qrules.proofs.Traces.Rows.{pulse_same}
 use Rattle.std.proofs.Common.{◌≡◌, ◌∙◌, ◌⊎◌, ℕ, [], ap, refl, sym, subst, cond, eqb, true, false, inl, inr}
 use Rattle.std.specs.Prelude.{Option, None, Some, is_some, ◌&&◌}
 use Rattle.std.proofs.lemmas.Bool.{true≢false, and_parts}
-use Rattle.std.proofs.lemmas.Option.{none-some, same_Some}
-use Rattle.std.specs.Option.{option_or}
-use Rattle.qbase.specs.declared.errno.Errno.TheVariants.{Badf, Inval}
-use Rattle.qqueue.specs.Best.{is_pulse}
-use Rattle.qtables.specs.declared.connection.Connection.{Connection}
-use Rattle.qrules.proofs.Words.Items.{receipt_of}
-use Rattle.qrules.specs.Rules.{row_of}
-use Rattle.qrules.proofs.Traces.Parts.{connections_between}
-use Rattle.qrules.specs.Rules.Connections.{disconnect_pulse}
-use Rattle.qrules.proofs.Traces.Parts.{due_pulse_over, is_own}
-use Rattle.qrules.specs.Delivery.{is_over}
-use Rattle.qrules.specs.Records.{cancel_where}
+use Rattle.qrules.proofs.Words.Items.{receipt_of, ends_receiver, pulse_receipt, Received, item_in}
+use Rattle.qrules.proofs.Traces.Parts.{connections_between, due_pulse_over, is_own}
+use Rattle.qrules.specs.Delivery.{is_over, cancels, deliver, refusal_if_full_for}
+use Rattle.qrules.specs.Records.{cancel_where, tells_disconnect, disconnect_item}
 use Rattle.qrules.proofs.Words.Facts.{Facts}
-use Rattle.qrules.specs.Records.{tells_disconnect}
-use Rattle.qmodel.specs.Trace.{OpenChannel, SentItem}
 use Rattle.qrules.proofs.Words.Past.{is_unblock_for}
-use Rattle.qrules.specs.Delivery.{cancels, deliver, refusal_if_full_for}
-use Rattle.qrules.proofs.Words.Items.{ends_receiver}
-use Rattle.qrules.proofs.Words.Items.{pulse_receipt}
-use Rattle.qrules.proofs.Words.Items.{Received, item_in}
-use Rattle.qrules.specs.Records.{disconnect_item}
-use Rattle.qmodel.specs.declared.call.Call.TheVariants.{ConnectDetach}
-use Rattle.qmodel.specs.declared.call.Completion.{Completion}
 use Rattle.qrules.proofs.Traces.Past.Laws.{CallLaws, IsOfOpen, IsOwn, IsReceipt, IsReceived, Passes, RowLaws}
 use Rattle.qrules.proofs.Traces.Calls.Cancelling.{IsCancelledCall, cancel_parts}
 use Rattle.qrules.proofs.Traces.Calls.Delivering.{met_item, met_open, met_receipt, met_received}
-use Rattle.qrules.specs.Past.{ReceivedItem}
+use Rattle.qrules.proofs.Common.{none-some, same_Some, option_or, Badf, Inval, is_pulse, Connection, row_of, disconnect_pulse, OpenChannel, SentItem, ConnectDetach, Completion, ReceivedItem}
 
 -- ---- the pulse that is due
 

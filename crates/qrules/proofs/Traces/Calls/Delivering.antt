@@ -2,33 +2,16 @@
 use Rattle.std.proofs.Common.{◌≡◌, ◌∙◌, ℕ, List, ap, refl, sym, subst, inl, cond, eqb, true, false}
 use Rattle.std.specs.Prelude.{Option, None, Some, is_some}
 use Rattle.std.specs.Option.{option_map}
-use Rattle.std.proofs.lemmas.Bool.{eqb-true, ne_eqb}
-use Rattle.std.proofs.lemmas.Option.{none-some, same_Some}
-use Rattle.qqueue.specs.declared.item.Item.{Item}
-use Rattle.qtables.specs.declared.connection.Connection.{Connection}
-use Rattle.qrules.specs.Outcome.{completion_to}
-use Rattle.qrules.proofs.Words.Items.{receipt_of}
-use Rattle.qrules.specs.Rules.{row_of}
-use Rattle.qrules.proofs.Words.Items.{delivers, receiver}
-use Rattle.qrules.proofs.Words.Items.{receipt_by, receipt_when_sent}
+use Rattle.qrules.proofs.Words.Items.{receipt_of, delivers, receiver, receipt_by, receipt_when_sent, Received, item_in, receipt_in, item_sent_over}
 use Rattle.qrules.proofs.Words.Facts.{Facts, route}
 use Rattle.qrules.proofs.Traces.Parts.{leads_to}
-use Rattle.qrules.specs.Delivery.{newest_receiver}
 use Rattle.qrules.proofs.Words.Effects.{asks, makes}
-use Rattle.qrules.proofs.Words.Items.{Received, item_in, receipt_in, item_sent_over}
-use Rattle.qrules.specs.Records.{takes}
-use Rattle.qrules.specs.Delivery.{receipt_completion}
-use Rattle.qmodel.specs.Trace.{SentItem}
-use Rattle.qmodel.specs.declared.call.Call.{Call}
-use Rattle.qmodel.specs.declared.call.Completion.{Completion}
-use Rattle.qmodel.specs.declared.open_call.OpenCall.{OpenCall}
 use Rattle.qmodel.specs.declared.open_call.OpenCall.TheVariants.{Receive, Send}
-use Rattle.qbase.proofs.Lists.{eqb_same}
 use Rattle.qrules.proofs.Traces.Past.Laws.{IsOfOpen, IsSettled, IsReceipt, IsReceived, is_settled}
 use Rattle.qrules.proofs.Traces.Calls.Taking.{Taken, taken_by, receipt_from, receipt_in_at}
 use Rattle.qrules.proofs.Traces.Routes.{leads_over}
-use Rattle.qrules.specs.Past.{ReceivedItem}
 use Rattle.qmodel.specs.declared.open_call.OpenReceive.{OpenReceive}
+use Rattle.qrules.proofs.Common.{eqb-true, ne_eqb, none-some, same_Some, Item, Connection, completion_to, row_of, newest_receiver, receipt_completion, takes, SentItem, Call, Completion, OpenCall, eqb_same, ReceivedItem}
 
 -- what goes over a connection is the item
 pub sent_item : (o : Option Connection) (item : Item) (m : SentItem) → item_sent_over o item ≡ Some m → m.item ≡ item

@@ -1,18 +1,14 @@
 -- The laws of Error.
 use Rattle.qrules.proofs.Traces.Rows.{answer_same}
 use Rattle.std.proofs.Common.{◌≡◌, ℕ, refl, subst, cond, true, false}
-use Rattle.std.specs.Prelude.{ℤ, pos, None}
-use Rattle.std.specs.Ordering.{int_eq}
-use Rattle.std.proofs.lemmas.Option.{none-some, same_Some}
 use Rattle.qrules.proofs.Traces.Parts.{error_finish}
-use Rattle.qrules.specs.Records.{error_mark}
 use Rattle.qrules.proofs.Words.Facts.{Facts, sender}
 use Rattle.qrules.proofs.Words.Items.{item_in}
-use Rattle.qmodel.specs.declared.call.Call.TheVariants.{Error}
-use Rattle.qmodel.specs.declared.call.Mark.TheVariants as mark
 use Rattle.qrules.proofs.Traces.Calls.Alone.{IsPlain, waits_not}
 use Rattle.qrules.proofs.Traces.Calls.Answering.{answers}
 use Rattle.qrules.proofs.Traces.Past.Laws.{CallLaws, RowLaws, Passes}
+use Rattle.qrules.proofs.Common.{ℤ, pos, None, int_eq, none-some, same_Some, error_mark, Error}
+use Rattle.qmodel.specs.declared.call.Mark.TheVariants as mark
 
 pub call_laws : (rcvid : ℕ) (code : ℤ) → CallLaws (Error rcvid code)
 call_laws rcvid code = waits_not (Error rcvid code) (λ n t h. refl) (λ f t. refl)

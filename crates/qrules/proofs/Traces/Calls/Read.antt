@@ -1,10 +1,9 @@
 -- The laws of Read.
 use Rattle.std.proofs.Common.{ℕ, List, refl, subst}
-use Rattle.std.proofs.lemmas.Option.{none-some, same_Some}
 use Rattle.qrules.proofs.Words.Facts.{Facts}
-use Rattle.qmodel.specs.declared.call.Call.TheVariants.{Read}
 use Rattle.qrules.proofs.Traces.Calls.Alone.{IsPlain, alone, waits_not}
 use Rattle.qrules.proofs.Traces.Past.Laws.{CallLaws, RowLaws, Passes}
+use Rattle.qrules.proofs.Common.{none-some, same_Some, Read}
 
 pub call_laws : (rcvid offset : ℕ) (buffer : List ℕ) → CallLaws (Read rcvid offset buffer)
 call_laws rcvid offset buffer = waits_not (Read rcvid offset buffer) (λ n t h. refl) (λ f t. refl)

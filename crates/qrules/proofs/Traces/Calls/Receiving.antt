@@ -1,25 +1,13 @@
 -- The laws of a call that receives.
 use Rattle.std.proofs.Common.{◌≡◌, ◌∙◌, ℕ, List, ap, refl, sym, subst, inr, true≢false}
 use Rattle.std.specs.Prelude.{Option, None, Some}
-use Rattle.std.proofs.lemmas.Option.{none-some, same_Some}
-use Rattle.qqueue.specs.Best.{best_of}
-use Rattle.qqueue.specs.declared.item.Item.{Item}
-use Rattle.qqueue.specs.declared.item.Kind.{Kind}
-use Rattle.qrules.proofs.Words.Items.{receipt_of}
-use Rattle.qrules.specs.Rules.{row_of}
+use Rattle.qrules.proofs.Words.Items.{receipt_of, own_receipt, receipt_when_taken, sender_for, Received, item_in}
 use Rattle.qrules.proofs.Words.Facts.{Facts, message}
-use Rattle.qrules.proofs.Words.Items.{own_receipt, receipt_when_taken, sender_for}
 use Rattle.qrules.proofs.Words.Effects.{asks, makes, writes}
-use Rattle.qrules.proofs.Words.Items.{Received, item_in}
-use Rattle.qrules.specs.Delivery.{receipt_completion}
-use Rattle.qmodel.specs.declared.call.Call.{Call}
-use Rattle.qmodel.specs.declared.call.Completion.{Completion}
-use Rattle.qmodel.specs.declared.open_call.OpenCall.{OpenCall}
 use Rattle.qmodel.specs.declared.open_call.OpenCall.TheVariants.{Receive}
-use Rattle.qbase.proofs.Lists.{eqb_same}
 use Rattle.qrules.proofs.Traces.Past.Laws.{BeginsToWait, CallLaws, RowLaws, IsOwn, IsReceived}
 use Rattle.qrules.proofs.Traces.Calls.Taking.{given_no_failure, given_received, receipt_from, receipt_in_at}
-use Rattle.qrules.specs.Past.{ReceivedItem}
+use Rattle.qrules.proofs.Common.{none-some, same_Some, best_of, Item, Kind, row_of, receipt_completion, Call, Completion, OpenCall, eqb_same, ReceivedItem}
 
 -- the open call of a receive
 abbrev pub receiver : ℕ → Kind → List ℕ → ℕ → ℕ → OpenCall

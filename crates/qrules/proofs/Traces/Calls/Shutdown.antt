@@ -1,12 +1,10 @@
 -- The laws of Shutdown.
 use Rattle.std.proofs.Common.{ℕ, refl, subst, true}
-use Rattle.std.proofs.lemmas.Option.{none-some, same_Some}
-use Rattle.qbase.specs.declared.errno.Errno.TheVariants.{Srch}
 use Rattle.qrules.proofs.Words.Facts.{Facts}
-use Rattle.qmodel.specs.declared.call.Call.TheVariants.{Shutdown}
 use Rattle.qrules.proofs.Traces.Calls.Alone.{IsPlain, waits_not}
 use Rattle.qrules.proofs.Traces.Calls.Cancelling.{cancelling}
 use Rattle.qrules.proofs.Traces.Past.Laws.{CallLaws, RowLaws, Passes}
+use Rattle.qrules.proofs.Common.{none-some, same_Some, Srch, Shutdown}
 
 pub call_laws : CallLaws Shutdown
 call_laws = waits_not Shutdown (λ n t h. refl) (λ f t. refl)

@@ -1,23 +1,15 @@
 -- An open call that takes an item.
 use Rattle.std.proofs.Common.{◌≡◌, ℕ, List, cond, true, false, refl, subst}
 use Rattle.std.specs.Prelude.{Option, None, Some}
-use Rattle.std.proofs.lemmas.Option.{none-some, same_Some}
-use Rattle.qbase.specs.Laying.{laid_count, lay_over}
-use Rattle.qqueue.specs.Best.{is_pulse}
-use Rattle.qqueue.specs.declared.item.Item.{Item}
 use Rattle.qrules.proofs.Words.Past.{is_failure}
 use Rattle.qrules.specs.Delivery.{delivery_of}
-use Rattle.qrules.specs.Records.{takes_into}
+use Rattle.qrules.specs.Records.{takes_into, takes}
 use Rattle.qrules.proofs.Words.Items.{item_in, Received, receipt_in}
-use Rattle.qrules.specs.Records.{takes}
-use Rattle.qmodel.specs.declared.call.Completion.{Completion}
-use Rattle.qmodel.specs.declared.call.Mark.{Mark}
-use Rattle.qmodel.specs.declared.call.Mark.TheVariants as mark
-use Rattle.qmodel.specs.declared.open_call.OpenCall.{OpenCall}
 use Rattle.qmodel.specs.declared.open_call.OpenCall.TheVariants.{Receive, Send}
 use Rattle.qrules.proofs.Traces.Past.Laws.{is_settled}
-use Rattle.qrules.specs.Past.{ReceivedItem}
 use Rattle.qmodel.specs.OpenCalls.{number_of}
+use Rattle.qrules.proofs.Common.{none-some, same_Some, laid_count, lay_over, is_pulse, Item, Completion, Mark, OpenCall, ReceivedItem}
+use Rattle.qmodel.specs.declared.call.Mark.TheVariants as mark
 
 -- ---- the mark of a receipt
 

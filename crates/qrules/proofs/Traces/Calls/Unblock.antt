@@ -3,31 +3,17 @@ use Rattle.qrules.proofs.Traces.Rows.{unblocked_same}
 use Rattle.std.proofs.Common.{◌≡◌, ◌∙◌, ℕ, [], ap, refl, sym, subst, cond, eqb, Bool, true, false, option_and_then}
 use Rattle.std.specs.Prelude.{Option, None, Some, is_some, not, ◌&&◌}
 use Rattle.std.proofs.lemmas.Bool.{true≢false, and_parts, not-true}
-use Rattle.std.proofs.lemmas.Option.{none-some, same_Some}
-use Rattle.qbase.specs.declared.errno.Errno.TheVariants.{Intr, Srch}
-use Rattle.qqueue.specs.Best.{is_pulse}
-use Rattle.qrules.proofs.Words.Items.{receipt_of}
-use Rattle.qrules.specs.Rules.{row_of}
-use Rattle.qrules.specs.Rules.Unblock.{unblock_pulse, guards}
-use Rattle.qrules.proofs.Words.Items.{ends_unblocked}
+use Rattle.qrules.proofs.Words.Items.{receipt_of, ends_unblocked, pulse_receipt, Received, item_in, unblock_item}
+use Rattle.qrules.specs.Rules.Unblock.{unblock_pulse, guards, pulse_for}
 use Rattle.qrules.proofs.Traces.Parts.{due_pulse_of_open}
 use Rattle.qrules.proofs.Words.Facts.{Facts, is_of_same_process, has_flag}
 use Rattle.qrules.specs.Records.{tells_unblock}
-use Rattle.qmodel.specs.Trace.{OpenChannel, SentItem}
-use Rattle.qrules.specs.Delivery.{refusal_if_full_for}
-use Rattle.qrules.proofs.Words.Items.{pulse_receipt}
-use Rattle.qrules.proofs.Words.Items.{Received, item_in, unblock_item}
-use Rattle.qmodel.specs.declared.call.Call.TheVariants.{Unblock}
-use Rattle.qmodel.specs.declared.call.Completion.{Completion}
-use Rattle.qmodel.specs.declared.open_call.OpenCall.{OpenCall}
-use Rattle.qmodel.specs.declared.open_call.Receipt.{Receipt}
 use Rattle.qmodel.specs.declared.open_call.OpenCall.TheVariants.{Receive, Send}
 use Rattle.qrules.proofs.Traces.Past.Laws.{CallLaws, IsOfOpen, IsOwn, IsReceipt, IsReceived, Passes, RowLaws}
 use Rattle.qrules.proofs.Traces.Calls.Cancelling.{cancel_parts}
 use Rattle.qrules.proofs.Traces.Calls.Delivering.{delivers_open, delivers_receipt, delivers_received}
-use Rattle.qrules.specs.Past.{ReceivedItem}
 use Rattle.qmodel.specs.declared.open_call.OpenSend.{OpenSend}
-use Rattle.qrules.specs.Rules.Unblock.{pulse_for}
+use Rattle.qrules.proofs.Common.{none-some, same_Some, Intr, Srch, is_pulse, row_of, OpenChannel, SentItem, refusal_if_full_for, Unblock, Completion, OpenCall, Receipt, ReceivedItem}
 
 -- ---- the pulse that is due
 

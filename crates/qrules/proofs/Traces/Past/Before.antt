@@ -2,20 +2,11 @@
 use Rattle.std.proofs.Common.{◌≡◌, ℕ, List, refl, ap, sym, ◌∙◌, cond, Bool, true, false, eqb}
 use Rattle.std.specs.Prelude.{Option, None, Some, is_some, ◌&&◌}
 use Rattle.std.specs.Option.{option_map}
-use Rattle.std.proofs.lemmas.Option.{none-some, same_Some}
-use Rattle.qbase.specs.Laying.{lay_over}
-use Rattle.qrules.proofs.Words.Items.{receipt_of}
+use Rattle.qrules.proofs.Words.Items.{receipt_of, Received}
 use Rattle.qrules.proofs.Words.Facts.{Facts, sender}
-use Rattle.qrules.specs.Records.{with_buffer}
 use Rattle.qrules.proofs.Words.Effects.{makes, unblocks, writes}
-use Rattle.qrules.proofs.Words.Items.{Received}
-use Rattle.qmodel.specs.Trace.{SentItem}
 use Rattle.qrules.proofs.Words.Step.{after_receipt, after_unblock, after_write, unless}
-use Rattle.qrules.specs.Records.{held_call, is_thread, unblocked_call, written_call}
-use Rattle.qmodel.specs.declared.call.Call.{Call}
-use Rattle.qmodel.specs.declared.open_call.OpenCall.{OpenCall}
-use Rattle.qmodel.specs.declared.open_call.Receipt.{Receipt}
-use Rattle.qrules.specs.Rule.{Transfer}
+use Rattle.qrules.proofs.Common.{none-some, same_Some, lay_over, with_buffer, held_call, is_thread, unblocked_call, written_call, SentItem, Call, OpenCall, Receipt, Transfer}
 
 -- what is so of a wait was so of it before
 pub record IsBefore {A : Type 0} (g : OpenCall → A) (before : Option OpenCall) (o : OpenCall) : Type 0 where

@@ -2,14 +2,9 @@
 use Rattle.std.proofs.Common.{◌≡◌, ℕ, ◌<◌, ◌≤◌, List, [], ◌∷◌, refl, sym, subst, ◌∙◌, cond, arith, true, false}
 use Rattle.std.specs.Prelude.{Option, None, Some, nat_lt}
 use Rattle.std.specs.Option.{option_map}
-use Rattle.std.specs.List.{AllByRecursion}
 use Rattle.std.proofs.lemmas.Bool.{ltb-true, true≢false}
-use Rattle.std.proofs.lemmas.Option.{none-some, same_Some}
 use Rattle.qqueue.specs.Best.{best_of, first_of_two, may_take}
-use Rattle.qqueue.specs.Contents.{IsRising}
-use Rattle.qqueue.specs.declared.item.Item.{Item}
-use Rattle.qqueue.specs.declared.item.Kind.{Kind}
-use Rattle.qbase.proofs.Lists.{all_more}
+use Rattle.qrules.proofs.Common.{AllByRecursion, none-some, same_Some, IsRising, Item, Kind, all_more}
 
 -- of what may be taken with the priority of x, nothing was made before x
 abbrev pub IsEarliest : Kind → List Item → Item → Type 0

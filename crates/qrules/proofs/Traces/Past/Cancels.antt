@@ -2,24 +2,11 @@
 use Rattle.std.proofs.Common.{◌≡◌, ℕ, List, refl, ap, sym, subst, ◌∙◌, true, false, eqb}
 use Rattle.std.specs.Prelude.{Option, None, Some, is_some, not, ◌&&◌, ◌||◌}
 use Rattle.std.proofs.lemmas.Bool.{eqb-true, eqb-false, eq-eqb, ne_eqb, true≢false, and_parts, or_parts, false_from_ne_true}
-use Rattle.std.proofs.lemmas.Option.{none-some}
-use Rattle.std.proofs.Math.Bool.{and-false}
-use Rattle.qqueue.specs.Best.{is_pulse}
-use Rattle.qqueue.specs.declared.item.Item.{Item}
-use Rattle.qtables.specs.declared.member.Member.{Member}
-use Rattle.qrules.specs.Outcome.{Outcome}
-use Rattle.qrules.specs.Rules.{row_of}
-use Rattle.qrules.specs.Delivery.{is_on}
 use Rattle.qrules.proofs.Words.Facts.{Facts, threads_of, number_of, is_for_answer}
-use Rattle.qrules.specs.Records.{is_for_receipt}
+use Rattle.qrules.specs.Records.{is_for_receipt, is_unread_send}
 use Rattle.qrules.proofs.Words.Lawful.{facts_of, IsLawful, with_event}
 use Rattle.qrules.proofs.Words.Past.{has_completion_of, is_ended, is_received, open_call, priority_of_item, copied_count_of, sender_of, filled, with_receipt}
 use Rattle.qrules.proofs.Words.Step.{is_cancelled, uncancelled_items}
-use Rattle.qrules.specs.Records.{is_unread_send}
-use Rattle.qmodel.specs.Trace.{Trace}
-use Rattle.qmodel.specs.declared.call.Call.{Call}
-use Rattle.qmodel.specs.declared.call.Completion.{Completion}
-use Rattle.qmodel.specs.declared.open_call.OpenCall.{OpenCall}
 use Rattle.qmodel.specs.declared.open_call.OpenCall.TheVariants.{Receive, Send}
 use Rattle.qrules.proofs.Traces.Past.Ends.{ends_other, open_known, passes_of}
 use Rattle.qrules.proofs.Traces.Past.Items.{IsPending, item_at, item_message}
@@ -30,6 +17,7 @@ use Rattle.qrules.proofs.Traces.Past.Open.{filled_answer, filled_settled, open_f
 use Rattle.qrules.proofs.Traces.Properties.Messages.{item_waits, pending_going}
 use Rattle.qrules.proofs.Traces.Properties.Sends.{block_sender, block_on}
 use Rattle.qrules.proofs.Traces.Rosters.{known}
+use Rattle.qrules.proofs.Common.{none-some, and-false, is_pulse, Item, Member, Outcome, row_of, is_on, Trace, Call, Completion, OpenCall}
 
 -- ---- a Send that isn't received
 

@@ -2,25 +2,17 @@
 use Rattle.std.proofs.Common.{◌≡◌, ℕ, ◌+◌, List, ◌∷◌, length, refl, sym, subst, cond, true, false}
 use Rattle.std.specs.Prelude.{Option, None, Some, is_some, ◌||◌}
 use Rattle.std.proofs.lemmas.Bool.{eqb-true, true≢false}
-use Rattle.std.proofs.lemmas.Option.{none-some}
-use Rattle.qbase.specs.declared.errno.Errno.TheVariants.{Inval}
-use Rattle.qtables.specs.Members.{member_at}
-use Rattle.qtables.specs.declared.member.Member.{Member}
-use Rattle.qrules.specs.Outcome.{Outcome}
-use Rattle.qrules.specs.Rules.{row_of}
 use Rattle.qrules.proofs.Words.Facts.{Facts, owns}
-use Rattle.qmodel.specs.Trace.{OpenChannel, Event, Trace}
 use Rattle.qrules.proofs.Traces.Parts.{is_owned_by}
 use Rattle.qrules.proofs.Words.Lawful.{facts_of, IsLawful, with_event}
 use Rattle.qrules.proofs.Words.Effects.{closes, creates}
 use Rattle.qrules.proofs.Words.Past.{channel_at, is_destroyed, open_channels, refuses}
 use Rattle.qrules.proofs.Words.Items.{names}
 use Rattle.qrules.proofs.Words.Step.{channel_after, one_for}
-use Rattle.qmodel.specs.declared.call.Call.{Call}
 use Rattle.qmodel.specs.declared.call.Call.TheVariants.{ChannelCreate, ChannelDestroy}
-use Rattle.qmodel.specs.declared.call.Completion.{Completion}
 use Rattle.qrules.proofs.Traces.Past.Ends.{passes_of}
 use Rattle.qrules.proofs.Traces.Past.Live.{IsLive, count_live_accepted, count_live_refused, gone_accepted, gone_refused, live_accepted, live_parts, live_refused}
+use Rattle.qrules.proofs.Common.{none-some, Inval, member_at, Member, Outcome, row_of, OpenChannel, Event, Trace, Call, Completion}
 
 -- ---- by each call's row
 

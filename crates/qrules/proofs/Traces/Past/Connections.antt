@@ -2,28 +2,17 @@
 use Rattle.std.proofs.Common.{◌≡◌, ℕ, ◌+◌, List, ◌∷◌, length, refl, ap, sym, subst, cond, true, false}
 use Rattle.std.specs.Prelude.{Option, None, Some, is_some}
 use Rattle.std.proofs.lemmas.Bool.{eqb-true, true≢false}
-use Rattle.std.proofs.lemmas.Option.{none-some}
-use Rattle.qbase.specs.declared.errno.Errno.TheVariants.{Inval}
-use Rattle.qtables.specs.Members.{member_at}
-use Rattle.qtables.specs.declared.connection.Connection.{Connection}
-use Rattle.qtables.specs.declared.member.Member.{Member}
-use Rattle.qrules.specs.Outcome.{Outcome}
-use Rattle.qrules.specs.Rules.{row_of}
-use Rattle.qrules.specs.Rules.Connections.{disconnect_pulse}
 use Rattle.qrules.proofs.Traces.Parts.{is_own}
 use Rattle.qrules.proofs.Words.Facts.{Facts}
 use Rattle.qrules.proofs.Words.Lawful.{facts_of, IsLawful, with_event}
 use Rattle.qrules.proofs.Words.Effects.{attaches, detaches}
 use Rattle.qrules.proofs.Words.Past.{attached_connection, connection_at, live_connections, refuses}
-use Rattle.qrules.specs.Delivery.{refusal_if_full_for}
 use Rattle.qrules.proofs.Words.Items.{names}
 use Rattle.qrules.proofs.Words.Step.{connection_after, one_for}
-use Rattle.qmodel.specs.Trace.{Event, Trace}
-use Rattle.qmodel.specs.declared.call.Call.{Call}
 use Rattle.qmodel.specs.declared.call.Call.TheVariants.{ConnectAttach, ConnectDetach}
-use Rattle.qmodel.specs.declared.call.Completion.{Completion}
 use Rattle.qrules.proofs.Traces.Past.Ends.{passes_of}
 use Rattle.qrules.proofs.Traces.Past.Live.{count_live_accepted, count_live_refused, live_accepted, live_parts, live_refused}
+use Rattle.qrules.proofs.Common.{none-some, Inval, member_at, Connection, Member, Outcome, row_of, disconnect_pulse, refusal_if_full_for, Event, Trace, Call, Completion}
 
 -- ---- by each call's row
 

@@ -1,21 +1,16 @@
 -- The facts after one more event are those that its row says.
 use Rattle.std.proofs.Common.{◌≡◌, ℕ, ◌+◌, List, length, refl, arith, Bool, true, false}
 use Rattle.std.specs.Prelude.{is_some}
-use Rattle.qtables.specs.Members.{member_at, IsRoster}
-use Rattle.qtables.specs.declared.member.Member.{Member}
-use Rattle.qrules.specs.Outcome.{Outcome}
 use Rattle.qrules.proofs.Words.Lawful.{facts_of, IsLawful, with_event}
 use Rattle.qrules.proofs.Words.Past.{refuses}
 use Rattle.qrules.proofs.Words.Step.{Follows}
-use Rattle.qmodel.specs.Trace.{Event, Trace}
-use Rattle.qmodel.specs.declared.call.Call.{Call}
-use Rattle.qmodel.specs.declared.call.Completion.{Completion}
 use Rattle.qrules.proofs.Traces.Past.Channels.{channel_accepted, channel_refused, open_channels_accepted, open_channels_refused}
 use Rattle.qrules.proofs.Traces.Past.Connections.{connection_accepted, connection_refused, live_connections_accepted, live_connections_refused}
 use Rattle.qrules.proofs.Traces.Past.Ends.{accepted, refused}
 use Rattle.qrules.proofs.Traces.Past.OpenCalls.{open_refused, open_accepted}
 use Rattle.qrules.proofs.Traces.Past.Pending.{pending_refused, pending_accepted}
 use Rattle.qrules.proofs.Traces.Past.Priorities.{priority_accepted, priority_refused}
+use Rattle.qrules.proofs.Common.{member_at, IsRoster, Member, Outcome, Event, Trace, Call, Completion}
 
 pub past_follows : (accept : Bool) (roster : List Member) (past : Trace) (t : ℕ) (c : Call) (X : List Completion)
     → IsRoster roster → IsLawful roster past → is_some (member_at roster t) ≡ true → Outcome accept (facts_of roster past) t c X

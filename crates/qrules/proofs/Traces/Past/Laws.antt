@@ -1,29 +1,15 @@
 -- What is owed of each call: the laws on which the lemmas about all calls stand.
 use Rattle.std.specs.Prelude.{◌≡◌, ◌⊎◌, ℕ, Bool, true, false, is_some, not, Option, None, Some}
 use Rattle.std.specs.Option.{option_map}
-use Rattle.qqueue.specs.Best.{best_of, is_pulse}
-use Rattle.qqueue.specs.declared.item.Item.{Item}
-use Rattle.qqueue.specs.declared.item.Kind.{Kind}
-use Rattle.qqueue.specs.declared.item.What.TheVariants as what
-use Rattle.qrules.specs.Outcome.{completion_to}
-use Rattle.qrules.proofs.Words.Items.{receipt_of}
-use Rattle.qrules.specs.Rules.{row_of}
+use Rattle.qrules.proofs.Words.Items.{receipt_of, sender_for, Received, item_in}
 use Rattle.qrules.proofs.Words.Facts.{Facts, sender, number_of, is_for_answer}
 use Rattle.qrules.proofs.Words.Past.{is_failure, is_unblock_for}
-use Rattle.qrules.proofs.Words.Items.{sender_for}
 use Rattle.qrules.proofs.Words.Effects.{asks, makes, unblocks, writes}
-use Rattle.qrules.proofs.Words.Items.{Received, item_in}
-use Rattle.qmodel.specs.Trace.{SentItem}
-use Rattle.qmodel.specs.declared.call.Call.{Call}
-use Rattle.qmodel.specs.declared.call.Call.TheVariants.{ChannelDestroy, Shutdown, Unblock, ConnectDetach}
-use Rattle.qmodel.specs.declared.call.Completion.{Completion}
-use Rattle.qmodel.specs.declared.open_call.OpenCall.{OpenCall}
 use Rattle.qmodel.specs.declared.open_call.OpenCall.TheVariants.{Receive, Send}
-use Rattle.qrules.specs.Rule.{Transfer}
-use Rattle.qrules.specs.Past.{ReceivedItem}
 use Rattle.qmodel.specs.OpenCalls.{thread_of}
-use Rattle.qrules.specs.Delivery.{is_on}
 use Rattle.qmodel.specs.declared.open_call.OpenSend.{OpenSend}
+use Rattle.qrules.proofs.Common.{best_of, is_pulse, Item, Kind, completion_to, row_of, SentItem, Call, ChannelDestroy, Shutdown, Unblock, ConnectDetach, Completion, OpenCall, Transfer, ReceivedItem, is_on}
+use Rattle.qqueue.specs.declared.item.What.TheVariants as what
 
 -- ---- a call by itself
 

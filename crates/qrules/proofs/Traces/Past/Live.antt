@@ -2,23 +2,15 @@
 use Rattle.std.proofs.Common.{◌≡◌, ℕ, zero, suc, ◌+◌, ◌≤◌, List, [], ◌∷◌, length, refl, ap, sym, subst, ◌∙◌, cond, arith, Bool, true, false, eqb, inl, inr}
 use Rattle.std.specs.Prelude.{Option, None, Some, is_some, ◌||◌}
 use Rattle.std.proofs.lemmas.Bool.{eqb-true, eqb-false, ne_eqb, or_cases, true≢false}
-use Rattle.std.proofs.lemmas.Option.{none-some}
-use Rattle.qtables.specs.Members.{member_at}
-use Rattle.qtables.specs.declared.member.Member.{Member}
-use Rattle.qrules.specs.Outcome.{Outcome}
 use Rattle.qrules.proofs.Words.Facts.{count_to}
 use Rattle.qrules.proofs.Words.Lawful.{facts_of, IsLawful, with_event}
 use Rattle.qrules.proofs.Words.Past.{is_accepted, accepted_at, refuses, was_done}
 use Rattle.qrules.proofs.Words.Items.{names}
 use Rattle.qrules.proofs.Words.Step.{put_at, one_for}
-use Rattle.qmodel.specs.Trace.{Event, Trace}
-use Rattle.qmodel.specs.declared.call.Call.{Call}
-use Rattle.qmodel.specs.declared.call.Completion.{Completion}
 use Rattle.qrules.proofs.Traces.Past.Ends.{accepted, refused}
-use Rattle.qbase.proofs.Lists.{cond_same, eqb_same}
 use Rattle.qrules.proofs.Traces.Past.Numbers.{made_beyond, made_below}
 use Rattle.qrules.specs.Rule.{Effect}
-use Rattle.qrules.specs.Rules.{effect_of}
+use Rattle.qrules.proofs.Common.{none-some, member_at, Member, Outcome, Event, Trace, Call, Completion, cond_same, eqb_same, effect_of}
 
 -- what is made has a number from 1 on
 pub made_above : {A : Type 0} (make : Event → Option A) (past : Trace) (i : ℕ) (x : A) → accepted_at make past i ≡ Some x → 1 ≤ i

@@ -2,22 +2,12 @@
 use Rattle.std.proofs.Common.{◌≡◌, ℕ, List, [], ◌∷◌, refl, ap, sym, ◌∙◌, cond, Bool, true, false, eqb, inl, inr}
 use Rattle.std.specs.Prelude.{Option, None, Some, is_some}
 use Rattle.std.proofs.lemmas.Bool.{eqb-true, eq-eqb, true≢false}
-use Rattle.std.proofs.lemmas.Option.{none-some, same_Some}
-use Rattle.qtables.specs.Members.{member_at}
-use Rattle.qtables.specs.declared.member.Member.{Member}
-use Rattle.qrules.specs.Rules.{row_of}
-use Rattle.qrules.specs.Delivery.{is_over}
 use Rattle.qrules.proofs.Words.Facts.{Facts, is_for_answer}
 use Rattle.qrules.proofs.Words.Effects.{asks, attaches, detaches, makes, unblocks, writes}
 use Rattle.qrules.proofs.Words.Lawful.{facts_of, IsLawful}
 use Rattle.qrules.proofs.Words.Past.{attached_connection, connection_at, open_call}
 use Rattle.qrules.proofs.Words.Items.{receipt_of, names}
 use Rattle.qrules.proofs.Words.Step.{after_receipt, after_unblock, after_write, connection_after, open_call_after, put_at, unless}
-use Rattle.qrules.specs.Records.{unblocked_call}
-use Rattle.qmodel.specs.Trace.{Trace}
-use Rattle.qmodel.specs.declared.call.Call.{Call}
-use Rattle.qmodel.specs.declared.call.Call.TheVariants.{ConnectDetach}
-use Rattle.qmodel.specs.declared.open_call.OpenCall.{OpenCall}
 use Rattle.qmodel.specs.declared.open_call.OpenCall.TheVariants.{Receive, Send}
 use Rattle.qrules.proofs.Traces.Past.Before.{Lasts, before_other, before_receipt, unless_is}
 use Rattle.qrules.proofs.Traces.Past.Connections.{connection_accepted, connection_refused, live_attached}
@@ -27,7 +17,7 @@ use Rattle.qrules.proofs.Traces.Past.Open.{buffer_answer, held_for_answer}
 use Rattle.qrules.proofs.Traces.Past.OpenCalls.{open_accepted, open_refused}
 use Rattle.qrules.proofs.Traces.Properties.Answers.{over, sends_over}
 use Rattle.qrules.proofs.Traces.Properties.Sends.{buffer_over, held_over}
-use Rattle.qrules.specs.Past.{channel_of}
+use Rattle.qrules.proofs.Common.{none-some, same_Some, member_at, Member, row_of, is_over, unblocked_call, Trace, Call, ConnectDetach, OpenCall, channel_of}
 
 -- ---- by each call's row
 

@@ -1,30 +1,19 @@
 -- A pending message that moves as the priority of its sender is set.
 use Rattle.std.proofs.Common.{◌≡◌, ℕ, ◌≤◌, List, [], ◌∷◌, ◌++◌, map, length, refl, ap, sym, ◌∙◌, cond, Bool, true, false, eqb, inl, inr}
 use Rattle.std.specs.Prelude.{Option, None, Some, filter, not, unwrap_or}
-use Rattle.std.specs.List.{AllByRecursion}
 use Rattle.std.proofs.lemmas.Bool.{eqb-true, eq-eqb, or_parts}
-use Rattle.std.proofs.lemmas.List.{map-append}
-use Rattle.qqueue.specs.Best.{is_pulse, with_priority, without_item}
-use Rattle.qqueue.specs.declared.item.Item.{Item}
-use Rattle.qtables.specs.declared.member.Member.{Member}
-use Rattle.qrules.specs.Outcome.{Outcome}
 use Rattle.qrules.proofs.Words.Facts.{Facts, number_of}
 use Rattle.qrules.proofs.Words.Effects.{makes, sets}
 use Rattle.qrules.proofs.Words.Lawful.{IsLawful, facts_of, with_event}
 use Rattle.qrules.proofs.Words.Past.{is_gone, is_received, made_on, priority_set_by, current_priority}
 use Rattle.qrules.proofs.Words.Items.{Received}
 use Rattle.qrules.proofs.Words.Step.{is_cancelled, uncancelled_items, items_with_priority_set, unreceived_items}
-use Rattle.qrules.specs.Records.{is_unread_send}
-use Rattle.qmodel.specs.Trace.{Event, Trace}
-use Rattle.qmodel.specs.declared.call.Call.{Call}
-use Rattle.qmodel.specs.declared.call.Completion.{Completion}
-use Rattle.qbase.proofs.Lists.{all_map, all_more}
 use Rattle.qrules.proofs.Traces.Calls.PrioritySet.{sets_alone}
 use Rattle.qrules.proofs.Traces.Past.Cancels.{pulse_unread, sent_by, unread_elsewhere}
 use Rattle.qrules.proofs.Traces.Past.Ends.{accepted}
 use Rattle.qrules.proofs.Traces.Past.Items.{Stands, item_below, standing_is}
 use Rattle.qrules.proofs.Traces.Past.CurrentPriority.{now, sets_none, worth_set, worth_stays}
-use Rattle.qrules.specs.Rule.{PriorityChange}
+use Rattle.qrules.proofs.Common.{AllByRecursion, map-append, is_pulse, with_priority, without_item, Item, Member, Outcome, is_unread_send, Event, Trace, Call, Completion, all_map, all_more, PriorityChange}
 
 -- ---- items that are changed in their priority alone
 

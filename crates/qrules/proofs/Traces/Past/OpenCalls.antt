@@ -3,28 +3,13 @@ use Rattle.std.proofs.Common.{◌≡◌, ◌≢◌, ℕ, ◌+◌, ◌≤◌, Lis
 use Rattle.std.specs.Prelude.{Option, None, Some, is_some, not, ◌||◌, ◌&&◌}
 use Rattle.std.specs.Option.{option_map, option_to_list, option_or}
 use Rattle.std.proofs.lemmas.Bool.{cases_Bool, eqb-true, eqb-false, eq-eqb, ne_eqb, or_parts, true≢false}
-use Rattle.std.proofs.lemmas.Option.{none-some, same_Some}
 use Rattle.std.proofs.Math.Bool.{and-false, or-true, or-false}
-use Rattle.qqueue.specs.Best.{is_pulse}
-use Rattle.qqueue.specs.declared.item.Item.{Item}
-use Rattle.qtables.specs.Members.{member_at}
-use Rattle.qtables.specs.declared.member.Member.{Member}
-use Rattle.qrules.specs.Outcome.{Outcome}
-use Rattle.qrules.proofs.Words.Items.{receipt_of}
-use Rattle.qrules.specs.Rules.{row_of}
+use Rattle.qrules.proofs.Words.Items.{receipt_of, sender_for, Received, buffer_after_write}
 use Rattle.qrules.proofs.Words.Facts.{Facts, sender, threads_of, number_of}
 use Rattle.qrules.proofs.Words.Lawful.{facts_of, IsLawful, with_event}
 use Rattle.qrules.proofs.Words.Past.{refuses, has_completion_of, is_ended, is_received, item_of, copied_count_of, priority_of_item, unless_ended, open_call, unblocked_among, block, with_receipt, filled}
-use Rattle.qrules.proofs.Words.Items.{sender_for}
 use Rattle.qrules.proofs.Words.Effects.{asks, makes, unblocks, writes}
-use Rattle.qrules.proofs.Words.Items.{Received, buffer_after_write}
-use Rattle.qmodel.specs.Trace.{SentItem, Event, Trace}
 use Rattle.qrules.proofs.Words.Step.{after_receipt, after_unblock, after_write, unless, open_call_after}
-use Rattle.qrules.specs.Records.{held_call, is_thread, unblocked_call, written_call}
-use Rattle.qmodel.specs.declared.call.Call.{Call}
-use Rattle.qmodel.specs.declared.call.Completion.{Completion}
-use Rattle.qmodel.specs.declared.open_call.OpenCall.{OpenCall}
-use Rattle.qbase.proofs.Lists.{eqb_same, none_of}
 use Rattle.qrules.proofs.Traces.Calls.PrioritySet.{sets_alone}
 use Rattle.qrules.proofs.Traces.Past.Laws.{IsReceived}
 use Rattle.qrules.proofs.Traces.Calls.{call_laws}
@@ -38,9 +23,8 @@ use Rattle.qrules.proofs.Traces.Past.Unblocked.{fresh_unblocked, marks, marks_it
 use Rattle.qrules.proofs.Traces.Past.CurrentPriority.{refused_sets_none, sets_none, taken_sets_none}
 use Rattle.qrules.proofs.Traces.Past.Writes.{changed, filled_accepted, filled_fresh, filled_refused, receipt_written, written_sender}
 use Rattle.qrules.proofs.Traces.Rosters.{known}
-use Rattle.qrules.specs.Rule.{Transfer}
-use Rattle.qrules.specs.Past.{channel_of}
 use Rattle.qmodel.specs.declared.call.Call.TheVariants.{Send as CallSend}
+use Rattle.qrules.proofs.Common.{none-some, same_Some, is_pulse, Item, member_at, Member, Outcome, row_of, SentItem, Event, Trace, held_call, is_thread, unblocked_call, written_call, Call, Completion, OpenCall, eqb_same, none_of, Transfer, channel_of}
 
 -- ---- a receipt, and the thread that waits for its answer
 

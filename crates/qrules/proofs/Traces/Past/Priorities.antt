@@ -1,23 +1,13 @@
 -- The priorities of the threads after one more event: what it sets, and what a receiver takes.
 use Rattle.std.proofs.Common.{◌≡◌, ℕ, ◌+◌, List, ◌∷◌, length, refl, ap, sym, subst, ◌∙◌, cond, arith, Bool, true, false, eqb, ◌⊎◌, inl, inr}
 use Rattle.std.specs.Prelude.{Option, None, Some, is_some, not, option_and_then, unwrap_or}
-use Rattle.std.specs.List.{filter_map}
-use Rattle.std.proofs.lemmas.Option.{none-some}
 use Rattle.std.specs.Option.{option_map, option_or}
-use Rattle.qqueue.specs.declared.item.Item.{Item}
-use Rattle.qtables.specs.Members.{member_at}
-use Rattle.qtables.specs.declared.member.Member.{Member}
-use Rattle.qrules.specs.Outcome.{completion_to, Outcome}
-use Rattle.qrules.proofs.Words.Items.{receipt_of}
+use Rattle.qrules.proofs.Words.Items.{receipt_of, Received, item_in, priority_set_for}
 use Rattle.qrules.proofs.Words.Facts.{threads_of}
 use Rattle.qrules.proofs.Words.Lawful.{facts_of, IsLawful, with_event}
 use Rattle.qrules.proofs.Words.Past.{items_by_now, carried_priority, channel_at, first_among, priority_from_completion, item_of, items, item_among, priority_of_thread, refuses, current_priority}
 use Rattle.qrules.proofs.Words.Effects.{sets}
-use Rattle.qrules.proofs.Words.Items.{Received, item_in, priority_set_for}
-use Rattle.qmodel.specs.Trace.{SentItem, Event, Trace}
 use Rattle.qrules.proofs.Words.Step.{priority_taken, priority_after}
-use Rattle.qmodel.specs.declared.call.Call.{Call}
-use Rattle.qmodel.specs.declared.call.Completion.{Completion}
 use Rattle.qrules.proofs.Traces.Past.Ends.{accepted, completion_names, laws_of, refused}
 use Rattle.qrules.proofs.Traces.Past.Items.{item_at, item_below, item_earlier, item_found, item_newest, item_priority}
 use Rattle.qrules.proofs.Traces.Past.Laws.{RowLaws, IsReceipt, IsReceived}
@@ -25,7 +15,7 @@ use Rattle.qrules.proofs.Traces.Past.Receipts.{among_none, among_one, best_pendi
 use Rattle.qrules.proofs.Traces.Calls.{call_laws}
 use Rattle.qrules.proofs.Traces.Past.CurrentPriority.{among_now, now, worth_beyond}
 use Rattle.qrules.proofs.Traces.Rosters.{known}
-use Rattle.qrules.specs.Past.{ReceivedItem}
+use Rattle.qrules.proofs.Common.{filter_map, none-some, Item, member_at, Member, completion_to, Outcome, SentItem, Event, Trace, Call, Completion, ReceivedItem}
 
 -- the item that is received is among those that were made, and what it is worth
 record IsReceivedAt (roster : List Member) (past : Trace) (e : Event) (r : Received) (item : Item) : Type 0 where

@@ -1,30 +1,17 @@
 -- What the endings of an event receive: just the receipt that its row says.
 use Rattle.std.proofs.Common.{◌≡◌, ℕ, ◌+◌, ◌<◌, ◌≤◌, List, [], ◌∷◌, length, refl, ap, sym, subst, ◌∙◌, cond, arith, true, false, eqb, ◌⊎◌, inl, inr}
 use Rattle.std.specs.Prelude.{Option, None, Some, is_some}
-use Rattle.std.specs.List.{filter_map, cons_option}
 use Rattle.std.proofs.lemmas.Bool.{cases_Bool, eqb-true, ne_eqb, true≢false}
-use Rattle.qqueue.specs.Best.{best_of}
-use Rattle.qqueue.specs.declared.item.Item.{Item}
-use Rattle.qqueue.specs.declared.item.Kind.{Kind}
-use Rattle.qqueue.proofs.OrderLaws.{best-at}
-use Rattle.qtables.specs.Members.{member_at}
-use Rattle.qtables.specs.declared.member.Member.{Member}
-use Rattle.qrules.specs.Outcome.{completion_to, Outcome, Answers}
-use Rattle.qrules.proofs.Words.Items.{receipt_of}
+use Rattle.qrules.proofs.Words.Items.{receipt_of, Received, item_in}
 use Rattle.qrules.proofs.Words.Facts.{Facts, threads_of}
 use Rattle.qrules.proofs.Words.Lawful.{facts_of, IsLawful}
 use Rattle.qrules.proofs.Words.Past.{copied_count_in, first_among, priority_of_item, copied_count_among, copied_count_of}
-use Rattle.qrules.proofs.Words.Items.{Received, item_in}
-use Rattle.qmodel.specs.Trace.{Trace}
-use Rattle.qmodel.specs.declared.call.Call.{Call}
-use Rattle.qmodel.specs.declared.call.Completion.{Completion}
-use Rattle.qbase.proofs.Lists.{is_among}
 use Rattle.qrules.proofs.Traces.Past.Laws.{RowLaws, IsReceipt, IsReceived}
 use Rattle.qrules.proofs.Traces.Calls.{call_laws}
 use Rattle.qrules.proofs.Traces.Past.Ends.{laws_of, completion_names, open_known}
 use Rattle.qrules.proofs.Traces.Past.Items.{IsPending, pending_all, pending_priorities, item_below}
 use Rattle.qrules.proofs.Traces.Rosters.{known}
-use Rattle.qrules.specs.Past.{ReceivedItem}
+use Rattle.qrules.proofs.Common.{filter_map, cons_option, best_of, Item, Kind, best-at, member_at, Member, completion_to, Outcome, Answers, Trace, Call, Completion, is_among, ReceivedItem}
 
 -- ---- what is told of one among the endings that some threads get
 

@@ -2,11 +2,9 @@
 use Rattle.std.proofs.Common.{◌≡◌, ℕ, List, [], ◌∷◌, refl, ap, sym, subst, ◌∙◌, cond, true, false, eqb}
 use Rattle.std.specs.Prelude.{Option, None, Some}
 use Rattle.std.proofs.lemmas.Bool.{eqb-true, eq-eqb, and_parts, and_from, true≢false, false_from_ne_true}
-use Rattle.std.proofs.lemmas.Option.{none-some, same_Some}
 use Rattle.qrules.proofs.Words.Facts.{is_send, number_of, is_for_answer}
 use Rattle.qrules.specs.Records.{sender_among}
-use Rattle.qmodel.specs.declared.open_call.OpenCall.{OpenCall}
-use Rattle.qbase.proofs.Lists.{is_among}
+use Rattle.qrules.proofs.Common.{none-some, same_Some, OpenCall, is_among}
 
 -- the open call of a sender has that number, and is a Send
 pub record Sends (i : ℕ) (o : Option OpenCall) : Type 0 where

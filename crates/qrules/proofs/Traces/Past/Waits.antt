@@ -3,21 +3,13 @@ use Rattle.std.proofs.Common.{◌≡◌, ◌∙◌, ℕ, List, [], ◌∷◌, re
 use Rattle.std.specs.Prelude.{Option, None, Some, is_some, ◌||◌}
 use Rattle.std.specs.Option.{option_map}
 use Rattle.std.proofs.lemmas.Bool.{true≢false}
-use Rattle.std.proofs.lemmas.Option.{none-some, same_Some}
-use Rattle.std.proofs.Math.Bool.{or-true}
-use Rattle.qtables.specs.Members.{member_at}
-use Rattle.qrules.specs.Rules.{row_of}
-use Rattle.qrules.specs.Rules.Held.{info_of}
 use Rattle.qrules.proofs.Words.Facts.{Facts, is_send, sender, threads_of}
 use Rattle.qrules.specs.Records.{sender_among}
-use Rattle.qrules.specs.Rules.{effect_of}
-use Rattle.qmodel.specs.declared.call.Call.{Call}
 use Rattle.qmodel.specs.declared.call.Call.TheVariants.{Send, Receive, Info, ReceivePulse}
-use Rattle.qmodel.specs.declared.open_call.OpenCall.{OpenCall}
-use Rattle.qbase.proofs.Lists.{eqb_same, is_among, some_of}
 use Rattle.qrules.proofs.Traces.Calls.Held.{has_sender, held_for}
 use Rattle.qrules.proofs.Traces.Past.Laws.{Passes}
 use Rattle.qrules.proofs.Traces.Rosters.{among_member}
+use Rattle.qrules.proofs.Common.{none-some, same_Some, or-true, member_at, row_of, effect_of, info_of, Call, OpenCall, eqb_same, is_among, some_of}
 
 -- ---- what is told of a held message
 

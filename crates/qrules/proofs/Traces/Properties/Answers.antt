@@ -3,42 +3,18 @@ use Rattle.qrules.proofs.Traces.Rows.{answer_same, pulse_same, sent_same, unbloc
 use Rattle.std.proofs.Common.{◌≡◌, ◌∙◌, ℕ, List, [], cond, ap, refl, sym, subst, true, false, inl, inr}
 use Rattle.std.specs.Prelude.{ℤ, pos, Option, None, Some}
 use Rattle.std.specs.Option.{option_map}
-use Rattle.std.specs.Ordering.{int_eq}
 use Rattle.std.proofs.lemmas.Bool.{true≢false}
-use Rattle.std.proofs.lemmas.Option.{none-some, same_Some}
-use Rattle.qbase.specs.declared.errno.Errno.TheVariants.{Srch}
-use Rattle.qrules.specs.Outcome.{completion_to}
-use Rattle.qrules.specs.Rules.{row_of}
-use Rattle.qqueue.specs.declared.item.Item.{Item}
-use Rattle.qqueue.specs.declared.item.Kind.{Kind}
-use Rattle.qqueue.specs.declared.item.Kind.TheVariants.{Any, PulseOnly}
-use Rattle.qtables.specs.declared.connection.Connection.{Connection}
-use Rattle.qrules.proofs.Traces.Parts.{error_finish}
-use Rattle.qrules.specs.Records.{error_mark}
-use Rattle.qrules.specs.Rules.Held.{info_of}
-use Rattle.qrules.proofs.Words.Items.{info_completion}
-use Rattle.qrules.proofs.Traces.Parts.{reply_finish}
-use Rattle.qrules.proofs.Words.Items.{message_item}
-use Rattle.qrules.specs.Rules.Held.{refusal_unless_held}
-use Rattle.qrules.proofs.Words.Items.{Finish, ends_sender}
+use Rattle.qrules.proofs.Traces.Parts.{error_finish, reply_finish}
+use Rattle.qrules.proofs.Words.Items.{info_completion, message_item, Finish, ends_sender, item_sent_over}
 use Rattle.qmodel.specs.declared.call.Info.{Info as Told}
-use Rattle.qmodel.specs.declared.call.Mark.TheVariants as mark
-use Rattle.qrules.specs.Delivery.{is_on}
+use Rattle.qrules.specs.Delivery.{is_on, delivery_of}
 use Rattle.qrules.proofs.Words.Facts.{Facts, is_for_answer, message, sender, threads_of, route, number_of}
 use Rattle.qrules.proofs.Words.Effects.{asks, makes, thread_of_send}
 use Rattle.qrules.specs.Properties.{is_answer}
-use Rattle.qrules.specs.Rules.{effect_of}
-use Rattle.qrules.specs.Delivery.{delivery_of}
-use Rattle.qrules.proofs.Words.Items.{item_sent_over}
-use Rattle.qmodel.specs.Trace.{SentItem}
-use Rattle.qmodel.specs.declared.call.Call.{Call}
 use Rattle.qmodel.specs.declared.call.Call.TheVariants.{Send, Receive, Reply, Error, Info, ReceivePulse, Pulse, ChannelDestroy, Shutdown, Unblock, ConnectDetach}
-use Rattle.qmodel.specs.declared.call.Completion.{Completion}
-use Rattle.qmodel.specs.declared.open_call.OpenCall.{OpenCall}
 use Rattle.qmodel.specs.declared.open_call.OpenCall.TheVariants.{Receive as InReceive, Send as InSend}
 use Rattle.qrules.proofs.Traces.Calls.Cancelling.{cancel_parts}
 use Rattle.qrules.proofs.Traces.Calls.Held.{IsHeldFor, SenderEnds, answering, finished_held, has_sender, held_for, sender_ends}
-use Rattle.qbase.proofs.Lists.{eqb_same}
 use Rattle.qrules.proofs.Traces.Past.Senders.{sender_sends}
 use Rattle.qrules.proofs.Traces.Past.Laws.{Passes}
 use Rattle.qrules.proofs.Traces.Properties.Receipts.{completion_of}
@@ -46,11 +22,13 @@ use Rattle.qrules.proofs.Traces.Calls.Taking.{given_is}
 use Rattle.qrules.proofs.Traces.Properties.Rows.Receiving.{ReceiveTakes, receive_takes}
 use Rattle.qrules.proofs.Traces.Properties.Rows.Delivering.{Delivers, delivery_meets}
 use Rattle.qrules.proofs.Traces.Routes.{has_way, leads_over}
+use Rattle.qrules.proofs.Traces.Calls.ConnectDetach.{detach_ends}
+use Rattle.qrules.proofs.Traces.Properties.Rows.Telling.{told_meets, unblock_ends}
+use Rattle.qrules.proofs.Common.{int_eq, none-some, same_Some, Srch, completion_to, row_of, effect_of, Item, Kind, Any, PulseOnly, Connection, error_mark, info_of, refusal_unless_held, SentItem, Call, Completion, OpenCall, eqb_same}
+use Rattle.qmodel.specs.declared.call.Mark.TheVariants as mark
 use Rattle.qrules.specs.Rules.Connections as connect_detach
 use Rattle.qrules.specs.Rules.Unblock as unblock
 use Rattle.qrules.specs.Rules.Pulse as pulse
-use Rattle.qrules.proofs.Traces.Calls.ConnectDetach.{detach_ends}
-use Rattle.qrules.proofs.Traces.Properties.Rows.Telling.{told_meets, unblock_ends}
 
 -- ---- what answers
 

@@ -1,26 +1,11 @@
 -- A receipt takes the item of greatest priority, and among equals the one that was made first.
 use Rattle.std.proofs.Common.{◌≡◌, ◌∙◌, ℕ, List, [], ◌∷◌, ◌++◌, refl, ap, sym, true, false, inl, inr}
 use Rattle.std.specs.Prelude.{Option, None, Some}
-use Rattle.std.specs.List.{AllByRecursion}
 use Rattle.std.specs.Option.{option_and_then, option_map}
-use Rattle.std.proofs.lemmas.Option.{none-some, same_Some}
 use Rattle.std.proofs.lemmas.List.{append-nil}
-use Rattle.qqueue.specs.Best.{best_of, may_take}
-use Rattle.qqueue.specs.declared.item.Item.{Item}
-use Rattle.qqueue.specs.declared.item.Kind.{Kind}
-use Rattle.qtables.specs.Members.{IsRoster}
-use Rattle.qtables.specs.declared.member.Member.{Member}
-use Rattle.qrules.specs.Outcome.{Outcome}
 use Rattle.qrules.specs.Properties.{request_of, takeable, BestFirst, TakesBest}
-use Rattle.qrules.specs.Rule.{ReceiveRequest}
-use Rattle.qrules.specs.Rules.{effect_of}
-use Rattle.qrules.specs.Trace.{call_at}
 use Rattle.qrules.proofs.Words.Lawful.{facts_of, IsLawful}
 use Rattle.qrules.proofs.Words.Past.{pending_items, made_on}
-use Rattle.qmodel.specs.Trace.{Event, Trace}
-use Rattle.qmodel.specs.declared.call.Call.{Call}
-use Rattle.qmodel.specs.declared.call.Completion.{Completion}
-use Rattle.qbase.proofs.Lists.{eqb_same}
 use Rattle.qrules.proofs.Traces.Past.Numbers.{block_asked, block_below, call_earlier, call_newest}
 use Rattle.qrules.proofs.Traces.Properties.Events.{each_received, made_now, none_made}
 use Rattle.qrules.proofs.Traces.Properties.Receipts.{TakesMade, TakesPending, waits_for}
@@ -28,6 +13,7 @@ use Rattle.qrules.proofs.Traces.Properties.Sends.{open_keeps}
 use Rattle.qrules.proofs.Traces.Properties.Waiting.{buffer_waits_for, held_waits_for, nothing_for, place_of, waits_for_asked}
 use Rattle.qrules.proofs.Traces.Past.Open.{open_parts}
 use Rattle.qmodel.specs.OpenCalls.{number_of}
+use Rattle.qrules.proofs.Common.{AllByRecursion, none-some, same_Some, best_of, may_take, Item, Kind, IsRoster, Member, Outcome, ReceiveRequest, effect_of, call_at, Event, Trace, Call, Completion, eqb_same}
 
 -- ---- what a call asks to receive
 

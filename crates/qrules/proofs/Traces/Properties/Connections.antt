@@ -1,28 +1,19 @@
 -- What could be taken from a channel: items of that channel, and so of the connections over which they were sent.
 use Rattle.std.proofs.Common.{◌≡◌, ◌∙◌, ℕ, ◌+◌, List, [], ◌∷◌, length, refl, ap, sym, subst, cond, eqb, true, false}
 use Rattle.std.specs.Prelude.{Option, None, Some, is_some}
-use Rattle.std.specs.List.{AllByRecursion}
 use Rattle.std.specs.Option.{option_and_then, option_map, option_or}
-use Rattle.std.proofs.lemmas.Option.{none-some, same_Some}
-use Rattle.qqueue.specs.declared.item.Item.{Item}
-use Rattle.qtables.specs.declared.connection.Connection.{Connection}
-use Rattle.qtables.specs.declared.member.Member.{Member}
 use Rattle.qrules.specs.Properties.{connection_of, takeable}
-use Rattle.qrules.specs.Trace.{call_at}
 use Rattle.qrules.proofs.Words.Effects.{makes}
-use Rattle.qrules.specs.Rules.{effect_of}
 use Rattle.qrules.proofs.Words.Past.{item_of, pending_items, priority_before, attached_connection, made_on}
 use Rattle.qrules.proofs.Words.Items.{message_numbered, pulse_item, item_sent_over}
-use Rattle.qmodel.specs.Trace.{SentItem, Event, Trace}
-use Rattle.qmodel.specs.declared.call.Call.{Call}
 use Rattle.qmodel.specs.declared.call.Call.TheVariants.{Send, Pulse}
 use Rattle.qrules.proofs.Traces.Past.Items.{before_earlier, before_newest, item_accepted, IsPending, item_at, item_below, item_earlier, item_newest, item_priority, made_by, pending_all, pending_each}
-use Rattle.qbase.proofs.Lists.{all_append, all_more}
 use Rattle.qrules.proofs.Traces.Past.Pending.{made_all}
 use Rattle.qrules.proofs.Traces.Properties.Sends.{made_stays}
 use Rattle.qrules.proofs.Words.Facts.{Facts}
 use Rattle.qrules.proofs.Words.Lawful.{facts_of}
 use Rattle.qrules.proofs.Traces.Past.Connections.{live_attached}
+use Rattle.qrules.proofs.Common.{AllByRecursion, none-some, same_Some, Item, Connection, Member, call_at, effect_of, SentItem, Event, Trace, Call, all_append, all_more}
 
 -- ---- each is an item of the channel
 

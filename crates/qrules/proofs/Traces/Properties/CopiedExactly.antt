@@ -2,54 +2,23 @@
 use Rattle.qrules.proofs.Traces.Rows.{answer_same, pulse_same, sent_same, unblocked_same}
 use Rattle.std.proofs.Common.{◌≡◌, ◌∙◌, ℕ, ◌+◌, ◌≤◌, List, [], ◌∷◌, length, refl, ap, sym, subst, cond, arith, Bool, true, false, inl, inr}
 use Rattle.std.specs.Prelude.{ℤ, pos, Option, None, Some}
-use Rattle.std.specs.List.{AllByRecursion}
 use Rattle.std.specs.Option.{option_and_then, option_map, option_map_or}
-use Rattle.std.specs.Ordering.{int_eq}
 use Rattle.std.proofs.lemmas.Bool.{true≢false}
-use Rattle.std.proofs.lemmas.Option.{none-some, same_Some}
-use Rattle.qbase.specs.declared.errno.Errno.{Errno}
-use Rattle.qbase.specs.declared.errno.Errno.TheVariants.{Srch, Intr, Badf}
-use Rattle.qqueue.specs.Best.{is_pulse}
-use Rattle.qqueue.specs.declared.item.Item.{Item}
-use Rattle.qqueue.specs.declared.item.Kind.{Kind}
-use Rattle.qqueue.specs.declared.item.Kind.TheVariants.{Any, PulseOnly}
-use Rattle.qbase.specs.Laying.{laid_count, lay_over}
-use Rattle.qtables.specs.declared.member.Member.{Member}
-use Rattle.qrules.specs.Outcome.{completion_to, Answers}
-use Rattle.qrules.specs.Rules.{row_of}
 use Rattle.qmodel.specs.Buffers.{buffer_of}
 use Rattle.qrules.proofs.Words.Effects.{writes}
-use Rattle.qrules.proofs.Traces.Parts.{error_finish}
-use Rattle.qrules.specs.Rules.Held.{info_of}
-use Rattle.qrules.proofs.Words.Items.{info_completion}
-use Rattle.qrules.proofs.Traces.Parts.{reply_finish}
-use Rattle.qrules.proofs.Words.Items.{message_item}
-use Rattle.qrules.specs.Delivery.{cancel_call, is_on, is_over}
-use Rattle.qrules.proofs.Words.Facts.{Facts, message, sender, threads_of, route, number_of}
-use Rattle.qrules.specs.Records.{message_in}
-use Rattle.qrules.specs.Rules.Held.{refusal_unless_held}
-use Rattle.qrules.proofs.Words.Items.{Finish}
-use Rattle.qrules.proofs.Words.Facts.{reply_buffer}
-use Rattle.qrules.specs.Records.{reply_buffer_in}
+use Rattle.qrules.proofs.Traces.Parts.{error_finish, reply_finish}
+use Rattle.qrules.proofs.Words.Items.{info_completion, message_item, Finish}
+use Rattle.qrules.proofs.Words.Facts.{Facts, message, sender, threads_of, route, number_of, reply_buffer}
+use Rattle.qrules.specs.Records.{message_in, reply_buffer_in}
 use Rattle.qrules.proofs.Messages.{message_same, reply_buffer_same}
 use Rattle.qrules.specs.Properties.{buffer_at, message_at, CopiedExactly, IsCopied}
-use Rattle.qrules.specs.Rules.{effect_of}
-use Rattle.qrules.specs.Trace.{call_at}
 use Rattle.qrules.proofs.Words.Lawful.{facts_of, IsLawful}
 use Rattle.qrules.proofs.Words.Past.{open_call, refuses}
-use Rattle.qrules.specs.Delivery.{receipt_completion}
-use Rattle.qmodel.specs.Trace.{SentItem, Event, Trace}
-use Rattle.qmodel.specs.declared.call.Call.{Call}
 use Rattle.qmodel.specs.declared.call.Call.TheVariants.{Send, Receive, Reply, Error, Read, Write, Info, ReceivePulse, Pulse, ChannelDestroy, Shutdown, Unblock, ConnectDetach}
-use Rattle.qmodel.specs.declared.call.Completion.{Completion}
 use Rattle.qmodel.specs.declared.call.Info.{Info as Told}
-use Rattle.qmodel.specs.declared.call.Mark.{Mark}
-use Rattle.qmodel.specs.declared.call.Mark.TheVariants as mark
-use Rattle.qmodel.specs.declared.open_call.OpenCall.{OpenCall}
 use Rattle.qrules.proofs.Traces.Past.Ends.{passes_of, refused}
 use Rattle.qrules.proofs.Traces.Past.Items.{item_below}
 use Rattle.qrules.proofs.Traces.Past.Laws.{Passes}
-use Rattle.qbase.proofs.Lists.{all_filter_map}
 use Rattle.qrules.proofs.Traces.Past.Numbers.{call_earlier, call_newest}
 use Rattle.qrules.proofs.Traces.Past.Open.{open_below}
 use Rattle.qrules.proofs.Traces.Past.Receipts.{best_pending}
@@ -63,16 +32,17 @@ use Rattle.qrules.proofs.Traces.Calls.Cancelling.{IsCancelledCall, cancel_parts}
 use Rattle.qrules.proofs.Traces.Calls.Held.{IsHeldFor, SenderEnds, answering, has_sender, held_for, sender_ends}
 use Rattle.qrules.proofs.Traces.Properties.Rows.Delivering.{Delivers, delivery_meets}
 use Rattle.qrules.proofs.Traces.Properties.Rows.Telling.{Tells, told_meets, unblock_ends}
+use Rattle.qrules.proofs.Traces.Calls.Pulse.{sent_is_pulse}
+use Rattle.qrules.proofs.Traces.Calls.ConnectDetach.{detach_ends}
+use Rattle.qrules.proofs.Traces.Calls.Unblock.{is_cancelled}
+use Rattle.qmodel.specs.declared.open_call.OpenCall.TheVariants.{Receive as InReceive, Send as InSend}
+use Rattle.qrules.proofs.Common.{AllByRecursion, int_eq, none-some, same_Some, Errno, Srch, Intr, Badf, is_pulse, Item, Kind, Any, PulseOnly, laid_count, lay_over, Member, completion_to, Answers, row_of, effect_of, info_of, refusal_unless_held, cancel_call, is_on, is_over, receipt_completion, call_at, SentItem, Event, Trace, Call, Completion, Mark, OpenCall, all_filter_map, buffer_in}
+use Rattle.qmodel.specs.declared.call.Mark.TheVariants as mark
 use Rattle.qrules.specs.Rules.Connections as connect_detach
 use Rattle.qrules.specs.Rules.Unblock as unblock
 use Rattle.qrules.specs.Rules.Pulse as pulse
-use Rattle.qrules.proofs.Traces.Calls.Pulse.{sent_is_pulse}
 use Rattle.qrules.proofs.Traces.Calls.ConnectDetach as detaching
-use Rattle.qrules.proofs.Traces.Calls.ConnectDetach.{detach_ends}
 use Rattle.qrules.proofs.Traces.Calls.Unblock as unblocking
-use Rattle.qrules.proofs.Traces.Calls.Unblock.{is_cancelled}
-use Rattle.qmodel.specs.OpenCalls.{buffer_in}
-use Rattle.qmodel.specs.declared.open_call.OpenCall.TheVariants.{Receive as InReceive, Send as InSend}
 
 abbrev event : ℕ → Call → List Completion → Event
 event t c X = record { thread = t; call = c; endings = X }

@@ -1,14 +1,10 @@
 -- Lists of numbers of which no two are equal.
 use Rattle.std.proofs.Common.{◌≡◌, ℕ, ◌<◌, List, [], ◌∷◌, ◌++◌, map, refl, ap, eqb, false}
 use Rattle.std.specs.Prelude.{Option, None, Some}
-use Rattle.std.specs.List.{filter_map, cons_option, AllByRecursion}
 use Rattle.std.specs.Option.{option_and_then}
-use Rattle.qtables.specs.declared.member.Member.{Member}
-use Rattle.qtables.specs.Members.{IsRoster}
-use Rattle.qmodel.specs.declared.call.Completion.{Completion}
 use Rattle.qrules.proofs.Words.Facts.{threads_of}
 use Rattle.qrules.specs.Properties.{AllDifferent}
-use Rattle.qbase.proofs.Lists.{all_append}
+use Rattle.qrules.proofs.Common.{filter_map, cons_option, AllByRecursion, Member, IsRoster, Completion, all_append}
 
 -- a number is none of these
 abbrev pub IsNoneOf : ℕ → List ℕ → Type 0

@@ -3,31 +3,11 @@ use Rattle.qrules.proofs.Traces.Rows.{answer_same, pulse_same, sent_same, unbloc
 use Rattle.std.proofs.Common.{◌≡◌, ◌∙◌, ℕ, List, [], ap, refl, sym, cond, eqb, true, false, inl, inr, ◌⊎◌}
 use Rattle.std.specs.Prelude.{Option, None, Some}
 use Rattle.std.specs.Option.{option_map}
-use Rattle.std.proofs.lemmas.Bool.{eqb-true}
-use Rattle.std.proofs.lemmas.Option.{none-some, same_Some}
-use Rattle.qbase.specs.declared.errno.Errno.TheVariants.{Srch}
-use Rattle.qqueue.specs.Best.{best_of, may_take}
-use Rattle.qqueue.specs.declared.item.Item.{Item}
-use Rattle.qqueue.specs.declared.item.Kind.{Kind}
-use Rattle.qqueue.specs.declared.item.Kind.TheVariants.{Any, PulseOnly}
-use Rattle.qrules.specs.Outcome.{completion_to}
-use Rattle.qrules.specs.Rules.{row_of}
-use Rattle.qrules.proofs.Traces.Parts.{error_finish}
-use Rattle.qrules.specs.Rules.Held.{info_of}
-use Rattle.qrules.proofs.Traces.Parts.{reply_finish}
-use Rattle.qrules.proofs.Words.Items.{message_item}
-use Rattle.qrules.specs.Delivery.{is_on}
+use Rattle.qrules.proofs.Traces.Parts.{error_finish, reply_finish}
+use Rattle.qrules.proofs.Words.Items.{message_item, item_in}
 use Rattle.qrules.proofs.Words.Facts.{Facts, message, sender, route, number_of}
 use Rattle.qrules.proofs.Words.Effects.{makes}
-use Rattle.qrules.specs.Rule.{ReceiveRequest}
-use Rattle.qrules.specs.Rules.{effect_of}
-use Rattle.qrules.specs.Properties.{number_received}
-use Rattle.qrules.proofs.Words.Items.{item_in}
-use Rattle.qmodel.specs.Trace.{SentItem}
-use Rattle.qmodel.specs.declared.call.Call.{Call}
 use Rattle.qmodel.specs.declared.call.Call.TheVariants.{Send, Receive, Reply, Error, Info, ReceivePulse, Pulse, ChannelDestroy, Shutdown, Unblock, ConnectDetach}
-use Rattle.qmodel.specs.declared.call.Completion.{Completion}
-use Rattle.qmodel.specs.declared.open_call.OpenCall.{OpenCall}
 use Rattle.qmodel.specs.declared.open_call.OpenCall.TheVariants.{Receive as InReceive, Send as InSend}
 use Rattle.qrules.proofs.Traces.Calls.Taking.{given_received}
 use Rattle.qrules.proofs.Traces.Properties.Rows.Delivering.{Delivers, delivery_meets}
@@ -37,13 +17,13 @@ use Rattle.qrules.proofs.Traces.Calls.Cancelling.{cancel_parts}
 use Rattle.qrules.proofs.Traces.Calls.Error.{no_receipt}
 use Rattle.qrules.proofs.Traces.Calls.Held.{sender_ends}
 use Rattle.qrules.proofs.Traces.Calls.Info.{plain}
-use Rattle.qrules.specs.Rules.Connections as connect_detach
-use Rattle.qrules.specs.Rules.Unblock as unblock
-use Rattle.qrules.specs.Rules.Pulse as pulse
 use Rattle.qrules.proofs.Traces.Calls.ConnectDetach.{detach_ends}
 use Rattle.qrules.proofs.Traces.Properties.Rows.Telling.{Tells, told_meets, unblock_ends}
 use Rattle.qrules.proofs.Traces.Calls.Delivering.{sent_way}
-use Rattle.qrules.specs.Past.{ReceivedItem}
+use Rattle.qrules.proofs.Common.{eqb-true, none-some, same_Some, Srch, best_of, may_take, Item, Kind, Any, PulseOnly, completion_to, row_of, effect_of, info_of, is_on, ReceiveRequest, number_received, SentItem, Call, Completion, OpenCall, ReceivedItem}
+use Rattle.qrules.specs.Rules.Connections as connect_detach
+use Rattle.qrules.specs.Rules.Unblock as unblock
+use Rattle.qrules.specs.Rules.Pulse as pulse
 
 -- ---- whose completion it is
 

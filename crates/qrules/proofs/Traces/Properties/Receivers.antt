@@ -1,22 +1,12 @@
 -- The receiver that began to wait last: it waits, no other that waits began later, and there is one where any waits.
 use Rattle.std.proofs.Common.{◌≡◌, ◌<◌, ◌≤◌, ◌∙◌, ℕ, List, [], ◌∷◌, refl, ap, sym, subst, arith, cond, eqb, true, false, inl, inr}
-use Rattle.std.specs.Prelude.{Option, None, Some, is_some, ◌&&◌, ◌⊎◌, nat_lt, Bool}
-use Rattle.std.specs.List.{list_any}
-use Rattle.std.specs.Option.{option_map_or}
+use Rattle.std.specs.Prelude.{Option, None, Some, is_some, ◌&&◌, ◌⊎◌, nat_lt, Bool, find}
 use Rattle.std.proofs.lemmas.Bool.{and_parts, cases_Bool, eqb-true, le-ltb, lt-ltb, ltb-true, not-true, or_cases, or_parts, true≢false}
-use Rattle.std.proofs.lemmas.Option.{none-some, same_Some}
-use Rattle.std.proofs.Math.Bool.{or-true}
-use Rattle.qqueue.specs.Best.{may_take}
-use Rattle.qqueue.specs.declared.item.Item.{Item}
-use Rattle.qmodel.specs.declared.open_call.OpenCall.{OpenCall}
 use Rattle.qmodel.specs.declared.open_call.OpenCall.TheVariants.{Receive, Send}
 use Rattle.qrules.proofs.Words.Facts.{Facts, threads_of}
-use Rattle.std.specs.Prelude.{find}
-use Rattle.qrules.specs.Records.{is_after, is_last_wait, is_newest, newest_receiver_among}
-use Rattle.qrules.specs.Delivery.{newest_receiver}
-use Rattle.qrules.specs.Records.{wait_on}
-use Rattle.qbase.proofs.Lists.{eqb_same, is_among}
+use Rattle.qrules.specs.Records.{is_after, is_last_wait, is_newest, newest_receiver_among, wait_on}
 use Rattle.qmodel.specs.declared.open_call.OpenReceive.{OpenReceive}
+use Rattle.qrules.proofs.Common.{list_any, option_map_or, none-some, same_Some, or-true, may_take, Item, OpenCall, newest_receiver, eqb_same, is_among}
 
 -- the open call waits for an item of channel h, and may take this one
 pub record WaitsOn (h : ℕ) (item : Item) (call : Option OpenCall) : Type 0 where

@@ -1,28 +1,14 @@
 -- Of what was sent over one connection and has one priority as it is received, what was sent first is received first.
 use Rattle.std.proofs.Common.{◌≡◌, ◌∙◌, ℕ, ◌≤◌, List, [], ◌∷◌, ap, sym, subst, arith, true, inl, inr}
-use Rattle.std.specs.Prelude.{Some}
-use Rattle.std.specs.List.{AllByRecursion}
 use Rattle.std.proofs.lemmas.Bool.{cases_eq}
-use Rattle.std.proofs.lemmas.Option.{same_Some}
-use Rattle.qqueue.specs.Best.{best_of, may_take}
-use Rattle.qqueue.specs.Contents.{IsRising}
-use Rattle.qqueue.specs.declared.item.Item.{Item}
-use Rattle.qqueue.specs.declared.item.Kind.{Kind}
-use Rattle.qqueue.specs.declared.item.Kind.TheVariants.{Any}
-use Rattle.qqueue.proofs.OrderLaws.{best-at}
-use Rattle.qtables.specs.Members.{IsRoster}
-use Rattle.qtables.specs.declared.member.Member.{Member}
 use Rattle.qrules.specs.Properties.{connection_of, number_received, takeable, BestFirst, IsEarliest, SentOrder, TakesBest, TakesSent}
-use Rattle.qrules.specs.Rule.{ReceiveRequest}
 use Rattle.qrules.proofs.Words.Lawful.{IsLawful}
 use Rattle.qrules.proofs.Words.Past.{priority_before}
-use Rattle.qmodel.specs.Trace.{Event, Trace}
-use Rattle.qmodel.specs.declared.call.Completion.{Completion}
 use Rattle.qrules.proofs.Traces.Past.Best.{best_earliest, some_number}
-use Rattle.qbase.proofs.Lists.{all_more}
 use Rattle.qrules.proofs.Traces.Past.Rising.{takeable_rises}
 use Rattle.qrules.proofs.Traces.Properties.BestFirst.{best_first}
 use Rattle.qrules.proofs.Traces.Properties.Connections.{IsMadeFor, item_over, takeable_made, takeable_priorities}
+use Rattle.qrules.proofs.Common.{Some, AllByRecursion, same_Some, best_of, may_take, IsRising, Item, Kind, Any, best-at, IsRoster, Member, ReceiveRequest, Event, Trace, Completion, all_more}
 
 -- a Receive may take any item
 takes_any : (asked request : ReceiveRequest) (item : Item) → Some asked ≡ Some request → request.kind ≡ Any → may_take asked.kind item ≡ true

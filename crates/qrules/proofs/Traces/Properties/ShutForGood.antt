@@ -1,34 +1,17 @@
 -- Nothing is received from a channel that is destroyed, and no thread is blocked on it.
 use Rattle.std.proofs.Common.{◌≡◌, ◌∙◌, ℕ, ◌+◌, List, [], ◌∷◌, length, refl, ap, sym, subst, cond, eqb, true, false, inl, inr}
 use Rattle.std.specs.Prelude.{Option, None, Some, is_some, ◌||◌}
-use Rattle.std.specs.List.{AllByRecursion}
 use Rattle.std.specs.Option.{option_and_then, option_map}
 use Rattle.std.proofs.lemmas.Bool.{eq-eqb, eqb-true, or_cases, true≢false}
-use Rattle.std.proofs.lemmas.Option.{none-some, same_Some}
-use Rattle.qbase.specs.declared.errno.Errno.TheVariants.{Srch}
-use Rattle.qqueue.specs.Best.{best_of}
-use Rattle.qtables.specs.Members.{IsRoster}
-use Rattle.qtables.specs.declared.member.Member.{Member}
-use Rattle.qrules.specs.Outcome.{Outcome}
-use Rattle.qrules.proofs.Words.Items.{receipt_of}
-use Rattle.qrules.specs.Rules.{row_of}
-use Rattle.qrules.specs.Delivery.{is_on}
+use Rattle.qrules.proofs.Words.Items.{receipt_of, names, message_item}
 use Rattle.qrules.proofs.Words.Facts.{Facts, owns}
-use Rattle.qrules.specs.Past.{item_among, channel_of}
 use Rattle.qrules.proofs.Words.Effects.{asks, closes, makes, unblocks, writes}
 use Rattle.qrules.specs.Facts.{receive_in, send_in, OpenReceive, OpenSend}
 use Rattle.qrules.specs.Properties.{number_received, IsShut, ShutForGood}
 use Rattle.qrules.proofs.Words.Lawful.{facts_of, IsLawful}
-use Rattle.qrules.specs.Rules.{effect_of}
 use Rattle.qrules.proofs.Words.Past.{attached_connection, is_destroyed, items, open_call}
-use Rattle.qrules.proofs.Words.Items.{names}
 use Rattle.qrules.proofs.Words.Step.{after_receipt, after_write, channel_after, open_call_after, unless, after_unblock}
-use Rattle.qrules.specs.Records.{unblocked_call}
-use Rattle.qmodel.specs.Trace.{Event, Trace}
-use Rattle.qmodel.specs.declared.call.Call.{Call}
 use Rattle.qmodel.specs.declared.call.Call.TheVariants.{Send, Receive, ReceivePulse, ChannelDestroy}
-use Rattle.qmodel.specs.declared.call.Completion.{Completion}
-use Rattle.qmodel.specs.declared.open_call.OpenCall.{OpenCall}
 use Rattle.qrules.proofs.Traces.Past.Channels.{closed_accepted, open_at, owned_open}
 use Rattle.qrules.proofs.Traces.Past.Ends.{accepted, laws_of, passes_of}
 use Rattle.qrules.proofs.Traces.Past.Follows.{past_follows}
@@ -44,8 +27,7 @@ use Rattle.qmodel.specs.declared.open_call.OpenCall.TheVariants.{Receive as InRe
 use Rattle.qrules.proofs.Traces.Calls.Delivering.{sent_way, goes_to_open}
 use Rattle.qrules.proofs.Traces.Past.Open.{held_on, buffer_on}
 use Rattle.qrules.proofs.Traces.Properties.Sends.{open_on}
-use Rattle.qrules.proofs.Words.Items.{message_item}
-use Rattle.qrules.proofs.Words.Items.{message_item}
+use Rattle.qrules.proofs.Common.{AllByRecursion, none-some, same_Some, Srch, best_of, IsRoster, Member, Outcome, row_of, effect_of, is_on, item_among, channel_of, unblocked_call, Event, Trace, Call, Completion, OpenCall}
 
 -- ---- by each call's row
 

@@ -1,41 +1,16 @@
 -- While a thread waits for an item of a channel, nothing that it may take is pending there.
 use Rattle.std.proofs.Common.{◌≡◌, ◌∙◌, ℕ, List, [], ◌∷◌, ◌++◌, refl, ap, sym, subst, cond, eqb, Bool, true, false, inl, inr}
 use Rattle.std.specs.Prelude.{Option, None, Some, is_some, not, filter}
-use Rattle.std.specs.List.{AllByRecursion}
 use Rattle.std.specs.Option.{option_map}
-use Rattle.std.proofs.lemmas.Bool.{eqb-true, eqb-false, not-true}
 use Rattle.std.proofs.lemmas.Option.{none-some, same_Some, some_pair_parts}
-use Rattle.qqueue.specs.Best.{best_of, may_take, with_priority, without_item}
-use Rattle.qqueue.specs.declared.item.Item.{Item}
-use Rattle.qqueue.specs.declared.item.Kind.{Kind}
-use Rattle.qqueue.specs.declared.item.Kind.TheVariants.{Any, PulseOnly}
 use Rattle.qqueue.proofs.OrderLaws.{none-may}
-use Rattle.qtables.specs.Members.{IsRoster}
-use Rattle.qtables.specs.declared.member.Member.{Member}
-use Rattle.qrules.proofs.Words.Items.{receipt_of}
-use Rattle.qrules.specs.Rules.{row_of}
-use Rattle.qrules.proofs.Words.Items.{message_item}
-use Rattle.qrules.proofs.Words.Items.{receiver}
-use Rattle.qrules.proofs.Words.Items.{receipt_when_sent}
-use Rattle.qrules.proofs.Words.Items.{own_receipt}
+use Rattle.qrules.proofs.Words.Items.{receipt_of, message_item, receiver, receipt_when_sent, own_receipt, Received, names, item_sent_over, pulse_receipt}
 use Rattle.qrules.proofs.Words.Facts.{Facts, sender, threads_of, route}
-use Rattle.qrules.specs.Records.{held_call, with_buffer}
 use Rattle.qrules.proofs.Words.Effects.{asks, closes, makes, sets, unblocks, writes}
 use Rattle.qrules.proofs.Words.Lawful.{facts_of, IsLawful}
-use Rattle.qrules.specs.Rule.{ReceiveRequest}
-use Rattle.qrules.specs.Rules.{effect_of}
 use Rattle.qrules.proofs.Words.Past.{made_on}
-use Rattle.qrules.specs.Delivery.{newest_receiver}
-use Rattle.qrules.proofs.Words.Items.{Received, names, item_sent_over}
-use Rattle.qrules.specs.Records.{takes}
-use Rattle.qrules.specs.Delivery.{receipt_completion}
-use Rattle.qmodel.specs.Trace.{SentItem, Trace}
 use Rattle.qrules.proofs.Words.Step.{after_receipt, after_write, is_cancelled, uncancelled_items, items_with_priority_set, open_call_after, pending_after, unreceived_items, unless, after_unblock}
-use Rattle.qrules.specs.Records.{unblocked_call}
-use Rattle.qmodel.specs.declared.call.Call.{Call}
 use Rattle.qmodel.specs.declared.call.Call.TheVariants.{Send, Receive, ReceivePulse, Pulse, Unblock, ConnectDetach}
-use Rattle.qmodel.specs.declared.open_call.OpenCall.{OpenCall}
-use Rattle.qmodel.specs.declared.open_call.Receipt.{Receipt}
 use Rattle.qmodel.specs.declared.open_call.OpenCall.TheVariants.{Receive as InReceive, Send as InSend}
 use Rattle.qrules.proofs.Traces.Calls.Taking.{given_received, receipt_from, receipt_in_at}
 use Rattle.qrules.proofs.Traces.Past.Ends.{open_known, passes_of}
@@ -49,9 +24,8 @@ use Rattle.qrules.proofs.Traces.Properties.Receivers.{WaitsOn, newest_some, newe
 use Rattle.qrules.proofs.Traces.Routes.{has_way}
 use Rattle.qrules.proofs.Traces.Rosters.{known}
 use Rattle.qrules.proofs.Traces.Calls.Delivering.{sent_way}
-use Rattle.qrules.proofs.Words.Items.{pulse_receipt}
-use Rattle.qrules.specs.Past.{channel_of}
 use Rattle.qmodel.specs.declared.open_call.OpenReceive.{OpenReceive}
+use Rattle.qrules.proofs.Common.{AllByRecursion, eqb-true, eqb-false, not-true, best_of, may_take, with_priority, without_item, Item, Kind, Any, PulseOnly, IsRoster, Member, row_of, effect_of, held_call, with_buffer, takes, unblocked_call, ReceiveRequest, newest_receiver, receipt_completion, SentItem, Trace, Call, OpenCall, Receipt, channel_of}
 
 -- ---- what a thread waits for
 

@@ -2,47 +2,18 @@
 use Rattle.qrules.proofs.Traces.Rows.{answer_same, pulse_same, sent_same, unblocked_same}
 use Rattle.std.proofs.Common.{◌≡◌, ℕ, ◌≤◌, List, [], ◌∷◌, length, refl, ap, sym, subst, ◌∙◌, cond, Bool, true, false, eqb, arith, inl, inr}
 use Rattle.std.specs.Prelude.{Option, None, Some, is_some, ◌&&◌}
-use Rattle.std.specs.List.{AllByRecursion}
 use Rattle.std.specs.Option.{option_map}
 use Rattle.std.proofs.lemmas.Bool.{ne_eqb, true≢false}
-use Rattle.std.proofs.lemmas.Option.{none-some, same_Some}
-use Rattle.qbase.specs.Laying.{laid_count, lay_over}
-use Rattle.qbase.specs.declared.errno.Errno.{Errno}
-use Rattle.qbase.specs.declared.errno.Errno.TheVariants.{Srch}
-use Rattle.qqueue.specs.Best.{is_pulse}
-use Rattle.qqueue.specs.declared.item.Item.{Item}
-use Rattle.qqueue.specs.declared.item.Kind.TheVariants.{Any, PulseOnly}
-use Rattle.qrules.specs.Outcome.{completion_to}
-use Rattle.qrules.specs.Rules.{row_of}
 use Rattle.qmodel.specs.Buffers.{buffer_of}
 use Rattle.qrules.proofs.Words.Effects.{asks, makes, unblocks, writes}
-use Rattle.qrules.specs.Rules.Connections as connect_detach
-use Rattle.qrules.proofs.Traces.Parts.{error_finish}
-use Rattle.qrules.proofs.Traces.Parts.{reply_finish}
-use Rattle.qrules.proofs.Words.Items.{message_item}
-use Rattle.qrules.specs.Rules.Unblock as unblock
-use Rattle.qrules.specs.Rules.Held.{info_of}
-use Rattle.qrules.proofs.Words.Items.{receipt_of, info_completion}
-use Rattle.qrules.specs.Rules.Pulse as pulse
-use Rattle.qrules.specs.Delivery.{is_on}
+use Rattle.qrules.proofs.Traces.Parts.{error_finish, reply_finish}
+use Rattle.qrules.proofs.Words.Items.{message_item, receipt_of, info_completion, Finish, ends_sender, Received, buffer_after_write}
 use Rattle.qrules.proofs.Words.Facts.{Facts, message, sender, threads_of, route, number_of}
-use Rattle.qrules.specs.Records.{buffer_of_open, with_buffer}
-use Rattle.qrules.specs.Rules.Held.{refusal_unless_held}
-use Rattle.qrules.proofs.Words.Items.{Finish, ends_sender}
-use Rattle.qrules.proofs.Words.Items.{Received, buffer_after_write}
-use Rattle.qrules.specs.Delivery.{receipt_completion}
-use Rattle.qmodel.specs.Trace.{SentItem, Event, Trace}
+use Rattle.qrules.specs.Records.{buffer_of_open, with_buffer, held_call, is_thread, unblocked_call, written_call}
 use Rattle.qrules.proofs.Words.Step.{after_receipt, after_unblock, after_write, open_call_after, unless}
-use Rattle.qrules.specs.Records.{held_call, is_thread, unblocked_call, written_call}
 use Rattle.qrules.proofs.Words.Past.{is_accepted, with_writes, open_call, filled, with_receipt}
-use Rattle.qmodel.specs.declared.call.Call.{Call}
 use Rattle.qmodel.specs.declared.call.Call.TheVariants.{Send, Receive, Reply, Error, Read, Info, ReceivePulse, Pulse, ChannelDestroy, Shutdown, Unblock, ConnectDetach}
-use Rattle.qmodel.specs.declared.call.Completion.{Completion}
-use Rattle.qmodel.specs.declared.call.Mark.{Mark}
-use Rattle.qmodel.specs.declared.call.Mark.TheVariants as mark
 use Rattle.qmodel.specs.declared.call.Info.{Info as Told}
-use Rattle.qmodel.specs.declared.open_call.OpenCall.{OpenCall}
-use Rattle.qmodel.specs.declared.open_call.Receipt.{Receipt}
 use Rattle.qmodel.specs.declared.open_call.OpenCall.TheVariants.{Receive as InReceive, Send as InSend}
 use Rattle.qrules.proofs.Traces.Calls.ConnectDetach.{detach_ends}
 use Rattle.qrules.proofs.Traces.Calls.Cancelling.{IsCancelledCall, cancel_parts}
@@ -53,18 +24,16 @@ use Rattle.qrules.proofs.Traces.Past.Open.{open_parts}
 use Rattle.qrules.proofs.Traces.Properties.Rows.Delivering.{Delivers, delivery_meets}
 use Rattle.qrules.proofs.Traces.Properties.Rows.Receiving.{receive_takes}
 use Rattle.qrules.proofs.Traces.Properties.Rows.Telling.{told_meets, unblock_ends}
-use Rattle.qtables.specs.Members.{IsRoster}
-use Rattle.qtables.specs.declared.member.Member.{Member}
-use Rattle.qrules.specs.Trace.{call_at}
 use Rattle.qrules.proofs.Words.Lawful.{facts_of, IsLawful}
 use Rattle.qbase.proofs.Lengths.{lay_length}
-use Rattle.qbase.proofs.Lists.{all_filter_map, all_more, eqb_same}
 use Rattle.qrules.proofs.Traces.Past.Ends.{completion_names, laws_of, passes_of}
 use Rattle.qrules.proofs.Traces.TraceLaws.Blocked.{some_receipt}
 use Rattle.qrules.proofs.Traces.Past.OpenCalls.{open_accepted, open_refused}
-use Rattle.qrules.specs.Rule.{Transfer}
-use Rattle.qmodel.specs.OpenCalls.{buffer_in}
-use Rattle.qrules.specs.Past.{channel_of}
+use Rattle.qrules.proofs.Common.{AllByRecursion, none-some, same_Some, laid_count, lay_over, Errno, Srch, is_pulse, Item, Any, PulseOnly, completion_to, row_of, info_of, refusal_unless_held, is_on, receipt_completion, SentItem, Event, Trace, Call, Completion, Mark, OpenCall, Receipt, IsRoster, Member, call_at, all_filter_map, all_more, eqb_same, Transfer, buffer_in, channel_of}
+use Rattle.qrules.specs.Rules.Connections as connect_detach
+use Rattle.qrules.specs.Rules.Unblock as unblock
+use Rattle.qrules.specs.Rules.Pulse as pulse
+use Rattle.qmodel.specs.declared.call.Mark.TheVariants as mark
 
 taking_length : (item : Item) (message : List ℕ) (u m : ℕ) (buffer : List ℕ) → length (receipt_completion item message u m buffer).buffer ≡ length buffer
 taking_length item message u m buffer =

@@ -1,19 +1,13 @@
 -- A call that delivers an item meets a thread that waits on its channel, if it ends another's.
 use Rattle.std.proofs.Common.{◌≡◌, ◌∙◌, ℕ, List, refl, sym, subst, true}
 use Rattle.std.specs.Prelude.{Option, None, Some}
-use Rattle.std.proofs.lemmas.Option.{none-some, same_Some}
-use Rattle.qqueue.specs.Best.{may_take}
-use Rattle.qqueue.specs.declared.item.Item.{Item}
 use Rattle.qrules.proofs.Words.Items.{delivers, receiver}
 use Rattle.qrules.proofs.Words.Facts.{Facts, number_of}
-use Rattle.qrules.specs.Delivery.{receipt_completion}
-use Rattle.qmodel.specs.declared.call.Completion.{Completion}
-use Rattle.qmodel.specs.declared.open_call.OpenCall.{OpenCall}
 use Rattle.qmodel.specs.declared.open_call.OpenCall.TheVariants.{Receive}
 use Rattle.qrules.proofs.Traces.Properties.Receivers.{WaitsOn, newest_waits}
 use Rattle.qrules.proofs.Traces.Calls.Delivering.{met_by, takes_item}
 use Rattle.qmodel.specs.declared.open_call.OpenReceive.{OpenReceive}
-use Rattle.qmodel.specs.OpenCalls.{buffer_in}
+use Rattle.qrules.proofs.Common.{none-some, same_Some, may_take, Item, receipt_completion, Completion, OpenCall, buffer_in}
 
 -- thread u waits on the channel, is the newest that does and may take the item, and its call ends by taking it
 pub record Delivers (f : Facts) (o : Option ℕ) (item : Item) (message : List ℕ) (u : ℕ) (y : Completion) : Type 0 where

@@ -1,14 +1,8 @@
 -- A receive that ends in its own event takes the best item of its channel.
 use Rattle.std.proofs.Common.{◌≡◌, ℕ, List, refl}
-use Rattle.std.specs.Prelude.{None, Some}
-use Rattle.std.proofs.lemmas.Option.{none-some, same_Some}
-use Rattle.qqueue.specs.Best.{best_of}
-use Rattle.qqueue.specs.declared.item.Item.{Item}
-use Rattle.qqueue.specs.declared.item.Kind.{Kind}
 use Rattle.qrules.proofs.Words.Items.{own_receipt}
-use Rattle.qrules.specs.Delivery.{receipt_completion}
 use Rattle.qrules.proofs.Words.Facts.{Facts, message}
-use Rattle.qmodel.specs.declared.call.Completion.{Completion}
+use Rattle.qrules.proofs.Common.{None, Some, none-some, same_Some, best_of, Item, Kind, receipt_completion, Completion}
 
 pub record ReceiveTakes (f : Facts) (t chid : ℕ) (kind : Kind) (buffer : List ℕ) (y : Completion) : Type 0 where
   pub item : Item
