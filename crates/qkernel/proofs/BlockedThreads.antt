@@ -1,32 +1,21 @@
 -- The threads that are blocked, by their records.
 use Rattle.std.proofs.Common.{◌≡◌, ℕ, ◌+◌, ◌<◌, List, [], ◌∷◌, ◌++◌, length, take, get_or, refl, ap, ◌∙◌}
-use Rattle.std.specs.Prelude.{Option, None, Some}
 use Rattle.std.specs.List.{filter_map, cons_option, AllByRecursion}
 use Rattle.std.specs.Option.{option_map, option_to_list, option_map_or}
 use Rattle.std.proofs.lemmas.Grind.{take_at_read}
 use Rattle.std.proofs.lemmas.List.Elements.{filter_map-append}
-use Rattle.qtables.specs.Members.{IsRoster}
-use Rattle.qtables.specs.declared.member.Member.{Member}
 use Rattle.qrules.proofs.Words.Blocked.{blocked_threads_in}
 use Rattle.qrules.specs.Records.{blocked_thread}
-use Rattle.qrules.proofs.Words.Facts.{threads_of, Facts}
 use Rattle.qrules.specs.Rules.Threads.{state_in}
-use Rattle.qrules.proofs.Traces.Rosters.{filter_map_same}
 use Rattle.qrules.specs.Lawful.{facts_of}
 use Rattle.qkernel.specs.Blocked.{blocked_threads}
-use Rattle.qkernel.specs.Blocked as told
-use Rattle.qkernel.specs.Stands.{StandsAt}
-use Rattle.qkernel.specs.Kernel.{State}
-use Rattle.qkernel.specs.Private.Steps.{facts_in}
-use Rattle.qstate.specs.Thread.{open_in}
-use Rattle.qstate.specs.Kept.{members_of}
 use Rattle.qmodel.specs.Trace.{Trace}
 use Rattle.qmodel.specs.declared.open_call.Blocked.{Blocked}
-use Rattle.qmodel.specs.declared.open_call.OpenCall.{OpenCall}
-use Rattle.qstate.specs.declared.thread.Thread.{Thread}
 use Rattle.qstate.proofs.Senders.{own_open}
 use Rattle.qbase.specs.declared.state.ThreadState.TheVariants.{Ready}
 use Rattle.qrules.specs.Facts.{number_of}
+use Rattle.qkernel.proofs.Common.{Option, None, Some, IsRoster, Member, threads_of, Facts, filter_map_same, StandsAt, State, facts_in, open_in, members_of, OpenCall, Thread}
+use Rattle.qkernel.specs.Blocked as told
 
 -- what is told of each thread that is blocked, by its record
 abbrev pub blocked_by : List Thread → List Blocked

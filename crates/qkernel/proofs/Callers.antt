@@ -1,13 +1,8 @@
 -- The caller: who it is, and that nothing refuses its call.
 use Rattle.std.proofs.Common.{◌≡◌, ℕ, List, [], ◌∷◌, refl, ap, sym, ◌∙◌, cond, Bool, true, false, eqb}
-use Rattle.std.specs.Prelude.{Option, None, Some, is_some}
-use Rattle.std.proofs.lemmas.Bool.{eqb-true}
-use Rattle.std.proofs.lemmas.Option.{same_Some, none-some}
 use Rattle.qbase.specs.declared.errno.Errno.TheVariants.{Busy, Down}
-use Rattle.qtables.specs.Members.{member_at}
-use Rattle.qtables.specs.declared.member.Member.{Member}
-use Rattle.qmodel.specs.declared.open_call.OpenCall.{OpenCall}
 use Rattle.qkernel.specs.declared.kernel.caller.Caller.{Caller}
+use Rattle.qkernel.proofs.Common.{Option, None, Some, is_some, eqb-true, same_Some, none-some, member_at, Member, OpenCall}
 
 -- the caller's entry of the roster
 abbrev pub caller_of : Caller → ℕ → Member

@@ -1,3 +1,4 @@
+pub mod Common
 pub mod Tables
 pub mod Contents
 pub mod Traces

@@ -2,33 +2,19 @@
 use Rattle.std.proofs.Common.{◌≡◌, ℕ, ◌+◌, ◌≤◌, List, [], ◌∷◌, length, refl, ap, sym, subst, ◌∙◌, cond, arith, Bool, true, false, eqb}
 use Rattle.std.specs.Prelude.{Option, None, Some, is_some, ◌||◌, ◌&&◌}
 use Rattle.std.specs.List.{filter_map, cons_option, AllByRecursion}
-use Rattle.std.specs.Option.{option_map}
-use Rattle.std.proofs.lemmas.Bool.{eqb-true, eq-eqb, true≢false}
-use Rattle.qtables.specs.Members.{IsRoster}
-use Rattle.qmodel.specs.declared.call.Call.{Call}
-use Rattle.qmodel.specs.declared.call.Completion.{Completion}
-use Rattle.qmodel.specs.declared.open_call.OpenCall.{OpenCall}
-use Rattle.qstate.specs.declared.thread.Thread.{Thread}
 use Rattle.qrules.specs.Outcome.{completion_to, Outcome}
-use Rattle.qrules.proofs.Words.Items.{receipt_of}
-use Rattle.qrules.specs.Rules.{row_of}
 use Rattle.qrules.proofs.Words.Facts.{Facts, sender, threads_of}
 use Rattle.qrules.proofs.Words.Effects.{makes, unblocks, writes}
-use Rattle.qrules.proofs.Words.Items.{Received}
-use Rattle.qmodel.specs.Trace.{SentItem}
-use Rattle.qkernel.specs.Kernel.{State}
 use Rattle.qkernel.specs.Private.Steps.{Step, Steps, facts_in}
 use Rattle.qrules.proofs.Words.Step.{Follows, unless, after_receipt, after_write, after_unblock}
 use Rattle.qrules.specs.Records.{is_thread, held_call, written_call, unblocked_call}
-use Rattle.qstate.specs.Thread.{open_in, blocked_count}
-use Rattle.qstate.specs.Kept.{members_of}
 use Rattle.qrules.proofs.Traces.Past.Ends.{row_passes}
 use Rattle.qrules.proofs.Traces.Past.Laws.{RowLaws}
 use Rattle.qrules.proofs.Traces.Calls.{row_laws}
-use Rattle.qbase.proofs.Lists.{is_among}
 use Rattle.qrules.proofs.Traces.Rosters.{Rises, rises, not_among}
 use Rattle.qstate.proofs.Senders.{own_open}
 use Rattle.qrules.specs.Rule.{Transfer}
+use Rattle.qkernel.proofs.Common.{option_map, eqb-true, eq-eqb, true≢false, IsRoster, Call, Completion, OpenCall, Thread, receipt_of, Received, row_of, SentItem, State, open_in, blocked_count, members_of, is_among}
 
 -- one where there is something
 abbrev one : {A : Type 0} → Option A → ℕ

@@ -1,22 +1,15 @@
 -- One more call of a run.
 use Rattle.std.proofs.Common.{◌≡◌, ℕ, suc, ◌+◌, ◌-◌, ◌<◌, ◌≤◌, ◌^◌, List, [], ◌∷◌, ◌++◌, length, map, reverse, refl, ap, sym, subst, ◌∙◌, cond, arith, true, false}
-use Rattle.std.specs.Prelude.{is_some}
 use Rattle.std.proofs.lemmas.List.{append-nil, reverse-append}
-use Rattle.qtables.specs.Members.{member_at, IsRoster}
-use Rattle.qmodel.specs.declared.call.Call.{Call}
-use Rattle.qmodel.specs.declared.call.Completion.{Completion}
-use Rattle.qstate.specs.declared.thread.Thread.{Thread}
 use Rattle.qkernel.specs.EventLog.{Logged, with_next}
 use Rattle.qkernel.specs.Run.{RunsAtTraces, AllKnown, Headline}
 use Rattle.qrules.specs.Lawful.{event_call}
 use Rattle.qrules.specs.Trace.{followed_by}
 use Rattle.qkernel.specs.Stands.{AnswersAtTraces}
-use Rattle.qkernel.specs.Kernel.{State}
-use Rattle.qstate.specs.Thread.{blocked_count}
-use Rattle.qstate.specs.Kept.{members_of}
 use Rattle.qmodel.specs.Trace.{Event, Trace}
 use Rattle.qrules.proofs.Traces.OnlyRun.{only_run}
 use Rattle.qkernel.proofs.Traces.{followed_push, properties_of, stands_roster}
+use Rattle.qkernel.proofs.Common.{is_some, member_at, IsRoster, Call, Completion, Thread, State, blocked_count, members_of}
 
 -- ---- events one after another
 

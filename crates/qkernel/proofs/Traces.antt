@@ -1,8 +1,5 @@
 -- What the rules say of a past and of a kernel that stands at it, in the words of the laws of `qmodel`.
 use Rattle.std.proofs.Common.{◌≡◌, ◌+◌, ℕ, List, [], ◌∷◌, ◌++◌, arith, length, refl, ap}
-use Rattle.std.specs.Prelude.{is_some}
-use Rattle.qtables.specs.Members.{IsRoster}
-use Rattle.qtables.specs.declared.member.Member.{Member}
 use Rattle.qrules.proofs.Words.Past.{open_call}
 use Rattle.qrules.proofs.Traces.Properties.All.{has_properties}
 use Rattle.qrules.specs.Facts.{is_blocked}
@@ -10,9 +7,7 @@ use Rattle.qrules.specs.Lawful.{facts_of, IsLawful}
 use Rattle.qrules.specs.Past.{was_done}
 use Rattle.qrules.specs.Properties.{HasProperties}
 use Rattle.qrules.specs.Trace.{followed_by, Event, Trace}
-use Rattle.qstate.specs.Kept.{members_of}
-use Rattle.qkernel.specs.Kernel.{State}
-use Rattle.qkernel.specs.Stands.{StandsAt}
+use Rattle.qkernel.proofs.Common.{is_some, IsRoster, Member, members_of, State, StandsAt}
 
 -- ---- a past
 

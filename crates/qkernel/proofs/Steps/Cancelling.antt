@@ -1,24 +1,12 @@
 -- What the calls share that end others by force, by the kernel's content.
 use Rattle.std.proofs.Common.{◌≡◌, ℕ, ◌+◌, ◌≤◌, List, [], refl, ap, ◌∙◌, cond, true, false, eqb}
 use Rattle.std.specs.Prelude.{Bool, None, is_some, not}
-use Rattle.std.specs.List.{filter_map}
-use Rattle.std.proofs.lemmas.Bool.{eqb-true}
-use Rattle.qbase.specs.declared.errno.Errno.{Errno}
-use Rattle.qqueue.specs.declared.item.Item.{Item}
-use Rattle.qrules.specs.Records.{cancel_where}
-use Rattle.qrules.proofs.Words.Facts.{threads_of}
-use Rattle.qmodel.specs.declared.call.Completion.{Completion}
-use Rattle.qmodel.specs.declared.call.Mark.TheVariants as mark
-use Rattle.qstate.specs.Kept.{pending_in, members_of}
 use Rattle.qstate.specs.Cancelling.{AreCancelled, LoseCancelled, completion_for, is_cancelled_among, is_cancelled_by}
-use Rattle.qstate.specs.Thread.{open_in}
-use Rattle.qstate.specs.declared.channel.Channel.{Channel}
 use Rattle.qstate.specs.declared.cancelling.CancelSet.{CancelSet}
-use Rattle.qstate.specs.declared.thread.Thread.{Thread}
-use Rattle.qkernel.specs.Kernel.{State, IsSound}
-use Rattle.qbase.proofs.Lists.{all_filter}
 use Rattle.qkernel.proofs.Steps.Common.{counted, sound_counted_alone}
 use Rattle.qkernel.proofs.Steps.Delivering.{sound_kept}
+use Rattle.qkernel.proofs.Common.{filter_map, eqb-true, Errno, Item, cancel_where, threads_of, Completion, pending_in, members_of, open_in, Channel, Thread, State, IsSound, all_filter}
+use Rattle.qmodel.specs.declared.call.Mark.TheVariants as mark
 
 -- how the caller's own call ends
 abbrev pub mine : State → ℕ → Completion

@@ -1,33 +1,14 @@
 -- ChannelCreate as a step of the kernel.
 use Rattle.std.proofs.Common.{◌≡◌, ℕ, ◌+◌, ◌≤◌, List, [], ◌∷◌, ◌++◌, length, refl, ap, sym, ◌∙◌, cond, arith, true, false, eqb, append-nil, inl, inr, add-zero}
-use Rattle.std.specs.Prelude.{None, Some, nat_lt}
-use Rattle.std.specs.List.{AllByRecursion}
-use Rattle.std.specs.Option.{option_map}
-use Rattle.std.proofs.lemmas.Bool.{eqb-true}
-use Rattle.qbase.specs.declared.errno.Errno.{Errno}
-use Rattle.qbase.specs.declared.errno.Errno.TheVariants.{Again, NoMemory}
 use Rattle.qbase.specs.declared.flags.ChannelFlags.{ChannelFlags}
 use Rattle.qqueue.specs.Contents.{Contents}
-use Rattle.qtables.specs.Entries.{entry_at}
-use Rattle.qtables.specs.Members.{member_at}
-use Rattle.qtables.specs.declared.member.Member.{Member}
 use Rattle.qmodel.specs.declared.call.Call.TheVariants.{ChannelCreate}
-use Rattle.qmodel.specs.declared.call.Completion.{Completion}
-use Rattle.qmodel.specs.declared.call.Mark.TheVariants as mark
-use Rattle.qstate.specs.declared.channel.Channel.{Channel}
-use Rattle.qrules.specs.Outcome.{MayRefuse}
-use Rattle.qrules.proofs.Words.Items.{refusal_completion}
-use Rattle.qstate.specs.Channel.{ids_of}
-use Rattle.qstate.specs.Kept.{open_channel_of, channel_in, items_waiting_on, pending_in, members_of}
 use Rattle.qrules.proofs.Words.Effects.{creates}
-use Rattle.qkernel.specs.Kernel.{State, IsSound}
-use Rattle.qkernel.specs.Private.Steps.{Steps, facts_in}
 use Rattle.qrules.proofs.Words.Step.{put_at, one_for}
-use Rattle.qstate.specs.Thread.{open_in}
-use Rattle.qrules.proofs.Traces.Rosters.{rises, among, only_own}
-use Rattle.qbase.proofs.Lists.{all_append}
 use Rattle.qkernel.proofs.Steps.Common.{uncancelled, counted, step_refused_alone, all_up_to, stays_free}
 use Rattle.qkernel.proofs.Tables.{entry_at-push, entry_at-above, length-push}
+use Rattle.qkernel.proofs.Common.{None, Some, nat_lt, AllByRecursion, option_map, eqb-true, Errno, Again, NoMemory, entry_at, member_at, Member, Completion, Channel, MayRefuse, refusal_completion, ids_of, open_channel_of, channel_in, items_waiting_on, pending_in, members_of, State, IsSound, Steps, facts_in, open_in, rises, among, only_own, all_append}
+use Rattle.qmodel.specs.declared.call.Mark.TheVariants as mark
 
 ids_entries : (n : ℕ) (channels : List (ℕ × Channel)) → AllByRecursion (λ id. id ≤ n) (ids_of channels) → AllByRecursion (λ e. e.0 ≤ n) channels
 ids_entries n [] h = tt

@@ -1,28 +1,13 @@
 -- ChannelDestroy as a step of the kernel.
 use Rattle.std.proofs.Common.{◌≡◌, ℕ, ◌+◌, ◌≤◌, List, [], ◌∷◌, refl, ap, sym, ◌∙◌, cond, arith, length, true, false, eqb, inl}
-use Rattle.std.specs.Prelude.{None, Some}
-use Rattle.std.specs.List.{AllByRecursion}
 use Rattle.std.proofs.lemmas.List.{append-nil}
-use Rattle.qbase.specs.declared.errno.Errno.TheVariants.{Inval, Srch}
-use Rattle.qqueue.specs.declared.item.Item.{Item}
-use Rattle.qtables.specs.Members.{member_at}
-use Rattle.qtables.specs.declared.member.Member.{Member}
-use Rattle.qrules.proofs.Words.Items.{refusal_completion}
 use Rattle.qrules.proofs.Words.Facts.{owns}
-use Rattle.qrules.proofs.Words.Step.{uncancelled_items}
 use Rattle.qmodel.specs.declared.call.Call.TheVariants.{ChannelDestroy}
-use Rattle.qmodel.specs.declared.call.Completion.{Completion}
 use Rattle.qstate.specs.Channel.{ClosesIn, is_of}
-use Rattle.qstate.specs.Kept.{channel_in, pending_in, members_of}
-use Rattle.qstate.specs.Cancelling.{AreCancelled, LoseCancelled}
-use Rattle.qstate.specs.Thread.{open_in}
-use Rattle.qstate.specs.declared.channel.Channel.{Channel}
 use Rattle.qstate.specs.declared.cancelling.CancelSet.TheVariants.{On}
-use Rattle.qstate.specs.declared.thread.Thread.{Thread}
-use Rattle.qkernel.specs.Kernel.{State, IsSound}
-use Rattle.qkernel.specs.Private.Steps.{Steps, facts_in}
 use Rattle.qkernel.proofs.Steps.Common.{counted, count_same, owned_by_member, step_refused_alone}
 use Rattle.qkernel.proofs.Steps.Cancelling.{endings_cancelled, open_after, sound_cancelled}
+use Rattle.qkernel.proofs.Common.{None, Some, AllByRecursion, Inval, Srch, Item, member_at, Member, refusal_completion, uncancelled_items, Completion, channel_in, pending_in, members_of, AreCancelled, LoseCancelled, open_in, Channel, Thread, State, IsSound, Steps, facts_in}
 
 module _ (s : State) (t chid : ℕ) (m : Member) (known : member_at (members_of s.threads) t ≡ Some m) (up : s.down ≡ false) (free : open_in s.threads t ≡ None) where
 

@@ -1,39 +1,18 @@
 -- What the steps of all calls share.
 use Rattle.std.proofs.Common.{◌≡◌, ℕ, ◌+◌, ◌<◌, ◌≤◌, List, [], ◌∷◌, ◌++◌, length, refl, ap, sym, ◌∙◌, cond, arith, true, false, eqb}
 use Rattle.std.specs.Prelude.{Option, None, Some, is_some, ◌&&◌}
-use Rattle.std.specs.List.{AllByRecursion}
-use Rattle.std.proofs.lemmas.Bool.{eqb-true}
-use Rattle.std.proofs.lemmas.List.{length-map}
-use Rattle.qtables.specs.Entries.{entry_at}
-use Rattle.qtables.specs.Members.{member_at}
 use Rattle.qtables.specs.declared.connection.Connection.{Connection}
-use Rattle.qtables.specs.declared.member.Member.{Member}
-use Rattle.qmodel.specs.declared.call.Call.{Call}
-use Rattle.qmodel.specs.declared.call.Completion.{Completion}
-use Rattle.qstate.specs.declared.channel.Channel.{Channel}
-use Rattle.qstate.specs.declared.thread.Thread.{Thread}
-use Rattle.qbase.specs.declared.errno.Errno.{Errno}
-use Rattle.qqueue.specs.declared.item.Item.{Item}
 use Rattle.qrules.specs.Outcome.{MayRefuse, refusal_of}
-use Rattle.qrules.proofs.Words.Items.{refusal_completion}
-use Rattle.qrules.proofs.Words.Items.{receipt_of}
+use Rattle.qrules.proofs.Words.Items.{refusal_completion, receipt_of, names}
 use Rattle.qrules.proofs.Words.Effects.{closes, makes, sets}
-use Rattle.qrules.proofs.Words.Items.{names}
 use Rattle.qrules.proofs.Words.Step.{uncancelled_items, items_with_priority_set, pending_after, unreceived_items}
-use Rattle.qrules.proofs.Words.Past.{made_on}
 use Rattle.qrules.proofs.Traces.Past.Cancels.{EndsSettled, none_cancelled}
 use Rattle.qrules.proofs.Traces.Past.Ends.{row_passes}
 use Rattle.qrules.proofs.Traces.Past.Laws.{is_forceful}
 use Rattle.qrules.proofs.Traces.Calls.{row_laws}
-use Rattle.qstate.specs.Channel.{ids_of, is_of, route_in}
-use Rattle.qstate.specs.Kept.{channel_in, pending_in, members_of, thread_priority}
-use Rattle.qrules.proofs.Words.Facts.{Facts}
-use Rattle.qrules.specs.Records.{is_in_process}
 use Rattle.qmodel.specs.Trace.{OpenChannel}
 use Rattle.qrules.proofs.Traces.Parts.{is_owned_by, leads_to}
-use Rattle.qkernel.specs.Kernel.{State, IsSound}
-use Rattle.qkernel.specs.Private.Steps.{Steps, facts_in}
-use Rattle.qstate.specs.Thread.{open_in}
+use Rattle.qkernel.proofs.Common.{AllByRecursion, eqb-true, length-map, entry_at, member_at, Member, Call, Completion, Channel, Thread, Errno, Item, made_on, ids_of, is_of, route_in, channel_in, pending_in, members_of, thread_priority, Facts, is_in_process, State, IsSound, Steps, facts_in, open_in}
 
 -- ---- refused calls
 

@@ -1,26 +1,12 @@
 -- ConnectAttach as a step of the kernel.
 use Rattle.std.proofs.Common.{◌≡◌, ℕ, ◌+◌, ◌≤◌, ◌<◌, List, [], ◌∷◌, ◌++◌, length, add-zero, refl, ap, sym, ◌∙◌, cond, arith, true, false, append-nil, inl, inr}
-use Rattle.std.specs.Prelude.{None, Some, is_some, nat_lt}
-use Rattle.qbase.specs.declared.errno.Errno.{Errno}
-use Rattle.qbase.specs.declared.errno.Errno.TheVariants.{Srch, Again, NoMemory}
-use Rattle.qtables.specs.Entries.{entry_at}
-use Rattle.qtables.specs.Members.{member_at}
-use Rattle.qtables.specs.declared.member.Member.{Member}
 use Rattle.qmodel.specs.declared.call.Call.TheVariants.{ConnectAttach}
-use Rattle.qmodel.specs.declared.call.Completion.{Completion}
-use Rattle.qmodel.specs.declared.call.Mark.TheVariants as mark
-use Rattle.qrules.specs.Outcome.{MayRefuse}
-use Rattle.qrules.proofs.Words.Items.{refusal_completion}
-use Rattle.qstate.specs.Kept.{channel_in, members_of}
 use Rattle.qrules.proofs.Words.Effects.{attaches}
-use Rattle.qkernel.specs.Kernel.{State, IsSound}
-use Rattle.qkernel.specs.Private.Steps.{Steps, facts_in}
 use Rattle.qrules.proofs.Words.Step.{put_at, one_for}
-use Rattle.qstate.specs.Thread.{open_in}
-use Rattle.qrules.proofs.Traces.Rosters.{rises, among, only_own}
-use Rattle.qbase.proofs.Lists.{all_append}
 use Rattle.qkernel.proofs.Steps.Common.{uncancelled, counted, step_refused_alone, all_up_to, stays_free, up_to_below}
 use Rattle.qkernel.proofs.Tables.{entry_at-push, length-push, rising_push}
+use Rattle.qkernel.proofs.Common.{None, Some, is_some, nat_lt, Errno, Srch, Again, NoMemory, entry_at, member_at, Member, Completion, MayRefuse, refusal_completion, channel_in, members_of, State, IsSound, Steps, facts_in, open_in, rises, among, only_own, all_append}
+use Rattle.qmodel.specs.declared.call.Mark.TheVariants as mark
 
 -- the table's refusal is the row's, or want of memory
 may_refuse : (s : State) (t chid : ℕ) (e : Errno) → s.down ≡ false → open_in s.threads t ≡ None → is_some (channel_in s.channels chid) ≡ true → e ≡ cond (nat_lt (length s.connections) 1024) NoMemory Again

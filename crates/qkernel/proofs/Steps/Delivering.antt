@@ -1,27 +1,10 @@
 -- What the steps share that deliver an item.
 use Rattle.std.proofs.Common.{◌≡◌, ℕ, ◌+◌, ◌≤◌, List, [], ◌∷◌, ◌++◌, refl, ap, sym, ◌∙◌, cond, arith, true, false, eqb, append-nil, length}
-use Rattle.std.specs.Prelude.{Option, None, Some}
-use Rattle.std.specs.List.{AllByRecursion}
-use Rattle.std.proofs.lemmas.List.{length-map}
-use Rattle.std.proofs.lemmas.Bool.{eqb-true, eq-eqb, ne_eqb}
-use Rattle.qqueue.specs.Best.{without_item}
-use Rattle.qqueue.specs.declared.item.Item.{Item}
-use Rattle.qtables.specs.Entries.{entry_at}
-use Rattle.qtables.specs.Members.{member_at}
-use Rattle.qtables.specs.declared.member.Member.{Member}
-use Rattle.qstate.specs.declared.channel.Channel.{Channel}
-use Rattle.qstate.specs.declared.thread.Thread.{Thread}
-use Rattle.qstate.specs.Channel.{ids_of, route_in, SetsItems}
-use Rattle.qstate.specs.Kept.{pending_in, channel_in, members_of}
-use Rattle.qrules.proofs.Words.Facts.{route}
-use Rattle.qrules.specs.Records.{is_fixed}
 use Rattle.qrules.proofs.Words.Items.{item_sent_over}
-use Rattle.qkernel.specs.Kernel.{State, IsSound}
-use Rattle.qkernel.specs.Private.Steps.{facts_in}
-use Rattle.qrules.proofs.Words.Past.{made_on}
 use Rattle.qbase.proofs.Lists.{all_append, eqb_either}
 use Rattle.qrules.proofs.Traces.Calls.Delivering.{sent_way}
 use Rattle.qkernel.proofs.Steps.Common.{Counted, count_same, all_up_to, route-leads_to}
+use Rattle.qkernel.proofs.Common.{Option, None, Some, AllByRecursion, length-map, eqb-true, eq-eqb, ne_eqb, without_item, Item, entry_at, member_at, Member, Channel, Thread, ids_of, route_in, SetsItems, pending_in, channel_in, members_of, route, is_fixed, State, IsSound, facts_in, made_on}
 
 -- the priority that a receiver on channel h takes of the item
 abbrev pub priority_at : State → ℕ → Item → Option ℕ

@@ -2,23 +2,12 @@
 use Rattle.qrules.specs.Facts.{sender}
 use Rattle.qrules.proofs.Traces.Rows.{answer_same}
 use Rattle.std.proofs.Common.{◌≡◌, ℕ, ◌+◌, List, [], ◌∷◌, refl, sym, arith, true, append-nil, false}
-use Rattle.std.specs.Prelude.{ℤ, None, Some}
-use Rattle.qtables.specs.Members.{member_at}
-use Rattle.qtables.specs.declared.member.Member.{Member}
 use Rattle.qmodel.specs.declared.call.Call.TheVariants.{Error}
-use Rattle.qmodel.specs.declared.call.Completion.{Completion}
-use Rattle.qmodel.specs.declared.call.Mark.TheVariants as mark
-use Rattle.qstate.specs.declared.thread.Thread.{Thread}
 use Rattle.qrules.proofs.Traces.Parts.{error_finish}
-use Rattle.qstate.specs.Endings.{with_completion_in_place}
-use Rattle.qrules.proofs.Words.Items.{answer_completion}
-use Rattle.qstate.specs.Held.{is_held_in}
-use Rattle.qkernel.specs.Kernel.{State, IsSound}
-use Rattle.qkernel.specs.Private.Steps.{Steps, facts_in}
-use Rattle.qstate.specs.Thread.{open_in, sender_in, SetsOpen}
-use Rattle.qstate.specs.Kept.{members_of}
 use Rattle.qkernel.proofs.Steps.Common.{uncancelled}
 use Rattle.qkernel.proofs.Steps.Held.{is_held, two_ended, answered_calls}
+use Rattle.qkernel.proofs.Common.{ℤ, None, Some, member_at, Member, Completion, Thread, with_completion_in_place, answer_completion, is_held_in, State, IsSound, Steps, facts_in, open_in, sender_in, SetsOpen, members_of}
+use Rattle.qmodel.specs.declared.call.Mark.TheVariants as mark
 
 pub step_errored : (s : State) (t : ℕ) (m : Member) (i : ℕ) (sound : IsSound s) (known : member_at (members_of s.threads) t ≡ Some m) (code : ℤ) (u : ℕ) (y : Completion)
     → s.down ≡ false → open_in s.threads t ≡ None → is_held_in s.threads s.channels m.process i ≡ true → sender_in s.threads i ≡ Some u → answer_completion (error_finish code) u (open_in s.threads u) ≡ Some y

@@ -1,41 +1,20 @@
 -- What the calls on held messages share, by the kernel's content.
 use Rattle.std.proofs.Common.{◌≡◌, ◌≢◌, ℕ, ◌+◌, List, [], ◌∷◌, refl, ap, sym, ◌∙◌, cond, true, false, eqb, inl}
 use Rattle.std.specs.Prelude.{Option, None, Some, is_some, ◌||◌, ◌&&◌}
-use Rattle.std.specs.List.{filter_map}
-use Rattle.std.proofs.lemmas.Bool.{eqb-true, eq-eqb}
-use Rattle.std.proofs.lemmas.Option.{same_Some, none-some}
-use Rattle.qbase.specs.declared.errno.Errno.TheVariants.{Srch}
-use Rattle.qtables.specs.Members.{member_at}
-use Rattle.qtables.specs.declared.member.Member.{Member}
-use Rattle.qmodel.specs.declared.call.Call.{Call}
-use Rattle.qmodel.specs.declared.call.Completion.{Completion}
-use Rattle.qmodel.specs.declared.call.Mark.TheVariants as mark
-use Rattle.qmodel.specs.declared.open_call.OpenCall.{OpenCall}
 use Rattle.qmodel.specs.declared.open_call.OpenCall.TheVariants.{Receive, Send}
-use Rattle.qstate.specs.declared.thread.Thread.{Thread}
-use Rattle.qrules.specs.Outcome.{completion_to}
-use Rattle.qrules.proofs.Words.Items.{refusal_completion}
-use Rattle.qrules.specs.Rules.{row_of}
-use Rattle.qstate.specs.Kept.{channel_in, members_of}
-use Rattle.qstate.specs.Endings.{with_completion_in_place}
+use Rattle.qrules.proofs.Words.Items.{refusal_completion, Finish, ends_sender, answer_completion}
 use Rattle.qrules.proofs.Words.Facts.{is_send, sender, threads_of}
 use Rattle.qrules.specs.Records.{sender_among}
 use Rattle.qrules.specs.Rules.Held.{refusal_unless_held}
-use Rattle.qrules.proofs.Words.Items.{Finish, ends_sender}
-use Rattle.qrules.proofs.Words.Items.{answer_completion}
 use Rattle.qrules.specs.Facts.{holds}
 use Rattle.qrules.proofs.Messages.{held_same as holds_by_call}
 use Rattle.qrules.proofs.Traces.Parts.{is_held_for}
 use Rattle.qstate.specs.Held.{is_held_in, is_held_of}
-use Rattle.qkernel.specs.Kernel.{State, IsSound}
-use Rattle.qkernel.specs.Private.Steps.{Steps, facts_in}
-use Rattle.qrules.proofs.Words.Step.{unless}
 use Rattle.qstate.specs.Thread.{open_in, sender_in, sent_call, SetsOpen}
 use Rattle.qstate.proofs.Inserting.{two_endings}
-use Rattle.qbase.proofs.Lists.{is_among, cond_same}
-use Rattle.qrules.proofs.Traces.Rosters.{rises, among, filter_map_same}
 use Rattle.qkernel.proofs.Steps.Common.{counted, step_refused_alone, owned_by_member}
-use Rattle.std.specs.Option.{option_map_or}
+use Rattle.qkernel.proofs.Common.{filter_map, eqb-true, eq-eqb, same_Some, none-some, Srch, member_at, Member, Call, Completion, OpenCall, Thread, completion_to, row_of, channel_in, members_of, with_completion_in_place, State, IsSound, Steps, facts_in, unless, is_among, cond_same, rises, among, filter_map_same, option_map_or}
+use Rattle.qmodel.specs.declared.call.Mark.TheVariants as mark
 
 module _ (s : State) (t : ℕ) (m : Member) (i : ℕ) (sound : IsSound s) (known : member_at (members_of s.threads) t ≡ Some m) where
   held_same : (o : Option OpenCall) → is_held_for (facts_in s) t o ≡ option_map_or (is_held_of s.channels m.process) o false

@@ -1,34 +1,17 @@
 -- PrioritySet as a step of the kernel.
 use Rattle.std.proofs.Common.{◌≡◌, ℕ, ◌+◌, ◌≤◌, List, [], ◌∷◌, ◌++◌, length, refl, ap, sym, subst, ◌∙◌, cond, arith, true, false, eqb, inl}
-use Rattle.std.specs.Prelude.{None, Some, unwrap_or}
 use Rattle.std.proofs.lemmas.List.{append-nil}
-use Rattle.std.proofs.lemmas.Option.{none-some}
-use Rattle.std.specs.List.{AllByRecursion}
-use Rattle.std.specs.Option.{option_or}
-use Rattle.qbase.specs.declared.errno.Errno.TheVariants.{Srch}
 use Rattle.qqueue.specs.Best.{with_priority}
-use Rattle.qqueue.specs.declared.item.Item.{Item}
-use Rattle.qtables.specs.Members.{member_at}
-use Rattle.qtables.specs.declared.member.Member.{Member}
-use Rattle.qrules.proofs.Words.Items.{refusal_completion}
-use Rattle.qrules.specs.Records.{is_in_process}
 use Rattle.qmodel.specs.declared.call.Call.TheVariants.{PrioritySet}
-use Rattle.qmodel.specs.declared.call.Completion.{Completion}
-use Rattle.qmodel.specs.declared.call.Mark.TheVariants as mark
-use Rattle.qstate.specs.declared.channel.Channel.{Channel}
-use Rattle.qstate.specs.declared.thread.Thread.{Thread}
-use Rattle.qkernel.specs.Kernel.{State, IsSound}
-use Rattle.qkernel.specs.Private.Steps.{Steps, facts_in}
-use Rattle.qstate.specs.Kept.{pending_in, thread_priority, members_of}
 use Rattle.qstate.specs.Thread.{open_in, SetsPriority}
 use Rattle.qstate.specs.Unread.{MovesUnread}
 use Rattle.qrules.proofs.Words.Step.{items_with_priority_set}
-use Rattle.qrules.specs.Records.{is_unread_send}
 use Rattle.qrules.proofs.Traces.Past.Cancels.{none_cancelled}
-use Rattle.qrules.proofs.Traces.Rosters.{among, only_own, rises}
 use Rattle.qbase.proofs.Lists.{all_map, all_more}
 use Rattle.qkernel.proofs.Steps.Delivering.{sound_threads}
 use Rattle.qkernel.proofs.Steps.Common.{count_same, counted, stays_free, step_refused_alone}
+use Rattle.qkernel.proofs.Common.{None, Some, unwrap_or, none-some, AllByRecursion, option_or, Srch, Item, member_at, Member, refusal_completion, is_in_process, is_unread_send, Completion, Channel, Thread, State, IsSound, Steps, facts_in, pending_in, thread_priority, members_of, among, only_own, rises}
+use Rattle.qmodel.specs.declared.call.Mark.TheVariants as mark
 
 module _ (s : State) (t thread priority : ℕ) (m : Member) (known : member_at (members_of s.threads) t ≡ Some m) (up : s.down ≡ false) (free : open_in s.threads t ≡ None) where
 

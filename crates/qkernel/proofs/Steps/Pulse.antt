@@ -4,29 +4,13 @@ use Rattle.qrules.proofs.Traces.Rows.{pulse_same}
 use Rattle.std.proofs.Common.{◌≡◌, ℕ, ◌+◌, List, [], ◌∷◌, refl, ap, ◌∙◌, true, false, inl, inr}
 use Rattle.std.specs.Prelude.{ℤ, int_lt, pos, None, Some}
 use lib.Signed.{lt_z}
-use Rattle.qbase.specs.declared.errno.Errno.TheVariants.{Again, Badf, Inval, NoMemory}
-use Rattle.qtables.specs.Entries.{entry_at}
-use Rattle.qtables.specs.Members.{member_at}
-use Rattle.qtables.specs.declared.member.Member.{Member}
 use Rattle.qmodel.specs.declared.call.Call.TheVariants.{Pulse}
-use Rattle.qmodel.specs.declared.call.Completion.{Completion}
-use Rattle.qrules.specs.Outcome.{MayRefuse}
-use Rattle.qrules.proofs.Words.Items.{refusal_completion}
-use Rattle.qstate.specs.Channel.{route_in}
-use Rattle.qstate.specs.Pulses.{has_room}
-use Rattle.qrules.proofs.Words.Facts.{route}
-use Rattle.qrules.proofs.Words.Items.{pulse_item}
-use Rattle.qrules.specs.Delivery.{refusal_if_full, has_to_wait}
-use Rattle.qrules.proofs.Words.Items.{ends_receiver}
-use Rattle.qrules.proofs.Words.Items.{pulse_receipt}
-use Rattle.qkernel.specs.Kernel.{State}
-use Rattle.qkernel.specs.Private.Steps.{Steps, facts_in}
-use Rattle.qrules.specs.Delivery.{newest_receiver}
-use Rattle.qstate.specs.Thread.{newest_in, open_in}
-use Rattle.qstate.specs.Kept.{members_of}
+use Rattle.qrules.proofs.Words.Items.{refusal_completion, pulse_item, ends_receiver, pulse_receipt}
+use Rattle.qrules.specs.Delivery.{refusal_if_full, has_to_wait, newest_receiver}
 use Rattle.qkernel.proofs.Steps.Common.{counted, step_refused_alone, route-leads_to}
 use Rattle.qkernel.proofs.Steps.Delivering.{some_sent, some_way}
 use Rattle.qkernel.proofs.Steps.Telling.{Tells}
+use Rattle.qkernel.proofs.Common.{Again, Badf, Inval, NoMemory, entry_at, member_at, Member, Completion, MayRefuse, route_in, has_room, route, State, Steps, facts_in, newest_in, open_in, members_of}
 
 -- ---- the tests of the code and of the queue
 

@@ -1,45 +1,17 @@
 -- Send as a step of the kernel.
-use Rattle.qrules.specs.Delivery.{has_to_wait}
-use Rattle.qrules.specs.Rules.{row_of}
+use Rattle.qrules.specs.Delivery.{has_to_wait, newest_receiver}
 use Rattle.qrules.proofs.Traces.Rows.{sent_same}
 use Rattle.std.proofs.Common.{◌≡◌, ◌≢◌, ℕ, ◌+◌, List, [], ◌∷◌, ◌++◌, refl, ap, sym, ◌∙◌, cond, arith, true, false, eqb, inl, inr}
-use Rattle.std.specs.Prelude.{Option, None, Some, is_some}
-use Rattle.std.specs.Option.{option_map}
-use Rattle.std.proofs.lemmas.Bool.{eqb-true, ne_eqb}
-use Rattle.std.proofs.lemmas.Option.{none-some}
-use Rattle.qbase.specs.declared.errno.Errno.{Errno}
-use Rattle.qbase.specs.declared.errno.Errno.TheVariants.{Badf, NoMemory}
-use Rattle.qqueue.specs.declared.item.Item.{Item}
-use Rattle.qtables.specs.Entries.{entry_at}
-use Rattle.qtables.specs.Members.{member_at}
-use Rattle.qtables.specs.declared.member.Member.{Member}
 use Rattle.qmodel.specs.declared.call.Call.TheVariants.{Send}
-use Rattle.qmodel.specs.declared.call.Completion.{Completion}
-use Rattle.qstate.specs.declared.channel.Channel.{Channel}
-use Rattle.qmodel.specs.declared.open_call.OpenCall.{OpenCall}
-use Rattle.qmodel.specs.declared.open_call.Receipt.{Receipt}
 use Rattle.qmodel.specs.declared.open_call.OpenCall.TheVariants.{Send as InSend}
-use Rattle.qstate.specs.declared.thread.Thread.{Thread}
-use Rattle.qrules.specs.Outcome.{completion_to}
-use Rattle.qrules.proofs.Words.Items.{refusal_completion}
-use Rattle.qstate.specs.Channel.{route_in, SetsItems}
-use Rattle.qstate.specs.Kept.{pending_in, members_of, thread_priority}
-use Rattle.qrules.proofs.Words.Facts.{route, threads_of}
-use Rattle.qrules.specs.Delivery.{newest_receiver}
-use Rattle.qrules.proofs.Words.Items.{message_numbered, item_in, item_sent_over}
-use Rattle.qrules.specs.Records.{takes}
-use Rattle.qkernel.specs.Kernel.{State, IsSound}
-use Rattle.qkernel.specs.Private.Steps.{Steps, facts_in}
-use Rattle.qrules.proofs.Words.Step.{unless}
-use Rattle.qrules.specs.Records.{held_call}
-use Rattle.qrules.proofs.Words.Past.{made_on}
+use Rattle.qrules.proofs.Words.Items.{refusal_completion, message_numbered, item_in, item_sent_over}
+use Rattle.qrules.specs.Records.{takes, held_call}
 use Rattle.qstate.specs.Thread.{open_in, newest_in, SetsOpen, Wakes}
-use Rattle.qbase.proofs.Lists.{is_among, cond_same}
 use Rattle.qrules.proofs.Traces.Rosters.{rises, nothing, filter_map_same, only_own}
 use Rattle.qkernel.proofs.Steps.Delivering.{counted_room, count_kept, items_after, some_sent, some_way, with_item, priority_at}
 use Rattle.qstate.proofs.Receivers.{ended_thread}
 use Rattle.qkernel.proofs.Steps.Common.{uncancelled, counted, step_refused, step_refused_alone, route-leads_to}
-use Rattle.qqueue.specs.Best.{without_item}
+use Rattle.qkernel.proofs.Common.{row_of, Option, None, Some, is_some, option_map, eqb-true, ne_eqb, none-some, Errno, Badf, NoMemory, Item, entry_at, member_at, Member, Completion, Channel, OpenCall, Receipt, Thread, completion_to, route_in, SetsItems, pending_in, members_of, thread_priority, route, threads_of, State, IsSound, Steps, facts_in, unless, made_on, is_among, cond_same, without_item}
 
 -- ---- refusals
 

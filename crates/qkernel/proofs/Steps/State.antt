@@ -1,23 +1,12 @@
 -- State as a step of the kernel.
 use Rattle.std.proofs.Common.{◌≡◌, ℕ, ◌+◌, List, [], ◌∷◌, refl, sym, ◌∙◌, arith, true, inl, false}
-use Rattle.std.specs.Prelude.{None, Some, is_some}
 use Rattle.std.proofs.lemmas.List.{append-nil}
-use Rattle.qbase.specs.declared.errno.Errno.TheVariants.{Srch}
-use Rattle.qtables.specs.Members.{member_at}
-use Rattle.qtables.specs.declared.member.Member.{Member}
-use Rattle.qrules.proofs.Words.Items.{refusal_completion}
 use Rattle.qrules.specs.Rules.Threads.{state_in}
 use Rattle.qmodel.specs.declared.call.Call.TheVariants.{State as Ask}
-use Rattle.qmodel.specs.declared.call.Completion.{Completion}
-use Rattle.qmodel.specs.declared.call.Mark.TheVariants as mark
-use Rattle.qkernel.specs.Kernel.{State, IsSound}
-use Rattle.qkernel.specs.Private.Steps.{Steps, facts_in}
-use Rattle.qstate.specs.Thread.{open_in}
-use Rattle.qstate.specs.Kept.{thread_priority, members_of}
-use Rattle.qrules.proofs.Traces.Rosters.{among, only_own, rises}
 use Rattle.qkernel.proofs.Steps.Common.{uncancelled, counted, stays_free, step_refused_alone}
-use Rattle.std.specs.Option.{option_map_or}
 use Rattle.qbase.specs.declared.state.ThreadState.TheVariants.{Ready}
+use Rattle.qkernel.proofs.Common.{None, Some, is_some, Srch, member_at, Member, refusal_completion, Completion, State, IsSound, Steps, facts_in, open_in, thread_priority, members_of, among, only_own, rises, option_map_or}
+use Rattle.qmodel.specs.declared.call.Mark.TheVariants as mark
 
 module _ (s : State) (t target : ℕ) (m : Member) (known : member_at (members_of s.threads) t ≡ Some m) (up : s.down ≡ false) (free : open_in s.threads t ≡ None) where
   pub step_state_nobody : (X : List Completion) → is_some (member_at (members_of s.threads) target) ≡ false → X ≡ refusal_completion (facts_in s) t (Ask target) Srch ∷ [] → Steps s t (Ask target) X (counted s)

@@ -1,43 +1,18 @@
 -- What the steps share that send a pulse.
 use Rattle.std.proofs.Common.{◌≡◌, ℕ, ◌+◌, List, [], ◌∷◌, refl, ap, sym, subst, ◌∙◌, cond, arith, true, false, eqb, inl, inr}
 use Rattle.std.specs.Prelude.{Bool, Option, None, Some, is_some}
-use Rattle.std.proofs.lemmas.Bool.{eqb-true, ne_eqb}
-use Rattle.std.specs.Option.{option_or}
-use Rattle.qqueue.specs.declared.item.Item.{Item}
-use Rattle.qtables.specs.Members.{member_at}
-use Rattle.qtables.specs.declared.member.Member.{Member}
-use Rattle.qbase.specs.declared.errno.Errno.{Errno}
-use Rattle.qbase.specs.declared.errno.Errno.TheVariants.{Again, NoMemory}
-use Rattle.qbase.proofs.Lists.{cond_same}
 use Rattle.qrules.specs.Outcome.{MayRefuse, completion_to, refusal_of}
-use Rattle.qrules.proofs.Words.Items.{refusal_completion}
-use Rattle.qrules.proofs.Words.Items.{receipt_of}
-use Rattle.qrules.specs.Rules.{row_of}
-use Rattle.qrules.proofs.Words.Facts.{Facts, threads_of}
 use Rattle.qrules.proofs.Words.Effects.{attaches, closes, creates, detaches, makes, sets, shuts_down, unblocks, writes}
-use Rattle.qmodel.specs.Trace.{SentItem}
 use Rattle.qrules.proofs.Words.Step.{after_unblock, unless}
-use Rattle.qmodel.specs.declared.call.Call.{Call}
-use Rattle.qmodel.specs.declared.call.Completion.{Completion}
-use Rattle.qmodel.specs.declared.open_call.OpenCall.{OpenCall}
-use Rattle.qstate.specs.declared.channel.Channel.{Channel}
-use Rattle.qstate.specs.declared.thread.Thread.{Thread}
-use Rattle.qstate.specs.Endings.{with_completion_if}
 use Rattle.qstate.specs.Pulses.{IsSent, IsSentIfDue, IsTurnedAway, has_room}
-use Rattle.qstate.specs.Thread.{newest_in, open_in}
-use Rattle.qstate.specs.Kept.{thread_priority, members_of}
 use Rattle.qstate.proofs.Inserting.{own_first, own_one}
-use Rattle.qkernel.specs.Kernel.{State, IsSound}
-use Rattle.qkernel.specs.Private.Steps.{Steps, facts_in}
 use Rattle.qrules.proofs.Traces.Past.OpenCalls.{unblock_none}
-use Rattle.qrules.proofs.Traces.Rosters.{among, filter_map_same, only_own, rises}
-use Rattle.qrules.proofs.Words.Items.{ends_receiver}
-use Rattle.qrules.proofs.Words.Items.{pulse_receipt}
 use Rattle.qrules.proofs.Traces.Past.Laws.{IsSettled}
 use Rattle.qkernel.proofs.Steps.Common.{Counted, counted_alone, sound_counted, sound_counted_alone, step_refused, uncancelled_by}
 use Rattle.qkernel.proofs.Steps.Cancelling.{mine}
 use Rattle.qkernel.proofs.Steps.Delivering.{count_kept, counted_room, sound_threads, sound_with_item}
 use Rattle.qkernel.proofs.Steps.Told.{IsNew, IsTold, not_caller, told_settled}
+use Rattle.qkernel.proofs.Common.{eqb-true, ne_eqb, option_or, Item, member_at, Member, Errno, Again, NoMemory, cond_same, refusal_completion, receipt_of, ends_receiver, pulse_receipt, row_of, Facts, threads_of, SentItem, Call, Completion, OpenCall, Channel, Thread, with_completion_if, newest_in, open_in, thread_priority, members_of, State, IsSound, Steps, facts_in, among, filter_map_same, only_own, rises}
 
 -- of its own the call neither creates nor attaches, detaches, destroys, sets or writes anything
 pub record Quiet (f : Facts) (t : ℕ) (c : Call) : Type 0 where

@@ -1,42 +1,20 @@
 -- A pulse that is sent, if one is due: what becomes of the threads and the channels, and whose call ends.
 use Rattle.std.proofs.Common.{◌≡◌, ◌≢◌, ℕ, ◌+◌, ◌<◌, ◌≤◌, List, [], ◌++◌, length, refl, ap, sym, subst, ◌∙◌, cond, true, false, eqb}
 use Rattle.std.specs.Prelude.{Option, None, Some, IfSome, is_some, unwrap_or}
-use Rattle.std.specs.List.{AllByRecursion, filter_map}
-use Rattle.std.proofs.lemmas.Bool.{eqb-true, ne_eqb, true≢false}
 use Rattle.std.proofs.lemmas.List.{append-nil}
-use Rattle.std.proofs.lemmas.Option.{none-some, same_Some}
-use Rattle.std.specs.Option.{option_or}
 use Rattle.qbase.proofs.Lists.{eqb_same, is_among, or_none}
-use Rattle.qqueue.specs.Best.{is_pulse}
-use Rattle.qqueue.specs.declared.item.Item.{Item}
-use Rattle.qrules.proofs.Words.Facts.{threads_of}
-use Rattle.qrules.specs.Delivery.{refusal_if_full_for}
-use Rattle.qrules.proofs.Words.Items.{ends_receiver}
-use Rattle.qrules.proofs.Words.Items.{pulse_receipt}
-use Rattle.qrules.specs.Delivery.{newest_receiver}
-use Rattle.qrules.proofs.Words.Items.{item_in}
+use Rattle.qrules.specs.Delivery.{refusal_if_full_for, newest_receiver}
+use Rattle.qrules.proofs.Words.Items.{ends_receiver, pulse_receipt, item_in}
 use Rattle.qrules.specs.Records.{takes}
-use Rattle.qmodel.specs.Trace.{SentItem}
 use Rattle.qrules.proofs.Words.Step.{after_receipt, priority_taken, unreceived_items, unless}
-use Rattle.qrules.proofs.Words.Past.{made_on}
-use Rattle.qmodel.specs.declared.call.Completion.{Completion}
-use Rattle.qmodel.specs.declared.open_call.OpenCall.{OpenCall}
 use Rattle.qmodel.specs.declared.open_call.OpenCall.TheVariants.{Receive, Send}
-use Rattle.qrules.proofs.Traces.Rosters.{filter_map_same, rises}
 use Rattle.qrules.proofs.Traces.Calls.Delivering.{ForAnItem, met_item, met_settled}
 use Rattle.qrules.proofs.Traces.Past.Laws.{IsSettled}
-use Rattle.qstate.specs.Channel.{ids_of}
-use Rattle.qstate.specs.Kept.{channel_in, pending_in, thread_priority, members_of}
-use Rattle.qstate.specs.Endings.{with_completion_if}
 use Rattle.qstate.specs.Pulses.{IsLeft, IsMet, IsSentIfDue}
-use Rattle.qstate.specs.Thread.{open_in}
-use Rattle.qstate.specs.declared.channel.Channel.{Channel}
-use Rattle.qstate.specs.declared.thread.Thread.{Thread}
 use Rattle.qstate.proofs.Inserting.{endings_fewer, inserted_among}
 use Rattle.qstate.proofs.Receivers.{ended_thread, newest_receives, waits_among}
-use Rattle.qkernel.specs.Kernel.{State, IsSound}
-use Rattle.qkernel.specs.Private.Steps.{facts_in}
 use Rattle.qkernel.proofs.Steps.Delivering.{items_after, with_item}
+use Rattle.qkernel.proofs.Common.{AllByRecursion, filter_map, eqb-true, ne_eqb, true≢false, none-some, same_Some, option_or, is_pulse, Item, threads_of, SentItem, made_on, Completion, OpenCall, filter_map_same, rises, ids_of, channel_in, pending_in, thread_priority, members_of, with_completion_if, open_in, Channel, Thread, State, IsSound, facts_in}
 
 -- the item that is due, with its channel
 abbrev pub made_for : ℕ → Option Item → Option SentItem

@@ -1,27 +1,13 @@
 -- Write as a step of the kernel.
 use Rattle.qrules.proofs.Messages.{reply_buffer_same}
 use Rattle.std.proofs.Common.{◌≡◌, ℕ, ◌+◌, List, [], ◌∷◌, refl, ap, sym, ◌∙◌, cond, eqb, arith, true, false, append-nil}
-use Rattle.std.specs.Prelude.{None, Some}
-use Rattle.std.specs.Option.{option_map}
-use Rattle.std.proofs.lemmas.Bool.{eqb-true}
-use Rattle.qbase.specs.Laying.{laid_count}
-use Rattle.qtables.specs.Members.{member_at}
-use Rattle.qtables.specs.declared.member.Member.{Member}
 use Rattle.qmodel.specs.declared.call.Call.TheVariants.{Write}
-use Rattle.qmodel.specs.declared.call.Completion.{Completion}
-use Rattle.qmodel.specs.declared.call.Mark.TheVariants as mark
-use Rattle.qstate.specs.declared.thread.Thread.{Thread}
-use Rattle.qrules.specs.Records.{reply_buffer_in}
-use Rattle.qstate.specs.Held.{is_held_in}
-use Rattle.qrules.specs.Records.{is_thread, written_call}
-use Rattle.qkernel.specs.Kernel.{State, IsSound}
-use Rattle.qkernel.specs.Private.Steps.{Steps, facts_in}
+use Rattle.qrules.specs.Records.{reply_buffer_in, is_thread, written_call}
 use Rattle.qstate.specs.Thread.{open_in, sender_in, sent_call, ChangesSender}
-use Rattle.qstate.specs.Kept.{members_of}
-use Rattle.qbase.proofs.Lists.{cond_same}
-use Rattle.qrules.proofs.Traces.Rosters.{among, only_own, rises}
 use Rattle.qkernel.proofs.Steps.Common.{uncancelled}
 use Rattle.qkernel.proofs.Steps.Held.{is_held}
+use Rattle.qkernel.proofs.Common.{None, Some, option_map, eqb-true, laid_count, member_at, Member, Completion, Thread, is_held_in, State, IsSound, Steps, facts_in, members_of, cond_same, among, only_own, rises}
+use Rattle.qmodel.specs.declared.call.Mark.TheVariants as mark
 
 module _ (s : State) (t : ℕ) (m : Member) (i : ℕ) (sound : IsSound s) (known : member_at (members_of s.threads) t ≡ Some m) (up : s.down ≡ false) (free : open_in s.threads t ≡ None)
     (held : is_held_in s.threads s.channels m.process i ≡ true) where

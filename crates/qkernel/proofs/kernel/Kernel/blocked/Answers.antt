@@ -1,8 +1,7 @@
 use Rattle.std.proofs.Common.{◌≡◌, ap, ◌∙◌, get_or, arith}
 use Rattle.std.proofs.lemmas.List.{take_all}
-use Rattle.qtables.specs.Members.{IsRoster}
-use Rattle.qstate.specs.Kept.{members_of}
 use Rattle.qkernel.proofs.BlockedThreads.{blocked_more, blocked_now}
+use Rattle.qkernel.proofs.Common.{IsRoster, members_of}
 use Rattle.qkernel.proofs.kernel.Kernel.blocked.Goals as goal
 
 pub loop-thread-preserved : goal.loop-thread-preserved

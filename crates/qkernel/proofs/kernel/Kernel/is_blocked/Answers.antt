@@ -1,6 +1,5 @@
-use Rattle.std.proofs.Common.{ap, sym}
-use Rattle.std.specs.Prelude.{is_some}
 use Rattle.qstate.proofs.Seats.{unknown_open}
+use Rattle.qkernel.proofs.Common.{ap, sym, is_some}
 use Rattle.qkernel.proofs.kernel.Kernel.is_blocked.Goals as goal
 
 pub returns-in-None : goal.returns-in-None

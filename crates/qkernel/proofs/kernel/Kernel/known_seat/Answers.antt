@@ -1,6 +1,5 @@
 use Rattle.std.proofs.Common.{ap, sym, ◌∙◌}
-use Rattle.std.specs.Prelude.{is_some}
-use Rattle.std.proofs.lemmas.Bool.{true≢false}
+use Rattle.qkernel.proofs.Common.{is_some, true≢false}
 use Rattle.qkernel.proofs.kernel.Kernel.known_seat.Goals as goal
 
 pub unreachable-requires : goal.unreachable-requires

@@ -1,14 +1,10 @@
 use Rattle.std.proofs.Common.{sym, ap, ◌∙◌, cond}
-use Rattle.std.specs.Prelude.{None, Some}
 use Rattle.std.specs.Option.{option_copied_mut, option_map}
 use Rattle.std.proofs.lemmas.Bool.{not-false, not-true}
-use Rattle.qstate.proofs.Seats.{seat_kept}
 use Rattle.qstate.proofs.ChannelWrites.{sets_queue}
-use Rattle.qrules.specs.Records.{is_fixed}
-use Rattle.qstate.specs.Channel.{is_of}
-use Rattle.qstate.specs.Kept.{items_waiting_on, open_channel_of}
 use Rattle.qqueue.specs.Best.{best_of, is_pulse, without_item}
 use Rattle.qkernel.proofs.Steps.Receiving.{hands_members, step_receive_refused, step_receive_waits, step_receive_takes, sound_taken}
+use Rattle.qkernel.proofs.Common.{None, Some, seat_kept, is_fixed, is_of, items_waiting_on, open_channel_of}
 use Rattle.qkernel.proofs.kernel.Kernel.receive.Goals as goal
 
 pub returns-in_default-take : goal.returns-in_default-take

@@ -1,8 +1,7 @@
-use Rattle.std.proofs.Common.{true}
-use Rattle.qbase.specs.declared.errno.Errno.TheVariants.{Srch}
 use Rattle.qstate.specs.declared.cancelling.CancelSet.TheVariants.{All}
 use Rattle.qkernel.proofs.Steps.Cancelling.{sound_cancelled}
 use Rattle.qkernel.proofs.Steps.Shutdown.{step_shut}
+use Rattle.qkernel.proofs.Common.{true, Srch}
 use Rattle.qkernel.proofs.kernel.Kernel.shutdown.Goals as goal
 
 pub invariant_of-self : goal.invariant_of-self

@@ -1,8 +1,6 @@
 use Rattle.std.proofs.Common.{◌≡◌, ap, refl, sym, ◌∙◌}
-use Rattle.std.proofs.lemmas.Result.{err_from_is_err_and}
-use Rattle.std.specs.Prelude.{is_some}
-use Rattle.qbase.specs.declared.errno.Errno.TheVariants.{Srch}
 use Rattle.qkernel.proofs.Steps.State.{step_state, step_state_nobody}
+use Rattle.qkernel.proofs.Common.{err_from_is_err_and, is_some, Srch}
 use Rattle.qkernel.proofs.kernel.Kernel.state.Goals as goal
 
 pub returns-in_err-seat : goal.returns-in_err-seat

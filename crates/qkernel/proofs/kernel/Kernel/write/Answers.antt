@@ -1,13 +1,11 @@
 use Rattle.std.proofs.Common.{ap, refl, sym, ◌∙◌}
-use Rattle.qbase.specs.Laying.{laid_count}
-use Rattle.qrules.specs.Records.{reply_buffer_in}
-use Rattle.qrules.specs.Records.{written_call}
+use Rattle.qrules.specs.Records.{reply_buffer_in, written_call}
 use Rattle.qstate.proofs.Senders.{call_sent, changes_sender}
-use Rattle.std.proofs.lemmas.Result.{err_from_is_err_and}
 use Rattle.qmodel.specs.declared.call.Call.TheVariants.{Write}
 use Rattle.qkernel.proofs.Steps.Held.{step_unheld}
 use Rattle.qkernel.proofs.Steps.Write.{step_written}
 use Rattle.qkernel.proofs.Steps.Delivering.{sound_threads}
+use Rattle.qkernel.proofs.Common.{laid_count, err_from_is_err_and}
 use Rattle.qkernel.proofs.kernel.Kernel.write.Goals as goal
 
 pub returns-in_err-holder : goal.returns-in_err-holder
