@@ -6,26 +6,14 @@ use Rattle.qmodel.specs.declared.call.Call.{Call}
 use Rattle.qmodel.specs.declared.call.Completion.{Completion}
 use Rattle.qmodel.specs.Trace.{Trace}
 use Rattle.qpast.specs.History.{Extends}
-use Rattle.qshared.specs.Answered.{Comes, IsMet}
+use Rattle.qshared.specs.Answered.{Answered, IsMet}
 use Rattle.qshared.specs.Asking.{calls_of}
-use Rattle.qshared.specs.Counting.{is_event}
+use Rattle.qshared.specs.Counting.{gives, is_call, pends}
 use Rattle.qshared.specs.Due.{AreLater, at_once, collected}
 use Rattle.qshared.specs.Performing.{Admits, Refuses}
-use Rattle.qshared.specs.declared.performed.Performed.{Performed}
-use Rattle.qshared.specs.declared.performed.Performed.TheVariants.{Ended, Open, Refused}
+use Rattle.qshared.specs.declared.port.Called.{Called}
+use Rattle.qshared.specs.declared.port.Called.TheVariants.{Done, Blocked, Refused}
 use Rattle.qshared.proofs.Turns.{now_waits, once_same, still_none, turn_none, turn_once}
-
--- the ending with which a call ended at once
-abbrev pub ended_with : Performed → List Completion
-ended_with (Ended x) = x ∷ []
-ended_with Open = []
-ended_with (Refused errno given) = []
-
--- whether a call is pending after this outcome
-abbrev pub pending_after : Performed → Bool → Bool
-pending_after Open before = true
-pending_after (Ended x) before = before
-pending_after (Refused errno given) before = before
 
 module _ (roster : List Member) (refuses : Refuses) (admits : Admits) (t : ℕ) (c : Call) (asked : List Call) (seen last past after : Trace)
     (met : IsMet roster t asked seen past) (since : Extends seen last) (calls : calls_of last t ≡ asked) (took : List Completion) (pending : Bool)
@@ -33,18 +21,18 @@ module _ (roster : List Member) (refuses : Refuses) (admits : Admits) (t : ℕ) 
   same : at_once past t ≡ at_once last t
   same = once_same past seen last asked t met.extends since met.calls calls
 
-  pub calls_after : (p : Performed) → Comes roster refuses admits t c p past after → calls_of after t ≡ asked ++ cond (is_event p) (c ∷ []) []
-  calls_after (Ended x) came = ap (λ p. calls_of p t) came.1.then ∙ rw (eq-eqb t t refl) (ap (λ cs. cs ++ c ∷ []) met.calls)
-  calls_after Open came = ap (λ p. calls_of p t) came.1.then ∙ rw (eq-eqb t t refl) (ap (λ cs. cs ++ c ∷ []) met.calls)
+  pub calls_after : (p : Called) → Answered roster refuses admits t c p past after → calls_of after t ≡ asked ++ cond (is_call p) (c ∷ []) []
+  calls_after (Done x) came = ap (λ p. calls_of p t) came.1.then ∙ rw (eq-eqb t t refl) (ap (λ cs. cs ++ c ∷ []) met.calls)
+  calls_after Blocked came = ap (λ p. calls_of p t) came.1.then ∙ rw (eq-eqb t t refl) (ap (λ cs. cs ++ c ∷ []) met.calls)
   calls_after (Refused errno given) came = ap (λ p. calls_of p t) came.2 ∙ met.calls ∙ sym (append-nil asked)
 
-  pub later_after : (p : Performed) → Comes roster refuses admits t c p past after → (is_event p ≡ true → pending ≡ false)
-      → AreLater (pending_after p pending) (at_once after t) took × (collected after t took ≡ collected last t took ++ ended_with p)
-  later_after (Ended x) came idle =
+  pub later_after : (p : Called) → Answered roster refuses admits t c p past after → (is_call p ≡ true → pending ≡ false)
+      → AreLater (pends p pending) (at_once after t) took × (collected after t took ≡ collected last t took ++ gives p)
+  later_after (Done x) came idle =
       let once : at_once after t ≡ at_once last t ++ (x ∷ []) ∷ [] = ap (λ p. at_once p t) came.1.then ∙ rw (eq-eqb t t refl, came.2.only) (ap (λ os. os ++ (x ∷ []) ∷ []) same) in
       let l = subst (λ b. AreLater b (at_once last t) took) (idle refl) later in
       rw (once, idle refl) (still_none (at_once last t) took x [] l, turn_once (at_once last t) took x [])
-  later_after Open came idle =
+  later_after Blocked came idle =
       let once : at_once after t ≡ at_once last t ++ [] ∷ [] = ap (λ p. at_once p t) came.1.then ∙ rw (eq-eqb t t refl, came.2.none) (ap (λ os. os ++ [] ∷ []) same) in
       let l = subst (λ b. AreLater b (at_once last t) took) (idle refl) later in
       rw once (now_waits (at_once last t) took l, turn_none (at_once last t) took (omega (arith, l.0)) ∙ sym (append-nil (collected last t took)))

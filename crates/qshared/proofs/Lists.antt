@@ -14,14 +14,14 @@ use Rattle.qrules.proofs.Words.Facts.{threads_of}
 use Rattle.qrules.proofs.Words.Lawful.{with_event}
 use Rattle.qmodel.specs.Trace.{Trace}
 use Rattle.qpast.specs.declared.asking.Heard.{Heard}
-use Rattle.qshared.specs.Answered.{Comes}
+use Rattle.qshared.specs.Answered.{Answered}
 use Rattle.qshared.specs.Asking.{AreCallsOf, calls_of, heard_in}
-use Rattle.qshared.specs.Counting.{is_event}
+use Rattle.qshared.specs.Counting.{is_call}
 use Rattle.qshared.specs.Due.{place}
 use Rattle.qshared.specs.UnderLock.{UnderLock}
 use Rattle.qshared.specs.Performing.{Admits, Performs, Refuses}
-use Rattle.qshared.specs.declared.performed.Performed.{Performed}
-use Rattle.qshared.specs.declared.performed.Performed.TheVariants.{Ended, Open, Refused}
+use Rattle.qshared.specs.declared.port.Called.{Called}
+use Rattle.qshared.specs.declared.port.Called.TheVariants.{Done, Blocked, Refused}
 use Rattle.qshared.proofs.Places.{place_same}
 
 -- ---- rows
@@ -74,19 +74,19 @@ heard_after roster lists past t i c X more at near is are u j there =
     ]
 
 module _ (roster : List Member) (refuses : Refuses) (admits : Admits) (lists : List (List Call)) (t i : ℕ) (c : Call) (old new : UnderLock) (at : place (threads_of roster) t ≡ Some i) where
-  pub heard_event : (p : Performed) → Performs roster refuses admits old t c p new → is_event p ≡ true → i < length lists → (more : List Call) → more ≡ get_or lists i [] ++ c ∷ []
+  pub heard_event : (p : Called) → Performs roster refuses admits old t c p new → is_call p ≡ true → i < length lists → (more : List Call) → more ≡ get_or lists i [] ++ c ∷ []
       → AreCallsOf roster lists old.past → AreCallsOf roster (set lists i more) new.past
-  heard_event (Ended x) p e near more is are = subst (AreCallsOf roster (set lists i more)) (sym p.2) (heard_after roster lists old.past t i c p.0 more at near is are)
-  heard_event Open p e near more is are = subst (AreCallsOf roster (set lists i more)) (sym p.2) (heard_after roster lists old.past t i c p.0 more at near is are)
+  heard_event (Done x) p e near more is are = subst (AreCallsOf roster (set lists i more)) (sym p.2) (heard_after roster lists old.past t i c p.0 more at near is are)
+  heard_event Blocked p e near more is are = subst (AreCallsOf roster (set lists i more)) (sym p.2) (heard_after roster lists old.past t i c p.0 more at near is are)
   heard_event (Refused errno given) p e near more is are = absurd (true≢false (sym e))
 
-  pub heard_refused : (p : Performed) → Performs roster refuses admits old t c p new → is_event p ≡ false → AreCallsOf roster lists old.past → AreCallsOf roster lists new.past
-  heard_refused (Ended x) p e are = absurd (true≢false e)
-  heard_refused Open p e are = absurd (true≢false e)
+  pub heard_refused : (p : Called) → Performs roster refuses admits old t c p new → is_call p ≡ false → AreCallsOf roster lists old.past → AreCallsOf roster lists new.past
+  heard_refused (Done x) p e are = absurd (true≢false e)
+  heard_refused Blocked p e are = absurd (true≢false e)
   heard_refused (Refused errno given) p e are = subst (λ h. AreCallsOf roster lists h.past) (sym p.0) are
 
   -- what it comes to at the past before it
-  pub comes : (p : Performed) → Performs roster refuses admits old t c p new → (after : Trace) → after ≡ new.past → Comes roster refuses admits t c p old.past after
-  comes (Ended x) p after is = (p.0, record { event = p.1; then = is ∙ p.2 }, p.3)
-  comes Open p after is = (p.0, record { event = p.1; then = is ∙ p.2 }, p.3)
+  pub comes : (p : Called) → Performs roster refuses admits old t c p new → (after : Trace) → after ≡ new.past → Answered roster refuses admits t c p old.past after
+  comes (Done x) p after is = (p.0, record { event = p.1; then = is ∙ p.2 }, p.3)
+  comes Blocked p after is = (p.0, record { event = p.1; then = is ∙ p.2 }, p.3)
   comes (Refused errno given) p after is = (p.1, p.2, is ∙ ap (λ h. h.past) p.0)

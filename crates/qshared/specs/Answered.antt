@@ -9,11 +9,8 @@ use Rattle.qrules.specs.Trace.{Trace}
 use Rattle.qpast.specs.History.{Extends}
 use Rattle.qshared.specs.Asking.{calls_of}
 use Rattle.qshared.specs.Performing.{Admits, IsEvent, IsOpen, IsOwn, IsRefused, Refuses}
-use Rattle.qshared.specs.declared.performed.Performed.{Performed}
-use Rattle.qshared.specs.declared.performed.Performed.TheVariants.{Ended, Open, Refused}
 use Rattle.qshared.specs.declared.port.Called.{Called}
-use Rattle.qshared.specs.declared.port.Called.TheVariants.{Done, Blocked}
-use Rattle.qshared.specs.declared.port.Called.TheVariants as called
+use Rattle.qshared.specs.declared.port.Called.TheVariants.{Done, Blocked, Refused}
 
 -- a past that a port can meet under the lock: it is lawful and has the six properties, it goes on from what
 -- the port saw before, and the thread's calls in it are just those that the port made before
@@ -36,21 +33,10 @@ pub record Happens (roster : List Member) (admits : Admits) (t : ℕ) (c : Call)
   pub event : IsEvent roster admits past t c X
   pub then : after ≡ record { thread = t; call = c; endings = X } ∷ past
 
--- the outcome of a call under the lock at a past, and the past after it: it is refused with an error and
--- given back, and the past is the same; or it is an event, and ended in it exactly if one of the endings is
--- that of the call itself
-abbrev pub Comes : List Member → Refuses → Admits → ℕ → Call → Performed → Trace → Trace → Type 0
-Comes roster refuses admits t c (Refused e given) past after =
-    (given ≡ c) × IsRefused roster refuses past t c e × (after ≡ past)
-Comes roster refuses admits t c (Ended x) past after = (X : List Completion)
-    × Happens roster admits t c X past after × IsOwn t (length past + 1) X x
-Comes roster refuses admits t c Open past after = (X : List Completion)
-    × Happens roster admits t c X past after × IsOpen t (length past + 1) X
-
 -- what a port answers at a past, and the past after it: the call is refused with an error and given back, and
 -- the past is the same; or it is an event; if the answer has an ending, it is the call's own in that event
 abbrev pub Answered : List Member → Refuses → Admits → ℕ → Call → Called → Trace → Trace → Type 0
-Answered roster refuses admits t c (called.Refused e given) past after =
+Answered roster refuses admits t c (Refused e given) past after =
     (given ≡ c) × IsRefused roster refuses past t c e × (after ≡ past)
 Answered roster refuses admits t c (Done x) past after = (X : List Completion)
     × Happens roster admits t c X past after × IsOwn t (length past + 1) X x

@@ -1,9 +1,9 @@
 -- What contracts ask of the past and of an event's endings.
-use Rattle.std.specs.Prelude.{◌≡◌, ◌<◌, ◌==◌, ◌∷◌, ℕ}
+use Rattle.std.specs.Prelude.{◌≡◌, ◌==◌, ℕ}
 use mathlib.Core.Option.{some}
 use lib.ListN.{get_elem?}
 use Rattle.qpast.specs.History.{Extends}
-use Rattle.qrules.specs.Words.{[], list_any, Bool, Completion, List}
+use Rattle.qrules.specs.Words.{list_any, Bool, Completion, List}
 use Rattle.qrules.specs.Past.{was_done}
 use Rattle.qrules.specs.Trace.{CallNo, Trace}
 pub use Rattle.qrules.specs.Trace.{RiseByThread}

@@ -13,9 +13,9 @@ use Rattle.qrules.specs.Outcome.{Answers}
 use Rattle.qrules.specs.Trace.{Trace}
 use Rattle.qshared.specs.Due.{endings_due, of_thread}
 use Rattle.qshared.specs.Past.{has_ending_of, is_down}
-use Rattle.qshared.specs.declared.performed.Performed.{Performed}
+use Rattle.qshared.specs.declared.port.Called.{Called}
 use Rattle.qshared.specs.UnderLock.{UnderLock}
-use Rattle.qshared.specs.declared.performed.Performed.TheVariants.{Ended, Open, Refused}
+use Rattle.qshared.specs.declared.port.Called.TheVariants.{Done, Blocked, Refused}
 
 -- the errors with which a log doesn't note a call: a relation of the past, the call and the error
 abbrev pub Refuses : Type 1
@@ -68,20 +68,20 @@ pub record IsOpen (t i : ℕ) (endings : List Completion) : Type 0 where
   pub unended : has_ending_of endings i ≡ false
 
 -- the outcome of an event, given the caller's own ending, or none
-abbrev pub outcome : Option Completion → Performed
-outcome (Some x) = Ended x
-outcome None = Open
+abbrev pub outcome : Option Completion → Called
+outcome (Some x) = Done x
+outcome None = Blocked
 
 -- a call that is refused is given back and changes nothing; any other is an event, which the past then has,
 -- and ended in it exactly if one of the endings is that of the call itself
-abbrev pub Performs : List Member → Refuses → Admits → UnderLock → ℕ → Call → Performed → UnderLock → Type 0
+abbrev pub Performs : List Member → Refuses → Admits → UnderLock → ℕ → Call → Called → UnderLock → Type 0
 Performs roster refuses admits old t c (Refused e given) new =
     (new ≡ old) × (given ≡ c) × IsRefused roster refuses old.past t c e
-Performs roster refuses admits old t c (Ended x) new =
+Performs roster refuses admits old t c (Done x) new =
     (X : List Completion) × IsEvent roster admits old.past t c X
     × (new.past ≡ record { thread = t; call = c; endings = X } ∷ old.past)
     × IsOwn t (length old.past + 1) X x
-Performs roster refuses admits old t c Open new =
+Performs roster refuses admits old t c Blocked new =
     (X : List Completion) × IsEvent roster admits old.past t c X
     × (new.past ≡ record { thread = t; call = c; endings = X } ∷ old.past)
     × IsOpen t (length old.past + 1) X

@@ -11,7 +11,6 @@ mod locked;
 pub mod log;
 pub mod parts;
 mod patience;
-pub mod performed;
 pub mod port;
 pub mod report;
 mod room;

@@ -4,13 +4,13 @@ ghost use lib.ListN.{get_elem?};
 ghost use Rattle.qrules.specs.Facts.{threads_of};
 ghost use Rattle.qhandoff.specs.Words.{cells_id};
 ghost use Rattle.qshared.specs.Asking.{AreCallsOf, WaitedBefore, heard_in};
-ghost use Rattle.qshared.specs.Answered.{IsMet, Comes};
-ghost use Rattle.qshared.specs.Counting.{is_event, one_if};
+ghost use Rattle.qshared.specs.Answered.{Answered, IsMet};
+ghost use Rattle.qshared.specs.Counting.{is_call};
 ghost use Rattle.qshared.specs.Due.{place};
 
 use crate::closing_room::ClosingRoom;
 use crate::log::Log;
-use crate::performed::Performed;
+use crate::port::{Called, is_call};
 use crate::tie::{Tie, Whole};
 use crate::traced::Traced;
 use crate::turn::Turn;
@@ -36,16 +36,6 @@ pub(crate) struct Locked<K: Tie, L: Log> {
     ghost counted: { length traced.past ≡ book.total },
     ghost named: { (map (λ h. h.name) heard.items ≡ K.names.lists) × (length heard.items ≡ K.names.cells.slots) },
     ghost heard_all: { AreCallsOf K.names.roster (map (λ h. h.calls) heard.items) traced.past },
-}
-
-/// Returns whether the call is an event.
-fn is_event(performed: &Performed) -> bool
-    ensures { result ≡ is_event performed.now }
-{
-    match performed {
-        Performed::Ended(_) | Performed::Open => true,
-        Performed::Refused(_, _) => false,
-    }
 }
 
 /// States that the calls that a thread asked for are those that are kept beside the past. Changes nothing.
@@ -92,7 +82,7 @@ impl<K: Tie, L: Log> Locked<K, L> {
         asked: &mut Asked,
         seen: &mut Seen,
         call: Call,
-    ) -> Performed
+    ) -> Called
         requires cells { cells_id cells.now ≡ K.names.cells }
         requires part { 0 < share.old.parts }
         requires seat { (place (threads_of K.names.roster) turn.old.seat.thread ≡ Some turn.old.seat.index) × (turn.old.seat.index < K.names.cells.slots) }
@@ -101,14 +91,14 @@ impl<K: Tie, L: Log> Locked<K, L> {
         requires asked { slice_index_or K.names.lists turn.old.seat.index 0 ≡ asked.old.name }
         requires seen { seen.old.name ≡ K.names.history }
         ensures met { IsMet K.names.roster turn.old.seat.thread asked.old.calls seen.old.trace self.old.traced.past }
-        ensures idle { is_event result ≡ true → turn.old.pending ≡ false }
-        ensures came { Comes K.names.roster L.refuses L.admits turn.old.seat.thread call result self.old.traced.past seen.new.trace }
+        ensures idle { is_call result ≡ true → turn.old.pending ≡ false }
+        ensures came { Answered K.names.roster L.refuses L.admits turn.old.seat.thread call result self.old.traced.past seen.new.trace }
         ensures past { self.new.traced.past ≡ seen.new.trace }
         ensures seen { seen.new.name ≡ seen.old.name }
         ensures parts { share.new.parts ≡ share.old.parts }
-        ensures amount { share.new.amount ≡ share.old.amount + one_if (is_event result) }
+        ensures amount { share.new.amount ≡ share.old.amount + (if is_call result then 1 else 0) }
         ensures name { asked.new.name ≡ asked.old.name }
-        ensures asked { asked.new.calls ≡ asked.old.calls ++ (if is_event result then call ∷ [] else []) }
+        ensures asked { asked.new.calls ≡ asked.old.calls ++ (if is_call result then call ∷ [] else []) }
         ensures few { share.old.amount < 2 ^ 63 }
         ensures seat { (turn.new.seat ≡ turn.old.seat) × (turn.new.pending ≡ turn.old.pending) }
         ensures none { turn.new.endings.value.items ≡ [] }
@@ -118,11 +108,11 @@ impl<K: Tie, L: Log> Locked<K, L> {
         self.book.audit(share);
         agree(asked, &mut self.heard, cell);
         let asking = Snapshot::of(&call);
-        let performed = self.traced.perform(cells, turn, seen, call);
-        if is_event(&performed) {
+        let called = self.traced.perform(cells, turn, seen, call);
+        if is_call(&called) {
             asked.ask(&mut self.heard[cell], &asking);
             self.book.add(share, 1);
         }
-        performed
+        called
     }
 }

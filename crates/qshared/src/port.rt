@@ -1,6 +1,6 @@
 //! The port by which one thread calls a shared kernel.
 
-ghost use Rattle.std.specs.Prelude.{◌≡◌, ◌+◌, ◌++◌, [], ◌∷◌, true, false, MatchOption, if◌then◌else◌, slice_index_or, Some};
+ghost use Rattle.std.specs.Prelude.{◌≡◌, ◌≤◌, ◌+◌, ◌++◌, [], ◌∷◌, true, false, MatchOption, if◌then◌else◌, slice_index_or, Some};
 ghost use Rattle.qrules.specs.Facts.{threads_of};
 ghost use Rattle.qhandoff.specs.Words.{cells_id, thread_id, thread_of, taken, IsThreadOf};
 ghost use Rattle.qpast.specs.History.{Extends};
@@ -13,7 +13,6 @@ ghost use Rattle.qshared.specs.TwoCalls.{AnsweredBoth, is_ok, calls_in, asked_by
 use crate::locked::Locked;
 use crate::log::Log;
 use crate::patience::Patience;
-use crate::performed::Performed;
 use crate::seen::Seen;
 use crate::shared::Shared;
 use crate::spinning;
@@ -81,6 +80,31 @@ pub struct Port<K: Tie> {
     ghost since: { IsSince seen.trace last.trace },
     ghost calls_are: { calls_of last.trace thread ≡ asked.calls },
     ghost later: { AreLater turn.pending (at_once last.trace thread) (taken seat) },
+}
+
+/// Returns whether a call is an event.
+pub(crate) fn is_call(called: &Called) -> bool
+    ensures { result ≡ is_call called.now }
+{
+    !matches!(called, Called::Refused(_, _))
+}
+
+/// Returns 1 for a call that is an event, and 0 for one that isn't.
+fn events(called: &Called) -> u64
+    ensures number { result ≡ (if is_call called.now then 1 else 0) }
+    ensures few { result ≤ 1 }
+{
+    match called {
+        Called::Refused(_, _) => 0,
+        _ => 1,
+    }
+}
+
+/// Returns whether a blocked call isn't collected yet after this one, given whether there was one before.
+fn pends(called: &Called, before: bool) -> bool
+    ensures { result ≡ pends called.now before }
+{
+    before || matches!(called, Called::Blocked)
 }
 
 /// Returns whether a call succeeded, by the mark of its ending: whether the mark is `Ok`.
@@ -189,6 +213,7 @@ impl<K: Tie> Port<K> {
             self.make(&shared.cells, &mut **guard, call)
         };
         shared.wake(self.turn.woken);
+        self.turn.lent = None;
         called
     }
 
@@ -232,6 +257,7 @@ impl<K: Tie> Port<K> {
             }
         };
         shared.wake(self.turn.woken);
+        self.turn.lent = None;
         called
     }
 
@@ -252,7 +278,7 @@ impl<K: Tie> Port<K> {
         ensures taken { collected self.new.last.trace self.new.thread (taken self.new.seat) ≡ collected self.old.last.trace self.old.thread (taken self.old.seat) ++ gives result }
         ensures same { (self.new.thread ≡ self.old.thread) × (thread_of self.new.seat ≡ thread_of self.old.seat) }
     {
-        let performed = locked.call(
+        let called = locked.call(
             cells,
             &mut self.turn,
             &mut self.share,
@@ -261,18 +287,9 @@ impl<K: Tie> Port<K> {
             call,
         );
         self.last = self.seen.again();
-        match performed {
-            Performed::Refused(errno, call) => Called::Refused(errno, call),
-            Performed::Open => {
-                self.calls += 1;
-                self.turn.pending = true;
-                Called::Blocked
-            }
-            Performed::Ended(completion) => {
-                self.calls += 1;
-                Called::Done(completion)
-            }
-        }
+        self.calls += events(&called);
+        self.turn.pending = pends(&called, self.turn.pending);
+        called
     }
 
     /// Takes the ending that was put for the thread, if there is one. It takes no lock and no memory, and never waits.

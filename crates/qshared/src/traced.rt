@@ -1,27 +1,32 @@
 //! A kernel with its past, and the kernel's seat of the cells.
-ghost use Rattle.std.specs.Prelude.{◌≡◌, ◌≤◌, ◌^◌, [], length, Some, true, false};
+ghost use Rattle.std.specs.Prelude.{◌≡◌, ◌<◌, ◌≤◌, ◌^◌, [], length, IfSome, Some, true, false};
 ghost use Rattle.qrules.specs.Facts.{threads_of};
 ghost use Rattle.qrules.specs.Lawful.{IsLawful};
 ghost use Rattle.qrules.specs.Properties.{HasProperties};
 ghost use Rattle.qstate.specs.Kept.{members_of};
-ghost use Rattle.qkernel.specs.Stands.{StandsAt};
+ghost use Rattle.qstate.specs.Threads.{IsSeatIn};
+ghost use Rattle.qkernel.specs.LentCall.{call_lent};
+ghost use Rattle.qkernel.specs.Stands.{AnswersAtTraces, StandsAt};
 ghost use Rattle.qhandoff.specs.Steps.{seated_desk};
 ghost use Rattle.qpast.specs.History.{Extends};
 ghost use Rattle.qhandoff.specs.Words.{cells_id, kernel_id, desk};
 ghost use Rattle.qshared.specs.Asking.{WaitedBefore, calls_of};
-ghost use Rattle.qshared.specs.Counting.{is_event};
+ghost use Rattle.qshared.specs.Counting.{is_call};
 ghost use Rattle.qshared.specs.Due.{place};
 ghost use Rattle.qshared.specs.Performing.{Performs, outcome};
 
 use crate::handing::hand_out;
 use crate::log::Log;
-use crate::performed::Performed;
+use crate::port::Called;
 use crate::tie::Tie;
 use crate::turn::Turn;
 use qbase::errno::Errno;
 use qhandoff::cells::Cells;
 use qhandoff::seats::KernelSeat;
+use qkernel::endings::Endings;
 use qkernel::kernel::Kernel;
+use qkernel::lent_call::LentCall;
+use qkernel::seat::Seat;
 use qmodel::call::{Call, Completion};
 use qpast::history::{History, Seen};
 use std::marker::{Model, PhantomData};
@@ -52,14 +57,68 @@ impl<K: Tie, L: Log> Model for Traced<K, L> {
     ghost invariant = { λ t. (kernel_id t.seat ≡ K.names.cells) × (L.roster t.log ≡ K.names.roster) × IsUnderLock K.names.roster K.names.cells.slots t.kernel (desk t.seat) (threads_of (members_of t.kernel.threads)) (L.past t.log) × ((t.history.name ≡ K.names.history) × (t.history.trace ≡ L.past t.log)) };
 }
 
-// Returns the outcome of a call that is an event: `Ended` if its own ending was among the endings, else `Open`.
-fn ended_or_open(own: Option<Completion>) -> Performed
+// Returns the outcome of a call that is an event: `Done` if its own ending was among the endings, else `Blocked`.
+fn ended_or_open(own: Option<Completion>) -> Called
     ensures { result ≡ outcome own }
 {
     match own {
-        Some(completion) => Performed::Ended(completion),
-        None => Performed::Open,
+        Some(completion) => Called::Done(completion),
+        None => Called::Blocked,
     }
+}
+
+/// Returns the call with its bytes lent, if it is a Reply or a Write.
+fn lent_of(call: &Call) -> Option<LentCall<'_>>
+    ensures { IfSome result (λ lent. call_lent lent ≡ call.now) }
+{
+    match call {
+        Call::Reply {
+            rcvid,
+            status,
+            bytes,
+        } => Some(LentCall::Reply {
+            rcvid: *rcvid,
+            status: *status,
+            bytes: bytes.as_slice(),
+        }),
+        Call::Write {
+            rcvid,
+            offset,
+            bytes,
+        } => Some(LentCall::Write {
+            rcvid: *rcvid,
+            offset: *offset,
+            bytes: bytes.as_slice(),
+        }),
+        _ => None,
+    }
+}
+
+/// Makes a call of the thread at a seat. The bytes of a Reply or a Write are lent, and the call stays in `lent`, so that
+/// they aren't freed under the lock.
+fn make_at(
+    kernel: &mut Kernel,
+    seat: &Seat,
+    call: Call,
+    lent: &mut Option<Call>,
+    endings: &mut Endings,
+)
+    requires few { kernel.old.made < 2 ^ 40 }
+    requires seat { IsSeatIn kernel.old.threads seat.now }
+    requires none { endings.old.items ≡ [] }
+    ensures event { AnswersAtTraces kernel.old seat.now.thread call endings.new.items kernel.new }
+    ensures roster { members_of kernel.new.threads ≡ members_of kernel.old.threads }
+{
+    if let Some(lending) = lent_of(&call) {
+        let Ok(()) = kernel.call_lent_at(seat, &lending, endings) else {
+            unreachable!();
+        };
+        *lent = Some(call);
+        return;
+    }
+    let Ok(()) = kernel.call_at(seat, call, endings) else {
+        unreachable!();
+    };
 }
 
 impl<K: Tie, L: Log> Traced<K, L> {
@@ -106,13 +165,13 @@ impl<K: Tie, L: Log> Traced<K, L> {
         turn: &mut Turn,
         seen: &mut Seen,
         call: Call,
-    ) -> Performed
+    ) -> Called
         requires cells { cells_id cells.now ≡ K.names.cells }
         requires seat { place (threads_of K.names.roster) turn.old.seat.thread ≡ Some turn.old.seat.index }
         requires none { turn.old.endings.value.items ≡ [] }
         requires pending { turn.old.pending ≡ true → WaitedBefore seen.old.trace (calls_of self.old.past turn.old.seat.thread) turn.old.seat.thread }
         requires seen { seen.old.name ≡ K.names.history }
-        ensures idle { is_event result ≡ true → turn.old.pending ≡ false }
+        ensures idle { is_call result ≡ true → turn.old.pending ≡ false }
         ensures performs { Performs K.names.roster L.refuses L.admits self.old turn.old.seat.thread call result self.new }
         ensures seat { (turn.new.seat ≡ turn.old.seat) × (turn.new.pending ≡ turn.old.pending) }
         ensures none { turn.new.endings.value.items ≡ [] }
@@ -122,25 +181,29 @@ impl<K: Tie, L: Log> Traced<K, L> {
     {
         self.history.look(seen);
         if self.kernel.is_down() {
-            return Performed::Refused(Errno::Down, call);
+            return Called::Refused(Errno::Down, call);
         }
         let seat = turn.seat;
         let place = seat.index();
         if turn.pending {
-            return Performed::Refused(Errno::Busy, call);
+            return Called::Refused(Errno::Busy, call);
         }
         if !self.seat.open(cells, place) {
-            return Performed::Refused(Errno::Busy, call);
+            return Called::Refused(Errno::Busy, call);
         }
         let asking = Snapshot::of(&call);
         let made = self.kernel.made();
         if let Err(errno) = self.log.note(made, &call) {
             self.seat.cancel(cells, place);
-            return Performed::Refused(errno, call);
+            return Called::Refused(errno, call);
         }
-        let Ok(()) = self.kernel.call_at(&seat, call, &mut *turn.endings) else {
-            unreachable!();
-        };
+        make_at(
+            &mut self.kernel,
+            &seat,
+            call,
+            &mut turn.lent,
+            &mut *turn.endings,
+        );
         self.log.event(&self.kernel, &seat, &*turn.endings);
         let thread = seat.thread();
         let history = &mut self.history;

@@ -5,6 +5,7 @@ ghost use Rattle.std.specs.Prelude.{◌≡◌, [], false, IfOk};
 use arrayvec::ArrayVec;
 use qkernel::endings::Endings;
 use qkernel::seat::Seat;
+use qmodel::call::Call;
 use std::alloc::{AllocError, Global};
 
 /// What a port brings to the lock: the seat whose calls are made, and room for the endings of one call. It lies with the
@@ -18,6 +19,8 @@ pub struct Turn {
     pub(crate) woken: u64,
     // Whether the ending of a blocked call isn't collected yet.
     pub(crate) pending: bool,
+    // The last call, if its bytes were lent to the kernel. It is freed after the lock.
+    pub(crate) lent: Option<Call>,
 }
 
 impl Turn {
@@ -31,6 +34,7 @@ impl Turn {
             endings: Box::new(alloc, ArrayVec::new_in(alloc))?,
             woken: 0,
             pending: false,
+            lent: None,
         })
     }
 }

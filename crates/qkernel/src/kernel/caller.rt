@@ -11,6 +11,7 @@ use qqueue::item::{Item, What};
 use qstate::endings::Endings;
 use qstate::seat::Seat;
 use std::alloc::Global;
+use std::mem;
 
 /// The caller of a call.
 #[derive(Clone, Copy, Debug)]
@@ -52,6 +53,16 @@ impl Caller {
         ensures { result ≡ record { call = self.now.made + 1; thread = self.now.seat.thread; mark = mark; buffer = [] } }
     {
         self.completion_with(mark, Bytes::new(self.alloc))
+    }
+
+    /// Returns the completion of the caller's call, which succeeded. Its buffer is empty, and has the memory of a message,
+    /// so that the message isn't freed here but with the completion.
+    pub(crate) fn completion_taking(&self, message: &mut Bytes) -> Completion
+        ensures { result ≡ record { call = self.now.made + 1; thread = self.now.seat.thread; mark = Mark.Ok; buffer = [] } }
+    {
+        let mut memory = mem::replace(message, Bytes::new(self.alloc)).into_vec();
+        memory.clear();
+        self.completion_with(Mark::Ok, Bytes::from(memory))
     }
 
     /// Returns the message or pulse that the caller's call sends. Its number is that of the call.

@@ -50,8 +50,8 @@ impl Kernel {
         requires { MayCall self.old caller.now endings.old.items }
         ensures { MakesOrRefuses self.old caller.now (Call.Reply rcvid status bytes.now) result endings.new.items self.new }
     {
-        let sent = self.objects.take_held(caller.process, rcvid)?;
-        put(endings, caller.completion(Mark::Ok));
+        let mut sent = self.objects.take_held(caller.process, rcvid)?;
+        put(endings, caller.completion_taking(&mut sent.message));
         put(endings, reply_completion(sent, status, bytes));
         Ok(())
     }
@@ -68,8 +68,8 @@ impl Kernel {
         requires { MayCall self.old caller.now endings.old.items }
         ensures { MakesOrRefuses self.old caller.now (Call.Error rcvid code) result endings.new.items self.new }
     {
-        let sent = self.objects.take_held(caller.process, rcvid)?;
-        put(endings, caller.completion(Mark::Ok));
+        let mut sent = self.objects.take_held(caller.process, rcvid)?;
+        put(endings, caller.completion_taking(&mut sent.message));
         put(endings, sent.completion(error_mark(code)));
         Ok(())
     }

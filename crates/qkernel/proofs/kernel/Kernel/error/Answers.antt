@@ -30,6 +30,6 @@ returns c =
     let s = c.in_ok-sent.sent in
     let ended = answered_by (error_finish c.args.code) s.thread (open_in c.self.inside.objects.threads s.thread) s c.in_ok-sent.ensures.had in
     let mark = rw (to_z-of_z w32 c.args.code c.ranges.code) at c.error_mark.ensures in
-    let both = rw (c.completion-2.ensures, mark, c.put.ensures, c.completion.ensures, may.none) at c.put-2.ensures in
+    let both = rw (c.completion.ensures, mark, c.put.ensures, c.completion_taking.ensures, may.none) at c.put-2.ensures in
     rw (← c.self.view_is, may.counted, c.in_ok-sent.ensures.channels, c.in_ok-sent.ensures.connections) (step_errored _ c.args.caller.now.seat.thread _ c.args.rcvid may.sound may.among.known c.args.code s.thread _ may.up may.free c.in_ok-sent.ensures.held c.in_ok-sent.ensures.sender ended _ _
     c.in_ok-sent.ensures.after both)

@@ -31,6 +31,6 @@ returns c =
     let finish = reply_finish c.args.status c.args.bytes.now in
     let ended = answered_by finish s.thread (open_in c.self.inside.objects.threads s.thread) s c.in_ok-sent.ensures.had in
     let completion = rw (to_z-of_z w64 c.args.status c.ranges.status) at c.reply_completion.ensures in
-    let both = rw (completion, c.put.ensures, c.completion.ensures, may.none) at c.put-2.ensures in
+    let both = rw (completion, c.put.ensures, c.completion_taking.ensures, may.none) at c.put-2.ensures in
     rw (← c.self.view_is, may.counted, c.in_ok-sent.ensures.channels, c.in_ok-sent.ensures.connections) (step_replied _ c.args.caller.now.seat.thread _ c.args.rcvid may.sound may.among.known c.args.status c.args.bytes.now s.thread _ may.up may.free c.in_ok-sent.ensures.held c.in_ok-sent.ensures.sender ended _ _
     c.in_ok-sent.ensures.after both)
