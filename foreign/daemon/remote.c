@@ -1,4 +1,6 @@
 /* The layer's calls in the daemon's kernel, and which kernel a call is for. Tested, not proved. */
+#include <stdio.h>
+
 static struct neutrino remote_kernel; /* of which only the process is used */
 static bool is_remote;
 static int program_socket = -1, program_scoid;
@@ -95,18 +97,26 @@ static void forget_sockets(void) {
     pthread_mutex_init(&asking, NULL);
 }
 
+/* No daemon is there, which is told once. */
+static neutrino *refuse_path(const char *path) {
+    static bool told;
+    int error = errno;
+    if (!told) dprintf(STDERR_FILENO, "balsaeuchre: no balsaeuchred at %s: %s\n", path, strerror(error));
+    told = true;
+    errno = error == ENOENT || error == ECONNREFUSED ? ESHUTDOWN : error;
+    return NULL;
+}
+
 static neutrino *open_remote(const char *path) {
     static bool prepared;
     program_socket = connect_to(path);
-    if (program_socket == -1) return NULL;
+    if (program_socket == -1) return refuse_path(path);
     if (!prepared) pthread_atfork(NULL, NULL, forget_sockets);
     prepared = true;
     program_scoid = (int)ask_about(OP_PROCESS, WIRE_VERSION);
     if (program_scoid == -1) {
-        int error = errno;
-        close(program_socket);
+        close(program_socket); /* which leaves errno as it is */
         program_socket = -1;
-        errno = error;
         return NULL;
     }
     remote_kernel.process = getpid();

@@ -37,7 +37,8 @@ name_attach_t *name_attach(dispatch_t *dpp, const char *path, unsigned flags) {
     (void)flags;
     if (!error && dpp) error = ENOTSUP;
     if (!error) chid = ChannelCreate(_NTO_CHF_UNBLOCK | _NTO_CHF_DISCONNECT | _NTO_CHF_COID_DISCONNECT);
-    if (!error) error = chid == -1 ? EBUSY : enter_name(path, chid);
+    if (chid == -1 && !error) error = errno == EAGAIN ? EBUSY : errno;
+    if (!error) error = enter_name(path, chid);
     if (!error) {
         attach->chid = chid;
         return attach;

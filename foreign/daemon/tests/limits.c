@@ -232,6 +232,21 @@ static void as_nobody(void *unused) {
 }
 
 /* Another user, for whom the socket's file may be open. Only root can try. */
+/* Without a daemon each call fails, and it is told where it was looked for, once. */
+static void without_daemon(void *unused) {
+    int told[2];
+    char text[100] = "";
+    (void)unused;
+    check(pipe(told) == 0 && dup2(told[1], STDERR_FILENO) != -1 && setenv("BALSAEUCHRE_SYSTEM", "/nowhere", 1) == 0);
+    fails(ChannelCreate(0), ESHUTDOWN);
+    fails(name_open("server", 0), ESHUTDOWN);
+    check(name_attach(NULL, "server", 0) == NULL && errno == ESHUTDOWN);
+    check(read(told[0], text, sizeof text - 1) > 0);
+    check(strcmp(text, "balsaeuchre: no balsaeuchred at /nowhere: No such file or directory\n") == 0);
+}
+
+static void absent(void) { expect_end(spawn(without_daemon, NULL)); }
+
 static void users(void) {
     const char *path = getenv("BALSAEUCHRE_SYSTEM");
     struct stat state;
@@ -261,7 +276,7 @@ static void lives(void) {
 #define TEST(name) {#name, name}
 static const struct { const char *name; void (*run)(void); } tests[] = {
     TEST(channels), TEST(connections), TEST(pulses), TEST(threads), TEST(late), TEST(processes), TEST(lengths),
-    TEST(writes), TEST(stopped), TEST(users), TEST(lives), TEST(busy),
+    TEST(writes), TEST(stopped), TEST(users), TEST(absent), TEST(lives), TEST(busy),
 };
 
 static void run(void *at) { tests[(intptr_t)at].run(); }

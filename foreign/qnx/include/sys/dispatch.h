@@ -25,7 +25,7 @@ typedef struct _name_attach {
 
 /* Creates a channel that name_open finds by this name, with the flags _NTO_CHF_UNBLOCK, _NTO_CHF_DISCONNECT and
  * _NTO_CHF_COID_DISCONNECT. A global name is a local one. Returns null on an error: EINVAL (no name, or it begins with
- * / or has ..), EEXIST, ENAMETOOLONG (over 255 bytes), EBUSY (no channel can be created, or 64 names are attached),
+ * / or has ..), EEXIST, ENAMETOOLONG (over 255 bytes), EBUSY (64 channels are open, or 64 names attached),
  * ENOTSUP (dpp is not null), ENOMEM. */
 name_attach_t *name_attach(dispatch_t *dpp, const char *path, unsigned flags);
 
