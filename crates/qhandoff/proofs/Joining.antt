@@ -22,7 +22,6 @@ pub record Joining {T : Type 0} (old : Desk T) (all : List (ThreadSeat T)) (left
   pub after : (t : ℕ) → length left ≤ t → t < length all → line now t ≡ record (line old t) { taken = Some (took (get_elem? all t)) }
 
 module _ {T : Type 0} where
-
   pub joining_one : (old : Desk T) (all left : List (ThreadSeat T)) (s : ThreadSeat T) (now : Desk T) → Joining old all (left ++ s ∷ []) now → s.thread ≡ length left → length all ≤ length old.lines
       → Joining old all left (joined_at now s.thread (taken s))
   joining_one old all left s now j is room = let t : ℕ = s.thread in let l : Line T = record (line now t) { taken = Some (taken s) } in let more = length-append left (s ∷ []) in

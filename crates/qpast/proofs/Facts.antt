@@ -9,7 +9,6 @@ use types.Kit.{Item, Goal, Seq, ‵, raw, ◌⊛◌, given, ◌$◌, drop, split
 use borrow.Fn.Claims.{AllOf}
 
 module _ {M : Type 1} {𝓤 : Ura M} {𝓛 : Logic 𝓤} {K : Type 0} {Γ : List (Item 𝓤)} where
-
   pub hears_last : K → {G : Goal 𝓤 𝓛.H} {φ : Type 0} → (φ → Seq K 𝓛 Γ G) → Seq K 𝓛 (raw (fact 𝓤 φ) ∷ Γ) G
   hears_last t {G} {φ} k = use1 𝓛 (given φ (‵ ftrue)) (id⊢ 𝓤 _) $ learn t (λ x. drop t $ k x)
 

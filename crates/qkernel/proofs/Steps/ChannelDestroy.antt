@@ -10,7 +10,6 @@ use Rattle.qkernel.proofs.Steps.Cancelling.{endings_cancelled, open_after, sound
 use Rattle.qkernel.proofs.Common.{None, Some, AllByRecursion, Inval, Srch, Item, member_at, Member, refusal_completion, uncancelled_items, Completion, channel_in, pending_in, members_of, AreCancelled, LoseCancelled, open_in, Channel, Thread, State, IsSound, Steps, facts_in}
 
 module _ (s : State) (t chid : ℕ) (m : Member) (known : member_at (members_of s.threads) t ≡ Some m) (up : s.down ≡ false) (free : open_in s.threads t ≡ None) where
-
   module _ (threads : List Thread) (cancel closed : List (ℕ × Channel)) (are : AreCancelled (On chid) Srch s.threads threads) (lose : LoseCancelled (On chid) Srch s.threads s.channels cancel)
       (closes : ClosesIn chid cancel closed) where
     pub step_destroyed : (X : List Completion) → is_of m.process (channel_in s.channels chid) ≡ true → X ≡ endings_cancelled s t (On chid) Srch

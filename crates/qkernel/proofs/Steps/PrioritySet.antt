@@ -14,7 +14,6 @@ use Rattle.qkernel.proofs.Common.{None, Some, unwrap_or, none-some, AllByRecursi
 use Rattle.qmodel.specs.declared.call.Mark.TheVariants as mark
 
 module _ (s : State) (t thread priority : ℕ) (m : Member) (known : member_at (members_of s.threads) t ≡ Some m) (up : s.down ≡ false) (free : open_in s.threads t ≡ None) where
-
   -- how the call ends
   abbrev mine : Completion
   mine = record { call = s.made + 1; thread = t; mark = mark.Ok; buffer = [] }

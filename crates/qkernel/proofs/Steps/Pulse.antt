@@ -21,7 +21,6 @@ natural code e = e
 -- ---- refusals
 
 module _ (s : State) (t coid priority : ℕ) (code value : ℤ) (m : Member) (known : member_at (members_of s.threads) t ≡ Some m) (up : s.down ≡ false) (free : open_in s.threads t ≡ None) where
-
   -- with the channel full, and with no memory for the pulse to wait in
   pub pulse_full : (h : ℕ) → route_in m.process s.channels (entry_at s.connections coid) ≡ Some h → int_lt code (pos 0) ≡ false → has_room s.channels h ≡ false → MayRefuse (facts_in s) t (Pulse coid priority code value) Again
   pulse_full h found positive refusal_if_full =

@@ -82,7 +82,6 @@ one_guards s (Some (Send x)) g e =
 -- ---- the step
 
 module _ (s : State) (t thread : ℕ) (m : Member) (sound : IsSound s) (known : member_at (members_of s.threads) t ≡ Some m) (up : s.down ≡ false) (free : open_in s.threads t ≡ None) where
-
   module _ (fellow : is_in_process m.process (member_at (members_of s.threads) thread) ≡ true) where
     -- the thread's open call is cancelled
     module _ (none : guarded_message_in s.channels (open_in s.threads thread) ≡ None) where
