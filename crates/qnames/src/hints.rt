@@ -90,7 +90,7 @@ pub fn is_comment(word: &[u8]) -> bool {
 }
 
 /// The hint for a line with names in a plain script.
-pub const NAMES_HINT: &str = "; a script with names is a file NAME.names";
+pub const NAMES_HINT: &str = "; a script with names is a file NAME.names, or wants --names-in";
 
 /// Returns whether a word is a sign that only scripts with names have.
 pub fn is_names_sign(word: &[u8]) -> bool {
