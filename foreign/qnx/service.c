@@ -89,6 +89,7 @@ static void forget_all(void) {
     watched = orders[0] = orders[1] = -1;
     kernel = NULL;
     seat = reserved = 0;
+    sleepers = NULL;
     memset(timers, 0, sizeof timers);
     memset(seats, 0, sizeof seats);
     memset(told, 0, sizeof told);

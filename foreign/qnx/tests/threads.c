@@ -354,6 +354,8 @@ void sleepers(void) {
     pthread_t first = start_sleeper(&slept_on), elsewhere = start_sleeper(&other), cancelled = start_sleeper(&slept_on);
     check(pthread_sleepon_lock() == 0 && pthread_sleepon_signal(&slept_on) == 0 && pthread_sleepon_unlock() == 0);
     result_of(first);
+    set_timeout(_NTO_TIMEOUT_JOIN, 200000000);
+    check(pthread_join(cancelled, NULL) == ETIMEDOUT);
     check(woken == 1 && pthread_cancel(cancelled) == 0 && result_of(cancelled) == (long)(intptr_t)PTHREAD_CANCELED);
     check(pthread_sleepon_lock() == 0 && pthread_sleepon_timedwait(&slept_on, 1000000) == ETIMEDOUT);
     check(pthread_sleepon_broadcast(&slept_on) == 0 && pthread_sleepon_unlock() == 0);
