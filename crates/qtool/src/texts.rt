@@ -325,9 +325,7 @@ stands for a channel and a connection; numbers may be left out from the last one
   any                     it ended in any way
 
 Another thread's name is THREAD.NAME. A call that names what another thread hasn't
-made yet waits for it. Calls 'create' and 'attach' with which programs begin are made
-first, in the order of the text; in any order, if a program destroys, detaches or
-shuts down.
+made yet waits for it. 'create' and 'attach' come in any order, as all other calls.
 
 From each moment on each thread that isn't blocked may make its next call, and all
 that can follow is looked at: this is more than a computer with few processors does.
