@@ -6,14 +6,16 @@ use Rattle.qprograms.specs.declared.design.Design.{Design}
 use Rattle.qprograms.specs.declared.design.Target.{Target}
 use Rattle.qprograms.specs.declared.design.Target.TheVariants as target
 use Rattle.qprograms.specs.declared.machine.standing.Standing.{Standing}
-use Rattle.qprograms.specs.Machine.{call_naming, lacks_target, number_named, with_id}
+use Rattle.qprograms.specs.Machine.{call_naming, lacks_target, number_at, number_named, with_id, with_thread}
 
 mapped : {A B : Type 0} (f : A → B) (o : Option A) → not (not (is_some o)) ≡ is_some (option_map f o)
 mapped f None = refl
 mapped f (Some x) = refl
 
 -- it makes its call unless the call lacks what it names
-pub naming_is : (d : Design) (w : List Standing) (seat : ℕ) (c : Call) (t : Target) → not (lacks_target d w seat t) ≡ is_some (call_naming d w seat c t)
-naming_is d w seat c target.Nothing = refl
-naming_is d w seat c (target.Name m) = mapped (with_id c) (number_named d w seat m)
-naming_is d w seat c (target.Thread who) = refl
+pub naming_is : (d : Design) (w : List Standing) (a : Option ℕ) (seat : ℕ) (c : Call) (t : Target) → not (lacks_target d w a seat t) ≡ is_some (call_naming d w a seat c t)
+naming_is d w a seat c target.Nothing = refl
+naming_is d w a seat c (target.Name m) = mapped (with_id c) (number_named d w seat m)
+naming_is d w a seat c (target.Thread who) = refl
+naming_is d w a seat c (target.Blocked who) = mapped (with_thread c) a
+naming_is d w a seat c (target.Sender message name) = mapped (with_id c) (number_at w a name)
