@@ -277,6 +277,9 @@ its own, or all in one process with 'together'. A program has these lines:
   NAME = CALL OPERANDS    the same; NAME stands for what it gives: the channel, the
                           connection, the message that it receives or that an
                           unblock pulse is about, or nothing
+  NAME = attach CHANNEL of MESSAGE
+                          to what the message's sender calls CHANNEL
+  timeout THREAD          unblocks it, once it is blocked; waits for that
   expect PATTERN          the call above has to end so
   if PATTERN              goes by how the call above ended
   if not PATTERN
