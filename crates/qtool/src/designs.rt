@@ -22,7 +22,7 @@ pub const MOST_MOMENTS: usize = 1_000_000;
 const NOT_ALL: u8 = 4;
 
 /// The number of steps of a search between two lines of its progress.
-const STEPS: u32 = 1000;
+const STEPS: u32 = 250;
 
 /// An observer that ignores the progress of a search.
 #[derive(Drop)]
