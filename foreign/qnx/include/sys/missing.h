@@ -29,6 +29,7 @@ extern "C" {
 #endif
 
 NEUTRINO_MISSING(ChannelConnectAttr);
+NEUTRINO_MISSING(ChannelCreateExt);
 NEUTRINO_MISSING(ChannelCreatePulsePool);
 NEUTRINO_MISSING(ClockAdjust);
 NEUTRINO_MISSING(ClockId_r);
@@ -58,7 +59,9 @@ NEUTRINO_MISSING(SignalSuspend);
 NEUTRINO_MISSING(SignalWaitinfo);
 NEUTRINO_MISSING(SyncCondvarSignal);
 NEUTRINO_MISSING(SyncCondvarWait);
+NEUTRINO_MISSING(SyncCtl);
 NEUTRINO_MISSING(SyncDestroy);
+NEUTRINO_MISSING(SyncMutexEvent);
 NEUTRINO_MISSING(SyncMutexLock);
 NEUTRINO_MISSING(SyncMutexRevive);
 NEUTRINO_MISSING(SyncMutexUnlock);
