@@ -77,7 +77,7 @@ static int find_name(const char *name, pid_t *pid) {
 }
 
 int name_open(const char *name, int flags) {
-    struct { uint16_t type, subtype; uint8_t rest[60]; } connect = {_IO_CONNECT, 0, {0}};
+    const struct _io_connect connect = {.type = _IO_CONNECT, .subtype = _IO_CONNECT_OPEN, .path_len = 1};
     (void)flags;
     if (enter()) return -1;
     if (!name || !*name) return fail(EINVAL);

@@ -6,9 +6,11 @@
  * open at a time. All of this is under the lock.
  */
 static void open_names(neutrino *k) {
-    k->tables[CHANNELS] = (struct names){k->channels, INT_MAX >> CHANNEL_BITS, CHANNEL_BITS, 0};
+    k->tables[CHANNELS] = (struct names){k->channels, INT_MAX >> CHANNEL_BITS, CHANNEL_BITS, 1};
     k->tables[CONNECTIONS] = (struct names){k->connections, (SCOID - 1) >> CONNECTION_BITS, CONNECTION_BITS, 0};
     k->tables[MESSAGES] = (struct names){k->messages, INT_MAX >> MESSAGE_BITS, MESSAGE_BITS, 0};
+    /* The first channel is 1, as under QNX: the places but 0, which has no such name, begin with the turn 0. */
+    for (int place = 1; place < 1 << CHANNEL_BITS; place++) k->channels[place].turn = UINT32_MAX;
 }
 
 static int place_in(const struct names *names, int number) { return number & ((1 << names->bits) - 1); }

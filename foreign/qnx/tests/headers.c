@@ -27,6 +27,10 @@ static void macros(void) {
     check(events[0].sigev_notify == SIGEV_NONE);
     io_msg_t message = {.i = {_IO_MSG, sizeof message, _IOMGR_PRIVATE_BASE, 1}};
     check(message.i.type == 0x113 && message.i.subtype == 1 && ESRVRFAULT != EFAULT);
+    check(_IO_CONNECT == _IO_BASE && _IO_CONNECT_OPEN == 2 && sizeof(struct _io_connect) == 44);
+    check(offsetof(struct _io_connect, path_len) == 34 && offsetof(struct _io_connect, path) == 40);
+    check(sizeof(io_read_t) == 16 && sizeof(io_write_t) == 16 && sizeof(io_close_t) == 4);
+    check(sizeof(_Uint16t) == 2 && sizeof(_Int64t) == 8 && sizeof(_Uintptrt) == sizeof(void *));
 }
 
 static void texts(void) {

@@ -4,9 +4,11 @@
 static int chid_of_names, answer_of_names;
 
 static void *greet(void *argument) {
-    struct { uint16_t type, rest[31]; } message;
-    int rcvid = MsgReceive(chid_of_names, &message, sizeof message, NULL);
-    check(rcvid > 0 && message.type == _IO_CONNECT);
+    union { struct _pulse hdr; struct _io_connect connect; } message;
+    struct _msg_info info;
+    int rcvid = MsgReceive(chid_of_names, &message, sizeof message, &info);
+    check(rcvid > 0 && message.hdr.type == _IO_CONNECT && message.hdr.subtype == _IO_CONNECT_OPEN);
+    check(info.srcmsglen == sizeof message.connect && message.connect.path_len == 1 && !*message.connect.path);
     if (answer_of_names) check(MsgError(rcvid, answer_of_names) == 0);
     else check(MsgReply(rcvid, EOK, NULL, 0) == 0);
     return argument;

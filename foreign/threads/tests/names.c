@@ -52,8 +52,19 @@ static int one_by_one(enum table table) {
     return 0;
 }
 
+/* The numbers of channels begin with 1, and go on to the place 0 and to the next turn. */
+static int from_one(void) {
+    for (int number = 1; number < 200; number++) {
+        check(new_name(&k, CHANNELS, (uint64_t)number, 1) == number && id_of(&k, CHANNELS, number, 1) == (uint64_t)number);
+        check(id_of(&k, CHANNELS, number + 1, 0) == 0 && number_of(&k, CHANNELS, (uint64_t)number) == number);
+        end_name(&k, CHANNELS, number);
+    }
+    return 0;
+}
+
 int main(void) {
     open_names(&k);
+    if (from_one()) return 1;
     for (int table = CHANNELS; table < TABLES; table++) {
         if (all_at_once((enum table)table, 1 << k.tables[table].bits) || one_by_one((enum table)table)) return 1;
     }

@@ -40,6 +40,38 @@ int name_open(const char *name, int flags);
 /* ConnectDetach. EINVAL. */
 int name_close(int coid);
 
+/* ---- missing */
+
+NEUTRINO_MISSING_TYPE(dispatch_context_t);
+NEUTRINO_MISSING_TYPE(message_attr_t);
+NEUTRINO_MISSING_TYPE(message_context_t);
+NEUTRINO_MISSING_TYPE(resmgr_attr_t);
+NEUTRINO_MISSING_TYPE(resmgr_connect_funcs_t);
+NEUTRINO_MISSING_TYPE(resmgr_context_t);
+NEUTRINO_MISSING_TYPE(resmgr_io_funcs_t);
+NEUTRINO_MISSING_TYPE(thread_pool_attr_t);
+NEUTRINO_MISSING_TYPE(thread_pool_t);
+NEUTRINO_MISSING(dispatch_block);
+NEUTRINO_MISSING(dispatch_context_alloc);
+NEUTRINO_MISSING(dispatch_create);
+NEUTRINO_MISSING(dispatch_create_channel);
+NEUTRINO_MISSING(dispatch_destroy);
+NEUTRINO_MISSING(dispatch_handler);
+NEUTRINO_MISSING(dispatch_timeout);
+NEUTRINO_MISSING(dispatch_unblock);
+NEUTRINO_MISSING(message_attach);
+NEUTRINO_MISSING(message_connect);
+NEUTRINO_MISSING(message_detach);
+NEUTRINO_MISSING(pulse_attach);
+NEUTRINO_MISSING(pulse_detach);
+NEUTRINO_MISSING(resmgr_attach);
+NEUTRINO_MISSING(resmgr_detach);
+NEUTRINO_MISSING(select_attach);
+NEUTRINO_MISSING(select_detach);
+NEUTRINO_MISSING(thread_pool_create);
+NEUTRINO_MISSING(thread_pool_destroy);
+NEUTRINO_MISSING(thread_pool_start);
+
 #ifdef __cplusplus
 }
 #endif

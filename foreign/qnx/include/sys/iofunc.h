@@ -1,3 +1,26 @@
 /* For programs that include it beside sys/dispatch.h and use nothing of it: iofunc_* and resource managers are missing. */
 #pragma GCC system_header
+#ifndef BALSAEUCHRE_QNX_IOFUNC_H
+#define BALSAEUCHRE_QNX_IOFUNC_H
+
 #include <sys/dispatch.h>
+
+#ifdef __cplusplus
+extern "C" {
+#endif
+
+NEUTRINO_MISSING_TYPE(iofunc_attr_t);
+NEUTRINO_MISSING_TYPE(iofunc_funcs_t);
+NEUTRINO_MISSING_TYPE(iofunc_mount_t);
+NEUTRINO_MISSING_TYPE(iofunc_ocb_t);
+NEUTRINO_MISSING(iofunc_attr_init);
+NEUTRINO_MISSING(iofunc_func_init);
+NEUTRINO_MISSING(iofunc_lock_ocb_default);
+NEUTRINO_MISSING(iofunc_read_verify);
+NEUTRINO_MISSING(iofunc_write_verify);
+
+#ifdef __cplusplus
+}
+#endif
+
+#endif

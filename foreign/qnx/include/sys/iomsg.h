@@ -1,5 +1,5 @@
-/* The types of QNX's input and output messages, for servers that have to tell them from their own. Their layouts, and
- * the functions of resource managers, are missing. The numbers are this project's, but for their range. */
+/* The types and heads of QNX's input and output messages, for servers that have to tell them from their own. The
+ * functions of resource managers are missing. The numbers are this project's, but for their range. */
 #pragma GCC system_header
 #ifndef BALSAEUCHRE_QNX_IOMSG_H
 #define BALSAEUCHRE_QNX_IOMSG_H
@@ -30,6 +30,63 @@
 #define _IO_SYNC 0x118
 #define _IO_MAX 0x1ff
 #define _IOMGR_PRIVATE_BASE 0xf000
+#define _IOMGR_PRIVATE_MAX 0xffff
+#define _IO_COMBINE_FLAG 0x8000
+
+/* What an _IO_CONNECT asks for. name_open asks for _IO_CONNECT_OPEN. */
+enum _io_connect_subtypes {
+    _IO_CONNECT_COMBINE,
+    _IO_CONNECT_COMBINE_CLOSE,
+    _IO_CONNECT_OPEN,
+    _IO_CONNECT_UNLINK,
+    _IO_CONNECT_RENAME,
+    _IO_CONNECT_MKNOD,
+    _IO_CONNECT_READLINK,
+    _IO_CONNECT_LINK,
+    _IO_CONNECT_RSVD_UNBLOCK,
+    _IO_CONNECT_MOUNT
+};
+
+struct _io_connect {
+    uint16_t type;
+    uint16_t subtype;
+    uint32_t file_type;
+    uint16_t reply_max;
+    uint16_t entry_max;
+    uint32_t key;
+    uint32_t handle;
+    uint32_t ioflag;
+    uint32_t mode;
+    uint16_t sflag;
+    uint16_t access;
+    uint16_t zero;
+    uint16_t path_len; /* with the closing 0 */
+    uint8_t eflag;
+    uint8_t extra_type;
+    uint16_t extra_len;
+    char path[1]; /* and more behind; of name_open empty */
+};
+
+struct _io_read {
+    uint16_t type;
+    uint16_t combine_len;
+    uint32_t nbytes; /* that are wanted */
+    uint32_t xtype;
+    uint32_t zero;
+};
+
+struct _io_write {
+    uint16_t type;
+    uint16_t combine_len;
+    uint32_t nbytes; /* that follow */
+    uint32_t xtype;
+    uint32_t zero;
+};
+
+struct _io_close {
+    uint16_t type;
+    uint16_t combine_len;
+};
 
 /* The head of an _IO_MSG message. */
 struct _io_msg {
@@ -38,6 +95,18 @@ struct _io_msg {
     uint16_t mgrid;
     uint16_t subtype;
 };
+
+typedef union {
+    struct _io_read i;
+} io_read_t;
+
+typedef union {
+    struct _io_write i;
+} io_write_t;
+
+typedef union {
+    struct _io_close i;
+} io_close_t;
 
 typedef union {
     struct _io_msg i;

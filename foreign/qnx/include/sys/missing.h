@@ -1,25 +1,35 @@
-/* Functions of QNX that are missing here. A call of one is an error of the compiler, which says so. */
+/* Functions of sys/neutrino.h that are missing here. A call of one is an error of the compiler, which says so. Those of
+ * other headers stand there, so that a program that doesn't include them may use the names. */
 #pragma GCC system_header
 #ifndef BALSAEUCHRE_QNX_MISSING_H
 #define BALSAEUCHRE_QNX_MISSING_H
 
-#ifdef __clang__
+#ifdef __has_attribute
+#if __has_attribute(unavailable)
 #define NEUTRINO_REFUSED(text) __attribute__((unavailable(text)))
-#else
-#define NEUTRINO_REFUSED(text) __attribute__((error(text)))
+#endif
+#endif
+#ifndef NEUTRINO_REFUSED
+#define NEUTRINO_REFUSED(text) __attribute__((error(text))) /* of gcc before 12; it does nothing for a type */
 #endif
 #if defined __cplusplus || (defined __STDC_VERSION__ && __STDC_VERSION__ >= 202311L)
 #define NEUTRINO_MISSING(name) int name(...) NEUTRINO_REFUSED("QNX's " #name " is missing in balsaeuchre")
 #else
 #define NEUTRINO_MISSING(name) int name() NEUTRINO_REFUSED("QNX's " #name " is missing in balsaeuchre")
 #endif
+#define NEUTRINO_MISSING_TYPE(name) \
+    typedef struct neutrino_missing name NEUTRINO_REFUSED("QNX's " #name " is missing in balsaeuchre")
+
+struct neutrino_missing {
+    int none;
+};
 
 #ifdef __cplusplus
 extern "C" {
 #endif
 
-/* Of sys/neutrino.h. */
 NEUTRINO_MISSING(ChannelConnectAttr);
+NEUTRINO_MISSING(ChannelCreateExt);
 NEUTRINO_MISSING(ChannelCreatePulsePool);
 NEUTRINO_MISSING(ClockAdjust);
 NEUTRINO_MISSING(ClockId_r);
@@ -49,7 +59,9 @@ NEUTRINO_MISSING(SignalSuspend);
 NEUTRINO_MISSING(SignalWaitinfo);
 NEUTRINO_MISSING(SyncCondvarSignal);
 NEUTRINO_MISSING(SyncCondvarWait);
+NEUTRINO_MISSING(SyncCtl);
 NEUTRINO_MISSING(SyncDestroy);
+NEUTRINO_MISSING(SyncMutexEvent);
 NEUTRINO_MISSING(SyncMutexLock);
 NEUTRINO_MISSING(SyncMutexRevive);
 NEUTRINO_MISSING(SyncMutexUnlock);
@@ -63,35 +75,6 @@ NEUTRINO_MISSING(ThreadDetach);
 NEUTRINO_MISSING(ThreadJoin);
 NEUTRINO_MISSING(TimerAlarm);
 NEUTRINO_MISSING(TraceEvent);
-
-/* Of sys/dispatch.h, sys/iofunc.h and sys/resmgr.h. */
-NEUTRINO_MISSING(dispatch_block);
-NEUTRINO_MISSING(dispatch_context_alloc);
-NEUTRINO_MISSING(dispatch_create);
-NEUTRINO_MISSING(dispatch_create_channel);
-NEUTRINO_MISSING(dispatch_destroy);
-NEUTRINO_MISSING(dispatch_handler);
-NEUTRINO_MISSING(dispatch_timeout);
-NEUTRINO_MISSING(dispatch_unblock);
-NEUTRINO_MISSING(iofunc_attr_init);
-NEUTRINO_MISSING(iofunc_func_init);
-NEUTRINO_MISSING(message_attach);
-NEUTRINO_MISSING(message_connect);
-NEUTRINO_MISSING(message_detach);
-NEUTRINO_MISSING(pulse_attach);
-NEUTRINO_MISSING(pulse_detach);
-NEUTRINO_MISSING(resmgr_attach);
-NEUTRINO_MISSING(resmgr_detach);
-NEUTRINO_MISSING(select_attach);
-NEUTRINO_MISSING(select_detach);
-NEUTRINO_MISSING(thread_pool_create);
-NEUTRINO_MISSING(thread_pool_destroy);
-NEUTRINO_MISSING(thread_pool_start);
-
-/* Of sys/procmgr.h. */
-NEUTRINO_MISSING(procmgr_ability);
-NEUTRINO_MISSING(procmgr_daemon);
-NEUTRINO_MISSING(procmgr_event_notify);
 
 #ifdef __cplusplus
 }

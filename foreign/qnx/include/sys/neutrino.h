@@ -55,6 +55,8 @@ extern "C" {
 #define _NTO_MI_ENDIAN_BIG 0x1
 #define _NTO_MI_ENDIAN_DIFF 0x2
 #define _NTO_MI_NET_CRED_DIRTY 0x200
+#define _NTO_MI_CONSTRAINED 0x400
+#define _NTO_MI_BITS_DIFF 0x800
 #define _NTO_MI_BITS_64 0
 
 #define _NTO_TIMEOUT_JOIN (1 << 12) /* besides _NTO_TIMEOUT_SEND, _NTO_TIMEOUT_RECEIVE and _NTO_TIMEOUT_REPLY */
@@ -69,14 +71,6 @@ extern "C" {
 #define _NTO_TIMEOUT_SIGWAITINFO (1 << 17)
 
 typedef int rcvid_t;
-typedef uint8_t _Uint8t;
-typedef uint16_t _Uint16t;
-typedef uint32_t _Uint32t;
-typedef uint64_t _Uint64t;
-typedef int8_t _Int8t;
-typedef int16_t _Int16t;
-typedef int32_t _Int32t;
-typedef int64_t _Int64t;
 
 /* ---- channels and connections */
 
