@@ -1,6 +1,6 @@
 -- The receive that takes an item: the newest of those that may.
 use Rattle.qlaws.proofs.Common.{AllByRecursion, Bool, List, OpenCall, Receive, Send, SentItem, [], ap, arith, cond, cons_option, eqb, eqb-true, eqb_same, false, inl, inr, is_among, is_last_wait, le-ltb, list_any, ltb-false, ltb-true, newest_receiver, none-some, not-true, option_map_or, or_parts, refl, same_Some, subst, sym, true, true≢false, wait_for, ℕ, ◌<◌, ◌∙◌, ◌∷◌, ◌≡◌, ◌≤◌, ◌⊎◌}
-use Rattle.std.specs.Prelude.{Option, None, Some, find, filter_map, nat_lt, not, option_and_then, ◌&&◌, ◌||◌}
+use Rattle.std.specs.Prelude.{Option, None, Some, find, filter_map, nat_lt, option_and_then, ◌||◌}
 use Rattle.qrules.specs.Facts.{open_receives, receive_in, receive_of, threads_of, Facts, OpenReceive}
 use Rattle.qlaws.specs.OpenCalls as laws
 

@@ -1,6 +1,6 @@
 -- The laws of the calls that threads wait in.
 use Rattle.qlaws.proofs.Common.{Call, IsRoster, Member, None, OldFacts, Option, Receive, Send, Some, Srch, Trace, accepted_at, and-true, begins_now, block, call_at, cancel_where, cancels, eqb-true, eqb_same, false_from_ne_true, held_sender, is_down, is_received, is_some, item_of, kept_number, made_newest, made_stays, may_wait, none-some, not, open_call, open_call_after, open_calls_keep_length, open_from, open_on, open_parts, open_receipt, option_map_or, or-false, passes_of, past_follows, same_Some, shuts_down, true≢false, unless, waits_on_open, ◌&&◌, ◌||◌}
-use Rattle.std.proofs.Common.{◌+◌, ◌≡◌, ◌∙◌, ◌<◌, ◌≤◌, ℕ, List, [], ◌∷◌, length, refl, ap, sym, subst, cond, true, false, inl, inr, eqb, option_map}
+use Rattle.std.proofs.Common.{◌+◌, ◌≡◌, ◌∙◌, ℕ, List, [], ◌∷◌, length, refl, ap, sym, subst, cond, true, false, inl, inr, eqb, option_map}
 use Rattle.qrules.proofs.Words.Lawful as old
 use Rattle.qmodel.specs.declared.call.Call.TheVariants as calls
 use Rattle.qmodel.specs.Buffers.{buffer_of}
