@@ -34,7 +34,6 @@ pub use base.Fml.{Fml, GName, Lft, Share, flft, fsep, ftrue}
 pub use base.Logic.{SProp, emp, ent, fst∗, id⊢, never, sep, via}
 pub use contract.BorrowLft.{◌⊑◌}
 pub use contract.Monad.{Fun, fact}
-pub use contract.Running.{tables, tables_of}
 pub use denote.Exit.{no, yes}
 pub use denote.RattleType.{RattleType, owns}
 pub use denote.RawPtr.{Ptr, RawPtr, block_ptr, in_a_block, null_ptr, ptr_val}

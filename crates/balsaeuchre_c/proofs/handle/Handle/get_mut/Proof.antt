@@ -1,9 +1,10 @@
 -- `get_mut` lends the kernel, and the handle follows it.
-use Rattle.balsaeuchre_c.proofs.Common.{ !, B, Calls, D, Env, Fml, Fun, GName, Goes-spent_ref, Lft, Logic, Loops, Memory, R, RattleType, Routine, SProp, Share, Stays, Tables, Ura, Val, WpFn, WpFn-mono, addr, alloc_all, at_ret, await, bare, block_ptr, blocks, box_in, box_out, by, done, drop, emp, ends_at, ent, enter, entered, env, exec, first, fjoin, fld, flft, fpack, frame, free_all, fsep, fsplit, fsplit3, fst∗, ftrue, get, group, handle, id⊢, join, keep, later, load, look_at, look_in, move, mut_ref_to, named, no, nothing, of_opd, opens, owns, pass_all, pick, plain, qed, raw, returns, rewrite, says, sem, sep, sets, sets_last, some, split, stay_dropped, stop, sub, suffices, tables, tables_of, through, token, triple_of, use1, via, vptr, walk_Meets, walk_of, walked, whole, word, τ, ‵, ◌$◌, ◌∵◌, ◌⊛◌}
+use Rattle.balsaeuchre_c.proofs.Common.{ !, B, Calls, D, Env, Fml, Fun, GName, Goes-spent_ref, Lft, Logic, Loops, Memory, R, RattleType, Routine, SProp, Share, Stays, Tables, Ura, Val, WpFn, WpFn-mono, addr, alloc_all, at_ret, await, bare, block_ptr, blocks, box_in, box_out, by, done, drop, emp, ends_at, ent, enter, entered, env, exec, first, fjoin, fld, flft, fpack, frame, free_all, fsep, fsplit, fsplit3, fst∗, ftrue, get, group, handle, id⊢, join, keep, later, load, look_at, look_in, move, mut_ref_to, named, no, nothing, of_opd, opens, owns, pass_all, pick, plain, qed, raw, returns, rewrite, says, sem, sep, sets, sets_last, some, split, stay_dropped, stop, sub, suffices, through, token, triple_of, use1, via, vptr, walk_Meets, walk_of, walked, whole, word, τ, ‵, ◌$◌, ◌∵◌, ◌⊛◌}
 use mathlib.Core.Path.{◌≡◌, refl, sym}
 use mathlib.Core.List.{List, [], ◌∷◌}
 use Prim.Native.Nat.{ℕ}
 use base.Fraction.{full_share}
+use contract.Running.{tables, tables_of}
 use denote.Memory.{part_at, part_of, raw_all, mem, cell_at}
 use denote.Ref.{MutRef, mut_vals, mut_Tells}
 use denote.Triple.Entry.{on_entry}

@@ -1,7 +1,8 @@
 -- `into_parts` moves two fields, and what they own goes with them.
-use Rattle.balsaeuchre_c.proofs.Common.{ !, B, D, Fun, Goes-dropped, Item, Logic, Memory, Routine, SProp, Stays, Tables, Ura, Val, WpFn, WpFn-mono, agg, alloc_all, and_then, box_in, box_out, box_typed, by, done, drop, emp, ends_at, ent, enter, entered, fjoin, fld, free_all, fsep, fsplit, ftrue, get, get_in, id⊢, join, look_at, move, no_more, nothing, of_opd, pass_all, qed, raw, returns, says, sets, split, stay_dropped, stop, sub, suffices, tables, tables_of, triple_of, type_at, use1, walk_Meets, walk_of, whole, word, yes, ‵, ◌$◌, ◌∵◌, ◌⊛◌}
+use Rattle.balsaeuchre_c.proofs.Common.{ !, B, D, Fun, Goes-dropped, Item, Logic, Memory, Routine, SProp, Stays, Tables, Ura, Val, WpFn, WpFn-mono, agg, alloc_all, and_then, box_in, box_out, box_typed, by, done, drop, emp, ends_at, ent, enter, entered, fjoin, fld, free_all, fsep, fsplit, ftrue, get, get_in, id⊢, join, look_at, move, no_more, nothing, of_opd, pass_all, qed, raw, returns, says, sets, split, stay_dropped, stop, sub, suffices, triple_of, type_at, use1, walk_Meets, walk_of, whole, word, yes, ‵, ◌$◌, ◌∵◌, ◌⊛◌}
 use mathlib.Core.Path.{refl, sym, subst}
 use mathlib.Core.List.{List, [], ◌∷◌, ◌++◌}
+use contract.Running.{tables, tables_of}
 use Rattle.balsaeuchre_c.proofs.AsBox.{E, FromSeal as From}
 use Rattle.balsaeuchre_c.specs.contracts.handle.Handle.into_parts as F
 use Rattle.balsaeuchre_c.specs.contracts.handle.Handle.into_parts.Key.{name as #self}

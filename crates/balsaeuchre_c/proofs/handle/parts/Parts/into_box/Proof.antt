@@ -1,8 +1,9 @@
 -- `into_box` hands what the parts own to `from_raw`.
-use Rattle.balsaeuchre_c.proofs.Common.{ !, B, Body, Bx, Clauses, Contract, D, Ended, Fn, Fun, Goes-blank, Item, Logic, Memory, P, R, RattleType, Routine, SProp, Stays, Tables, Triple, Ura, Val, WT, WpFn, WpFn-mono, alloc_all, and_then, args, assign, at_ret, await, block_ptr, blocks, box_in, box_out, box_owns, box_ty, box_typed, by, calls_at_last, copy, done, drop, ends_at, ent, enter, entered, env, exec, fact, feq_i, first, fjoin, fld, flft, fm_of, free_all, fsep, fsplit, ftrue, get, get_in, has_ty, heard, id⊢, inst_fn, join, lands_last, later, look_at, move, no, no_more, nothing, of_opd, only, pass_all, pick, place, plain, qed, raw, return, returns, rewrite, rv_opd, says, seq, sets, some, split, split3, stay_dropped, stop, sub, suffices, tables, tables_of, token, triple_of, use1, vptr, walk_Meets, walk_of, whole, word, ‵, ◌$◌, ◌∵◌, ◌⊑◌, ◌⊛◌}
+use Rattle.balsaeuchre_c.proofs.Common.{ !, B, Body, Bx, Clauses, Contract, D, Ended, Fn, Fun, Goes-blank, Item, Logic, Memory, P, R, RattleType, Routine, SProp, Stays, Tables, Triple, Ura, Val, WT, WpFn, WpFn-mono, alloc_all, and_then, args, assign, at_ret, await, block_ptr, blocks, box_in, box_out, box_owns, box_ty, box_typed, by, calls_at_last, copy, done, drop, ends_at, ent, enter, entered, env, exec, fact, feq_i, first, fjoin, fld, flft, fm_of, free_all, fsep, fsplit, ftrue, get, get_in, has_ty, heard, id⊢, inst_fn, join, lands_last, later, look_at, move, no, no_more, nothing, of_opd, only, pass_all, pick, place, plain, qed, raw, return, returns, rewrite, rv_opd, says, seq, sets, some, split, split3, stay_dropped, stop, sub, suffices, token, triple_of, use1, vptr, walk_Meets, walk_of, whole, word, ‵, ◌$◌, ◌∵◌, ◌⊑◌, ◌⊛◌}
 use mathlib.Core.Path.{◌≡◌, refl, sym, subst, ap}
 use mathlib.Core.List.{List, [], ◌∷◌, ◌++◌}
 use lib.Dec.{T}
+use contract.Running.{tables, tables_of}
 use Rattle.balsaeuchre_c.specs.contracts.handle.parts.Parts as parts
 use Rattle.std_alloc.specs.contracts.boxed.Box.from_raw as Fr
 use Rattle.std_alloc.proofs.boxed.Box.from_raw.Symbol as raw_sym

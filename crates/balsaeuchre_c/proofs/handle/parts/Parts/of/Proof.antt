@@ -1,7 +1,8 @@
 -- `of` takes the box apart, and the parts own what it owned.
-use Rattle.balsaeuchre_c.proofs.Common.{ !, Args, B, Bx, Clauses, Contract, D, Dict, Ended, Fn, Fun, Goes-blank, Item, Logic, Memory, P, Ptr, R, RattleType, RawPtr, Routine, SProp, Stays, Tables, Triple, Ura, Val, WpFn, WpFn-mono, a_type, agg, alloc_all, and_then, await, bare, block_ptr, box_in, box_out, box_owns, box_typed, by, calls_at, dcons, dnil, done, drop, ends_at, ent, enter, entered, fact, feq_l, fjoin, fld, flft, fm_of, fpick, free_all, fsep, fsplit, fst∗, ftrue, get, get_in, handle_tells, heard, id⊢, in_a_block, inst_fn, join, lands_as, later, look_at, move, never, no, no_more, nothing, null_ptr, of_list, of_opd, only, pass_all, pick, plain, ptr_val, qed, raw, returns, rewrite, says, sem, sets, some, split, split3, stay_dropped, stop, sub, suffices, tables, tables_of, token, triple_of, use1, vstruct, walk_Meets, walk_of, whole, word, τ, ‵, ◌$◌, ◌∵◌, ◌⊑◌, ◌⊛◌}
+use Rattle.balsaeuchre_c.proofs.Common.{ !, Args, B, Bx, Clauses, Contract, D, Dict, Ended, Fn, Fun, Goes-blank, Item, Logic, Memory, P, Ptr, R, RattleType, RawPtr, Routine, SProp, Stays, Tables, Triple, Ura, Val, WpFn, WpFn-mono, a_type, agg, alloc_all, and_then, await, bare, block_ptr, box_in, box_out, box_owns, box_typed, by, calls_at, dcons, dnil, done, drop, ends_at, ent, enter, entered, fact, feq_l, fjoin, fld, flft, fm_of, fpick, free_all, fsep, fsplit, fst∗, ftrue, get, get_in, handle_tells, heard, id⊢, in_a_block, inst_fn, join, lands_as, later, look_at, move, never, no, no_more, nothing, null_ptr, of_list, of_opd, only, pass_all, pick, plain, ptr_val, qed, raw, returns, rewrite, says, sem, sets, some, split, split3, stay_dropped, stop, sub, suffices, token, triple_of, use1, vstruct, walk_Meets, walk_of, whole, word, τ, ‵, ◌$◌, ◌∵◌, ◌⊑◌, ◌⊛◌}
 use mathlib.Core.Path.{◌≡◌, refl, sym, subst, ap, ◌∙◌}
 use mathlib.Core.List.{List, [], ◌∷◌, ◌++◌}
+use contract.Running.{tables, tables_of}
 use denote.Param.{bounded}
 use denote.Struct.Tuple.{Tuple}
 use Rattle.balsaeuchre_c.specs.contracts.handle.parts.Parts as parts
