@@ -1,21 +1,13 @@
 -- A message that an event receives is held after it, and `Info` tells of it.
+use Rattle.balsaeuchre_c.proofs.Common.{AllByRecursion, Answers, Call, ChannelDestroy, Completion, ConnectDetach, Error, Info, IsLawful, IsRoster, Mark, Member, None, Option, Outcome, Pulse, Receive, ReceivePulse, ReceivedItem, Reply, Send, Shutdown, Some, Unblock, all_filter_map, and_from, completion_to, eq-eqb, facts_of, is_some, laid_count, lay_over, member_at, ne_eqb, none-some, not, not_from_false, row_of, same_Some, some_of, true≢false, with_event}
 use Rattle.qrules.proofs.Traces.Rows.{answer_same, pulse_same, sent_same, unblocked_same}
 use Rattle.std.proofs.Common.{◌≡◌, ◌∙◌, ℕ, ◌+◌, List, [], length, refl, ap, sym, subst, arith, Bool, true, false, cond, eqb, inl, inr}
-use Rattle.std.specs.Prelude.{Option, None, Some, is_some, not}
-use Rattle.std.specs.List.{AllByRecursion}
 use Rattle.std.specs.Option.{option_and_then}
-use Rattle.std.proofs.lemmas.Bool.{and_from, eq-eqb, ne_eqb, not_from_false, true≢false}
-use Rattle.std.proofs.lemmas.Option.{none-some, same_Some}
-use Rattle.qbase.specs.Laying.{laid_count, lay_over}
 use Rattle.qbase.specs.declared.errno.Errno.TheVariants.{Srch}
 use Rattle.qqueue.specs.Best.{best_of, is_pulse}
 use Rattle.qqueue.specs.declared.item.Item.{Item}
 use Rattle.qqueue.specs.declared.item.Kind.{Kind}
 use Rattle.qqueue.specs.declared.item.Kind.TheVariants.{Any, PulseOnly}
-use Rattle.qtables.specs.Members.{IsRoster, member_at}
-use Rattle.qtables.specs.declared.member.Member.{Member}
-use Rattle.qrules.specs.Outcome.{Answers, Outcome, completion_to}
-use Rattle.qrules.specs.Rules.{row_of}
 use Rattle.qrules.specs.Rules.Connections as connect_detach
 use Rattle.qrules.proofs.Traces.Parts.{error_finish}
 use Rattle.qrules.specs.Rules.Held.{info_of}
@@ -27,22 +19,16 @@ use Rattle.qrules.specs.Rules.Unblock as unblock
 use Rattle.qrules.specs.Delivery.{is_on}
 use Rattle.qrules.proofs.Words.Effects.{makes}
 use Rattle.qrules.proofs.Words.Facts.{Facts, is_for_answer, message, sender, threads_of, route}
-use Rattle.qrules.proofs.Words.Lawful.{IsLawful, facts_of, with_event}
 use Rattle.qrules.proofs.Words.Past.{copied_count_among, copied_count_of, filled, has_completion_of, is_ended, open_call, priority_of_item, with_receipt}
 use Rattle.qrules.proofs.Words.Items.{item_in}
 use Rattle.qrules.specs.Delivery.{receipt_completion}
 use Rattle.qmodel.specs.Trace.{SentItem}
 use Rattle.qmodel.specs.Trace.{Trace}
-use Rattle.qmodel.specs.declared.call.Call.{Call}
-use Rattle.qmodel.specs.declared.call.Call.TheVariants.{Send, Receive, Reply, Error, Info, ReceivePulse, Pulse, ChannelDestroy, Shutdown, Unblock, ConnectDetach}
-use Rattle.qmodel.specs.declared.call.Completion.{Completion}
 use Rattle.qmodel.specs.declared.call.Info.{Info as Told}
-use Rattle.qmodel.specs.declared.call.Mark.{Mark}
 use Rattle.qmodel.specs.declared.call.Mark.TheVariants as mark
 use Rattle.qmodel.specs.OpenCalls.{number_of}
 use Rattle.qmodel.specs.declared.open_call.OpenCall.{OpenCall}
 use Rattle.qmodel.specs.declared.open_call.OpenCall.TheVariants.{Receive as InReceive, Send as InSend}
-use Rattle.qbase.proofs.Lists.{all_filter_map, some_of}
 use Rattle.qrules.proofs.Traces.Calls.{call_laws}
 use Rattle.qrules.proofs.Traces.Calls.Answering.{answer_receives}
 use Rattle.qrules.proofs.Traces.Calls.ConnectDetach.{detach_ends}
@@ -61,7 +47,6 @@ use Rattle.qrules.proofs.Traces.Properties.Rows.Delivering.{Delivers, delivery_m
 use Rattle.qrules.proofs.Traces.Properties.Rows.Receiving.{receive_takes}
 use Rattle.qrules.proofs.Traces.Properties.Rows.Telling.{Tells, told_meets, unblock_ends}
 use Rattle.qrules.proofs.Traces.TraceLaws.Held.{held_sender}
-use Rattle.qrules.specs.Past.{ReceivedItem}
 
 -- ---- a receipt whose mark is of a message
 

@@ -1,24 +1,10 @@
 -- The rows of an event say what `Info` would of the messages that it received, and restore all buffers.
+use Rattle.balsaeuchre_c.proofs.Common.{Call, Completion, Done, Fills, Informs, IsRoster, IsSound, IsTold, OfEachRow, Restores, Row, Some, State, Tells, Trace, brought_at, drop-append_seam, info_in, is_some, laid_count, member_at, slice_get, start_of, take-append-le, told_bytes, with_event}
 use Rattle.std.proofs.Common.{◌≡◌, ◌∙◌, ℕ, ◌<◌, ◌≤◌, List, [], ◌∷◌, length, take, drop, ap, sym, subst, arith, zero, suc, true}
-use Rattle.std.specs.Prelude.{Some, is_some, slice_get}
-use Rattle.std.proofs.Math.Seq.{drop-append_seam}
-use Rattle.std.proofs.lemmas.List.{take-append-le}
-use Rattle.qbase.specs.Laying.{laid_count}
-use Rattle.qtables.specs.Members.{IsRoster, member_at}
-use Rattle.qmodel.specs.declared.call.Call.{Call}
-use Rattle.qmodel.specs.declared.call.Completion.{Completion}
 use Rattle.qmodel.specs.declared.call.Info.{Info}
-use Rattle.qrules.proofs.Words.Lawful.{with_event}
 use Rattle.qstate.specs.Kept.{members_of}
-use Rattle.qkernel.specs.Kernel.{State, IsSound}
 use Rattle.qkernel.specs.Stands.{AnswersAtTraces}
-use Rattle.balsaeuchre_c.specs.Calling.{brought_at, Informs, OfEachRow, Restores}
-use Rattle.balsaeuchre_c.specs.Rows.{Fills, Tells, info_in, told_bytes}
-use Rattle.balsaeuchre_c.specs.Telling.{IsTold, start_of}
-use Rattle.balsaeuchre_c.specs.declared.row.Row.{Row}
-use Rattle.balsaeuchre_c.specs.declared.telling.Done.{Done}
 use Rattle.qrules.specs.Lawful.{IsLawful}
-use Rattle.qrules.specs.Trace.{Trace}
 use Rattle.qkernel.proofs.Traces.{properties_of, stands_roster}
 use Rattle.balsaeuchre_c.proofs.Holding.{received_told}
 use Rattle.balsaeuchre_c.proofs.Restoring.{all_at, restored}

@@ -1,7 +1,5 @@
 -- Laws of numbers.
-use Rattle.std.proofs.Common.{◌≡◌, ℕ, ◌-◌, List, arith}
-use Rattle.std.proofs.lemmas.Bool.Decides.{nat_tests}
-use Rattle.std.specs.Prelude.{slice_get}
+use Rattle.balsaeuchre_c.proofs.Common.{List, arith, nat_tests, slice_get, ℕ, ◌-◌, ◌≡◌}
 use Rattle.balsaeuchre_c.specs.Numbers.{numbered}
 
 -- a number that isn't 0 names what stands in the place below it

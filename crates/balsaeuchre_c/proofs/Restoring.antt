@@ -1,32 +1,14 @@
 -- What is written of an ending's buffer, and behind it the buffer that its call brought, is all of the buffer.
+use Rattle.balsaeuchre_c.proofs.Common.{AllByRecursion, Answers, Call, Completion, Event, Mark, Member, None, Option, Read, Send, Some, Trace, Write, all_filter_map, append-nil, brought_at, call_at, completion_to, drop_all, effect_of, eq-eqb, filter_map, find, fold, is_some, item_in, laid_count, lay_over, length-take-le, none-some, option_and_then, option_map, reverse, row_of, same_Some, slice_get, take-append_seam, told_bytes, told_of, with_writes}
 use Rattle.std.proofs.Common.{◌≡◌, ◌∙◌, ℕ, ◌+◌, List, [], ◌∷◌, ◌++◌, length, take, drop, refl, ap, sym, subst, arith, zero-add, cond, Bool, true, false, eqb, inl, inr, zero, suc}
-use Rattle.std.specs.Prelude.{Option, None, Some, is_some, fold, filter_map, find, reverse, option_and_then, option_map, slice_get}
-use Rattle.std.specs.List.{AllByRecursion}
 use Rattle.std.specs.Option.{option_map_or}
-use Rattle.std.proofs.Math.Seq.{take-append_seam}
-use Rattle.std.proofs.lemmas.Bool.{eq-eqb}
-use Rattle.std.proofs.lemmas.List.{append-nil, drop_all, length-take-le}
-use Rattle.std.proofs.lemmas.Option.{none-some, same_Some}
-use Rattle.qbase.specs.Laying.{laid_count, lay_over}
 use Rattle.qbase.proofs.Lengths.{lay_length}
-use Rattle.qbase.proofs.Lists.{all_filter_map}
-use Rattle.qtables.specs.declared.member.Member.{Member}
-use Rattle.qmodel.specs.declared.call.Call.{Call}
-use Rattle.qmodel.specs.declared.call.Call.TheVariants.{Send, Read, Write}
-use Rattle.qmodel.specs.declared.call.Completion.{Completion}
-use Rattle.qmodel.specs.declared.call.Mark.{Mark}
 use Rattle.qmodel.specs.declared.call.Mark.TheVariants as mark
 use Rattle.qrules.specs.Facts.{Facts, threads_of}
 use Rattle.qrules.specs.Lawful.{facts_of}
-use Rattle.qrules.specs.Outcome.{completion_to, Answers}
-use Rattle.qrules.specs.Past.{item_in, with_writes}
 use Rattle.qrules.proofs.Traces.TraceLaws.Lengths.{writes_length}
 use Rattle.qrules.specs.Properties.{buffer_at, message_at, request_of, HasProperties, IsCopied, IsCounted, IsLaid, TakesBest}
 use Rattle.qrules.specs.Rule.{buffer_of, ReceiveRequest, Transfer}
-use Rattle.qrules.specs.Rules.{row_of, effect_of}
-use Rattle.qrules.specs.Trace.{call_at, Event, Trace}
-use Rattle.balsaeuchre_c.specs.Calling.{brought_at}
-use Rattle.balsaeuchre_c.specs.Rows.{told_bytes, told_of}
 
 -- what is so of all is so of the one at a place
 pub all_at : {A : Type 0} (P : A → Type 0) (xs : List A) (i : ℕ) (x : A) → AllByRecursion P xs → slice_get xs i ≡ Some x → P x

@@ -1,20 +1,10 @@
 -- Laws of what is told.
+use Rattle.balsaeuchre_c.proofs.Common.{Completion, Done, IsTold, Option, Row, Some, State, Tells, TellsAt, append-nil, append_assoc, buffers, drop-append_seam, drop-drop, drop-set-lt, drop_all, laid_count, lay_over, leb_tells, length-append, length-drop, length-take, length-take-le, slice_get, start_of, take-append-add, take-append-drop, take-append-le, take-append_seam, take-length, take-take, told_bytes}
 use Rattle.std.proofs.Common.{◌≡◌, ℕ, ◌+◌, ◌-◌, ◌<◌, ◌≤◌, min, List, [], ◌∷◌, ◌++◌, length, take, drop, get_or, refl, sym, ap, inl, inr, zero-add, ◌∙◌, subst, arith, zero, suc}
 use borrow.Author.Count.{below_more}
 use Rattle.std.proofs.Math.ListN.{set}
-use Rattle.std.proofs.Math.Seq.{drop-append_seam, take-append-add, take-append_seam, take-length}
-use Rattle.std.proofs.lemmas.List.{append_assoc, drop-drop, drop-set-lt, length-append, length-take, length-take-le, length-drop, take-append-le, append-nil, drop_all, take-append-drop, take-take}
-use Rattle.std.proofs.lemmas.Bool.Decides.{leb_tells}
 use Rattle.std.proofs.lemmas.Grind.{flat_map-append}
 use Rattle.std.proofs.lemmas.Slice.{drop-append-drop}
-use Rattle.std.specs.Prelude.{Option, Some, slice_get}
-use Rattle.qbase.specs.Laying.{laid_count, lay_over}
-use Rattle.qmodel.specs.declared.call.Completion.{Completion}
-use Rattle.balsaeuchre_c.specs.declared.row.Row.{Row}
-use Rattle.qkernel.specs.Kernel.{State}
-use Rattle.balsaeuchre_c.specs.Rows.{Tells, told_bytes}
-use Rattle.balsaeuchre_c.specs.Telling.{buffers, start_of, TellsAt, IsTold}
-use Rattle.balsaeuchre_c.specs.declared.telling.Done.{Done}
 
 -- what was set stands at its place
 pub get-set : {X : Type 0} (xs : List X) (i : ℕ) (x : X) → i < length xs → slice_get (set xs i x) i ≡ Some x

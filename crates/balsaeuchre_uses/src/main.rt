@@ -68,7 +68,7 @@ fn main(rt: HostRuntime) -> Result<(), Fail> {
     for reply in &kept_waiting::kept_waiting(alloc)? {
         show_reply(&rt, reply)?;
     }
-    show_all(&rt, "timeout, cut", &timeout::without_flag(alloc)?)?;
+    show_all(&rt, "timeout, cancelled", &timeout::without_flag(alloc)?)?;
     show_all(&rt, "timeout, told", &timeout::with_flag(alloc)?)?;
     show_all(&rt, "priority carried", &carried::carry_priority(alloc)?)?;
     show_all(&rt, "shut down", &shutdown::shut_down(alloc)?)?;

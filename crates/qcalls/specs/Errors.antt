@@ -5,7 +5,7 @@ use Rattle.qbase.specs.declared.errno.Errno.TheVariants as errno
 use Rattle.qmodel.specs.declared.call.Mark.{Mark}
 use Rattle.qmodel.specs.declared.call.Mark.TheVariants.{Failed, Errored}
 use Rattle.qcalls.specs.declared.error.CallError.{CallError}
-use Rattle.qcalls.specs.declared.error.CallError.TheVariants.{Refused, Cut, Code, NoMemory, Unexpected}
+use Rattle.qcalls.specs.declared.error.CallError.TheVariants.{Refused, Cancelled, Code, NoMemory, Unexpected}
 
 -- the error of a call that the kernel refused with this errno
 abbrev pub refusal : Errno → CallError
@@ -13,13 +13,13 @@ refusal errno.NoMemory = NoMemory
 refusal e = Refused e
 
 -- the error of a call that was blocked, and was ended by force with this errno
-abbrev pub cut : Errno → CallError
-cut errno.NoMemory = NoMemory
-cut e = Cut e
+abbrev pub cancelled : Errno → CallError
+cancelled errno.NoMemory = NoMemory
+cancelled e = Cancelled e
 
 -- the error of a call that failed with this errno, after a wait or in its own event
 abbrev pub failure : Bool → Errno → CallError
-failure true e = cut e
+failure true e = cancelled e
 failure false e = refusal e
 
 -- the error of a call that ended with this mark, which is not its result's, after a wait or in its own event

@@ -6,12 +6,12 @@ use Rattle.qcalls.specs.History.{History}
 use Rattle.qcalls.specs.Making.{MakesOfBytes}
 use Rattle.qcalls.specs.Results.{Reading}
 use Rattle.qcalls.specs.declared.error.CallError.{CallError}
-use Rattle.qcalls.specs.declared.error.CallError.TheVariants.{Cut, NoClock, TimedOut}
+use Rattle.qcalls.specs.declared.error.CallError.TheVariants.{Cancelled, NoClock, TimedOut}
 
 -- the result of a call as it is told when the caller's alarm is cleared: the same, or TimedOut if the call
--- was cut with Intr
+-- was cancelled with Intr
 abbrev pub IsTimed : {A : Type 0} → Result A CallError → Result A CallError → Type 0
-IsTimed called result = (result ≡ called) ⊎ ((called ≡ Err (Cut Intr)) × (result ≡ Err TimedOut))
+IsTimed called result = (result ≡ called) ⊎ ((called ≡ Err (Cancelled Intr)) × (result ≡ Err TimedOut))
 
 -- a call is made, with this result when the alarm is cleared
 pub record MakesTimed {A : Type 0} (read : Reading A) (call : Call) (before after : History)

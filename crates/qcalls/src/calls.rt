@@ -40,8 +40,8 @@ pub trait Calls {
         self.complete(Call::ChannelCreate(flags))?.channel()
     }
 
-    /// Destroys a channel of the caller's process, and cuts each call that is blocked on it (`ChannelDestroy`). Refused
-    /// with `Inval` if the channel isn't open or is another process's.
+    /// Destroys a channel of the caller's process, and cancels each call that is blocked on it (`ChannelDestroy`).
+    /// Refused with `Inval` if the channel isn't open or is another process's.
     fn channel_destroy(&mut self, chid: ChannelId) -> Result<(), CallError>
         ensures { Reads done_in (made self.old (Call.ChannelDestroy chid) self.new) result }
     {
@@ -56,7 +56,7 @@ pub trait Calls {
         self.complete(Call::ConnectAttach(chid))?.connection()
     }
 
-    /// Detaches a connection of the caller's process, and cuts each send over it (`ConnectDetach`). Refused with
+    /// Detaches a connection of the caller's process, and cancels each send over it (`ConnectDetach`). Refused with
     /// `Inval` if the connection isn't live or is another process's, and `Again` if a pulse is due and 1,024 pulses
     /// wait on the channel.
     fn connect_detach(&mut self, coid: ConnectionId) -> Result<(), CallError>
@@ -158,7 +158,7 @@ pub trait Calls {
         self.complete(Call::State(thread))?.state()
     }
 
-    /// Cuts every open call; every later call is refused with `Down`: own profile. Another thread may have shut the
+    /// Cancels every open call; every later call is refused with `Down`: own profile. Another thread may have shut the
     /// kernel down before.
     fn shutdown(&mut self) -> Result<(), CallError>
         ensures { Reads done_in (made self.old Call.Shutdown self.new) result }

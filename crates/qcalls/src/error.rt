@@ -17,8 +17,8 @@ pub enum CallError {
     Refused(Errno),
     /// The call was blocked, and was ended by force: `Srch` by `channel_destroy` or `shutdown`, `Badf` by
     /// `connect_detach`, `Intr` by `unblock`.
-    #[error("call cut: {0:?}")]
-    Cut(Errno),
+    #[error("call cancelled: {0:?}")]
+    Cancelled(Errno),
     /// The server answered the message with this code, by `msg_error`. It isn't 0.
     #[error("message answered with the code {0}")]
     Code(i32),
@@ -75,7 +75,7 @@ pub(crate) fn error_in(waited: bool, mark: Mark) -> CallError
     ensures { result ≡ error_in waited mark }
 {
     match mark {
-        Mark::Failed(errno) if waited && errno != Errno::NoMemory => CallError::Cut(errno),
+        Mark::Failed(errno) if waited && errno != Errno::NoMemory => CallError::Cancelled(errno),
         Mark::Failed(errno) => refusal(errno),
         Mark::Errored(code) => CallError::Code(code),
         _ => CallError::Unexpected,

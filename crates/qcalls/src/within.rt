@@ -76,7 +76,7 @@ impl<'a, E: Endpoint, R: Wait + Clock> Caller<'a, E, R> {
     {
         let rang = alarms.clear(self.rt, self.thread());
         match done {
-            Err(CallError::Cut(Errno::Intr)) if rang => Err(CallError::TimedOut),
+            Err(CallError::Cancelled(Errno::Intr)) if rang => Err(CallError::TimedOut),
             done => done,
         }
     }

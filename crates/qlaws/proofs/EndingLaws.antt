@@ -1,39 +1,14 @@
 -- The laws of the endings of one event.
+use Rattle.qlaws.proofs.Common.{AllByRecursion, Completion, Event, Member, RiseByThread, SentItem, TakesBest, Trace, accepted, all_more, and_from, best_first, completion_to, connection_of, cons_option, ended_below, ends_own, eq-eqb, eqb_same, filter_map, has_completion_of, is_accepted, is_ended, item_at, item_of, item_over, items, keep_length, laws_of, list_any, made_newest, may_wait, none-some, none_of, number_received, option_map, option_to_list, or-true, or_parts, passes_of, past_follows, row_of, shut_for_good, taken_stands, threads_of, true≢false, waiter, waits_or_ends}
 use Rattle.std.proofs.Common.{◌<◌, inl, inr, ◌≡◌, ◌∙◌, ℕ, ◌+◌, List, [], ◌∷◌, length, refl, ap, sym, cond, eqb, subst, Bool, true, false, Option, arith, not}
 use Rattle.std.specs.Prelude.{None, Some, option_map, ◌&&◌, ◌||◌}
-use Rattle.std.specs.List.{AllByRecursion, cons_option, filter_map, list_any}
-use Rattle.qbase.proofs.Lists.{all_more, none_of, eqb_same}
-use Rattle.qtables.specs.declared.member.Member.{Member}
 use Rattle.qrules.proofs.Words.Lawful as old
-use Rattle.qrules.proofs.Words.Past.{has_completion_of, is_accepted, is_ended, item_of, items}
-use Rattle.qmodel.specs.Trace.{Trace, SentItem, Event}
-use Rattle.qmodel.specs.declared.call.Completion.{Completion}
 use Rattle.qrules.proofs.Traces.TraceLaws.Blocked as blocked
 use Rattle.qrules.proofs.Traces.TraceLaws.Ending.{completion_thread, endings_name_own_calls as names}
-use Rattle.qrules.proofs.Traces.TraceLaws.Lengths.{endings_keep_length as keep_length}
 use Rattle.qrules.proofs.Traces.TraceLaws.Refused.{only_counted}
-use Rattle.qrules.proofs.Traces.TraceLaws.Held.{taken_stands}
 use Rattle.qlaws.proofs.OpenCallLaws.{open_is_unended}
-use Rattle.qrules.proofs.Words.Facts.{threads_of}
-use Rattle.qrules.specs.Past.{waiter}
-use Rattle.qrules.proofs.Traces.Past.Waits.{may_wait, waits_or_ends}
-use Rattle.qrules.proofs.Traces.Past.Follows.{past_follows}
-use Rattle.qrules.proofs.Traces.Past.Ends.{accepted, ended_below, ends_own, laws_of, passes_of}
-use Rattle.qrules.proofs.Traces.Properties.ShutForGood.{shut_for_good}
-use Rattle.qrules.proofs.Traces.Properties.Sends.{made_newest}
 use Rattle.qrules.proofs.Traces.Rosters.{Rises, rises}
-use Rattle.qrules.specs.Outcome.{completion_to}
-use Rattle.qrules.specs.Rules.{row_of}
-use Rattle.qrules.specs.Trace.{RiseByThread}
-use Rattle.std.specs.Option.{option_map, option_to_list}
-use Rattle.std.proofs.lemmas.Bool.{eq-eqb, and_from, true≢false, or_parts}
-use Rattle.std.proofs.lemmas.Option.{none-some}
-use Rattle.std.proofs.Math.Bool.{or-true}
 use Rattle.std.proofs.lemmas.List.Folds.{list_any-append}
-use Rattle.qrules.specs.Properties.{connection_of, number_received, TakesBest}
-use Rattle.qrules.proofs.Traces.Past.Items.{item_at}
-use Rattle.qrules.proofs.Traces.Properties.BestFirst.{best_first}
-use Rattle.qrules.proofs.Traces.Properties.Connections.{item_over}
 use Rattle.qlaws.specs.Endings
 
 -- ---- whose they are

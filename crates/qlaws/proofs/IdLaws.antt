@@ -1,39 +1,15 @@
 -- The laws of ids: of the channels that are open, and of the connections that are live.
+use Rattle.qlaws.proofs.Common.{Again, AllByRecursion, Answers, Any, Bool, Call, Completion, Effect, Event, Facts, Inval, IsRoster, Item, Kind, List, Member, Passes, PulseOnly, Srch, Trace, [], all_append, all_filter_map, all_more, ap, arith, attached_connection, attaches, channel_at, completion_of, completion_to, cond, connection_at, count_to, created_channel, creates, detaches, endings_of, eqb, eqb-true, error_finish, false, info_completion, inl, inr, is_number, is_of_process, is_on, length, length-append, ltb-true, member_at, message, message_item, names, none-some, one_for, option_map_or, or-true, passes_of, past_follows, refl, refusal_if_full_for, reply_finish, route, row_of, same_Some, sender, subst, sym, threads_of, true, true≢false, was_done, ℕ, ◌++◌, ◌+◌, ◌<◌, ◌∙◌, ◌∷◌, ◌≡◌, ◌≤◌}
 use Rattle.qrules.proofs.Traces.Rows.{answer_same, pulse_same, sent_same, unblocked_same}
-use Rattle.std.proofs.Common.{◌≡◌, ◌∙◌, ◌<◌, ◌≤◌, ◌+◌, ◌++◌, ℕ, List, [], ◌∷◌, length, refl, ap, sym, subst, cond, arith, eqb, Bool, true, false, inl, inr}
 use Rattle.std.specs.Prelude.{pos, Option, None, Some, is_some, nat_lt, option_map}
-use Rattle.std.specs.List.{AllByRecursion}
-use Rattle.std.specs.Option.{option_map_or}
 use Rattle.std.specs.Ordering.{int_eq}
-use Rattle.std.proofs.Math.Bool.{or-true}
-use Rattle.std.proofs.lemmas.Bool.{eqb-true, ltb-true, true≢false}
-use Rattle.std.proofs.lemmas.List.{length-append}
-use Rattle.std.proofs.lemmas.Option.{none-some, same_Some}
-use Rattle.qbase.specs.declared.errno.Errno.TheVariants.{Again, Inval, Srch}
-use Rattle.qbase.proofs.Lists.{all_append, all_filter_map, all_more}
-use Rattle.qqueue.specs.declared.item.Item.{Item}
-use Rattle.qqueue.specs.declared.item.Kind.{Kind}
-use Rattle.qqueue.specs.declared.item.Kind.TheVariants.{Any, PulseOnly}
-use Rattle.qtables.specs.Members.{IsRoster, member_at}
-use Rattle.qtables.specs.declared.member.Member.{Member}
-use Rattle.qrules.specs.Outcome.{completion_to, Answers}
-use Rattle.qrules.specs.Rules.{row_of}
 use Rattle.qrules.specs.Rules.Connections as connect_detach
-use Rattle.qrules.proofs.Traces.Parts.{error_finish, reply_finish}
 use Rattle.qrules.specs.Rules.Held.{info_of}
-use Rattle.qrules.proofs.Words.Items.{info_completion, message_item, names}
 use Rattle.qrules.specs.Rules.Pulse as pulse
 use Rattle.qrules.specs.Rules.Unblock as unblock
-use Rattle.qrules.specs.Delivery.{is_on, refusal_if_full_for}
-use Rattle.qrules.proofs.Words.Effects.{attaches, creates, detaches}
-use Rattle.qrules.proofs.Words.Facts.{count_to, is_of_process, message, route, sender, threads_of, Facts}
 use Rattle.qrules.proofs.Words.Lawful as old
 use Rattle.qrules.proofs.Words.Past as past_of
-use Rattle.qrules.proofs.Words.Step.{one_for}
-use Rattle.qmodel.specs.Trace.{Event, Trace}
-use Rattle.qmodel.specs.declared.call.Call.{Call}
 use Rattle.qmodel.specs.declared.call.Call.TheVariants as calls
-use Rattle.qmodel.specs.declared.call.Completion.{Completion}
 use Rattle.qmodel.specs.declared.call.Info.{Info as Told}
 use Rattle.qmodel.specs.declared.call.Mark.{Mark}
 use Rattle.qmodel.specs.declared.call.Mark.TheVariants as mark
@@ -42,19 +18,12 @@ use Rattle.qrules.proofs.Traces.Calls.ConnectDetach.{detach_ends}
 use Rattle.qrules.proofs.Traces.Calls.Held.{sender_ends}
 use Rattle.qrules.proofs.Traces.Calls.Taking.{given_is}
 use Rattle.qrules.proofs.Traces.Past.Channels.{closes_alone, closes_open}
-use Rattle.qrules.proofs.Traces.Past.Ends.{passes_of}
-use Rattle.qrules.proofs.Traces.Past.Follows.{past_follows}
-use Rattle.qrules.proofs.Traces.Past.Laws.{Passes}
 use Rattle.qrules.proofs.Traces.Past.Live.{count_less, gone_below, live, live_parts, made_above}
 use Rattle.qrules.proofs.Traces.Past.Numbers.{made_below}
-use Rattle.qrules.proofs.Traces.Properties.Receipts.{completion_of}
 use Rattle.qrules.proofs.Traces.Properties.Rows.Delivering.{delivery_meets, Delivers}
 use Rattle.qrules.proofs.Traces.Properties.Rows.Receiving.{receive_takes, ReceiveTakes}
 use Rattle.qrules.proofs.Traces.Properties.Rows.Telling.{told_meets, unblock_ends}
 use Rattle.qrules.specs.Lawful.{IsLawful}
-use Rattle.qrules.specs.Past.{attached_connection, channel_at, connection_at, created_channel, is_number, was_done}
-use Rattle.qrules.specs.Rule.{Effect}
-use Rattle.qrules.specs.Trace.{endings_of}
 use Rattle.qlaws.specs.Ids as laws
 
 -- ---- how many there are

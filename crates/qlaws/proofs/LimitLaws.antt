@@ -1,40 +1,13 @@
 -- No more than 1,024 pulses are pending on a channel.
-use Rattle.std.proofs.Common.{◌≡◌, ◌∙◌, ℕ, ◌+◌, ◌≤◌, ◌<◌, List, [], ◌∷◌, ◌++◌, refl, ap, sym, subst, cond, arith, eqb, true, false, inl, inr}
-use Rattle.std.specs.Prelude.{ℤ, Option, None, Some, int_lt, nat_lt, not, pos}
-use Rattle.std.proofs.lemmas.Bool.{eqb-true, ltb-true}
-use Rattle.std.proofs.lemmas.List.{append-nil}
-use Rattle.std.proofs.lemmas.List.Sums.{sum_by-append, sum_by-cons}
-use Rattle.std.proofs.lemmas.Option.{none-some}
-use Rattle.qbase.specs.declared.errno.Errno.TheVariants.{Again, Badf, Inval}
-use Rattle.qqueue.specs.Best.{is_pulse, without_item}
-use Rattle.qqueue.specs.declared.item.Item.{Item}
-use Rattle.qtables.specs.declared.connection.Connection.{Connection}
-use Rattle.qrules.proofs.Traces.Parts.{refusal_on}
+use Rattle.qlaws.proofs.Common.{Again, Badf, Call, Connection, Facts, Inval, IsLawful, IsRoster, Item, List, Member, None, Option, Passes, PriorityChange, Received, SentItem, Some, Trace, [], ap, append-nil, arith, closes, cond, eqb, eqb-true, facts_of, false, inl, inr, int_lt, is_cancelled, is_pulse, item_sent_over, items_with_priority_set, ltb-true, made_on, makes, message_numbered, mover, mover_what, names, nat_lt, none-some, not, passes_of, past_follows, pending_after, pending_items, pos, pulse_item, pulses_among, receipt_of, refl, refusal_if_full, refusal_if_full_for, refusal_on, route, sets, subst, sum_by-append, sum_by-cons, sym, true, uncancelled_items, unreceived_items, without_item, ℕ, ℤ, ◌++◌, ◌+◌, ◌<◌, ◌∙◌, ◌∷◌, ◌≡◌, ◌≤◌}
 use Rattle.qrules.specs.Rules.Connections as connect_detach
 use Rattle.qrules.specs.Rules.Unblock as unblock
-use Rattle.qrules.specs.Delivery.{refusal_if_full, refusal_if_full_for}
-use Rattle.qrules.specs.Records.{pulses_among}
-use Rattle.qrules.proofs.Words.Facts.{Facts, route}
-use Rattle.qtables.specs.Members.{IsRoster}
-use Rattle.qtables.specs.declared.member.Member.{Member}
-use Rattle.qmodel.specs.Trace.{Trace, SentItem}
 use Rattle.qlaws.specs.Pending as laws
 use Rattle.qlaws.proofs.Lists.{fewer_left}
-use Rattle.qrules.proofs.Words.Lawful.{facts_of, IsLawful}
-use Rattle.qrules.proofs.Words.Past.{pending_items, made_on}
-use Rattle.qrules.proofs.Words.Effects.{closes, makes, sets}
-use Rattle.qrules.proofs.Words.Items.{Received, message_numbered, names, pulse_item, item_sent_over, receipt_of}
-use Rattle.qrules.proofs.Words.Step.{is_cancelled, uncancelled_items, items_with_priority_set, pending_after, unreceived_items}
-use Rattle.qmodel.specs.declared.call.Call.{Call}
 use Rattle.qmodel.specs.declared.call.Call.TheVariants.{Send, Pulse, Unblock, ConnectDetach}
-use Rattle.qrules.proofs.Traces.Past.Ends.{passes_of}
-use Rattle.qrules.proofs.Traces.Past.Follows.{past_follows}
-use Rattle.qrules.proofs.Traces.Past.Laws.{Passes}
-use Rattle.qrules.proofs.Traces.Past.Moves.{mover, mover_what}
 use Rattle.qrules.proofs.Traces.Calls.Delivering.{sent_way}
 use Rattle.qrules.proofs.Traces.Calls.ConnectDetach as detaching
 use Rattle.qrules.proofs.Traces.Calls.Unblock as unblocking
-use Rattle.qrules.specs.Rule.{PriorityChange}
 
 -- ---- counts
 

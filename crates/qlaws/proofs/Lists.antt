@@ -1,9 +1,5 @@
 -- What is so of each element of a list, and how many there are.
-use Rattle.std.proofs.Common.{◌≡◌, ◌∙◌, List, [], ◌∷◌, map, refl, sym, cond, arith, ◌+◌, ◌≤◌, Bool, true, false}
-use Rattle.std.specs.Prelude.{count_by, filter}
-use Rattle.std.specs.List.{AllByRecursion}
-use Rattle.std.proofs.lemmas.Bool.{true≢false}
-use Rattle.std.proofs.lemmas.List.Sums.{sum_by-cons}
+use Rattle.qlaws.proofs.Common.{AllByRecursion, Bool, List, [], arith, cond, count_by, false, filter, map, refl, sum_by-cons, sym, true, true≢false, ◌+◌, ◌∙◌, ◌∷◌, ◌≡◌, ◌≤◌}
 
 pub all_two : {X : Type 0} (P Q R : X → Type 0) (xs : List X) → AllByRecursion P xs → AllByRecursion Q xs → ((x : X) → P x → Q x → R x) → AllByRecursion R xs
 all_two P Q R [] p q f = tt

@@ -1,15 +1,6 @@
 -- The receive that takes an item: the newest of those that may.
-use Rattle.std.proofs.Common.{◌≡◌, ◌∙◌, ◌⊎◌, inl, inr, ℕ, List, [], ◌∷◌, ap, refl, sym, subst, cond, eqb, arith, Bool, true, false, ◌<◌, ◌≤◌}
-use Rattle.std.specs.Prelude.{Option, None, Some, find, filter_map, nat_lt, not, option_and_then, ◌&&◌, ◌||◌}
-use Rattle.std.specs.List.{AllByRecursion, cons_option, list_any}
-use Rattle.std.specs.Option.{option_map_or}
-use Rattle.std.proofs.lemmas.Bool.{eqb-true, le-ltb, ltb-false, ltb-true, not-true, or_parts, true≢false}
-use Rattle.std.proofs.lemmas.Option.{none-some, same_Some}
-use Rattle.qbase.proofs.Lists.{eqb_same, is_among}
-use Rattle.qmodel.specs.declared.open_call.OpenCall.{OpenCall}
-use Rattle.qmodel.specs.declared.open_call.OpenCall.TheVariants.{Receive, Send}
-use Rattle.qmodel.specs.Trace.{SentItem}
-use Rattle.qrules.specs.Delivery.{is_last_wait, newest_receiver, wait_for}
+use Rattle.qlaws.proofs.Common.{AllByRecursion, Bool, List, OpenCall, Receive, Send, SentItem, [], ap, arith, cond, cons_option, eqb, eqb-true, eqb_same, false, inl, inr, is_among, is_last_wait, le-ltb, list_any, ltb-false, ltb-true, newest_receiver, none-some, not-true, option_map_or, or_parts, refl, same_Some, subst, sym, true, true≢false, wait_for, ℕ, ◌<◌, ◌∙◌, ◌∷◌, ◌≡◌, ◌≤◌, ◌⊎◌}
+use Rattle.std.specs.Prelude.{Option, None, Some, find, filter_map, nat_lt, option_and_then, ◌||◌}
 use Rattle.qrules.specs.Facts.{open_receives, receive_in, receive_of, threads_of, Facts, OpenReceive}
 use Rattle.qlaws.specs.OpenCalls as laws
 

@@ -1,37 +1,12 @@
 -- The laws of the calls that threads wait in.
-use Rattle.std.proofs.Common.{◌+◌, ◌≡◌, ◌∙◌, ◌<◌, ◌≤◌, ℕ, List, [], ◌∷◌, length, refl, ap, sym, subst, cond, true, false, inl, inr, eqb, option_map}
-use Rattle.std.specs.Prelude.{None, Some, is_some, ◌||◌, Option, not, ◌&&◌}
-use Rattle.std.specs.Option.{option_map_or}
-use Rattle.std.proofs.lemmas.Bool.{false_from_ne_true, true≢false, eqb-true}
-use Rattle.std.proofs.lemmas.Option.{none-some, same_Some}
-use Rattle.std.proofs.Math.Bool.{or-false, and-true}
-use Rattle.qbase.specs.declared.errno.Errno.TheVariants.{Srch}
-use Rattle.qtables.specs.Members.{IsRoster}
-use Rattle.qtables.specs.declared.member.Member.{Member}
-use Rattle.qrules.specs.Delivery.{cancels}
-use Rattle.qrules.specs.Records.{cancel_where}
-use Rattle.qrules.proofs.Words.Effects.{shuts_down}
-use Rattle.qrules.proofs.Words.Facts.{Facts as OldFacts}
+use Rattle.qlaws.proofs.Common.{Call, IsRoster, Member, None, OldFacts, Option, Receive, Send, Some, Srch, Trace, accepted_at, and-true, begins_now, block, call_at, cancel_where, cancels, eqb-true, eqb_same, false_from_ne_true, held_sender, is_down, is_received, is_some, item_of, kept_number, made_newest, made_stays, may_wait, none-some, not, open_call, open_call_after, open_calls_keep_length, open_from, open_on, open_parts, open_receipt, option_map_or, or-false, passes_of, past_follows, same_Some, shuts_down, true≢false, unless, waits_on_open, ◌&&◌, ◌||◌}
+use Rattle.std.proofs.Common.{◌+◌, ◌≡◌, ◌∙◌, ℕ, List, [], ◌∷◌, length, refl, ap, sym, subst, cond, true, false, inl, inr, eqb, option_map}
 use Rattle.qrules.proofs.Words.Lawful as old
-use Rattle.qrules.proofs.Words.Past.{is_down, accepted_at, open_call, block, item_of, is_received}
-use Rattle.qrules.proofs.Words.Step.{open_call_after, unless}
-use Rattle.qmodel.specs.Trace.{Trace}
-use Rattle.qmodel.specs.declared.call.Call.{Call}
 use Rattle.qmodel.specs.declared.call.Call.TheVariants as calls
-use Rattle.qmodel.specs.declared.open_call.OpenCall.TheVariants.{Receive, Send}
-use Rattle.qrules.proofs.Traces.Past.Ends.{passes_of}
-use Rattle.qrules.proofs.Traces.Past.Follows.{past_follows}
-use Rattle.qrules.proofs.Traces.TraceLaws.Held.{held_sender}
-use Rattle.qrules.proofs.Traces.Past.Waits.{may_wait}
-use Rattle.qrules.proofs.Traces.TraceLaws.Lengths.{open_calls_keep_length}
 use Rattle.qmodel.specs.Buffers.{buffer_of}
-use Rattle.qrules.specs.Trace.{call_at}
 use Rattle.qrules.proofs.Traces.TraceLaws.Unended.{asks_any, unended_newest}
 use Rattle.qrules.specs.Past.{waiter, is_ended, channel_of}
-use Rattle.qbase.proofs.Lists.{eqb_same}
 use Rattle.qrules.proofs.Traces.Past.LiveSends.{over_attached}
-use Rattle.qrules.proofs.Traces.Properties.Sends.{open_on, begins_now, made_newest, made_stays}
-use Rattle.qrules.proofs.Traces.Properties.ShutForGood.{waits_on_open}
 use Rattle.qrules.proofs.Traces.Properties.Waiting.{nothing_for}
 use Rattle.qlaws.proofs.Newest as newest
 use Rattle.qrules.specs.Facts.{open_send, OpenSend, OpenCall, number_of}
@@ -39,7 +14,6 @@ use Rattle.qrules.specs.Lawful.{facts_of}
 use Rattle.qrules.proofs.Messages.{send_cases}
 use Rattle.qlaws.specs.OpenCalls as laws
 use Rattle.qlaws.proofs.Waits.{all_receives, all_sends}
-use Rattle.qrules.proofs.Traces.Past.Open.{open_receipt, open_parts, open_from, kept_number}
 
 -- ---- at most one for each thread
 

@@ -1,36 +1,12 @@
 -- What comes before another is received first.
-use Rattle.std.proofs.Common.{◌≡◌, ◌≢◌, ◌∙◌, ℕ, ◌+◌, ◌≤◌, List, [], ◌∷◌, ◌++◌, map, length, refl, ap, sym, subst, cond, arith, true, false, eqb}
-use Rattle.std.specs.Prelude.{Some, not}
-use Rattle.std.specs.List.{AllByRecursion}
-use Rattle.std.specs.Option.{option_map}
+use Rattle.qlaws.proofs.Common.{AllByRecursion, Any, Completion, Event, FirstGoesFirst, HasPriority, IsPending, IsRoster, Item, Kind, List, Member, PulseOnly, ReceiveRequest, SentItem, Some, TakesBeside, TakesBest, Trace, [], all_more, ap, arith, before_earlier, best_first, best_of, comes_before, cond, eqb, eqb_same, false, is_destroyed, is_gone, is_pulse, item_at, item_below, item_earlier, item_made, item_of, item_priority, items_more, items_on, length, made_all, made_by, made_on, map, may_take, none-some, not, now, number_received, option_map, pending_all, pending_is, pending_items, priority_before, refl, same_Some, staying, subst, sym, takeable, takeable_priorities, takeable_rises, true, ℕ, ◌++◌, ◌+◌, ◌∙◌, ◌∷◌, ◌≡◌, ◌≢◌, ◌≤◌}
 use Rattle.std.proofs.lemmas.Bool.Decides.{nat_tests}
 use Rattle.std.proofs.lemmas.List.Elements.{recursion_from_All}
-use Rattle.std.proofs.lemmas.Option.{none-some, same_Some}
-use Rattle.qqueue.specs.Best.{best_of, is_pulse, may_take}
-use Rattle.qqueue.specs.Order.{comes_before}
-use Rattle.qqueue.specs.declared.item.Item.{Item}
-use Rattle.qqueue.specs.declared.item.Kind.{Kind}
-use Rattle.qqueue.specs.declared.item.Kind.TheVariants.{Any, PulseOnly}
 use Rattle.qqueue.proofs.OrderLaws.{best-at, best_is_first}
-use Rattle.qtables.specs.declared.member.Member.{Member}
-use Rattle.qrules.specs.Properties.{number_received, takeable, TakesBest}
-use Rattle.qrules.specs.Rule.{ReceiveRequest}
-use Rattle.qlaws.specs.Pending.{FirstGoesFirst, HasPriority, TakesBeside}
 use Rattle.qrules.specs.Lawful.{IsLawful}
 use Rattle.qrules.proofs.Words.Lawful as old
-use Rattle.qtables.specs.Members.{IsRoster}
 use Rattle.qlaws.proofs.Lists.{all_unfilter, all_unmap}
-use Rattle.qrules.proofs.Words.Past.{is_destroyed, is_gone, item_of, made_on, pending_items, priority_before}
-use Rattle.qmodel.specs.Trace.{SentItem, Event, Trace}
-use Rattle.qmodel.specs.declared.call.Completion.{Completion}
-use Rattle.qbase.proofs.Lists.{all_more, eqb_same}
 use Rattle.qrules.proofs.Traces.Past.Best.{some_number}
-use Rattle.qrules.proofs.Traces.Past.Items.{IsPending, before_earlier, item_at, item_below, item_earlier, item_made, item_priority, items_on, made_by, pending_all, pending_is, staying}
-use Rattle.qrules.proofs.Traces.Past.Pending.{items_more, made_all}
-use Rattle.qrules.proofs.Traces.Past.Rising.{takeable_rises}
-use Rattle.qrules.proofs.Traces.Past.CurrentPriority.{now}
-use Rattle.qrules.proofs.Traces.Properties.BestFirst.{best_first}
-use Rattle.qrules.proofs.Traces.Properties.Connections.{takeable_priorities}
 
 -- ---- lists
 

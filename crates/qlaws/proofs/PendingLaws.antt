@@ -1,21 +1,8 @@
 -- What is pending rises in number, isn't held, and the Send of each message is the open call of its sender.
-use Rattle.std.proofs.Common.{◌≡◌, ◌∙◌, ℕ, List, ap, sym, true, option_and_then}
-use Rattle.std.specs.Prelude.{Some, not, ◌&&◌}
-use Rattle.std.proofs.lemmas.Bool.{not-true, or_parts, true≢false}
-use Rattle.qbase.proofs.Lists.{all_more, none_of}
-use Rattle.qtables.specs.declared.member.Member.{Member}
-use Rattle.qmodel.specs.Trace.{Trace}
+use Rattle.qlaws.proofs.Common.{List, Member, OpenCall, Receive, Send, Some, Trace, all_more, ap, is_ended, is_for_receipt, none_of, not, not-true, open_call, open_own, option_and_then, or_parts, pending_all, pending_items, rises, sender_of, sent_by, sym, true, true≢false, ℕ, ◌&&◌, ◌∙◌, ◌≡◌}
 use Rattle.qmodel.specs.OpenCalls.{number_of, send_in}
-use Rattle.qmodel.specs.declared.open_call.OpenCall.{OpenCall}
-use Rattle.qmodel.specs.declared.open_call.OpenCall.TheVariants.{Receive, Send}
 use Rattle.qrules.specs.Facts.{send_of}
 use Rattle.qrules.specs.Lawful.{facts_of}
-use Rattle.qrules.specs.Records.{is_for_receipt}
-use Rattle.qrules.proofs.Words.Past.{is_ended, open_call, pending_items, sender_of}
-use Rattle.qrules.proofs.Traces.Past.Cancels.{sent_by}
-use Rattle.qrules.proofs.Traces.Past.Items.{pending_all}
-use Rattle.qrules.proofs.Traces.Past.Open.{open_own}
-use Rattle.qrules.proofs.Traces.Past.Rising.{pending_rises as rises}
 use Rattle.qlaws.specs.Pending as laws
 
 pub pending_rises : laws.PendingRises

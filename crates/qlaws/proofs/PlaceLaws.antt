@@ -1,20 +1,7 @@
 -- An item's place falls with each item before it that is gone.
-use Rattle.std.proofs.Common.{◌≡◌, ◌∙◌, ◌≤◌, ◌+◌, ℕ, List, [], ◌∷◌, map, refl, ap, sym, subst, cond, arith, Bool, true, false, eqb}
+use Rattle.qlaws.proofs.Common.{AllByRecursion, Bool, Event, Item, List, Member, SentItem, Stands, Trace, [], ap, arith, comes_before, cond, current_priority, eqb, eqb-true, false, false_from_ne_true, is_destroyed, is_gone, is_pulse, is_received, item_below, item_of, items_more, items_on, made_by, made_on, map, now, or_parts, pending_is, pending_items, priority_set_by, refl, sender_of, sent_by, standing_is, stands_all, staying, stays_gone, subst, sum_by-append, sum_by-cons, sym, true, true≢false, with_priority, worth_newest, worth_set, ℕ, ◌+◌, ◌∙◌, ◌∷◌, ◌≡◌, ◌≤◌}
 use Rattle.std.specs.Prelude.{None, Some, not, ◌&&◌, count_by, filter, option_and_then, unwrap_or}
-use Rattle.std.specs.List.{AllByRecursion}
-use Rattle.std.proofs.lemmas.Bool.{eqb-true, false_from_ne_true, or_parts, true≢false}
-use Rattle.std.proofs.lemmas.List.Sums.{sum_by-append, sum_by-cons}
-use Rattle.qqueue.specs.Best.{is_pulse, with_priority}
-use Rattle.qqueue.specs.Order.{comes_before}
-use Rattle.qqueue.specs.declared.item.Item.{Item}
-use Rattle.qtables.specs.declared.member.Member.{Member}
 use Rattle.qrules.proofs.Words.Lawful as old
-use Rattle.qrules.proofs.Words.Past.{current_priority, is_destroyed, is_gone, is_received, item_of, made_on, pending_items, priority_set_by, sender_of}
-use Rattle.qmodel.specs.Trace.{Event, SentItem, Trace}
-use Rattle.qrules.proofs.Traces.Past.Cancels.{sent_by}
-use Rattle.qrules.proofs.Traces.Past.CurrentPriority.{now, worth_newest, worth_set}
-use Rattle.qrules.proofs.Traces.Past.Items.{item_below, items_on, made_by, pending_is, standing_is, stands_all, staying, Stands}
-use Rattle.qrules.proofs.Traces.Past.Pending.{items_more, stays_gone}
 use Rattle.qlaws.specs.Pending as laws
 use Rattle.qlaws.proofs.Lists.{all_two, all_unfilter, all_unmap, fewer_left}
 

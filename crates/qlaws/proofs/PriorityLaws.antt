@@ -1,36 +1,8 @@
 -- A pending message has the priority that its sender has by now.
-use Rattle.std.proofs.Common.{◌≡◌, ◌∙◌, ℕ, ◌+◌, ◌≤◌, List, [], ◌∷◌, length, refl, ap, sym, subst, cond, true, false, eqb, inl, inr}
-use Rattle.std.specs.Prelude.{Option, None, Some, unwrap_or}
-use Rattle.std.specs.Option.{option_or}
-use Rattle.std.proofs.lemmas.Bool.{eqb-true, false_from_ne_true, or_parts, true≢false}
-use Rattle.std.proofs.lemmas.Option.{none-some, same_Some}
-use Rattle.qqueue.specs.Best.{is_pulse}
-use Rattle.qqueue.specs.declared.item.Item.{Item}
-use Rattle.qtables.specs.declared.connection.Connection.{Connection}
-use Rattle.qtables.specs.declared.member.Member.{Member}
-use Rattle.qrules.specs.Outcome.{Outcome}
-use Rattle.qrules.proofs.Words.Items.{receipt_of, message_item as message_of, Received, item_sent_over, priority_set_for}
-use Rattle.qrules.proofs.Words.Effects.{makes, sets, thread_of_send}
-use Rattle.qrules.proofs.Words.Facts.{Facts}
-use Rattle.qrules.specs.Records.{is_fixed, is_for_receipt}
+use Rattle.qlaws.proofs.Common.{Call, Completion, Connection, Facts, InReceive, InSend, IsLawful, Item, List, Member, None, OpenCall, Option, Outcome, Received, SentItem, Some, Stands, TakesOne, Trace, [], ap, cond, current_priority, eqb, eqb-true, facts_of, false, false_from_ne_true, inl, inr, is_accepted, is_accepted_by, is_fixed, is_for_receipt, is_gone, is_pulse, is_received, is_refused_by, item_accepted, item_at, item_below, item_newest, item_of, item_sent_over, laws_of, length, makes, message_of, none-some, option_or, or_parts, outcome_of, passes_of, pending_each, priority_of_thread, priority_set_for, priority_taken, receipt_of, refl, refused_sets_none, same_Some, sender_of, sent_by, sets, standing_is, stays_gone, subst, sym, takes_one, thread_of_send, true, true≢false, unwrap_or, waits_for, worth_newest, worth_set, worth_stays, ℕ, ◌+◌, ◌∙◌, ◌∷◌, ◌≡◌, ◌≤◌}
 use Rattle.qlaws.specs.Pending as laws
-use Rattle.qrules.proofs.Words.Lawful.{IsLawful, facts_of}
-use Rattle.qrules.proofs.Words.Past.{is_accepted, is_gone, is_received, item_of, priority_of_thread, sender_of, current_priority}
-use Rattle.qmodel.specs.Trace.{SentItem, Trace}
-use Rattle.qrules.proofs.Words.Step.{priority_taken}
-use Rattle.qmodel.specs.declared.call.Call.{Call}
 use Rattle.qmodel.specs.declared.call.Call.TheVariants.{Send}
-use Rattle.qmodel.specs.declared.call.Completion.{Completion}
-use Rattle.qmodel.specs.declared.open_call.OpenCall.{OpenCall}
-use Rattle.qmodel.specs.declared.open_call.OpenCall.TheVariants.{Receive as InReceive, Send as InSend}
-use Rattle.qrules.proofs.Traces.Past.Cancels.{sent_by}
-use Rattle.qrules.proofs.Traces.Past.Ends.{laws_of, passes_of}
-use Rattle.qrules.proofs.Traces.Past.Items.{Stands, item_accepted, item_at, item_below, item_newest, pending_each, standing_is}
-use Rattle.qrules.proofs.Traces.Past.Pending.{stays_gone}
 use Rattle.qrules.proofs.Traces.Past.Priorities.{priority_accepted, priority_refused}
-use Rattle.qrules.proofs.Traces.Past.CurrentPriority.{refused_sets_none, worth_newest, worth_set, worth_stays}
-use Rattle.qrules.proofs.Traces.Properties.Events.{is_accepted_by, is_refused_by, outcome_of}
-use Rattle.qrules.proofs.Traces.Properties.Receipts.{TakesOne, takes_one, waits_for}
 
 -- a thread that takes nothing takes no priority
 none_taken : (f : Facts) (t : ℕ) (c : Call) (X : List Completion) (u : ℕ) → Outcome true f t c X → ((y : Completion) (i : ℕ) → TakesOne f t c u y i → ⊥) → priority_taken f (receipt_of f t c) u ≡ None

@@ -1,29 +1,7 @@
 -- What an accepted PrioritySet changes of what is pending.
-use Rattle.std.proofs.Common.{◌≡◌, ℕ, List, [], ◌∷◌, ◌++◌, refl, ap, sym, ◌∙◌, cond, true, false, eqb, map}
-use Rattle.std.specs.Prelude.{Some, filter, not, ◌&&◌}
-use Rattle.std.proofs.lemmas.Bool.{eqb-true, eq-eqb}
-use Rattle.std.proofs.lemmas.List.{append-nil}
-use Rattle.std.proofs.lemmas.Option.{none-some}
-use Rattle.qqueue.specs.Best.{is_pulse, with_priority}
-use Rattle.qqueue.specs.declared.item.Item.{Item}
-use Rattle.qtables.specs.declared.member.Member.{Member}
-use Rattle.qrules.specs.Outcome.{Outcome}
-use Rattle.qrules.proofs.Words.Lawful.{IsLawful, facts_of}
+use Rattle.qlaws.proofs.Common.{IsLawful, IsPending, Item, List, Member, Outcome, PriorityChange, Some, Trace, [], all_more, ap, append-nil, cond, eq-eqb, eqb, eqb-true, eqb_either, facts_of, false, filter, is_message_of, is_pulse, is_unread_send, items_with_priority_set, map, map_same, mover, names, none-some, none_cancelled, not, open_call, outcome_of, past_follows, pending_after, pending_all, pending_items, pulse_unread, refl, sender_of, sent_by, sym, true, unread_elsewhere, with_priority, ℕ, ◌&&◌, ◌++◌, ◌∙◌, ◌∷◌, ◌≡◌}
 use Rattle.qlaws.specs.Pending as laws
-use Rattle.qlaws.specs.Pending.{is_message_of}
-use Rattle.qrules.proofs.Words.Past.{open_call, pending_items, sender_of}
-use Rattle.qrules.proofs.Words.Items.{names}
-use Rattle.qrules.proofs.Words.Step.{items_with_priority_set, pending_after}
-use Rattle.qrules.specs.Records.{is_unread_send}
-use Rattle.qmodel.specs.Trace.{Trace}
 use Rattle.qmodel.specs.declared.call.Call.TheVariants.{PrioritySet}
-use Rattle.qbase.proofs.Lists.{all_more, eqb_either}
-use Rattle.qrules.proofs.Traces.Past.Cancels.{none_cancelled, pulse_unread, sent_by, unread_elsewhere}
-use Rattle.qrules.proofs.Traces.Past.Follows.{past_follows}
-use Rattle.qrules.proofs.Traces.Past.Items.{IsPending, pending_all}
-use Rattle.qrules.proofs.Traces.Past.Moves.{mover, map_same}
-use Rattle.qrules.proofs.Traces.Properties.Events.{outcome_of}
-use Rattle.qrules.specs.Rule.{PriorityChange}
 
 -- the items, where each message of thread t has this priority
 abbrev with_messages_at : Trace → ℕ → ℕ → List Item → List Item

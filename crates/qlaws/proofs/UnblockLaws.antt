@@ -1,27 +1,10 @@
 -- At most one unblock pulse is made for a message.
-use Rattle.std.proofs.Common.{◌≡◌, ◌∙◌, ◌≤◌, ◌+◌, ℕ, List, [], ◌∷◌, refl, ap, sym, subst, cond, arith, Bool, true, false}
-use Rattle.std.specs.Prelude.{None, Some, count_by}
-use Rattle.std.specs.Option.{option_to_list, option_map_or}
-use Rattle.std.proofs.lemmas.Bool.{eqb-true, or_parts, true≢false}
-use Rattle.std.proofs.lemmas.List.Sums.{sum_by-append, sum_by-cons}
-use Rattle.std.proofs.lemmas.Option.{none-some, same_Some}
-use Rattle.qtables.specs.declared.member.Member.{Member}
-use Rattle.qrules.proofs.Words.Effects.{makes, unblocks}
-use Rattle.qrules.proofs.Words.Facts.{Facts as OldFacts, number_of}
-use Rattle.qrules.specs.Records.{held_call}
+use Rattle.qlaws.proofs.Common.{Bool, Call, List, Member, None, OldFacts, OpenCall, Receive, Send, SentItem, Some, Trace, [], ap, arith, cond, copied_count_of, count_by, eqb-true, false, filled, held_call, is_unblock_for, is_unblocked, item_accepted, item_of, items, makes, none-some, number_of, open_parts, option_map_or, option_to_list, or_parts, priority_of_item, refl, same_Some, subst, sum_by-append, sum_by-cons, sym, true, true≢false, unblocked_among, unblocked_among_now, unblocks, with_receipt, ℕ, ◌+◌, ◌∙◌, ◌∷◌, ◌≡◌, ◌≤◌}
 use Rattle.qrules.proofs.Words.Lawful as old
-use Rattle.qrules.proofs.Words.Past.{copied_count_of, is_unblock_for, item_of, items, priority_of_item, unblocked_among, with_receipt, filled}
-use Rattle.qmodel.specs.Trace.{SentItem, Trace}
-use Rattle.qmodel.specs.declared.call.Call.{Call}
 use Rattle.qmodel.specs.declared.call.Call.TheVariants as calls
-use Rattle.qmodel.specs.declared.open_call.OpenCall.{OpenCall}
 use Rattle.qmodel.specs.declared.open_call.Receipt.{Receipt as OldReceipt}
-use Rattle.qmodel.specs.declared.open_call.OpenCall.TheVariants.{Receive, Send}
 use Rattle.qrules.proofs.Traces.Calls.{call_laws}
 use Rattle.qrules.proofs.Traces.Calls.Unblock.{due_parts}
-use Rattle.qrules.proofs.Traces.Past.CurrentPriority.{unblocked_among_now}
-use Rattle.qrules.proofs.Traces.Past.Items.{item_accepted}
-use Rattle.qrules.proofs.Traces.Past.Open.{is_unblocked, open_parts}
 use Rattle.qrules.proofs.Traces.Past.Unblocked.{none_unblocked}
 use Rattle.qrules.specs.Properties.{items}
 use Rattle.qlaws.specs.Pending as laws

@@ -1,11 +1,5 @@
 -- What threads wait in after a lawful trace.
-use Rattle.std.proofs.Common.{◌≡◌, ℕ, ap, option_and_then}
-use Rattle.std.specs.Prelude.{Option, None, Some}
-use Rattle.std.specs.List.{AllByRecursion}
-use Rattle.std.proofs.lemmas.Option.{none-some, same_Some}
-use Rattle.qbase.proofs.Lists.{all_filter_map}
-use Rattle.qmodel.specs.declared.open_call.OpenCall.{OpenCall}
-use Rattle.qmodel.specs.declared.open_call.OpenCall.TheVariants.{Receive, Send}
+use Rattle.qlaws.proofs.Common.{AllByRecursion, None, OpenCall, Option, Receive, Send, Some, all_filter_map, ap, none-some, option_and_then, same_Some, ℕ, ◌≡◌}
 use Rattle.qrules.specs.Facts.{open_receives, open_sends, receive_in, receive_of, send_in, send_of, threads_of, Facts, OpenReceive, OpenSend}
 
 is_send : (o : Option OpenCall) (s : OpenSend) → option_and_then send_in o ≡ Some s → o ≡ Some (Send s)

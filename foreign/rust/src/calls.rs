@@ -90,7 +90,7 @@ impl Port {
         result!(self.call(Call::ChannelCreate { flags })?, Mark::Channel(chid) => chid)
     }
 
-    /// Destroys a channel of the thread's process, and cuts each call that is blocked on it (`ChannelDestroy`). Refused
+    /// Destroys a channel of the thread's process, and cancels each call that is blocked on it (`ChannelDestroy`). Refused
     /// with `Inval` if the channel isn't open or is another process's.
     pub fn channel_destroy(&mut self, chid: ChannelId) -> Result<()> {
         result!(self.call(Call::ChannelDestroy { chid })?, Mark::Done => ())
@@ -102,7 +102,7 @@ impl Port {
         result!(self.call(Call::ConnectAttach { chid })?, Mark::Connection(coid) => coid)
     }
 
-    /// Detaches a connection of the thread's process, and cuts each send over it (`ConnectDetach`). Refused with
+    /// Detaches a connection of the thread's process, and cancels each send over it (`ConnectDetach`). Refused with
     /// `Inval` if the connection isn't live or is another process's, and `Again` if a pulse is due while 1,024 wait.
     pub fn connect_detach(&mut self, coid: ConnectionId) -> Result<()> {
         result!(self.call(Call::ConnectDetach { coid })?, Mark::Done => ())
@@ -200,7 +200,7 @@ impl Port {
         result!(self.call(Call::State { thread })?, Mark::State(state) => state)
     }
 
-    /// Cuts every open call; every later call is refused with `Down`. Not a call of QNX. Refused with `Down` if another
+    /// Cancels every open call; every later call is refused with `Down`. Not a call of QNX. Refused with `Down` if another
     /// thread did so before.
     pub fn shutdown(&mut self) -> Result<()> {
         result!(self.call(Call::Shutdown)?, Mark::Done => ())

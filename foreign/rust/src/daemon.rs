@@ -26,7 +26,7 @@ const CALL: u32 = 3;
 pub(crate) const NAME: u32 = 5;
 pub(crate) const UNNAME: u32 = 6;
 pub(crate) const FIND: u32 = 7;
-const CUT: u8 = 1;
+const CANCELLED: u8 = 1;
 const CODE: u8 = 2;
 /// The states that time out: SEND, RECEIVE and REPLY.
 const STATES: i32 = 28;
@@ -410,7 +410,7 @@ fn error_of(answer: &Answer) -> CallError {
         108 => Errno::Down,
         _ => Errno::Inval,
     };
-    if answer.how == CUT { CallError::Cut(errno) } else { CallError::Refused(errno) }
+    if answer.how == CANCELLED { CallError::Cancelled(errno) } else { CallError::Refused(errno) }
 }
 
 fn info_of(info: &MsgInfo, copied: usize) -> Info {

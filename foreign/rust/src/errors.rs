@@ -98,7 +98,7 @@ pub enum CallError {
     Refused(Errno),
     /// The call was blocked, and was ended by force: `Srch` by `channel_destroy` or `shutdown`, `Badf` by
     /// `connect_detach`, `Intr` by `unblock`.
-    Cut(Errno),
+    Cancelled(Errno),
     /// The call was blocked for longer than its [`timeout`](crate::Port::timeout).
     TimedOut,
     /// The server answered the message with this code, which isn't 0, by `msg_error`.
@@ -113,7 +113,7 @@ impl fmt::Display for CallError {
     fn fmt(&self, f: &mut fmt::Formatter<'_>) -> fmt::Result {
         match self {
             CallError::Refused(errno) => write!(f, "call refused: {errno}"),
-            CallError::Cut(errno) => write!(f, "call cut: {errno}"),
+            CallError::Cancelled(errno) => write!(f, "call cancelled: {errno}"),
             CallError::TimedOut => f.write_str("call timed out"),
             CallError::Code(code) => write!(f, "message answered with the code {code}"),
             CallError::NoMemory => f.write_str("out of memory"),
@@ -134,7 +134,7 @@ impl From<Errno> for CallError {
 /// Returns the result of a call that ended with this mark; `waited` says whether the call was blocked.
 pub(crate) fn outcome(mark: Mark, waited: bool) -> Result<Mark> {
     match mark {
-        Mark::Failed(errno) if waited && errno != Errno::NoMemory => Err(CallError::Cut(errno)),
+        Mark::Failed(errno) if waited && errno != Errno::NoMemory => Err(CallError::Cancelled(errno)),
         Mark::Failed(errno) => Err(errno.into()),
         Mark::Errored(code) => Err(CallError::Code(code)),
         mark => Ok(mark),

@@ -205,7 +205,7 @@ impl Place {
         forget(open);
         // SAFETY: the call is ended.
         match outcome(unsafe { place.take() }, true) {
-            Err(CallError::Cut(Errno::Intr)) if is_late => Err(CallError::TimedOut),
+            Err(CallError::Cancelled(Errno::Intr)) if is_late => Err(CallError::TimedOut),
             result => result,
         }
     }

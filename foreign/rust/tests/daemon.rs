@@ -132,7 +132,7 @@ fn a_killed_server() {
     }
     child.kill().unwrap();
     let (ended, mut client) = waiting.join().unwrap();
-    assert_eq!(ended, Err(CallError::Cut(Errno::Srch)));
+    assert_eq!(ended, Err(CallError::Cancelled(Errno::Srch)));
     assert_eq!(client.msg_send(connection, b"", &mut []), Err(REFUSED(Errno::Badf)));
     assert_eq!(client.name_find("server"), Err(REFUSED(Errno::Srch)));
     child.wait().unwrap();

@@ -43,7 +43,7 @@ fn the_kernel_alone() {
 fn what_errors_say() {
     let said = |error: &dyn Error| error.to_string();
     assert_eq!(said(&CallError::Refused(Errno::Srch)), "call refused: no such thread, channel or held message");
-    assert_eq!(said(&CallError::Cut(Errno::Badf)), "call cut: no such connection");
+    assert_eq!(said(&CallError::Cancelled(Errno::Badf)), "call cancelled: no such connection");
     assert_eq!(said(&CallError::TimedOut), "call timed out");
     assert_eq!(said(&CallError::Code(-4)), "message answered with the code -4");
     assert_eq!(said(&CallError::NoMemory), "out of memory");

@@ -10,7 +10,7 @@ use std::thread;
 use std::time::{Duration, Instant};
 
 const fn cut<T>(errno: Errno) -> Result<T, CallError> {
-    Err(CallError::Cut(errno))
+    Err(CallError::Cancelled(errno))
 }
 
 const MILLI: Duration = Duration::from_millis(1);
@@ -129,7 +129,7 @@ fn unblocked_by_another_thread() {
             until(&mut other, 2, ThreadState::SendBlocked(channel));
             assert_eq!(server.unblock(2), Err(CallError::Refused(Errno::Srch)));
             other.unblock(2).unwrap();
-            assert_eq!(sent.join().unwrap(), Some(CallError::Cut(Errno::Intr)));
+            assert_eq!(sent.join().unwrap(), Some(CallError::Cancelled(Errno::Intr)));
         });
         made_again(&mut server);
     });
@@ -145,7 +145,7 @@ fn detached_under() {
             let sent = scope.spawn(|| client.msg_send(to, b"a", &mut []).err());
             until(&mut other, 2, ThreadState::SendBlocked(channel));
             other.connect_detach(to).unwrap();
-            assert_eq!(sent.join().unwrap(), Some(CallError::Cut(Errno::Badf)));
+            assert_eq!(sent.join().unwrap(), Some(CallError::Cancelled(Errno::Badf)));
         });
         assert_eq!(server.msg_receive_pulse(channel), Ok(Pulse { priority: 30, what: What::Disconnect(CLIENT) }));
         let to = client.connect_attach(channel).unwrap();
@@ -153,7 +153,7 @@ fn detached_under() {
             let sent = scope.spawn(|| client.msg_send(to, b"a", &mut []).err());
             let rcvid = message(server.msg_receive(channel, &mut []));
             other.connect_detach(to).unwrap();
-            assert_eq!(sent.join().unwrap(), Some(CallError::Cut(Errno::Badf)));
+            assert_eq!(sent.join().unwrap(), Some(CallError::Cancelled(Errno::Badf)));
             assert_eq!(server.msg_reply(rcvid, 0, b""), Err(CallError::Refused(Errno::Srch)));
         });
         made_again(&mut server);
@@ -197,11 +197,11 @@ fn ends_all(end: impl FnOnce(&mut Port, balsaeuchre::ChannelId)) {
         // Waits until all are asleep.
         thread::sleep(20 * MILLI);
         end(&mut last, busy);
-        senders.into_iter().for_each(|sender| assert_eq!(sender.join().unwrap(), Some(CallError::Cut(Errno::Srch))));
+        senders.into_iter().for_each(|sender| assert_eq!(sender.join().unwrap(), Some(CallError::Cancelled(Errno::Srch))));
         if last.state(1).is_ok() {
             last.channel_destroy(idle).unwrap();
         }
-        receivers.into_iter().for_each(|server| assert_eq!(server.join().unwrap(), Some(CallError::Cut(Errno::Srch))));
+        receivers.into_iter().for_each(|server| assert_eq!(server.join().unwrap(), Some(CallError::Cancelled(Errno::Srch))));
     });
     made_again(&mut last);
 }
@@ -302,7 +302,7 @@ fn a_panic_ends_all() {
             let sent = scope.spawn(|| client.msg_send(to, b"x", &mut []).err());
             until(&mut other, 2, ThreadState::ReplyBlocked(channel));
             assert_eq!(other.msg_send(to, b"x", &mut []), cut(Errno::Srch));
-            assert_eq!(sent.join().unwrap(), Some(CallError::Cut(Errno::Srch)));
+            assert_eq!(sent.join().unwrap(), Some(CallError::Cancelled(Errno::Srch)));
         });
         assert!(serving.join().is_err());
         assert_eq!(client.msg_send(to, b"x", &mut []), Err(CallError::Refused(Errno::Down)));

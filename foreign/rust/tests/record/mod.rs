@@ -93,7 +93,7 @@ impl Record {
                 buffer[..ending.buffer.len()].copy_from_slice(ending.buffer);
                 let result = outcome(with_msglen(ending.mark, &mut msglens), ending.thread != maker);
                 let result = match result {
-                    Err(CallError::Cut(Errno::Intr)) if self.is_clock(maker) => Err(CallError::TimedOut),
+                    Err(CallError::Cancelled(Errno::Intr)) if self.is_clock(maker) => Err(CallError::TimedOut),
                     result => result,
                 };
                 got[usize::from(ending.thread)].push(Got { result, buffer });

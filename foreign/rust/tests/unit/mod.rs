@@ -28,7 +28,7 @@ fn calls_are_numbered() {
 #[test]
 fn what_a_thread_gets() {
     assert_eq!(outcome(Mark::Failed(Errno::Srch), false), Err(CallError::Refused(Errno::Srch)));
-    assert_eq!(outcome(Mark::Failed(Errno::Srch), true), Err(CallError::Cut(Errno::Srch)));
+    assert_eq!(outcome(Mark::Failed(Errno::Srch), true), Err(CallError::Cancelled(Errno::Srch)));
     assert_eq!(outcome(Mark::Failed(Errno::NoMemory), true), Err(CallError::NoMemory));
     assert_eq!(outcome(Mark::Errored(-3), true), Err(CallError::Code(-3)));
     assert_eq!(outcome(Mark::Done, true), Ok(Mark::Done));

@@ -1,4 +1,4 @@
-use Rattle.balsaeuchre_c.specs.Telling.{IsTold}
+use Rattle.balsaeuchre_c.proofs.Common.{IsTold}
 use Rattle.balsaeuchre_c.proofs.Informing.{informs, restores}
 use Rattle.balsaeuchre_c.proofs.calling.make_call.Goals as goal
 

@@ -1,5 +1,4 @@
-use Rattle.std.proofs.Common.{◌-◌, sym, ap, ◌∙◌}
-use Rattle.std.specs.Prelude.{slice_get}
+use Rattle.balsaeuchre_c.proofs.Common.{ap, slice_get, sym, ◌-◌, ◌∙◌}
 use Rattle.core.proofs.slice.Searches.{copied_from_item}
 use Rattle.qmodel.specs.declared.kind.TheConstants.{KINDS}
 use Rattle.balsaeuchre_c.proofs.Numbering.{numbered-at}

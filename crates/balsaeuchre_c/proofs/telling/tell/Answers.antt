@@ -1,5 +1,4 @@
-use Rattle.std.proofs.Common.{ap, arith, length, ℕ}
-use Rattle.balsaeuchre_c.specs.declared.telling.Done.{Done}
+use Rattle.balsaeuchre_c.proofs.Common.{Done, ap, arith, length, ℕ}
 use Rattle.balsaeuchre_c.proofs.Tellings.{told-next, told-all, nth_inside}
 use Rattle.balsaeuchre_c.proofs.telling.tell.Goals as goal
 

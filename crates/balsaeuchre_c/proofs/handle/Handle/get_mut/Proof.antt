@@ -1,41 +1,15 @@
 -- `get_mut` lends the kernel, and the handle follows it.
+use Rattle.balsaeuchre_c.proofs.Common.{ !, B, Calls, D, Env, Fml, Fun, GName, Goes-spent_ref, Lft, Logic, Loops, Memory, R, RattleType, Routine, SProp, Share, Stays, Tables, Ura, Val, WpFn, WpFn-mono, addr, alloc_all, at_ret, await, bare, block_ptr, blocks, box_in, box_out, by, done, drop, emp, ends_at, ent, enter, entered, env, exec, first, fjoin, fld, flft, fpack, frame, free_all, fsep, fsplit, fsplit3, fst∗, ftrue, get, group, handle, id⊢, join, keep, later, load, look_at, look_in, move, mut_ref_to, named, no, nothing, of_opd, opens, owns, pass_all, pick, plain, qed, raw, returns, rewrite, says, sem, sep, sets, sets_last, some, split, stay_dropped, stop, sub, suffices, through, token, triple_of, use1, via, vptr, walk_Meets, walk_of, walked, whole, word, τ, ‵, ◌$◌, ◌∵◌, ◌⊛◌}
 use mathlib.Core.Path.{◌≡◌, refl, sym}
 use mathlib.Core.List.{List, [], ◌∷◌}
 use Prim.Native.Nat.{ℕ}
-use seplogic.Ra.Ura.{Ura}
 use base.Fraction.{full_share}
-use mir.Syntax.{named}
-use mir.Raw.{raw as bare}
-use mir.Val.{Val, vptr}
-use base.Logic.{SProp, ent, sep, emp, via, fst∗, id⊢}
-use base.Fml.{Lft, Share, GName, Fml, ftrue, fsep, flft}
-use prog.Memory.{Memory}
-use prog.Routine.{Routine}
-use prog.Wp.{Env, Calls, Loops, WpFn, Tables}
-use types.Logic.{Logic, sem}
-use contract.Monad.{Fun}
 use contract.Running.{tables, tables_of}
-use sound.WpLaws.{WpFn-mono}
-use types.Kit.{‵, raw, ◌⊛◌, some, later, at_ret, ◌$◌, ◌∵◌, !, qed, by, move, keep, drop, use1, join, split, group, pick, rewrite, fsplit, fsplit3, fjoin, fpack, suffices, frame, await, done}
-use types.Part.{whole, sub, look_in}
-use types.Run.{stop, fld, addr, load, of_opd, first, blocks, exec, returns, enter}
-use types.ByLocal.{alloc_all, pass_all, free_all, look_at, get, through, sets, sets_last, env}
-use denote.RattleType.{RattleType, owns}
-use denote.Exit.{no}
 use denote.Memory.{part_at, part_of, raw_all, mem, cell_at}
-use denote.RawPtr.{block_ptr}
 use denote.Ref.{MutRef, mut_vals, mut_Tells}
-use denote.Signature.{plain, mut_ref_to}
-use denote.Steps.{nothing, opens}
 use denote.Triple.Entry.{on_entry}
-use denote.Triple.Spec.{triple_of}
-use denote.Triple.Table.{entered}
-use denote.Triple.Walked.{says, Stays, stay_dropped, walk_of, ends_at, walked, walk_Meets, Goes-spent_ref}
 use denote.Follow.{follows, Part, lends_Part}
-use Rattle.core.proofs.alloc.Calls.{token}
 use Rattle.std_alloc.proofs.VecSteps.Shapes.{after}
-use Rattle.std_alloc.proofs.BoxSteps.Form.{D, B, R, τ, word, handle}
-use Rattle.std_alloc.proofs.BoxSteps.Steps.{box_out, box_in}
 use Rattle.balsaeuchre_c.specs.declared.session.Session.{Session}
 use Rattle.balsaeuchre_c.specs.contracts.session.Session as Held
 use Rattle.balsaeuchre_c.proofs.session.Session.TheLaws as held

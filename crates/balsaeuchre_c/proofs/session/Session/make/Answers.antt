@@ -1,5 +1,4 @@
-use Rattle.std.proofs.Common.{ap, sym, ◌∙◌}
-use Rattle.std.specs.Prelude.{Result, Ok, Err, IfOk, option_and_then}
+use Rattle.balsaeuchre_c.proofs.Common.{Err, IfOk, Ok, Result, ap, option_and_then, sym, ◌∙◌}
 use Rattle.qkernel.specs.LentCall.{call_lent}
 use Rattle.balsaeuchre_c.specs.Requests.{call_as}
 use Rattle.balsaeuchre_c.proofs.session.Session.make.Goals as goal
