@@ -302,6 +302,7 @@ its own, or all in one process with 'together'. A program has these lines:
 In front of all sections may stand what else is a fault:
 
   check inversion         an inversion of priorities
+  check starvation        a thread waits in one call while others go on for ever
   at most N inside LOCK   more than N threads inside the lock
   never THREAD is STATE [on THREAD.NAME] [and ..]
                           all of this at once; a STATE is ready, SEND-blocked,
