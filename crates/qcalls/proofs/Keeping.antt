@@ -1,11 +1,7 @@
 -- The endings that are kept: the first of a thread, and the list without it.
-use Rattle.std.proofs.Common.{◌≡◌, ◌∙◌, ℕ, suc, ◌+◌, ◌<◌, List, [], ◌∷◌, ◌++◌, length, take, drop, get_or, refl, ap, sym, cond, arith, true, false, eqb}
-use Rattle.std.specs.Prelude.{None, Some, is_some, position}
+use Rattle.qcalls.proofs.Common.{Completion, List, None, Some, [], ap, arith, cond, drop, ending_of, eqb, false, get_or, is_of, is_some, length, none-some, position, refl, same_Some, suc, sym, take, true, without, ℕ, ◌++◌, ◌+◌, ◌<◌, ◌∙◌, ◌∷◌, ◌≡◌}
 use Rattle.std.specs.List.{position_from}
 use Rattle.std.proofs.lemmas.Iterator.Adapters.{position_from-zero}
-use Rattle.std.proofs.lemmas.Option.{same_Some, none-some}
-use Rattle.qmodel.specs.declared.call.Completion.{Completion}
-use Rattle.qcalls.specs.Simulating.{ending_of, is_of, without}
 
 -- the first ending of thread t stands at place j
 pub record IsAt (t : ℕ) (endings : List Completion) (j : ℕ) : Type 0 where

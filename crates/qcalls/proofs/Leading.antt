@@ -1,22 +1,12 @@
 -- What an answer to a call, or to two calls in turn, leads to.
-use Rattle.std.proofs.Common.{◌≡◌, ◌∙◌, ap, sym, refl, true, false, List, [], ◌∷◌, ◌++◌, Result, Ok, Err, if◌then◌else◌}
-use Rattle.std.specs.Prelude.{⊤}
+use Rattle.qcalls.proofs.Common.{Call, CallError, Completion, Done, Ending, Err, Follows, Gives, History, Leads, List, Makes, MakesBoth, Ok, Reading, Result, [], ap, done_in, ending_in, false, if◌then◌else◌, read_off, refl, sym, told_by, true, ⊤, ◌++◌, ◌∙◌, ◌∷◌, ◌≡◌}
 use Rattle.std.proofs.lemmas.List.{append-nil, append_assoc}
-use Rattle.qmodel.specs.declared.call.Call.{Call}
-use Rattle.qmodel.specs.declared.call.Completion.{Completion}
 use Rattle.qmodel.specs.declared.call.Mark.{Mark}
 use Rattle.qmodel.specs.declared.call.Mark.TheVariants as mark
 use Rattle.qshared.specs.declared.port.Called.{Called}
 use Rattle.qshared.specs.declared.port.Called.TheVariants as called
 use Rattle.qshared.specs.Counting.{is_call, gives, pends}
 use Rattle.qshared.specs.TwoCalls.{is_ok}
-use Rattle.qcalls.specs.Coming.{Gives}
-use Rattle.qcalls.specs.History.{History, told_by}
-use Rattle.qcalls.specs.Making.{Follows, Leads, Makes, MakesBoth, ending_in, read_off}
-use Rattle.qcalls.specs.Results.{Reading, done_in}
-use Rattle.qcalls.specs.declared.ending.Ending.{Ending}
-use Rattle.qcalls.specs.declared.endpoint.Told.TheVariants.{Done}
-use Rattle.qcalls.specs.declared.error.CallError.{CallError}
 use Rattle.qcalls.proofs.Reading.{makes_off}
 
 -- what an endpoint answered a call

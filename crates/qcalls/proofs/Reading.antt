@@ -1,13 +1,6 @@
 -- A result that is read off the ending of a call that was made.
-use Rattle.std.proofs.Common.{◌≡◌, ◌∙◌, ap, sym, Result, Ok}
-use Rattle.qmodel.specs.declared.call.Call.{Call}
-use Rattle.qcalls.specs.History.{History}
-use Rattle.qcalls.specs.Making.{Comes, Makes, ending_in, read_off}
-use Rattle.qcalls.specs.Results.{Reading}
-use Rattle.qcalls.specs.declared.ending.Ending.{Ending}
+use Rattle.qcalls.proofs.Common.{Blocked, Call, CallError, Comes, Done, Ending, History, Makes, Ok, Reading, Refused, Result, ap, ending_in, read_off, sym, ◌∙◌, ◌≡◌}
 use Rattle.qcalls.specs.declared.endpoint.Told.{Told}
-use Rattle.qcalls.specs.declared.endpoint.Told.TheVariants.{Done, Blocked, Refused}
-use Rattle.qcalls.specs.declared.error.CallError.{CallError}
 
 -- what comes of a call comes of what is read off its ending
 comes-read : {A : Type 0} (read : Reading A) (call : Call) (before after : History) (made : Result Ending CallError)

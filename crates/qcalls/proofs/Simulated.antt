@@ -1,18 +1,11 @@
 -- A result that is read off the event of a call in one thread.
-use Rattle.std.proofs.Common.{◌≡◌, ◌∙◌, inl, inr, ℕ, ap, sym, refl, subst, cond, true, false, Result, Ok, Err}
+use Rattle.qcalls.proofs.Common.{Call, CallError, Completion, Ending, Err, Ok, Reading, Result, ap, cond, ending_in, false, inl, inr, none-some, read_off, refl, subst, sym, true, ℕ, ◌∙◌, ◌≡◌}
 use Rattle.std.specs.Prelude.{Option, None, Some, List, Bool, is_some, nat_lt, ◌^◌}
-use Rattle.std.proofs.lemmas.Option.{none-some}
 use Rattle.qbase.specs.declared.errno.Errno.TheVariants as errno
 use Rattle.qtables.specs.Members.{member_at}
 use Rattle.qstate.specs.Kept.{members_of}
 use Rattle.qbase.specs.declared.errno.Errno.{Errno}
-use Rattle.qmodel.specs.declared.call.Call.{Call}
-use Rattle.qmodel.specs.declared.call.Completion.{Completion}
-use Rattle.qcalls.specs.Making.{ending_in, read_off}
-use Rattle.qcalls.specs.Results.{Reading}
 use Rattle.qcalls.specs.Simulating.{Comes, IsEvent, Simulates, Simulation, at_once, done, ending_of, unless_blocked, unmade}
-use Rattle.qcalls.specs.declared.ending.Ending.{Ending}
-use Rattle.qcalls.specs.declared.error.CallError.{CallError}
 use Rattle.qcalls.specs.declared.simulator.Outcome.{Outcome}
 use Rattle.qcalls.specs.declared.simulator.Outcome.TheVariants.{Done, Blocked}
 

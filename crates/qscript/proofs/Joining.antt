@@ -1,9 +1,5 @@
 -- Threads that join a roster one after another.
-use Rattle.std.proofs.Common.{◌≡◌, ℕ, zero, suc, ◌+◌, ◌<◌, List, [], ◌∷◌, ◌++◌, length, take, get_or, None, refl, arith}
-use Rattle.std.proofs.lemmas.List.{take_more}
-use Rattle.qtables.specs.declared.member.Member.{Member}
-use Rattle.qtables.specs.Members.{with_member, join_refusal}
-use Rattle.qscript.specs.Enrolled.{roster_with, AllJoin}
+use Rattle.qscript.proofs.Common.{AllJoin, List, Member, None, [], arith, get_or, join_refusal, length, refl, roster_with, suc, take, take_more, with_member, zero, ℕ, ◌++◌, ◌+◌, ◌<◌, ◌∷◌, ◌≡◌}
 
 -- one more at the end
 pub enrolled_more : (r xs : List Member) (m : Member) → roster_with r (xs ++ m ∷ []) ≡ with_member m (roster_with r xs)

@@ -1,3 +1,4 @@
+pub mod Common
 pub mod Output
 pub mod Joining
 pub mod Runnable

@@ -1,21 +1,6 @@
 -- Calls that are made one after another, and printed at once.
-use Rattle.std.proofs.Common.{◌≡◌, ℕ, ◌+◌, List, [], ◌∷◌, ◌++◌, length, length-append, true, refl, ap, sym, ◌∙◌, arith}
+use Rattle.qscript.proofs.Common.{AllKnown, AnswersAtTraces, Call, Event, Events, HasMade, HasPrinted, List, Member, State, [], ap, arith, event_call, length, length-append, length-map, map-append, member_at, members_of, refl, runs_more, shows_buffer, sym, true, with_more, ℕ, ◌++◌, ◌+◌, ◌∙◌, ◌∷◌, ◌≡◌}
 use Rattle.std.specs.Prelude.{is_some}
-use Rattle.std.proofs.lemmas.List.{length-map, map-append}
-use Rattle.qtables.specs.Members.{member_at}
-use Rattle.qtables.specs.declared.member.Member.{Member}
-use Rattle.qmodel.specs.declared.call.Call.{Call}
-use Rattle.qrules.specs.Lawful.{event_call}
-use Rattle.qmodel.specs.Trace.{Event, Run as Events}
-use Rattle.qstate.specs.Kept.{members_of}
-use Rattle.qkernel.specs.Run.{AllKnown}
-use Rattle.qkernel.specs.Stands.{AnswersAtTraces}
-use Rattle.qkernel.specs.Kernel.{State}
-use Rattle.qkernel.proofs.Running.{runs_more}
-use Rattle.qscript.specs.Printing.Laws.{with_more}
-use Rattle.qscript.specs.Printing.Printed.{shows_buffer}
-use Rattle.qscript.specs.Printing.Printer.{HasPrinted}
-use Rattle.qscript.specs.Running.{HasMade}
 use Rattle.qscript.specs.declared.run.Run.{Run}
 
 -- the number of the next event

@@ -1,23 +1,8 @@
 -- The text of a run on a new kernel.
-use Rattle.std.proofs.Common.{◌≡◌, ℕ, ◌+◌, List, [], map, refl, ap, sym, ◌∙◌}
-use Rattle.qtables.specs.Members.{IsRoster}
-use Rattle.qtables.specs.declared.member.Member.{Member}
-use Rattle.qmodel.specs.declared.call.Call.{Call}
-use Rattle.qmodel.specs.declared.open_call.Blocked.{Blocked}
+use Rattle.qscript.proofs.Common.{Blocked, Call, Event, HasPrinted, HasRun, IsRoster, IsTextOfRun, IsWellRun, List, Member, Printer, Run, StandsAt, State, Trace, [], ap, event_call, facts_of, headline_of, map, members_of, refl, roster_with, sym, ℕ, ◌+◌, ◌∙◌, ◌≡◌}
 use Rattle.qkernel.specs.Blocked.{blocked_threads}
 use Rattle.qrules.specs.Trace.{followed_by}
-use Rattle.qrules.specs.Lawful.{event_call, facts_of}
-use Rattle.qkernel.specs.Run.{IsWellRun}
-use Rattle.qkernel.specs.Stands.{StandsAt}
-use Rattle.qkernel.specs.Kernel.{State}
-use Rattle.qkernel.proofs.Running.{headline_of}
-use Rattle.qstate.specs.Kept.{members_of}
-use Rattle.qmodel.specs.Trace.{Event, Run, Trace}
-use Rattle.qscript.specs.Enrolled.{roster_with}
 use Rattle.qscript.specs.Printing.Printed.{printed}
-use Rattle.qscript.specs.Printing.Printer.{HasPrinted, HasRun}
-use Rattle.qscript.specs.declared.printing.printer.Printer.{Printer}
-use Rattle.qscript.specs.Script.{IsTextOfRun}
 
 made_same : (n m : ℕ) (xs ys : List Event) → n ≡ m → xs ≡ ys → (let r : Run = record { first = n; events = xs } in r) ≡ record { first = m; events = ys }
 made_same n m xs ys first events = rw (first, events) refl

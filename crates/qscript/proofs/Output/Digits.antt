@@ -1,5 +1,5 @@
 -- Bytes in hexadecimal digits, one after another.
-use Rattle.std.proofs.Common.{◌≡◌, ℕ, zero, suc, ◌+◌, ◌<◌, ◌/◌, ◌%◌, List, [], ◌∷◌, ◌++◌, length, take, slice_index, refl, ap, ◌∙◌, add-one, append_assoc, arith}
+use Rattle.qscript.proofs.Common.{List, [], add-one, ap, append_assoc, arith, length, refl, slice_index, suc, take, zero, ℕ, ◌%◌, ◌++◌, ◌+◌, ◌/◌, ◌<◌, ◌∙◌, ◌∷◌, ◌≡◌}
 use Rattle.hex.specs.Hex.{lower_digits, encode_with, encode_lower}
 
 -- the digits of one byte more

@@ -1,13 +1,6 @@
 -- A run that goes on.
-use Rattle.std.proofs.Common.{◌≡◌, ℕ, zero, suc, ◌+◌, ◌-◌, ◌<◌, ◌≤◌, ◌&&◌, true, false, cond, List, [], ◌∷◌, ◌++◌, length, nat_le, slice_get, None, refl, sym, ap, append_assoc, arith}
-use Rattle.std.proofs.lemmas.Bool.{leb-true}
-use Rattle.std.specs.List.{flat_map}
-use Rattle.std.specs.Option.{option_map}
-use Rattle.qmodel.specs.declared.call.Completion.{Completion}
-use Rattle.qmodel.specs.Trace.{Event, Run}
-use Rattle.qscript.specs.Printing.OpenLine.{open_text}
+use Rattle.qscript.proofs.Common.{Completion, Event, GoesOn, List, None, Run, [], ap, append_assoc, arith, cond, false, flat_map, leb-true, length, nat_le, open_text, option_map, refl, slice_get, suc, sym, true, with_more, zero, ℕ, ◌&&◌, ◌++◌, ◌+◌, ◌-◌, ◌<◌, ◌∷◌, ◌≡◌, ◌≤◌}
 use Rattle.qscript.specs.Printing.Printed.{call_by, ending_text, event_text, texts_from, printed}
-use Rattle.qscript.specs.Printing.Laws.{with_more, GoesOn}
 
 get_front : {A : Type 0} (xs ys : List A) (k : ℕ) → k < length xs → slice_get (xs ++ ys) k ≡ slice_get xs k
 get_front [] ys k h = absurd (omega arith)

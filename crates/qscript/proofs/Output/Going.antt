@@ -1,16 +1,5 @@
 -- The lines of one event more.
-use Rattle.std.proofs.Common.{◌≡◌, ℕ, zero, suc, ◌+◌, ◌-◌, ◌≤◌, ◌&&◌, Bool, true, false, cond, List, [], ◌∷◌, ◌++◌, length, length-append, map, take, nat_le, get_or, slice_get, Some, None, refl, sym, ap, ◌∙◌, append-nil, add-one, arith, string_bytes}
-use Rattle.std.proofs.lemmas.Bool.{leb-true, leb-false}
-use Rattle.std.proofs.lemmas.List.{length-map, map-append, get_or_past}
-use Rattle.std.specs.List.{flat_map}
-use Rattle.std.specs.Option.{option_map}
-use Rattle.qmodel.specs.declared.call.Call.{Call}
-use Rattle.qmodel.specs.declared.call.Completion.{Completion}
-use Rattle.qmodel.specs.Trace.{Event, Run}
-use Rattle.qscript.specs.Printing.Laws.{with_more}
-use Rattle.qscript.specs.Printing.Printed.{shows_buffer, call_by, is_shown, ended_text, event_text, texts_from}
-use Rattle.qscript.specs.Printing.Printer.{shows_own, shows_at, HasPrinted}
-use Rattle.qscript.specs.declared.printing.printer.Printer.{Printer}
+use Rattle.qscript.proofs.Common.{Bool, Call, Completion, Event, HasPrinted, List, None, Printer, Run, Some, [], add-one, ap, append-nil, arith, call_by, cond, ended_text, event_text, false, flat_map, get_or, get_or_past, is_shown, leb-false, leb-true, length, length-append, length-map, map, map-append, nat_le, option_map, refl, shows_at, shows_buffer, shows_own, slice_get, string_bytes, suc, sym, take, texts_from, true, with_more, zero, ℕ, ◌&&◌, ◌++◌, ◌+◌, ◌-◌, ◌∙◌, ◌∷◌, ◌≡◌, ◌≤◌}
 use Rattle.qscript.proofs.Output.Extended.{same_texts, texts_both}
 
 -- ---- whether a buffer is printed

@@ -1,8 +1,6 @@
 -- Printed lines have no newline in them.
-use Rattle.std.proofs.Common.{◌≡◌, ◌≢◌, ℕ, ℤ, pos, negsuc, zero, suc, ◌+◌, ◌==◌, ◌&&◌, ◌/◌, ◌%◌, Bool, true, false, cond, not, List, [], ◌∷◌, ◌++◌, length, length-append, get_or, nat_lt, codes, decimal, refl, sym, ap, arith}
-use Rattle.std.specs.List.{AllByRecursion, list_all, flat_map}
+use Rattle.qscript.proofs.Common.{AllByRecursion, Blocked, Bool, Completion, Event, HasLines, IsLines, IsOneLine, List, Run, [], ap, arith, buffer_words, codes, cond, decimal, endings_in, eqb-false, false, flat_map, get_or, length, length-append, list_all, nat_lt, negsuc, not, open_text, pos, refl, suc, sym, true, with_newline, words_with_spaces, zero, ℕ, ℤ, ◌%◌, ◌&&◌, ◌++◌, ◌+◌, ◌/◌, ◌==◌, ◌∷◌, ◌≡◌, ◌≢◌}
 use Rattle.std.specs.Fmt.{digit_glyph, digits_onto, digits, signed_decimal}
-use Rattle.std.proofs.lemmas.Bool.{eqb-false}
 use Rattle.std.proofs.lemmas.Grind.{flat_map-append}
 use Rattle.hex.specs.Hex.{lower_digits, encode_with, encode_lower}
 use Rattle.qbase.specs.declared.errno.Errno.{Errno}
@@ -10,20 +8,13 @@ use Rattle.qbase.specs.declared.errno.Errno.TheVariants.{Srch, Badf, Inval, Agai
 use Rattle.qbase.specs.Errno.{word_of}
 use Rattle.qbase.specs.declared.state.ThreadState.{ThreadState}
 use Rattle.qbase.specs.declared.state.ThreadState.TheVariants.{Ready, SendBlocked, ReceiveBlocked, ReplyBlocked}
-use Rattle.qmodel.specs.declared.call.Completion.{Completion}
 use Rattle.qqueue.specs.declared.item.What.{What}
 use Rattle.qqueue.specs.declared.item.What.TheVariants.{Message, User, Unblock, Disconnect}
 use Rattle.qmodel.specs.declared.call.Mark.{Mark}
 use Rattle.qmodel.specs.declared.call.Mark.TheVariants as marks
-use Rattle.qmodel.specs.declared.open_call.Blocked.{Blocked}
-use Rattle.qmodel.specs.Trace.{Event, Run}
-use Rattle.qscript.specs.Printing.Words.{words_with_spaces}
 use Rattle.qscript.specs.Printing.Marks.{mark_words, pulse_words}
-use Rattle.qscript.specs.Printing.Buffer.{buffer_words}
-use Rattle.qscript.specs.Printing.OpenLine.{open_text}
 use Rattle.qscript.specs.Printing.State.{state_words}
 use Rattle.qscript.specs.Printing.Printed.{call_by, is_shown, ended_words, event_text, texts_from, printed}
-use Rattle.qscript.specs.Printing.Laws.{IsOneLine, with_newline, IsLines, endings_in, HasLines}
 
 -- ---- bytes
 

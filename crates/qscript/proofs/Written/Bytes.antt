@@ -1,11 +1,6 @@
 -- Bytes that are written, read again.
-use Rattle.std.proofs.Common.{◌≡◌, ℕ, ◌-◌, ◌*◌, ◌≤◌, ◌==◌, ◌&&◌, true, false, cond, List, [], ◌∷◌, length, position, nat_le, nat_lt, is_some, Some, None, Ok, refl, arith}
-use Rattle.std.specs.List.{AllByRecursion, list_all, position_or_len}
-use Rattle.std.proofs.lemmas.Bool.{leb-true, le-ltb, ne_eqb, and_parts}
-use Rattle.std.proofs.lemmas.List.Sums.{list_all-from_AllPass}
-use Rattle.hex.specs.Hex.{IsBytes, is_hex_digit, encode_lower}
+use Rattle.qscript.proofs.Common.{AllByRecursion, IsBytes, List, None, Ok, Some, [], and_parts, arith, buffer_word, cond, encode_lower, false, is_hex_digit, is_some, le-ltb, leb-true, length, list_all, list_all-from_AllPass, nat_le, nat_lt, ne_eqb, position, position_or_len, refl, true, ℕ, ◌&&◌, ◌*◌, ◌-◌, ◌==◌, ◌∷◌, ◌≡◌, ◌≤◌}
 use Rattle.hex.proofs.HexLemmas.{decode_of-encode_lower, decode_of-ok}
-use Rattle.qscript.specs.Printing.Buffer.{buffer_word}
 use Rattle.qreading.specs.Reading.Operand.{plain_of, bytes_of, is_cross}
 use Rattle.qscript.proofs.Written.Words.{Prints, IsWord}
 

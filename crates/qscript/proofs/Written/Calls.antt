@@ -1,9 +1,5 @@
 -- The lines of a run's calls, one event after another.
-use Rattle.std.proofs.Common.{◌≡◌, ℕ, zero, suc, ◌+◌, List, [], ◌∷◌, ◌++◌, take, slice_get, Some, refl, ◌∙◌, sym, append_assoc, append-nil, add-one}
-use Rattle.std.specs.List.{flat_map}
-use Rattle.std.specs.Option.{option_map}
-use Rattle.qmodel.specs.Trace.{Event}
-use Rattle.qscript.specs.Writing.Text.{call_text}
+use Rattle.qscript.proofs.Common.{Event, List, Some, [], add-one, append-nil, append_assoc, call_text, flat_map, option_map, refl, slice_get, suc, sym, take, zero, ℕ, ◌++◌, ◌+◌, ◌∙◌, ◌∷◌, ◌≡◌}
 
 -- the call at a place comes after those before it
 calls_more : (es : List Event) (k : ℕ) (p new : List ℕ)

@@ -1,10 +1,7 @@
 -- Numbers that are written, read again.
-use Rattle.std.proofs.Common.{◌≡◌, ℕ, ℤ, pos, negsuc, suc, ◌<◌, ◌≤◌, ◌^◌, true, length, nat_le, nat_lt, Some, Ok, decimal, refl, arith}
+use Rattle.qscript.proofs.Common.{Ok, Some, arith, decimal, decimal_nonempty, digits_decimal, digits_value-decimal, le-leb, length, length-decimal-le, lt-ltb, ltb-true, nat_le, nat_lt, negsuc, own, pos, refl, suc, true, ℕ, ℤ, ◌<◌, ◌^◌, ◌≡◌, ◌≤◌}
 use Rattle.std.specs.Fmt.{signed_decimal}
-use Rattle.std.proofs.lemmas.Bool.{le-leb, lt-ltb, ltb-true}
-use Rattle.std.proofs.lemmas.Fmt.{digits_decimal, digits_value-decimal, decimal_nonempty, length-decimal-le}
 use Rattle.qreading.specs.Reading.Number.{digits_of, number_of, priority_of, signed_of, is_within, integer_of}
-use Rattle.qreading.proofs.Texts.Digits.{own}
 use Rattle.qscript.proofs.Written.Words.{IsWord, number_word, first_digit_not}
 
 -- the digits of a number

@@ -1,15 +1,8 @@
 -- Lines that are written, read again.
-use Rattle.std.proofs.Common.{◌≡◌, ◌∙◌, ap, map, Some, ℕ, ◌<◌, ◌≤◌, ◌^◌, Bool, true, false, List, [], ◌∷◌, length, length-append, Ok, codes, decimal, refl, arith, inl, inr, subst}
-use Rattle.std.specs.List.{AllByRecursion, list_all}
-use Rattle.std.specs.Str.{all_ascii_digits, bytes_eq}
-use Rattle.std.proofs.lemmas.Bool.{le-ltb, cases_Bool}
-use Rattle.std.proofs.lemmas.Fmt.{digits_decimal, length-decimal-le}
+use Rattle.qscript.proofs.Common.{AllByRecursion, Bool, Call, IsSmall, IsTyped, IsTypedMember, IsTypedOperand, List, Member, Ok, Some, [], all_ascii_digits, ap, arith, bytes_eq, cases_Bool, codes, decimal, digits_decimal, false, inl, inr, le-ltb, length, length-append, length-decimal-le, list_all, map, own, refl, subst, true, words_with_spaces, ℕ, ◌<◌, ◌^◌, ◌∙◌, ◌∷◌, ◌≡◌, ◌≤◌}
 use Rattle.std.proofs.lemmas.Slice.Eq.{bytes_eq-Decides}
-use Rattle.qtables.specs.declared.member.Member.{Member}
-use Rattle.qmodel.specs.declared.call.Call.{Call}
 use Rattle.qmodel.specs.declared.call.Call.TheVariants as calls
 use Rattle.qreading.specs.declared.reading.line.Line.TheVariants as lines
-use Rattle.qscript.specs.Printing.Words.{words_with_spaces}
 use Rattle.qmodel.specs.declared.kind.CallKind.{CallKind}
 use Rattle.qmodel.specs.declared.kind.CallKind.TheVariants as kind
 use Rattle.qmodel.specs.declared.operands.Operand.{Operand}
@@ -24,9 +17,7 @@ use Rattle.qreading.specs.Reading.Line.{is_text, call_line_of, roster_line_of, s
 use Rattle.qreading.specs.Reading.Number.{number_of}
 use Rattle.qreading.specs.Reading.Steps.{◌>>=◌}
 use Rattle.qreading.specs.Reading.Words.{words_of}
-use Rattle.qscript.specs.Writing.Laws.{IsSmall, IsTyped, IsTypedMember, IsTypedOperand}
 use Rattle.qscript.specs.Writing.Line.{call_words, call_line, member_line, operand_word}
-use Rattle.qreading.proofs.Texts.Digits.{own}
 use Rattle.qscript.proofs.Written.Bytes.{bytes_word, bytes_back}
 use Rattle.qscript.proofs.Written.Numbers.{number_back, priority_back, signed_word, integer_back}
 use Rattle.qscript.proofs.Written.Words.{IsWord, number_word, first_digit_not, words_in_row, row_text, text_both, word_text, name_word}

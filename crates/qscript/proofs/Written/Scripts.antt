@@ -1,21 +1,10 @@
 -- Scripts that are written, read again.
-use Rattle.std.proofs.Common.{◌≡◌, ℕ, zero, suc, ◌+◌, ◌-◌, ◌<◌, ◌==◌, true, false, List, [], ◌∷◌, ◌++◌, length, length-append, map, nat_lt, slice_index, Ok, refl, sym, ap, ◌∙◌, arith, append_assoc, append-nil, subst}
-use Rattle.std.specs.List.{All, AllByRecursion, flat_map, list_all}
-use Rattle.std.proofs.lemmas.Bool.{lt-leb, ne_eqb, and_parts}
-use Rattle.std.proofs.lemmas.List.Elements.{All-cons, All-nil}
-use Rattle.qtables.specs.declared.member.Member.{Member}
-use Rattle.qmodel.specs.declared.call.Call.{Call}
-use Rattle.qrules.specs.Lawful.{event_call}
-use Rattle.qmodel.specs.Trace.{Event}
+use Rattle.qscript.proofs.Common.{All, All-cons, All-nil, AllByRecursion, Call, Event, IsTypedMember, IsWritable, List, MayStand, Member, Ok, ScriptsAreRead, Stands, [], and_parts, ap, append-nil, append_assoc, arith, call_line, event_call, false, flat_map, is_text, length, length-append, list_all, lt-leb, map, member_line, nat_lt, ne_eqb, not_long, refl, slice_index, stands_first, stands_last, stands_more, subst, suc, sym, true, zero, ℕ, ◌++◌, ◌+◌, ◌-◌, ◌<◌, ◌==◌, ◌∙◌, ◌∷◌, ◌≡◌}
 use Rattle.qreading.specs.declared.reading.line.Line.TheVariants as lines
-use Rattle.qreading.specs.Reading.Line.{is_text}
 use Rattle.qreading.specs.Reading.Lines.{lines_of, is_newline, without_return}
 use Rattle.qreading.specs.Reading.Meaning.{is_in, line_behind, line_with}
-use Rattle.qscript.specs.Writing.Laws.{IsTypedMember, IsWritable, MayStand, ScriptsAreRead}
-use Rattle.qscript.specs.Writing.Line.{call_line, member_line}
 use Rattle.qscript.specs.Writing.Text.{member_text, call_text, script_text}
 use Rattle.qreading.proofs.Texts.Lines.{lines_at, lines_none}
-use Rattle.qreading.proofs.Texts.Progress.{Stands, stands_first, stands_more, stands_last, not_long}
 use Rattle.qscript.proofs.Written.Reading.{call_read, call_line_text, member_read, member_line_text}
 
 -- ---- a line of text, and its end

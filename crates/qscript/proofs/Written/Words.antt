@@ -1,17 +1,8 @@
 -- Words that are written, read again.
-use Rattle.std.proofs.Common.{◌≡◌, ℕ, ◌<◌, ◌≤◌, ◌==◌, ◌&&◌, ◌||◌, ◌^◌, Bool, true, false, List, [], ◌∷◌, ◌++◌, length, nat_le, slice_index, decimal, refl, ap, ◌∙◌, arith, append-nil}
-use Rattle.std.specs.List.{All, AllByRecursion, slice_split, list_all}
-use Rattle.std.specs.Str.{all_ascii_digits}
-use Rattle.std.proofs.lemmas.Bool.{leb-true, le-leb, ne_eqb, and_parts}
-use Rattle.std.proofs.lemmas.Fmt.{digits_decimal, decimal_nonempty}
+use Rattle.qscript.proofs.Common.{All, All-cons, All-nil, AllByRecursion, Bool, List, [], all_ascii_digits, and_parts, ap, append-nil, arith, decimal, decimal_nonempty, digits_decimal, false, is_text, le-leb, leb-true, length, list_all, nat_le, ne_eqb, own, refl, slice_index, slice_split, slice_split_at, slice_split_none, true, words_with_spaces, ℕ, ◌&&◌, ◌++◌, ◌<◌, ◌==◌, ◌^◌, ◌||◌, ◌∙◌, ◌∷◌, ◌≡◌, ◌≤◌}
 use Rattle.std.proofs.lemmas.List.Folds.{list_all-append}
-use Rattle.std.proofs.lemmas.List.Splits.{slice_split_none, slice_split_at}
-use Rattle.std.proofs.lemmas.List.Elements.{All-cons, All-nil}
 use Rattle.std.proofs.lemmas.Str.Parse.{tells_all_ascii_digits}
-use Rattle.qscript.specs.Printing.Words.{words_with_spaces}
-use Rattle.qreading.specs.Reading.Line.{is_text}
 use Rattle.qreading.specs.Reading.Words.{words_of, is_blank}
-use Rattle.qreading.proofs.Texts.Digits.{own}
 use Rattle.qreading.proofs.Texts.Words.{word_kept}
 
 -- ---- bytes of a word

@@ -1,4 +1,4 @@
-use Rattle.std.proofs.Common.{◌≡◌, ◌∙◌, ◌+◌, ◌++◌, ◌∷◌, [], length, length-append, ap, arith}
+use Rattle.qcalls.proofs.Common.{[], ap, arith, length, length-append, ◌++◌, ◌+◌, ◌∙◌, ◌∷◌, ◌≡◌}
 use Rattle.qshared.proofs.Rows.{map_snoc}
 use Rattle.qcalls.proofs.opening.callers.Goals as goal
 

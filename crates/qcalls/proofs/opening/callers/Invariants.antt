@@ -1,4 +1,4 @@
-use Rattle.std.proofs.Common.{◌≡◌, ◌≤◌, length, map, vec_capacity}
+use Rattle.qcalls.proofs.Common.{length, map, vec_capacity, ◌≡◌, ◌≤◌}
 use Rattle.qcalls.proofs.opening.callers.Given as goal
 
 abbrev pub invariant-loop-port : goal.invariant-loop-port

@@ -1,4 +1,4 @@
-use Rattle.std.proofs.Common.{◌∙◌, refl, subst, sym}
+use Rattle.qcalls.proofs.Common.{refl, subst, sym, ◌∙◌}
 use Rattle.std.proofs.lemmas.Bool.{true≢false}
 use Rattle.qhandoff.specs.Words.{thread_of}
 use Rattle.qshared.specs.Naming.{AreAll}

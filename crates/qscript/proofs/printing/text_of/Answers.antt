@@ -1,5 +1,5 @@
+use Rattle.qscript.proofs.Common.{shows_buffer}
 use Rattle.std.proofs.Common.{◌≡◌, ◌+◌, take, take_all, length, length-take, ap, sym, ◌∙◌, arith}
-use Rattle.qscript.specs.Printing.Printed.{shows_buffer}
 use Rattle.qscript.proofs.Output.Going.{next_taken}
 use Rattle.qscript.proofs.printing.text_of.Goals as goal
 

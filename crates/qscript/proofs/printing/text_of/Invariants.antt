@@ -1,5 +1,4 @@
-use Rattle.std.proofs.Common.{take}
-use Rattle.qscript.specs.Printing.Printer.{HasPrinted}
+use Rattle.qscript.proofs.Common.{HasPrinted, take}
 use Rattle.qscript.proofs.printing.text_of.Given as goal
 
 abbrev pub invariant-events : goal.invariant-events

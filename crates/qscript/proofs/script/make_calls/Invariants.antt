@@ -1,6 +1,5 @@
-use Rattle.std.proofs.Common.{◌≡◌, ◌++◌, length}
+use Rattle.qscript.proofs.Common.{HasMade, length, ◌++◌, ◌≡◌}
 use Rattle.std.specs.Vec.Iter.{into_iter_items, into_iter_len}
-use Rattle.qscript.specs.Running.{HasMade}
 use Rattle.qscript.proofs.script.make_calls.Given as goal
 
 abbrev pub invariant-calls : goal.invariant-calls

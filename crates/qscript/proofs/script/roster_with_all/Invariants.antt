@@ -1,5 +1,4 @@
-use Rattle.std.proofs.Common.{◌≡◌, [], take}
-use Rattle.qscript.specs.Enrolled.{roster_with, AllJoin}
+use Rattle.qscript.proofs.Common.{AllJoin, [], roster_with, take, ◌≡◌}
 use Rattle.qscript.proofs.script.roster_with_all.Given as goal
 
 abbrev pub invariant-joining : goal.invariant-joining

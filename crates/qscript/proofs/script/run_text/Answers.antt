@@ -1,7 +1,5 @@
-use Rattle.std.proofs.Common.{[], ap, ◌∙◌, arith, subst, sym}
-use Rattle.qkernel.specs.Stands.{StandsAt}
+use Rattle.qscript.proofs.Common.{AllJoin, StandsAt, [], ap, arith, roster_with, subst, sym, ◌∙◌}
 use Rattle.qkernel.proofs.Traces.{stands_made, stands_roster}
-use Rattle.qscript.specs.Enrolled.{roster_with, AllJoin}
 use Rattle.qscript.proofs.OneText.{text_of_calls}
 use Rattle.qscript.proofs.script.run_text.Goals as goal
 

@@ -1,7 +1,6 @@
-use Rattle.std.proofs.Common.{◌≡◌, ◌≤◌, length}
+use Rattle.qscript.proofs.Common.{length, not_too_long, ◌≡◌, ◌≤◌}
 use Rattle.std.proofs.lemmas.Result.{err_from_is_err_and}
 use Rattle.qreading.specs.declared.fault.ScriptFault.TheVariants.{TooLong}
-use Rattle.qreading.proofs.Texts.Progress.{not_too_long}
 use Rattle.qscript.proofs.Runnable.{can_run}
 use Rattle.qscript.proofs.script.script.Goals as goal
 

@@ -1,5 +1,4 @@
-use Rattle.std.proofs.Common.{◌≡◌, ◌-◌, vec_len, false}
-use Rattle.std.specs.Io.KnownBytes.{Consumes}
+use Rattle.qscript.proofs.Common.{Consumes, false, vec_len, ◌-◌, ◌≡◌}
 use Rattle.qscript.proofs.transfer.read_all.Given as goal
 
 abbrev pub invariant-reading : goal.invariant-reading

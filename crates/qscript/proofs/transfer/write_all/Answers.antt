@@ -1,4 +1,4 @@
-use Rattle.std.proofs.Common.{arith, length-take, length-drop}
+use Rattle.qscript.proofs.Common.{arith, length-drop, length-take}
 use Rattle.qscript.proofs.Output.Writing.{written_more, no_fault}
 use Rattle.qscript.proofs.transfer.write_all.Goals as goal
 

@@ -1,5 +1,4 @@
-use Rattle.std.proofs.Common.{◌≡◌, ◌-◌, ◌≤◌, length, take, false}
-use Rattle.std.specs.Io.KnownBytes.{Appends}
+use Rattle.qscript.proofs.Common.{Appends, false, length, take, ◌-◌, ◌≡◌, ◌≤◌}
 use Rattle.qscript.proofs.transfer.write_all.Given as goal
 
 abbrev pub invariant-writing : goal.invariant-writing

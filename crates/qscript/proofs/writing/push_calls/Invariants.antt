@@ -1,6 +1,4 @@
-use Rattle.std.proofs.Common.{◌≡◌, ◌++◌, take, string_bytes}
-use Rattle.std.specs.List.{flat_map}
-use Rattle.qscript.specs.Writing.Text.{call_text}
+use Rattle.qscript.proofs.Common.{call_text, flat_map, string_bytes, take, ◌++◌, ◌≡◌}
 use Rattle.qscript.proofs.writing.push_calls.Given as goal
 
 abbrev pub invariant-events : goal.invariant-events

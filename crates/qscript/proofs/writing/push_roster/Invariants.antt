@@ -1,6 +1,4 @@
-use Rattle.std.proofs.Common.{◌≡◌, ◌++◌, take, string_bytes}
-use Rattle.std.specs.List.{flat_map}
-use Rattle.qscript.specs.Writing.Text.{member_text}
+use Rattle.qscript.proofs.Common.{flat_map, member_text, string_bytes, take, ◌++◌, ◌≡◌}
 use Rattle.qscript.proofs.writing.push_roster.Given as goal
 
 abbrev pub invariant-threads : goal.invariant-threads

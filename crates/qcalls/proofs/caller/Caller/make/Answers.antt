@@ -1,4 +1,4 @@
-use Rattle.std.proofs.Common.{◌∙◌, subst, sym}
+use Rattle.qcalls.proofs.Common.{subst, sym, ◌∙◌}
 use Rattle.qcalls.proofs.Leading.{leads_gives, leads_told}
 use Rattle.qcalls.proofs.caller.Caller.make.Goals as goal
 

@@ -1,8 +1,4 @@
-use Rattle.std.proofs.Common.{ap, refl, sym, subst, inl, inr, ◌∙◌, Err}
-use Rattle.std.proofs.lemmas.Result.{err_from_is_err_and}
-use Rattle.qcalls.specs.Coming.{ComesOf}
-use Rattle.qcalls.specs.Making.{read_off}
-use Rattle.qcalls.specs.Results.{done_in}
+use Rattle.qcalls.proofs.Common.{ComesOf, Err, ap, done_in, err_from_is_err_and, inl, inr, read_off, refl, subst, sym, ◌∙◌}
 use Rattle.qcalls.proofs.Leading.{both_make, first_fails, leads_gives, leads_gives_both, leads_told, reads_done, second_makes}
 use Rattle.qcalls.proofs.caller.Caller.make_both.Goals as goal
 

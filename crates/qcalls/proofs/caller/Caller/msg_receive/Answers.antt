@@ -1,6 +1,5 @@
-use Rattle.std.proofs.Common.{inl, rules}
+use Rattle.qcalls.proofs.Common.{inl, received_in, rules}
 use Rattle.qcalls.proofs.Reading.{makes_read}
-use Rattle.qcalls.specs.Results.{received_in}
 use Rattle.qcalls.proofs.caller.Caller.msg_receive.Goals as goal
 
 pub returns-clause-makes : goal.returns-clause-makes

@@ -1,6 +1,5 @@
-use Rattle.std.proofs.Common.{refl}
+use Rattle.qcalls.proofs.Common.{pulse_in, refl}
 use Rattle.qcalls.proofs.Reading.{makes_read}
-use Rattle.qcalls.specs.Results.{pulse_in}
 use Rattle.qcalls.proofs.caller.Caller.msg_receive_pulse.Goals as goal
 
 pub returns-clause-makes : goal.returns-clause-makes

@@ -1,7 +1,5 @@
-use Rattle.std.proofs.Common.{inl, rules, ap, ◌∙◌, Err}
-use Rattle.std.proofs.lemmas.Result.{err_from_is_err_and}
+use Rattle.qcalls.proofs.Common.{Err, ap, err_from_is_err_and, inl, received_in, rules, ◌∙◌}
 use Rattle.qcalls.proofs.Leading.{both_fail, both_read}
-use Rattle.qcalls.specs.Results.{received_in}
 use Rattle.qcalls.proofs.caller.Caller.msg_reply_receive.Goals as goal
 
 pub returns-clause-makes : goal.returns-clause-makes

@@ -1,6 +1,5 @@
-use Rattle.std.proofs.Common.{inl, rules}
+use Rattle.qcalls.proofs.Common.{answer_in, inl, rules}
 use Rattle.qcalls.proofs.Reading.{makes_read}
-use Rattle.qcalls.specs.Results.{answer_in}
 use Rattle.qcalls.proofs.caller.Caller.msg_send.Goals as goal
 
 pub returns-clause-makes : goal.returns-clause-makes

@@ -1,9 +1,6 @@
-use Rattle.std.proofs.Common.{◌≡◌, ◌∙◌, ◌++◌, ◌≤◌, length, ap, sym, arith, Ok}
-use Rattle.std.specs.Prelude.{None}
+use Rattle.qcalls.proofs.Common.{None, Ok, Simulation, ap, arith, ending_in, ending_of, length, sym, unless_blocked, unmade, without, ◌++◌, ◌∙◌, ◌≡◌, ◌≤◌}
 use Rattle.qstate.specs.Thread.{blocked_count}
 use Rattle.qkernel.proofs.Running.{blocked_most}
-use Rattle.qcalls.specs.Making.{ending_in}
-use Rattle.qcalls.specs.Simulating.{Simulation, ending_of, unless_blocked, unmade, without}
 use Rattle.qcalls.proofs.Keeping.{first_behind}
 use Rattle.qcalls.proofs.Simulated.{event_made, none_kept}
 use Rattle.qcalls.proofs.simulator.Simulator.make.Goals.{in-Some-take_of, in-None}

@@ -1,4 +1,4 @@
-use Rattle.std.proofs.Common.{◌≡◌, ◌+◌, ◌≤◌, ◌++◌, length, reverse, vec_len, vec_capacity}
+use Rattle.qcalls.proofs.Common.{length, reverse, vec_capacity, vec_len, ◌++◌, ◌+◌, ◌≡◌, ◌≤◌}
 use Rattle.qcalls.proofs.simulator.kept.append.Given as goal
 
 abbrev pub invariant-loop-completion : goal.invariant-loop-completion

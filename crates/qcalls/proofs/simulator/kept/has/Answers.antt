@@ -1,5 +1,4 @@
-use Rattle.std.proofs.Common.{ap, ◌∙◌}
-use Rattle.std.specs.Prelude.{is_some}
+use Rattle.qcalls.proofs.Common.{ap, is_some, ◌∙◌}
 use Rattle.qcalls.proofs.Keeping.{has_place}
 use Rattle.qcalls.proofs.simulator.kept.has.Goals as goal
 

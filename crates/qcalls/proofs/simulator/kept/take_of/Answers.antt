@@ -1,6 +1,4 @@
-use Rattle.std.proofs.Common.{◌≡◌, ◌∙◌, sym, ap}
-use Rattle.std.specs.Prelude.{None, Some, position}
-use Rattle.qcalls.specs.Simulating.{is_of}
+use Rattle.qcalls.proofs.Common.{None, Some, ap, is_of, position, sym, ◌∙◌, ◌≡◌}
 use Rattle.qcalls.proofs.Keeping.{found_at, none_at}
 use Rattle.qcalls.proofs.simulator.kept.take_of.Goals as goal
 

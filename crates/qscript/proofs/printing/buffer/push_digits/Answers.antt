@@ -1,4 +1,4 @@
-use Rattle.std.proofs.Common.{◌∙◌, ◌++◌, ap, append-nil, sym, arith, string_bytes}
+use Rattle.qscript.proofs.Common.{ap, append-nil, arith, string_bytes, sym, ◌++◌, ◌∙◌}
 use Rattle.hex.specs.Hex.{encode_with}
 use Rattle.qscript.proofs.Output.Digits.{pushed_more}
 use Rattle.qscript.proofs.printing.buffer.push_digits.Goals as goal

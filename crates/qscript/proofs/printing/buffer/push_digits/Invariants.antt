@@ -1,5 +1,4 @@
-use Rattle.std.proofs.Common.{◌≡◌, ◌++◌, take, string_bytes}
-use Rattle.hex.specs.Hex.{encode_lower}
+use Rattle.qscript.proofs.Common.{encode_lower, string_bytes, take, ◌++◌, ◌≡◌}
 use Rattle.qscript.proofs.printing.buffer.push_digits.Given as goal
 
 abbrev pub invariant-bytes : goal.invariant-bytes

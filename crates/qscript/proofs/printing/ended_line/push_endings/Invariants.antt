@@ -1,7 +1,4 @@
-use Rattle.std.proofs.Common.{◌≡◌, ◌++◌, take, string_bytes}
-use Rattle.std.specs.List.{flat_map}
-use Rattle.qscript.specs.Printing.Printed.{ended_text}
-use Rattle.qscript.specs.Printing.Printer.{shows_at}
+use Rattle.qscript.proofs.Common.{ended_text, flat_map, shows_at, string_bytes, take, ◌++◌, ◌≡◌}
 use Rattle.qscript.proofs.printing.ended_line.push_endings.Given as goal
 
 abbrev pub invariant-endings : goal.invariant-endings

@@ -1,6 +1,4 @@
-use Rattle.std.proofs.Common.{◌≡◌, ◌++◌, take, string_bytes}
-use Rattle.std.specs.List.{flat_map}
-use Rattle.qscript.specs.Printing.OpenLine.{open_text}
+use Rattle.qscript.proofs.Common.{flat_map, open_text, string_bytes, take, ◌++◌, ◌≡◌}
 use Rattle.qscript.proofs.printing.printer.push_open_lines.Given as goal
 
 abbrev pub invariant-threads : goal.invariant-threads

@@ -1,7 +1,5 @@
-use Rattle.std.proofs.Common.{inl, ◌∙◌, ap, Ok, rules}
+use Rattle.qcalls.proofs.Common.{Ok, ap, done, inl, received_in, rules, ◌∙◌}
 use Rattle.qcalls.proofs.Simulated.{reads_unless_blocked}
-use Rattle.qcalls.specs.Results.{received_in}
-use Rattle.qcalls.specs.Simulating.{done}
 use Rattle.qcalls.proofs.simulator.thread.SimulatorThread.msg_receive.Goals as goal
 
 pub returns-in-Done-clause-made : goal.returns-in-Done-clause-made

@@ -1,7 +1,5 @@
-use Rattle.std.proofs.Common.{◌∙◌, ap, Ok, refl}
+use Rattle.qcalls.proofs.Common.{Ok, ap, done, pulse_in, refl, ◌∙◌}
 use Rattle.qcalls.proofs.Simulated.{reads_unless_blocked}
-use Rattle.qcalls.specs.Results.{pulse_in}
-use Rattle.qcalls.specs.Simulating.{done}
 use Rattle.qcalls.proofs.simulator.thread.SimulatorThread.msg_receive_pulse.Goals as goal
 
 pub returns-in-Done-clause-made : goal.returns-in-Done-clause-made

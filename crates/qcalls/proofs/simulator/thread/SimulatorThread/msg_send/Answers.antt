@@ -1,7 +1,5 @@
-use Rattle.std.proofs.Common.{inl, ◌∙◌, ap, Ok, rules}
+use Rattle.qcalls.proofs.Common.{Ok, answer_in, ap, done, inl, rules, ◌∙◌}
 use Rattle.qcalls.proofs.Simulated.{reads_unless_blocked}
-use Rattle.qcalls.specs.Results.{answer_in}
-use Rattle.qcalls.specs.Simulating.{done}
 use Rattle.qcalls.proofs.simulator.thread.SimulatorThread.msg_send.Goals as goal
 
 pub returns-in-Done-clause-made : goal.returns-in-Done-clause-made

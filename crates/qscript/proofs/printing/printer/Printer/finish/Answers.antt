@@ -1,6 +1,4 @@
-use Rattle.std.proofs.Common.{◌++◌, ◌∙◌, ap}
-use Rattle.std.specs.List.{flat_map}
-use Rattle.qscript.specs.Printing.OpenLine.{open_text}
+use Rattle.qscript.proofs.Common.{ap, flat_map, open_text, ◌++◌, ◌∙◌}
 use Rattle.qscript.specs.Printing.Printed.{printed}
 use Rattle.qscript.proofs.printing.printer.Printer.finish.Goals as goal
 

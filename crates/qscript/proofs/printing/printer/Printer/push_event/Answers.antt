@@ -1,4 +1,4 @@
-use Rattle.std.proofs.Common.{refl}
+use Rattle.qscript.proofs.Common.{refl}
 use Rattle.qscript.proofs.Output.Going.{printed_more}
 use Rattle.qscript.proofs.printing.printer.Printer.push_event.Goals as goal
 
