@@ -27,7 +27,7 @@ syntax match qdemodesignOperator1 /\v\=/ contained nextgroup=qdemodesignCall,qde
 syntax match qdemodesignDefinition1 /\v[A-Za-z_]%([0-9A-Za-z_.]|-\>@!)*/ contained
 syntax match qdemodesignThread /\v^\s*\zsthread%([0-9A-Za-z_.]|-\>@!)@!/ nextgroup=qdemodesignDefinition1 skipwhite
 syntax match qdemodesignKeyword /\v^\s*\zs%(expect|if|else|end|repeat|loop|serve|leave|stop|set|forget|push|pop|remove|inside|timeout|check|at|never)%([0-9A-Za-z_.]|-\>@!)@!/ nextgroup=qdemodesignKeyword2 skipwhite
-syntax match qdemodesignKeyword2 /\vinversion%([0-9A-Za-z_.]|-\>@!)@!/ contained
+syntax match qdemodesignKeyword2 /\v%(inversion|starvation)%([0-9A-Za-z_.]|-\>@!)@!/ contained
 syntax match qdemodesignKeyword3 /\v^\s*\zs%(expect|if)%([0-9A-Za-z_.]|-\>@!)@!/ nextgroup=qdemodesignResults skipwhite
 syntax match qdemodesignResult /\v[0-9A-Za-z_.-]@1<!%(ok|fail|channel|connection|reply|message|pulse|error|count|state|info|bytes|has|is|in|atleast|any|user|unblock|disconnect|ready|send|receive)%([0-9A-Za-z_.]|-\>@!)@!/ contained
 syntax match qdemodesignResult3 /\v[0-9A-Za-z_.-]@1<!%(message|reply|count)%([0-9A-Za-z_.]|-\>@!)@!/ contained
