@@ -39,8 +39,8 @@ PARTS = r"""
 int main(void) {
     printf("%zu\n", sizeof(neutrino));
 #define PART(name, field) printf("%s %zu\n", name, offsetof(neutrino, field));
-    PART("lock", lock) PART("kernel", library) PART("index", place_of) PART("kernel", tables) PART("names", channels)
-    PART("rows", event) PART("place", places)
+    PART("lock", lock) PART("kernel", library) PART("index", place_of) PART("next", next) PART("names", channels)
+    PART("place", places) PART("rows", event)
 }
 """
 
@@ -73,8 +73,8 @@ def traced(program, room, pause):
     with open(told, "w") as file:
         os.dup2(file.fileno(), 9)
     words += ["1", "1", str(ROUNDS), str(BUFFER), str(pause)]
-    subprocess.run(words, env={"LD_PRELOAD": str(library), "PATH": os.environ["PATH"]}, check=True, pass_fds=[9],
-                   stdout=subprocess.DEVNULL)
+    subprocess.run(words, check=True, pass_fds=[9], stdout=subprocess.DEVNULL,
+                   env={"LD_PRELOAD": str(library), "PATH": os.environ["PATH"], "BLOCKS_KEPT": "1"})
     return trace, lines.Blocks(told.read_text().rpartition("begin\n")[2])
 
 
@@ -100,9 +100,9 @@ class Reader:
             return "layer"
         return ("library" if len(self.turns) < 4 else "bytes") if by_library else "others"
 
-    def place(self, address, stack):
+    def place(self, address, thread):
         """What lies at an address, and at which offset in its block."""
-        if abs(address - stack) < STACK:
+        if abs(address - self.threads[thread]) < STACK:
             return "stack", 0
         found = self.blocks.at(address)
         if found and found[0] == "layer":
@@ -176,7 +176,7 @@ class Reader:
                     continue
                 comes = self.comes(address, thread, kind != " L")
                 if turn:
-                    turn.note(*self.place(address, stack), address, size, kind != " L")
+                    turn.note(*self.place(address, thread), address, size, kind != " L")
                     turn.moves |= {address // lines.LINE} if comes else set()
 
 

@@ -61,6 +61,7 @@ static uint32_t open_all(void) {
     }
     roster[length++] = (balsaeuchre_thread){SYSTEM, SYSTEM, USUAL};
     open_names(k);
+    open_events(k);
     k->tables[MESSAGES].turns >>= SLOT_BITS; /* an rcvid has the process below */
     k->hooks.pulse = complete_pulse;
     open_notes();
