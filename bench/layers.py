@@ -182,7 +182,7 @@ class Reader:
 
 def lock_word(trace, reader):
     """The address of the lock: where the layer's kernel begins, or what most compare-exchanges of the program meet."""
-    known = [block for block, size in reader.blocks.requests if size == reader.size]
+    known = [block for block, size in reader.blocks.requests if size and size == reader.size]
     if known:
         return known[0]
     met, at = collections.Counter(), 0

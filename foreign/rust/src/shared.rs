@@ -90,19 +90,21 @@ pub(crate) struct Locked {
     promised: usize,
 }
 
+type Sleeper = thread::Thread;
+
 /// The threads to wake after the lock is released. There is mostly one at most, so nothing is allocated.
 #[derive(Default)]
 pub(crate) struct Sleepers {
-    first: Option<thread::Thread>,
-    more: Vec<thread::Thread>,
+    first: Option<Sleeper>,
+    more: Vec<Sleeper>,
 }
 
 impl Sleepers {
-    fn add(&mut self, sleeper: Option<thread::Thread>) {
+    fn add(&mut self, sleeper: Option<Sleeper>) {
         if self.first.is_none() { self.first = sleeper } else { self.more.extend(sleeper) }
     }
 
-    pub(crate) fn iter(&self) -> impl Iterator<Item = &thread::Thread> {
+    pub(crate) fn iter(&self) -> impl Iterator<Item = &Sleeper> {
         self.first.iter().chain(&self.more)
     }
 }
@@ -181,10 +183,6 @@ impl Shared {
         }
         drop(locked);
     }
-
-    fn place_of(&self, thread: u8) -> Option<usize> {
-        Some(self.place_of[usize::from(thread)]).filter(|&at| at != NONE).map(usize::from)
-    }
 }
 
 impl Locked {
@@ -202,8 +200,8 @@ impl Locked {
             // SAFETY: the caller has the lock, and the call was open: what it lent was taken from it, once.
             Some(at) => asleep.add(unsafe { shared.places[at].end(mark) }),
         };
-        // SAFETY: this thread has the lock.
-        let msglen = |thread| unsafe { shared.place_of(thread).map(|at| shared.places[at].msglen()) };
+        // SAFETY: this thread has the lock. Who sends is no clock.
+        let msglen = |thread| unsafe { shared.places[usize::from(shared.place_of[usize::from(thread)])].msglen() };
         #[cfg(feature = "record")]
         shared.record.call(*request, sent, room.len(), lent);
         let is_near = self.most <= NEAR / 2 && !ENDS_MANY.contains(&request.kind());
@@ -214,16 +212,15 @@ impl Locked {
             Err(errno) => return (Some(Mark::Failed(errno)), Sleepers::default()),
         };
         for ending in endings.iter() {
-            let at = shared.place_of(ending.thread).filter(|_| ending.thread != request.thread);
+            let at = usize::from(shared.place_of[usize::from(ending.thread)]);
+            let at = Some(at).filter(|_| at != usize::from(NONE) && ending.thread != request.thread);
             // SAFETY: this thread has the lock.
             let lent = at.map_or(lent, |at| unsafe { shared.places[at].lent() }.expect("a call that ends was open"));
             lent.fill(0, ending.buffer);
             match ending.mark {
                 // At most one message is received in an event.
                 Mark::Message { rcvid, info } => message = Some((ending.thread, at, lent, rcvid, info)),
-                Mark::Info(info) => {
-                    end(at, Mark::Info(Info { msglen: msglen(info.thread).map_or(info.msglen, |known| *known), ..info }))
-                }
+                Mark::Info(info) => end(at, Mark::Info(Info { msglen: *msglen(info.thread), ..info })),
                 mark => end(at, mark),
             }
         }
@@ -234,9 +231,7 @@ impl Locked {
                 shared.record.read_on(receiver, rcvid, &lent.bytes()[rest.clone()], rest.start);
                 info.msglen += self.read_on(receiver, rcvid, lent, rest);
             }
-            if let Some(known) = msglen(info.thread) {
-                *known = info.msglen;
-            }
+            *msglen(info.thread) = info.msglen;
             end(at, Mark::Message { rcvid, info });
         }
         (own, asleep)
