@@ -102,7 +102,7 @@ static void answer(neutrino *k, struct place *p, const balsaeuchre_ending *row) 
         k->connections[place_in(&k->tables[CONNECTIONS], (int)p->result)].peer = p->number;
         break;
     case BALSAEUCHRE_INFORMED: fill_info(&k->places[k->place_of[row->sender]], row, p->call->info); break;
-    case BALSAEUCHRE_THREAD_STATE: p->result = p->own_priority ? row->priority : row->state; break;
+    case BALSAEUCHRE_THREAD_STATE: p->result = p->call->own_priority ? row->priority : row->state; break;
     case BALSAEUCHRE_DONE:
         if (p->kind == BALSAEUCHRE_CHANNEL_DESTROY) end_name(k, CHANNELS, p->number);
         if (p->kind == BALSAEUCHRE_CONNECT_DETACH) end_name(k, CONNECTIONS, p->number);

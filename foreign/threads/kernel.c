@@ -56,8 +56,7 @@ static int open_kernel(neutrino *k, const struct neutrino_thread *threads, size_
         k->places[at] = (struct place){.word = ENDED, .tid = threads[at].tid, .pid = threads[at].pid,
                                        .looks = looks};
     }
-    open_names(k);
-    open_events(k);
+    open_tables(k);
     pthread_mutex_init(&k->lock, NULL);
     return 0;
 }

@@ -79,9 +79,8 @@ struct place {
     uint8_t tid, pid, server; /* server: the thread that received its message */
     uint8_t kind, state;      /* of its call */
     bool joined;
-    bool asked;        /* the server was told to unblock it */
-    bool wants_info;   /* its call takes a struct _msg_info */
-    bool own_priority; /* see struct call */
+    bool asked;      /* the server was told to unblock it */
+    bool wants_info; /* its call takes a struct _msg_info */
     _Alignas(CACHE_LINE) _Atomic uint32_t word;
     int looks;       /* at its word before it sleeps, and one more; -1: none */
     size_t longest;  /* of its buffers, as far as the kernel gets them */
@@ -119,17 +118,11 @@ struct neutrino {
     _Alignas(CACHE_LINE) struct name channels[1 << CHANNEL_BITS];
     struct name connections[1 << CONNECTION_BITS], messages[1 << MESSAGE_BITS];
     _Alignas(CACHE_LINE) struct place places[PLACES];
-    struct event event, side;
+    struct event event, side; /* of calls that end many, or have no place; and of those that read on */
     _Alignas(CACHE_LINE) balsaeuchre_ending rows[ALL_ROWS]; /* here begins what isn't cleared */
     _Alignas(CACHE_LINE) uint8_t near[PLACES][NEAR];
     balsaeuchre_event seen; /* by a hook */
 };
-
-/* The rows and bytes of the calls that have none of their own, and of those that read on. */
-static void open_events(neutrino *k) {
-    k->event.rows = k->rows + OWN_ROWS * PLACES;
-    k->side.rows = k->event.rows + BALSAEUCHRE_ROWS;
-}
 
 static uint64_t bit_of(const neutrino *k, const struct place *p) { return 1ull << (p - k->places); }
 

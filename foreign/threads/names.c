@@ -5,10 +5,12 @@
  * times (of a connection 2^20 times), which is after 2^31 channels or messages, or 2^30 connections, where few are
  * open at a time. All of this is under the lock.
  */
-static void open_names(neutrino *k) {
+static void open_tables(neutrino *k) {
     k->tables[CHANNELS] = (struct names){k->channels, INT_MAX >> CHANNEL_BITS, CHANNEL_BITS};
     k->tables[CONNECTIONS] = (struct names){k->connections, (SCOID - 1) >> CONNECTION_BITS, CONNECTION_BITS};
     k->tables[MESSAGES] = (struct names){k->messages, INT_MAX >> MESSAGE_BITS, MESSAGE_BITS};
+    k->event.rows = k->rows + OWN_ROWS * PLACES;
+    k->side.rows = k->event.rows + BALSAEUCHRE_ROWS;
 }
 
 static int place_in(const struct names *names, int number) { return number & ((1 << names->bits) - 1); }

@@ -78,16 +78,18 @@ static struct event event_of(neutrino *k, const struct place *p, int kind) {
     return e;
 }
 
-/* Notes a call in its thread's place, before the lock is taken: nobody looks at it before the call is open. */
-static void note_call(struct place *p, struct call *c) {
+/* Makes room for a call, and notes it in its thread's place, before the lock is taken: nobody looks at that before the
+ * call is open. Returns 0 or ENOMEM. */
+static int note_call(neutrino *k, struct place *p, struct call *c) {
+    if (make_room(k, p, c)) return ENOMEM;
     c->request.thread = p->tid;
     p->room = c->room;
     p->number = c->number;
     p->kind = c->request.kind;
     p->state = p->kind == BALSAEUCHRE_SEND ? STATE_SEND : STATE_RECEIVE;
     p->wants_info = c->info;
-    p->own_priority = c->own_priority;
     open_word(p, false);
+    return 0;
 }
 
 /* After an Unblock: a thread whose message is still held waits for an answer to its server's pulse. */

@@ -53,7 +53,7 @@ static int one_by_one(enum table table) {
 }
 
 int main(void) {
-    open_names(&k);
+    open_tables(&k);
     for (int table = CHANNELS; table < TABLES; table++) {
         if (all_at_once((enum table)table, 1 << k.tables[table].bits) || one_by_one((enum table)table)) return 1;
     }
