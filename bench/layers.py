@@ -98,7 +98,7 @@ class Reader:
         """What lies in a new block. The library takes its tables in the first turns, and later only bytes."""
         if size == self.size:
             return "layer"
-        return ("library" if len(self.turns) < 4 else "bytes") if by_library else "others"
+        return ("library" if len(self.turns) < 12 else "bytes") if by_library else "others"
 
     def place(self, address, thread):
         """What lies at an address, and at which offset in its block."""
