@@ -70,25 +70,27 @@ struct call {
  * by the thread itself while it has no open call. The second line has the word, and what is the thread's own. */
 struct place {
     _Alignas(CACHE_LINE) struct call *call; /* while that is open */
-    void *room;                       /* its buffer */
+    void *room;                             /* its buffer */
     long result;
-    size_t msglen; /* of the message that it sent, as it was received */
-    int error;     /* of its call: an errno, or 0 if there is a result */
-    int number;    /* of its call: of a Send the connection, of a Receive the channel */
-    int chid, rcvid; /* of the message that it sent; rcvid is 0 until that is received */
+    size_t msglen;            /* of the message that it sent, as it was received */
+    int error;                /* of its call: an errno, or 0 if there is a result */
+    int number;               /* of its call: of a Send the connection, of a Receive the channel */
+    int chid, rcvid;          /* of the message that it sent; rcvid is 0 until that is received */
     uint8_t tid, pid, server; /* server: the thread that received its message */
     uint8_t kind, state;      /* of its call */
     bool joined;
     bool asked;      /* the server was told to unblock it */
     bool wants_info; /* its call takes a struct _msg_info */
     _Alignas(CACHE_LINE) _Atomic uint32_t word;
-    int looks;       /* at its word before it sleeps, and one more; -1: none */
-    size_t longest;  /* of its buffers, as far as the kernel gets them */
-    size_t rest;     /* of its receive buffers, the longest part that the kernel doesn't get */
-    uint64_t time;   /* of the timeout of its next call */
-    int states;      /* of that, or 0 */
+    int looks;      /* at its word before it sleeps, and one more; -1: none */
+    size_t longest; /* of its buffers, as far as the kernel gets them */
+    size_t rest;    /* of its receive buffers, the longest part that the kernel doesn't get */
+    uint64_t time;  /* of the timeout of its next call */
+    int states;     /* of that, or 0 */
     bool interruptible, cancelled;
 };
+
+_Static_assert(sizeof(struct place) == 2 * CACHE_LINE, "a place in two lines");
 
 /* Room for an event, as in balsaeuchre.h. */
 struct event {
@@ -105,23 +107,23 @@ _Static_assert(OWN_ROWS * sizeof(balsaeuchre_ending) % CACHE_LINE == 0, "rows in
 
 struct neutrino {
     _Alignas(CACHE_LINE) pthread_mutex_t lock;
-    _Alignas(CACHE_LINE) balsaeuchre library; /* here begins what calls only read */
+    _Alignas(CACHE_LINE) balsaeuchre library; /* from here on calls only read */
     struct neutrino_hooks hooks;
-    size_t most;   /* the longest of all places */
+    size_t most;   /* the longest buffer of all places */
     pid_t process; /* the host's process that opened it */
     _Alignas(CACHE_LINE) struct names tables[TABLES];
-    uint8_t place_of[256]; /* PLACES: no thread has this number */
-    uint8_t clock_of[256]; /* by process: the thread that unblocks calls that time out */
+    uint8_t place_of[256];                 /* PLACES: no thread has this number */
+    uint8_t clock_of[256];                 /* by process: the thread that unblocks calls that time out */
     _Alignas(CACHE_LINE) int next[TABLES]; /* where the search for a free place of a table begins */
     size_t joined;
-    size_t promised; /* the sum of the longest of all places: event has room for so many bytes */
+    size_t promised; /* the sum of the longest buffers: event has room for so many bytes */
     _Alignas(CACHE_LINE) struct name channels[1 << CHANNEL_BITS];
     struct name connections[1 << CONNECTION_BITS], messages[1 << MESSAGE_BITS];
-    _Alignas(CACHE_LINE) struct place places[PLACES];
-    struct event event, side; /* of calls that end many, or have no place; and of those that read on */
-    _Alignas(CACHE_LINE) balsaeuchre_ending rows[ALL_ROWS]; /* here begins what isn't cleared */
-    _Alignas(CACHE_LINE) uint8_t near[PLACES][NEAR];
-    balsaeuchre_event seen; /* by a hook */
+    struct place places[PLACES];
+    struct event event, side; /* of calls that end many or have no place; of those that read on */
+    _Alignas(CACHE_LINE) balsaeuchre_ending rows[ALL_ROWS]; /* from here on nothing is cleared */
+    _Alignas(CACHE_LINE) uint8_t near[PLACES][NEAR];        /* rooms of the places */
+    balsaeuchre_event seen;                                 /* by a hook */
 };
 
 static uint64_t bit_of(const neutrino *k, const struct place *p) { return 1ull << (p - k->places); }
