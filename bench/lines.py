@@ -241,12 +241,10 @@ def lock_word(trace, program, base):
     return met.most_common(1)[0][0]
 
 
-def moved(turns, calls):
-    """For each turn, the lines that the other thread wrote last, or touched before this turn writes them. The client
-    makes the Sends."""
+def moved(turns, threads):
+    """For each turn, the lines that another thread wrote last, or touched before this turn writes them."""
     holders, found = {}, []
-    for k, turn in enumerate(turns):
-        thread = calls[k % 3] == "Send"
+    for turn, thread in zip(turns, threads):
         lines = turn.lines()
         found.append({it for it in lines if holders.get(it, {thread}) != {thread} and
                       (it in turn.wrote or thread not in holders[it])})
@@ -255,9 +253,8 @@ def moved(turns, calls):
     return found
 
 
-def counts(turns, moves):
+def counts(places, turns, moves):
     """For each place, and for all, the lines touched and written by each call and by all three, and moved by all."""
-    places = sorted({place for turn in turns for places in turn.touched.values() for place in places} - STILL)
     for place in [*places, None]:
         touched = [turn.lines(place) for turn in turns]
         written = [turn.written(place) for turn in turns]
@@ -289,14 +286,17 @@ def measured(program, calls, order, shift):
     turns = reader.turns[2:-1]
     if len(turns) != 3 * ROUNDS:
         sys.exit(f"bench/lines.py: {len(turns)} calls where {3 * ROUNDS} are made")
-    return turns[-3:], moved(turns, calls)[-3:]
+    # The client makes the Sends.
+    return turns[-3:], moved(turns, [it == "Send" for it in calls] * ROUNDS)[-3:]
 
 
 def table(calls, runs):
     """The means of some runs as text, beneath the names of the calls."""
     names = "".join(f"{it[:4]:>6}" for it in (*calls, "all"))
     lines = [f"#{'touched':>17}{'written':>24}{'moved':>22}", f"{'#':10}{names}{names}{'all':>6}"]
-    for rows in zip(*(counts(*it) for it in runs)):
+    touched = (places for turns, _ in runs for turn in turns for places in turn.touched.values())
+    places = sorted(set().union(*touched) - STILL)
+    for rows in zip(*(counts(places, *it) for it in runs)):
         means = [sum(it) / len(runs) for it in zip(*(figures for _, figures in rows))]
         lines.append(f"{rows[0][0]:10}" + "".join(f"{it:6.1f}" for it in means))
     return "\n".join(lines) + "\n"

@@ -203,7 +203,7 @@ static void make_call(struct client *c) {
                             .sent = c->bytes, .sent_len = a->sent_len, .room = c->bytes + a->sent_len,
                             .room_len = a->room_len, .info = &c->answer.info, .cancels = a->flags & WIRE_CANCELS};
     int error = c->bytes ? prepare_call(c) : ENOMEM, kind = a->request.kind;
-    if (!error) {
+    if (!error && !(error = note_call(k, c->place, &c->call))) {
         error = make_under_lock(k, c->place, &c->call, &ended);
         if (error && kind == BALSAEUCHRE_PULSE) end_note(c->call.request.value);
     }

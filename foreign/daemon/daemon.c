@@ -60,7 +60,7 @@ static uint32_t open_all(void) {
         roster[length++] = (balsaeuchre_thread){clock_of(process), (uint8_t)process, USUAL};
     }
     roster[length++] = (balsaeuchre_thread){SYSTEM, SYSTEM, USUAL};
-    open_names(k);
+    open_tables(k);
     k->tables[MESSAGES].turns >>= SLOT_BITS; /* an rcvid has the process below */
     k->hooks.pulse = complete_pulse;
     open_notes();

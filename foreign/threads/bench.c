@@ -1,5 +1,6 @@
-/* bench CLIENTS SERVERS ROUNDS [BUFFER]: microseconds a round trip, as bench/roundtrips.py wants it.
- * A client sends 4 bytes with room for 8, a server receives them into BUFFER (16) bytes and replies with 4.
+/* bench CLIENTS SERVERS ROUNDS [BUFFER [PAUSE]]: microseconds a round trip, as bench/roundtrips.py wants it.
+ * A client sends 4 bytes with room for 8, a server receives them into BUFFER (16) bytes and replies with 4. A client
+ * waits PAUSE milliseconds before it sends; if that is less than 0, a server waits so long before it receives.
  */
 #include <sys/neutrino.h>
 
@@ -7,11 +8,12 @@
 #include <stdatomic.h>
 #include <stdio.h>
 #include <stdlib.h>
+#include <unistd.h>
 
 enum { SERVERS = 1, CLIENTS = 2 };
 
 static neutrino *kernel;
-static int clients, servers, rounds;
+static int clients, servers, rounds, pause_ms;
 static size_t size = 16;
 static _Atomic int chid;
 
@@ -23,6 +25,7 @@ static void *serve(void *number) {
     want(neutrino_join(kernel, (int)(intptr_t)number) == 0);
     uint8_t *room = calloc(size, 1);
     for (;;) {
+        if (pause_ms < 0) usleep((useconds_t)-pause_ms * 1000);
         int rcvid = MsgReceive(chid, room, size, NULL);
         if (rcvid < 0) break;
         want(MsgReply(rcvid, 0, room, 4) == 0);
@@ -37,6 +40,7 @@ static void *ask(void *number) {
     int coid = ConnectAttach(ND_LOCAL_NODE, SERVERS, chid, _NTO_SIDE_CHANNEL, 0);
     for (int round = 0; round < rounds; round++) {
         int32_t sent = round, back[2] = {0, 0};
+        if (pause_ms > 0) usleep((useconds_t)pause_ms * 1000);
         want(MsgSend(coid, &sent, sizeof sent, back, sizeof back) == 0 && back[0] == sent);
     }
     neutrino_leave();
@@ -77,6 +81,7 @@ int main(int count, char **words) {
     servers = atoi(words[2]);
     rounds = atoi(words[3]);
     if (count > 4) size = (size_t)atol(words[4]);
+    if (count > 5) pause_ms = atoi(words[5]);
     printf("%.2f us\n", between_threads() * 1e6 / rounds);
     return 0;
 }

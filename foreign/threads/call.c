@@ -13,6 +13,7 @@ static void start_timeout(struct place *p, struct call *c) {
 static void make(neutrino *k, struct place *p, struct call *c) {
     uint64_t ended = 0, own = bit_of(k, p);
     start_timeout(p, c);
+    if ((p->error = note_call(k, p, c))) return;
     lock(k);
     int error = make_under_lock(k, p, c, &ended);
     uint64_t asleep = tell(k, ended & ~own);

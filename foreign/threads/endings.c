@@ -1,30 +1,23 @@
 /* Delivers endings from the kernel's rows to the threads that wait for them. Tested, not proved.
  * All of this is under the lock. A thread with an open call is in that call, so its struct call and its buffers live.
  */
+/* Shows a call to the hook, with the first rows of its event. */
+static void show_call(neutrino *k, const struct call *c, size_t room_len, const struct event *e) {
+    memcpy(k->seen.rows, e->rows, e->done.endings * sizeof *e->rows);
+    k->seen.done = e->done;
+    k->seen.bytes = e->bytes;
+    k->seen.bytes_len = e->bytes_len;
+    k->hooks.call(&c->request, c->sent, c->sent_len, c->room, room_len, &k->seen);
+}
+
 /* Makes a call in the library, with this much of its buffer. */
-static uint32_t make_in_library(neutrino *k, const struct call *c, size_t room_len, balsaeuchre_event *event) {
-    uint32_t error = balsaeuchre_make(&k->library, c->request, c->sent, c->sent_len, c->room, room_len, event);
-    if (!error && k->hooks.call) k->hooks.call(&c->request, c->sent, c->sent_len, c->room, room_len, event);
+static uint32_t make_in_library(neutrino *k, const struct call *c, size_t room_len, struct event *e) {
+    uint8_t none[3] = {0}; /* what a length of 0 points to */
+    uint32_t error = balsaeuchre_make_call(&k->library, &c->request, c->sent_len ? c->sent : none, c->sent_len,
+                                           room_len ? c->room : none + 1, room_len, e->rows, BALSAEUCHRE_ROWS,
+                                           e->bytes_len ? e->bytes : none + 2, e->bytes_len, &e->done);
+    if (!error && k->hooks.call) show_call(k, c, room_len, e);
     return error;
-}
-
-/* Makes an event's room for bytes at least this long. Returns false if there is no memory. */
-static bool grow(balsaeuchre_event *event, size_t length) {
-    if (length <= event->bytes_len) return true;
-    void *grown = realloc(event->bytes, length);
-    if (!grown) return false;
-    event->bytes = grown;
-    event->bytes_len = length;
-    return true;
-}
-
-/* Makes room for the buffers of all open calls, one of each thread. Returns false if there is no memory. */
-static bool make_room(neutrino *k, struct place *p, size_t length) {
-    if (length <= p->longest) return true;
-    size_t whole = k->event.bytes_len + (length - p->longest);
-    if (whole < length || !grow(&k->event, whole)) return false;
-    p->longest = length;
-    return true;
 }
 
 /* Copies the facts of a held message from the row of an Info or a message. */
@@ -35,7 +28,7 @@ static void fill_info(const struct place *sender, const balsaeuchre_ending *row,
     info->tid = row->sender;
     info->chid = sender->chid;
     info->scoid = SCOID | row->process;
-    info->coid = sender->coid;
+    info->coid = sender->number;
     info->msglen = (ssize_t)sender->msglen;
     info->srcmsglen = (ssize_t)row->srcmsglen;
     info->dstmsglen = (ssize_t)row->dstmsglen;
@@ -59,14 +52,16 @@ static void read_on(neutrino *k, struct place *p, struct place *sender, const ba
 
 static void receive_message(neutrino *k, struct place *p, const balsaeuchre_ending *row) {
     struct place *sender = &k->places[k->place_of[row->sender]];
+    struct name *channel = &k->channels[place_in(&k->tables[CHANNELS], p->number)];
     sender->rcvid = new_name(k, MESSAGES, row->rcvid, p->pid);
-    sender->chid = p->call->number;
+    sender->chid = p->number;
     sender->msglen = row->count;
     sender->state = STATE_REPLY;
     sender->asked = false;
-    sender->server = k->channels[place_in(&k->tables[CHANNELS], p->call->number)].receiver = p->tid;
+    sender->server = p->tid;
+    if (channel->receiver != p->tid) channel->receiver = p->tid;
     if (row->count == FRONT && p->call->room_len > FRONT && row->srcmsglen > FRONT) read_on(k, p, sender, row);
-    if (p->call->info) fill_info(sender, row, p->call->info);
+    if (p->wants_info) fill_info(sender, row, p->call->info);
     p->result = sender->rcvid;
 }
 
@@ -104,24 +99,25 @@ static void answer(neutrino *k, struct place *p, const balsaeuchre_ending *row) 
         break;
     case BALSAEUCHRE_CONNECTION:
         p->result = new_name(k, CONNECTIONS, row->id, p->pid);
-        k->connections[place_in(&k->tables[CONNECTIONS], (int)p->result)].peer = p->call->number;
+        k->connections[place_in(&k->tables[CONNECTIONS], (int)p->result)].peer = p->number;
         break;
     case BALSAEUCHRE_INFORMED: fill_info(&k->places[k->place_of[row->sender]], row, p->call->info); break;
     case BALSAEUCHRE_THREAD_STATE: p->result = p->call->own_priority ? row->priority : row->state; break;
     case BALSAEUCHRE_DONE:
-        if (p->call->request.kind == BALSAEUCHRE_CHANNEL_DESTROY || p->call->request.kind == BALSAEUCHRE_CONNECT_DETACH)
-            end_name(k, p->call->table, p->call->number);
+        if (p->kind == BALSAEUCHRE_CHANNEL_DESTROY) end_name(k, CHANNELS, p->number);
+        if (p->kind == BALSAEUCHRE_CONNECT_DETACH) end_name(k, CONNECTIONS, p->number);
         break;
     default: abort();
     }
 }
 
-static void deliver(neutrino *k, struct place *p, const balsaeuchre_ending *row) {
+/* Delivers an ending. bytes are those of its event. */
+static void deliver(neutrino *k, struct place *p, const balsaeuchre_ending *row, const uint8_t *bytes) {
     p->error = 0;
     p->result = 0;
-    if (row->written) memcpy(p->call->room, k->event.bytes + row->start, row->written);
+    if (row->written) memcpy(p->room, bytes + row->start, row->written);
     answer(k, p, row);
-    if (p->rcvid && p->call->request.kind == BALSAEUCHRE_SEND) {
+    if (p->rcvid && p->kind == BALSAEUCHRE_SEND) {
         end_name(k, MESSAGES, p->rcvid);
         p->rcvid = 0;
     }
@@ -129,15 +125,16 @@ static void deliver(neutrino *k, struct place *p, const balsaeuchre_ending *row)
     p->call = NULL;
 }
 
-/* Delivers the endings of the last event, except those of clocks. Returns the threads whose calls have ended. */
-static uint64_t deliver_all(neutrino *k) {
+/* Delivers the endings of an event, except those of clocks. Returns the threads whose calls have ended. */
+static uint64_t deliver_rows(neutrino *k, const struct event *e) {
     uint64_t ended = 0;
-    for (size_t at = 0; at < k->event.done.endings; at++) {
-        const balsaeuchre_ending *row = &k->event.rows[at];
-        int place = k->place_of[row->thread];
+    for (size_t at = 0; at < e->done.endings; at++) {
+        int place = k->place_of[e->rows[at].thread];
         if (place == PLACES) continue;
-        deliver(k, &k->places[place], row);
+        deliver(k, &k->places[place], &e->rows[at], e->bytes);
         ended |= 1ull << place;
     }
     return ended;
 }
+
+static uint64_t deliver_all(neutrino *k) { return deliver_rows(k, &k->event); }

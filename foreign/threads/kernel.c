@@ -44,7 +44,7 @@ static size_t roster_of(neutrino *k, const struct neutrino_thread *threads, size
 /* Fills a kernel. Returns 0 or an errno. */
 static int open_kernel(neutrino *k, const struct neutrino_thread *threads, size_t count) {
     balsaeuchre_thread roster[2 * PLACES] = {{0, 0, 0}};
-    memset(k, 0, sizeof *k);
+    memset(k, 0, offsetof(neutrino, rows));
     uint32_t error = balsaeuchre_open(roster, roster_of(k, threads, count, roster), &k->library);
     if (error) return host_error(error);
     k->process = getpid();
@@ -56,7 +56,7 @@ static int open_kernel(neutrino *k, const struct neutrino_thread *threads, size_
         k->places[at] = (struct place){.word = ENDED, .tid = threads[at].tid, .pid = threads[at].pid,
                                        .looks = looks};
     }
-    open_names(k);
+    open_tables(k);
     pthread_mutex_init(&k->lock, NULL);
     return 0;
 }

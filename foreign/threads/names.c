@@ -5,21 +5,24 @@
  * times (of a connection 2^20 times), which is after 2^31 channels or messages, or 2^30 connections, where few are
  * open at a time. All of this is under the lock.
  */
-static void open_names(neutrino *k) {
-    k->tables[CHANNELS] = (struct names){k->channels, INT_MAX >> CHANNEL_BITS, CHANNEL_BITS, 1};
-    k->tables[CONNECTIONS] = (struct names){k->connections, (SCOID - 1) >> CONNECTION_BITS, CONNECTION_BITS, 0};
-    k->tables[MESSAGES] = (struct names){k->messages, INT_MAX >> MESSAGE_BITS, MESSAGE_BITS, 0};
+static void open_tables(neutrino *k) {
+    k->tables[CHANNELS] = (struct names){k->channels, INT_MAX >> CHANNEL_BITS, CHANNEL_BITS};
+    k->tables[CONNECTIONS] = (struct names){k->connections, (SCOID - 1) >> CONNECTION_BITS, CONNECTION_BITS};
+    k->tables[MESSAGES] = (struct names){k->messages, INT_MAX >> MESSAGE_BITS, MESSAGE_BITS};
+    k->event.rows = k->rows + OWN_ROWS * PLACES;
+    k->side.rows = k->event.rows + BALSAEUCHRE_ROWS;
     /* The first channel is 1, as under QNX: the places but 0, which has no such name, begin with the turn 0. */
+    k->next[CHANNELS] = 1;
     for (int place = 1; place < 1 << CHANNEL_BITS; place++) k->channels[place].turn = UINT32_MAX;
 }
 
 static int place_in(const struct names *names, int number) { return number & ((1 << names->bits) - 1); }
 
 /* Returns a free place. There is one if the kernel made an id, as it allows no more ids at a time than places. */
-static int free_place(const struct names *names) {
+static int free_place(const struct names *names, int next) {
     int count = 1 << names->bits;
     for (int looked = 0; looked < count; looked++) {
-        int place = (names->next + looked) & (count - 1);
+        int place = (next + looked) & (count - 1);
         if (!names->places[place].id) return place;
     }
     abort();
@@ -27,9 +30,9 @@ static int free_place(const struct names *names) {
 
 static int new_name(neutrino *k, enum table table, uint64_t id, uint8_t owner) {
     struct names *names = &k->tables[table];
-    int place = free_place(names);
+    int place = free_place(names, k->next[table]);
     struct name *name = &names->places[place];
-    names->next = place + 1;
+    k->next[table] = place + 1;
     name->id = id;
     name->owner = owner;
     name->turn = name->turn == names->turns ? 1 : name->turn + 1;

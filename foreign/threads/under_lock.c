@@ -10,9 +10,9 @@ static uint8_t priority_of(neutrino *k, const struct place *p) {
 /* What a thread waits for, under the lock. */
 static struct neutrino_blocked look_at(const neutrino *k, const struct place *p) {
     if (!p->call) return (struct neutrino_blocked){STATE_READY, 0, 0, 0};
-    if (p->state == STATE_RECEIVE) return (struct neutrino_blocked){STATE_RECEIVE, p->call->number, 0, 0};
+    if (p->state == STATE_RECEIVE) return (struct neutrino_blocked){STATE_RECEIVE, p->number, 0, 0};
     if (p->state == STATE_REPLY) return (struct neutrino_blocked){STATE_REPLY, p->chid, p->rcvid, p->server};
-    int chid = k->connections[place_in(&k->tables[CONNECTIONS], p->coid)].peer;
+    int chid = k->connections[place_in(&k->tables[CONNECTIONS], p->number)].peer;
     return (struct neutrino_blocked){STATE_SEND, chid, 0, k->channels[place_in(&k->tables[CHANNELS], chid)].receiver};
 }
 
@@ -22,6 +22,76 @@ static size_t visible_length(const struct call *c) {
     return c->request.kind == BALSAEUCHRE_RECEIVE && c->room_len > FRONT ? FRONT : c->room_len;
 }
 
+/* Makes an event's room for bytes at least this long. Memory is taken and given back without the lock. Returns false if
+ * there is none. */
+static bool grow(neutrino *k, struct event *e, size_t length) {
+    uint8_t *old = malloc(length);
+    if (!old) return false;
+    lock(k);
+    if (length > e->bytes_len) {
+        uint8_t *longer = old;
+        old = e->bytes;
+        e->bytes = longer;
+        e->bytes_len = length;
+    }
+    unlock(k);
+    free(old);
+    return true;
+}
+
+/* Makes room for the buffers of all open calls, one of each thread, of which this one's is as long as never before. */
+static bool promise(neutrino *k, struct place *p, size_t length) {
+    size_t more = length - p->longest;
+    lock(k);
+    size_t whole = k->promised + more;
+    bool fits = whole >= more;
+    if (fits) k->promised = whole;
+    unlock(k);
+    if (!fits) return false;
+    bool grown = grow(k, &k->event, whole);
+    lock(k);
+    if (!grown) k->promised -= more;
+    else if (length > k->most) k->most = length;
+    unlock(k);
+    if (grown) p->longest = length;
+    return grown;
+}
+
+/* Makes room for what a call brings, before it is made. Returns 0 or ENOMEM. */
+static int make_room(neutrino *k, struct place *p, const struct call *c) {
+    size_t length = visible_length(c), rest = c->request.kind == BALSAEUCHRE_RECEIVE ? c->room_len - length : 0;
+    if (length > p->longest && !promise(k, p, length)) return ENOMEM;
+    if (rest <= p->rest) return 0;
+    if (!grow(k, &k->side, rest)) return ENOMEM;
+    p->rest = rest;
+    return 0;
+}
+
+/* Opens the room of a call's event. Only the kinds of call that are named here end more than one call of another
+ * thread. What others bring fits into the thread's own room, unless a buffer is longer than half of it. */
+static struct event event_of(neutrino *k, const struct place *p, int kind) {
+    size_t at = (size_t)(p - k->places);
+    bool ends_many = kind == BALSAEUCHRE_CHANNEL_DESTROY || kind == BALSAEUCHRE_CONNECT_DETACH ||
+                     kind == BALSAEUCHRE_SHUTDOWN;
+    struct event e = {.rows = k->rows + OWN_ROWS * at, .bytes = k->near[at], .bytes_len = NEAR};
+    if (ends_many || k->most > NEAR / 2) e.bytes = k->event.bytes, e.bytes_len = k->event.bytes_len;
+    return e;
+}
+
+/* Makes room for a call, and notes it in its thread's place, before the lock is taken: nobody looks at that before the
+ * call is open. Returns 0 or ENOMEM. */
+static int note_call(neutrino *k, struct place *p, struct call *c) {
+    if (make_room(k, p, c)) return ENOMEM;
+    c->request.thread = p->tid;
+    p->room = c->room;
+    p->number = c->number;
+    p->kind = c->request.kind;
+    p->state = p->kind == BALSAEUCHRE_SEND ? STATE_SEND : STATE_RECEIVE;
+    p->wants_info = c->info;
+    open_word(p, false);
+    return 0;
+}
+
 /* After an Unblock: a thread whose message is still held waits for an answer to its server's pulse. */
 static void note_unblock(neutrino *k, int tid) {
     if (k->place_of[tid] == PLACES) return;
@@ -29,23 +99,17 @@ static void note_unblock(neutrino *k, int tid) {
     if (p->call && p->rcvid) p->asked = true;
 }
 
-/* Makes the call under the lock, and delivers the endings. Returns 0, and sets *ended to the threads whose calls
+/* Makes a noted call under the lock, and delivers the endings. Returns 0, and sets *ended to the threads whose calls
  * have ended; or returns an errno, and no call has. */
 static int make_under_lock(neutrino *k, struct place *p, struct call *c, uint64_t *ended) {
-    size_t room_len = visible_length(c);
-    bool receives = c->request.kind == BALSAEUCHRE_RECEIVE;
-    if (!make_room(k, p, room_len) || (receives && !grow(&k->side, c->room_len - room_len))) return ENOMEM;
+    struct event e = event_of(k, p, p->kind);
     if (c->table) c->request.id = id_of(k, c->table, c->number, c->owner);
-    if (c->request.kind == BALSAEUCHRE_PULSE && c->own_priority) c->request.priority = priority_of(k, p);
-    if (c->request.kind == BALSAEUCHRE_SEND) p->coid = c->number;
-    c->request.thread = p->tid;
-    p->state = c->request.kind == BALSAEUCHRE_SEND ? STATE_SEND : STATE_RECEIVE;
-    p->call = c;
-    open_word(p, c->cancels && p->cancelled);
-    uint32_t error = make_in_library(k, c, room_len, &k->event);
-    if (error) p->call = NULL;
+    if (p->kind == BALSAEUCHRE_PULSE && c->own_priority) c->request.priority = priority_of(k, p);
+    if (c->cancels && p->cancelled) open_word(p, true);
+    uint32_t error = make_in_library(k, c, visible_length(c), &e);
     if (error) return host_error(error);
-    *ended = deliver_all(k);
-    if (c->request.kind == BALSAEUCHRE_UNBLOCK && !p->error) note_unblock(k, c->request.target);
+    p->call = c;
+    *ended = deliver_rows(k, &e);
+    if (p->kind == BALSAEUCHRE_UNBLOCK && !p->error) note_unblock(k, c->request.target);
     return 0;
 }

@@ -1,33 +1,45 @@
-//! usage: bench CLIENTS SERVERS ROUNDS [BUFFER]
+//! usage: bench CLIENTS SERVERS ROUNDS [BUFFER [PAUSE]]
 //!
 //! Each client makes ROUNDS round trips: it sends 4 bytes with room for 8 in the reply, a server receives them into 16
 //! bytes, or into BUFFER, and replies with 4, and the client checks them. It prints the microseconds of a round trip:
-//! the time until all clients have ended, by the number of all round trips.
+//! the time until all clients have ended, by the number of all round trips. A client waits PAUSE milliseconds before it
+//! sends; if that is less than 0, a server waits so long before it receives.
 
 use balsaeuchre::{ChannelFlags, ChannelId, Port, Received, Thread, open};
 use std::thread;
-use std::time::Instant;
+use std::time::{Duration, Instant};
 
-fn serve(mut port: Port, channel: ChannelId, size: usize) {
-    let mut buffer = vec![0; size];
-    while let Ok(Received::Message(request)) = port.msg_receive(channel, &mut buffer) {
-        port.msg_reply(request.rcvid, 0, &request.bytes()[..4]).unwrap();
+/// Waits so many milliseconds, if they are more than 0.
+fn wait(pause: i64) {
+    if let Ok(pause @ 1..) = u64::try_from(pause) {
+        thread::sleep(Duration::from_millis(pause));
     }
 }
 
-fn send(mut port: Port, channel: ChannelId, rounds: u32) {
+fn serve(mut port: Port, channel: ChannelId, size: usize, pause: i64) {
+    let mut buffer = vec![0; size];
+    wait(-pause);
+    while let Ok(Received::Message(request)) = port.msg_receive(channel, &mut buffer) {
+        port.msg_reply(request.rcvid, 0, &request.bytes()[..4]).unwrap();
+        wait(-pause);
+    }
+}
+
+fn send(mut port: Port, channel: ChannelId, rounds: u32, pause: i64) {
     let to = port.connect_attach(channel).unwrap();
     for round in 0..rounds {
         let message = round.to_be_bytes();
         let mut buffer = [0; 8];
+        wait(pause);
         assert_eq!(port.msg_send(to, &message, &mut buffer).unwrap().bytes(), message);
     }
 }
 
 fn main() {
-    let words: Vec<usize> = std::env::args().skip(1).map(|word| word.parse().expect("a number")).collect();
+    let words: Vec<i64> = std::env::args().skip(1).map(|word| word.parse().expect("a number")).collect();
     let [clients, servers, rounds, ref rest @ ..] = words[..] else { panic!("bench CLIENTS SERVERS ROUNDS [BUFFER]") };
-    let size = rest.first().copied().unwrap_or(16);
+    let (clients, servers) = (clients as usize, servers as usize);
+    let (size, pause) = (rest.first().map_or(16, |&size| size as usize), rest.get(1).copied().unwrap_or(0));
     let thread = |at: usize| Thread::new(at as u8 + 1, if at < servers { 1 } else { 2 }, 10);
     let threads: Vec<Thread> = (0..=servers + clients).map(thread).collect();
     let mut ports = open(&threads).unwrap();
@@ -36,13 +48,13 @@ fn main() {
     let channel = ports[0].channel_create(ChannelFlags::NONE).unwrap();
     let start = Instant::now();
     let spent = thread::scope(|scope| {
-        ports.into_iter().for_each(|port| drop(scope.spawn(move || serve(port, channel, size))));
+        ports.into_iter().for_each(|port| drop(scope.spawn(move || serve(port, channel, size, pause))));
         let running: Vec<_> =
-            senders.into_iter().map(|port| scope.spawn(move || send(port, channel, rounds as u32))).collect();
+            senders.into_iter().map(|port| scope.spawn(move || send(port, channel, rounds as u32, pause))).collect();
         running.into_iter().for_each(|thread| thread.join().unwrap());
         let spent = start.elapsed();
         last.shutdown().unwrap();
         spent
     });
-    println!("{:.3} us", spent.as_secs_f64() * 1e6 / (clients * rounds) as f64);
+    println!("{:.3} us", spent.as_secs_f64() * 1e6 / (clients as f64 * rounds as f64));
 }

@@ -40,6 +40,9 @@ pub(crate) struct Place {
     at: usize,
     thread: Thread,
     looks: u32,
+    /// Of its buffers the longest, and the longest that the kernel gets.
+    longest: usize,
+    seen: usize,
 }
 
 /// Opens a kernel of these threads, and returns a port for each, in the order given.
@@ -52,7 +55,7 @@ pub fn open(threads: &[Thread]) -> std::result::Result<Vec<Port>, OpenError> {
     let ports = threads.iter().enumerate();
     // On one processor a port never looks, since the thread that it waits for can't run meanwhile.
     let looks = if thread::available_parallelism().is_ok_and(|count| count.get() == 1) { 0 } else { LOOKS };
-    let place = |at, thread| Place { shared: shared.clone(), at, thread, looks };
+    let place = |at, thread| Place { shared: shared.clone(), at, thread, looks, longest: 0, seen: 0 };
     Ok(ports.map(|(at, &thread)| Port { side: Side::Own(place(at, thread)), thread, timeout: None }).collect())
 }
 
@@ -178,17 +181,29 @@ impl Place {
         // SAFETY: this function borrows the buffer, and doesn't use it itself before the call is ended. Before that it
         // doesn't return, nor unwind: what panics with the lock poisons it, and `wait` aborts.
         let lent = unsafe { Lent::of(buffer) };
-        let mut locked = self.shared.lock();
-        let (own, asleep) = locked.make(&self.shared, self.thread.thread, lent, call);
-        if own.is_none() {
-            locked.open(&self.shared, self.at, lent);
+        let (request, sent, room) = call(lent.bytes()).raw(self.thread.thread);
+        self.make_room(lent.len(), room.len());
+        // SAFETY: this port is the place's owner, and has no open call.
+        unsafe { self.shared.places[self.at].open(lent) };
+        let (own, asleep) = self.shared.lock().make(&self.shared, self.at, (&request, sent, room), lent);
+        if own.is_some() {
+            // SAFETY: its call isn't open.
+            unsafe { self.shared.places[self.at].lent() };
         }
-        drop(locked);
         asleep.iter().for_each(thread::Thread::unpark);
         let result = own.map_or_else(|| self.wait(end), |mark| outcome(mark, false));
         #[cfg(feature = "record")]
         self.shared.record.end(self.at, result, buffer);
         result
+    }
+
+    /// Makes room for a buffer, of which the kernel gets `seen` bytes.
+    fn make_room(&mut self, length: usize, seen: usize) {
+        if length > self.longest || seen > self.seen {
+            self.shared.promise(length.saturating_sub(self.longest), seen);
+            self.longest = self.longest.max(length);
+            self.seen = self.seen.max(seen);
+        }
     }
 
     /// Waits for the end of the open call. If it panics, the program is aborted, since the call's buffer is lent.
@@ -219,10 +234,10 @@ impl Place {
             return (false, None);
         }
         let clock = self.shared.clock_of[usize::from(self.thread.process)];
-        let unblock = Call::Unblock { thread: self.thread.thread };
+        let (request, sent, room) = Call::Unblock { thread: self.thread.thread }.raw(clock);
         // SAFETY: it has no bytes.
         let none = unsafe { Lent::of(&mut []) };
-        let (own, asleep) = locked.make(&self.shared, clock, none, |_| unblock);
+        let (own, asleep) = locked.make(&self.shared, self.at, (&request, sent, room), none);
         let is_late = place.is_ended();
         drop(locked);
         asleep.iter().for_each(thread::Thread::unpark);

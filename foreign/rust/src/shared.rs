@@ -2,13 +2,15 @@
 
 use crate::errors::{Errno, OpenError};
 use crate::ids::ReceiveId;
-use crate::kernel::{Call, Ending, Kernel, Mark, Thread};
+use crate::kernel::{Call, Ending, Library, Mark, ROWS, RawEnding, RawRequest, Thread};
 #[cfg(feature = "record")]
 use crate::record::Record;
 use crate::results::Info;
 use crate::sleeping::Place;
+use std::mem::swap;
 use std::ops::Range;
 use std::process::abort;
+use std::slice::from_raw_parts_mut;
 use std::sync::{Mutex, MutexGuard, TryLockError};
 use std::{hint, thread};
 
@@ -21,6 +23,20 @@ const LOCK_PAUSES: u32 = 8;
 /// The bytes of a receive's buffer that the kernel gets, and copies. The rest of a longer message is read by a second
 /// call, if the buffer has room for it.
 pub(crate) const FRONT: usize = 1024;
+
+/// The bytes of a place's own room for what its calls bring.
+const NEAR: usize = 2 * FRONT;
+/// The kinds of call that may end more than one call of another thread.
+const ENDS_MANY: [u8; 3] = [14, 15, 17];
+/// The index of no place.
+const NONE: u8 = u8::MAX;
+
+/// Two rows, in cache lines of their own.
+#[repr(C, align(64))]
+#[derive(Clone, Copy, Default)]
+struct Rows([RawEnding; 2]);
+
+const _: () = assert!(size_of::<Rows>() == 2 * size_of::<RawEnding>());
 
 /// The buffer of a call, which its thread lends until the call is ended.
 #[derive(Clone, Copy)]
@@ -39,6 +55,10 @@ impl Lent {
         Lent(buffer)
     }
 
+    pub(crate) fn len(self) -> usize {
+        self.0.len()
+    }
+
     /// Returns the content of the buffer. No slice of it may be used after a `fill`.
     pub(crate) fn bytes<'a>(self) -> &'a [u8] {
         // SAFETY: the buffer is lent; the slices are read by the kernel's call alone, which is made under the lock.
@@ -53,24 +73,51 @@ impl Lent {
     }
 }
 
-/// The state that only the thread with the lock uses.
+/// The state that only the thread with the lock uses. It lies in other cache lines than the lock's word, and its first
+/// one is only read.
+#[repr(C, align(64))]
 pub(crate) struct Locked {
-    kernel: Kernel,
-    /// The buffers of the ports whose calls wait.
-    lent: Box<[Option<Lent>]>,
-    /// By the number of a thread, the bytes of its message that were copied when it was received.
-    msglens: [usize; 256],
+    library: Library,
+    /// The rows of a place's calls begin at two of its own. Only calls that end more than two write behind them.
+    rows: Box<[Rows]>,
+    /// The rooms of the places.
+    near: Box<[[u8; NEAR]]>,
+    /// Room for the buffers of all open calls.
+    bytes: Box<[u8]>,
+    /// The longest buffer that the kernel gets of a place.
+    most: usize,
+    /// How long the buffers of all places are, the longest of each.
+    promised: usize,
 }
 
-/// The mark of a call that ended at once, and the threads to wake after the lock is released.
-pub(crate) type Made = (Option<Mark>, Vec<thread::Thread>);
+type Sleeper = thread::Thread;
+
+/// The threads to wake after the lock is released. There is mostly one at most, so nothing is allocated.
+#[derive(Default)]
+pub(crate) struct Sleepers {
+    first: Option<Sleeper>,
+    more: Vec<Sleeper>,
+}
+
+impl Sleepers {
+    fn add(&mut self, sleeper: Option<Sleeper>) {
+        if self.first.is_none() { self.first = sleeper } else { self.more.extend(sleeper) }
+    }
+
+    pub(crate) fn iter(&self) -> impl Iterator<Item = &Sleeper> {
+        self.first.iter().chain(&self.more)
+    }
+}
+
+/// The mark of a call that ended at once, and the threads to wake.
+pub(crate) type Made = (Option<Mark>, Sleepers);
 
 /// A kernel with the places of its ports.
 pub(crate) struct Shared {
     lock: Mutex<Locked>,
     pub(crate) places: Box<[Place]>,
     /// By the number of a thread, the index of its place. A clock has none.
-    place_of: [Option<usize>; 256],
+    place_of: [u8; 256],
     /// By the number of a process, its clock: the thread that unblocks calls whose timeout expired.
     pub(crate) clock_of: [u8; 256],
     #[cfg(feature = "record")]
@@ -80,19 +127,26 @@ pub(crate) struct Shared {
 impl Shared {
     pub(crate) fn new(threads: &[Thread]) -> Result<Shared, OpenError> {
         let mut roster = threads.to_vec();
-        let (mut place_of, mut clock_of) = ([None; 256], [0; 256]);
+        let (mut place_of, mut clock_of) = ([NONE; 256], [0; 256]);
         let mut free = (0..=u8::MAX).rev().filter(|number| threads.iter().all(|thread| thread.thread != *number));
         for (at, thread) in threads.iter().enumerate() {
-            place_of[usize::from(thread.thread)] = Some(at);
+            place_of[usize::from(thread.thread)] = at as u8;
             if threads[..at].iter().all(|earlier| earlier.process != thread.process) {
                 let clock = free.next().ok_or(OpenError::Refused(Errno::Again))?;
                 clock_of[usize::from(thread.process)] = clock;
                 roster.push(Thread::new(clock, thread.process, 1));
             }
         }
-        let (kernel, lent) = (Kernel::new(&roster)?, threads.iter().map(|_| None).collect());
+        let locked = Locked {
+            library: Library::new(&roster)?,
+            rows: vec![Rows::default(); threads.len() + ROWS / 2].into(),
+            near: vec![[0; NEAR]; threads.len()].into(),
+            bytes: Box::new([]),
+            most: 0,
+            promised: 0,
+        };
         Ok(Shared {
-            lock: Mutex::new(Locked { kernel, lent, msglens: [0; 256] }),
+            lock: Mutex::new(locked),
             places: threads.iter().map(|_| Place::new()).collect(),
             place_of,
             clock_of,
@@ -113,40 +167,60 @@ impl Shared {
         }
         self.lock.lock().unwrap_or_else(|_| abort())
     }
+
+    /// Makes room for a place's buffer that is longer than those before, by `more` bytes; of a buffer the kernel gets at
+    /// most `seen`. Memory is taken and given back without the lock.
+    pub(crate) fn promise(&self, more: usize, seen: usize) {
+        let mut locked = self.lock();
+        locked.promised += more;
+        let whole = locked.promised;
+        drop(locked);
+        let mut other = vec![0; whole].into_boxed_slice();
+        let mut locked = self.lock();
+        locked.most = locked.most.max(seen);
+        if locked.bytes.len() < whole {
+            swap(&mut locked.bytes, &mut other);
+        }
+        drop(locked);
+    }
 }
 
 impl Locked {
-    /// Makes a call of a thread, whose buffer is lent, and delivers the endings to their threads.
-    pub(crate) fn make<'a>(
+    /// Makes a call, whose buffer is lent, from a place, and delivers the endings to their threads.
+    pub(crate) fn make(
         &mut self,
         shared: &Shared,
-        thread: u8,
+        place: usize,
+        (request, sent, room): (&RawRequest, &[u8], &[u8]),
         lent: Lent,
-        call: impl FnOnce(&'a [u8]) -> Call<'a>,
     ) -> Made {
-        let (mut own, mut asleep, mut message) = (None, Vec::new(), None);
+        let (mut own, mut asleep, mut message) = (None, Sleepers::default(), None);
         let mut end = |at: Option<usize>, mark| match at {
             None => own = Some(mark),
             // SAFETY: the caller has the lock, and the call was open: what it lent was taken from it, once.
-            Some(at) => asleep.extend(unsafe { shared.places[at].end(mark) }),
+            Some(at) => asleep.add(unsafe { shared.places[at].end(mark) }),
         };
-        let call = call(lent.bytes());
+        // SAFETY: this thread has the lock. Who sends is no clock.
+        let msglen = |thread| unsafe { shared.places[usize::from(shared.place_of[usize::from(thread)])].msglen() };
         #[cfg(feature = "record")]
-        shared.record.call(thread, call, lent);
-        let endings = match self.kernel.call(thread, call) {
+        shared.record.call(*request, sent, room.len(), lent);
+        let is_near = self.most <= NEAR / 2 && !ENDS_MANY.contains(&request.kind());
+        let bytes = if is_near { &mut self.near[place][..] } else { &mut self.bytes };
+        let rows = rows_of(&mut self.rows[place..place + ROWS / 2]);
+        let endings = match self.library.make((request, sent, room), rows, bytes) {
             Ok(endings) => endings,
-            Err(errno) => return (Some(Mark::Failed(errno)), Vec::new()),
+            Err(errno) => return (Some(Mark::Failed(errno)), Sleepers::default()),
         };
         for ending in endings.iter() {
-            let at = shared.place_of[usize::from(ending.thread)].filter(|_| ending.thread != thread);
-            let lent = at.map_or(lent, |at| self.lent[at].take().expect("a call that ends was open"));
+            let at = usize::from(shared.place_of[usize::from(ending.thread)]);
+            let at = Some(at).filter(|_| at != usize::from(NONE) && ending.thread != request.thread);
+            // SAFETY: this thread has the lock.
+            let lent = at.map_or(lent, |at| unsafe { shared.places[at].lent() }.expect("a call that ends was open"));
             lent.fill(0, ending.buffer);
             match ending.mark {
                 // At most one message is received in an event.
                 Mark::Message { rcvid, info } => message = Some((ending.thread, at, lent, rcvid, info)),
-                Mark::Info(info) => {
-                    end(at, Mark::Info(Info { msglen: self.msglens[usize::from(info.thread)], ..info }))
-                }
+                Mark::Info(info) => end(at, Mark::Info(Info { msglen: *msglen(info.thread), ..info })),
                 mark => end(at, mark),
             }
         }
@@ -157,7 +231,7 @@ impl Locked {
                 shared.record.read_on(receiver, rcvid, &lent.bytes()[rest.clone()], rest.start);
                 info.msglen += self.read_on(receiver, rcvid, lent, rest);
             }
-            self.msglens[usize::from(info.thread)] = info.msglen;
+            *msglen(info.thread) = info.msglen;
             end(at, Mark::Message { rcvid, info });
         }
         (own, asleep)
@@ -168,15 +242,17 @@ impl Locked {
     fn read_on(&mut self, receiver: u8, rcvid: ReceiveId, lent: Lent, rest: Range<usize>) -> usize {
         let start = rest.start;
         let read = Call::Read { rcvid, offset: start, buffer: &lent.bytes()[rest] };
-        let Ok(endings) = self.kernel.call(receiver, read) else { return 0 };
+        let (request, sent, room) = read.raw(receiver);
+        let rows = rows_of(&mut self.rows[..ROWS / 2]);
+        let Ok(endings) = self.library.make((&request, sent, room), rows, &mut self.bytes) else { return 0 };
         let Some(Ending { mark: Mark::Count(count), buffer, .. }) = endings.iter().next() else { return 0 };
         lent.fill(start, buffer);
         count
     }
+}
 
-    /// Notes that a port's call waits, and keeps its lent buffer until it has ended.
-    pub(crate) fn open(&mut self, shared: &Shared, at: usize, lent: Lent) {
-        self.lent[at] = Some(lent);
-        shared.places[at].open();
-    }
+/// Returns pairs of rows as rows.
+fn rows_of(pairs: &mut [Rows]) -> &mut [RawEnding] {
+    // SAFETY: a pair is two rows, and nothing else.
+    unsafe { from_raw_parts_mut(pairs.as_mut_ptr().cast(), 2 * pairs.len()) }
 }

@@ -1,8 +1,10 @@
 //! The word at which a port's thread waits for the end of its call.
 
 use crate::kernel::Mark;
+use crate::shared::Lent;
 use std::cell::UnsafeCell;
 use std::hint;
+use std::mem::offset_of;
 use std::sync::atomic::{AtomicU32, Ordering};
 use std::thread::{self, Thread};
 use std::time::Instant;
@@ -19,30 +21,70 @@ const ASLEEP: u32 = 1;
 /// The call is ended.
 const ENDED: u32 = 2;
 
-/// The place where a port's thread waits. Its owner is the port. A thread with the kernel's lock ends its call.
+/// The place where a port's thread waits, in two cache lines. Its owner is the port. A thread with the kernel's lock ends
+/// its call.
+#[repr(C, align(64))]
 pub(crate) struct Place {
-    word: AtomicU32,
     /// How the call ended.
     mark: UnsafeCell<Mark>,
+    /// The bytes of the message that the thread sent, as it was received.
+    msglen: UnsafeCell<usize>,
+    /// Here the second line begins, at which the owner looks.
+    word: AtomicU32,
     /// The thread to wake.
     sleeper: UnsafeCell<Option<Thread>>,
+    /// The buffer of the call.
+    lent: UnsafeCell<Option<Lent>>,
 }
 
-// SAFETY: both are used under the rules of the functions below. A mark is written by `end`, of which there is one for
+const _: () = assert!(size_of::<Place>() == 128 && offset_of!(Place, word) == 64);
+
+// SAFETY: the length is used under the kernel's lock alone. The others are used under the rules of the functions below. A mark is written by `end`, of which there is one for
 // each `open`, before that releases ENDED; the owner reads it after it acquired ENDED, and opens its next call
-// afterwards. A sleeper is written by the owner, before it releases ASLEEP; `end` reads it after it acquired ASLEEP,
+// afterwards. A buffer is written by the owner before it takes the lock under which its call opens, and after its calls
+// that didn't wait; a thread with the lock takes the buffer of an open call. A sleeper is written by the owner, before it releases ASLEEP; `end` reads it after it acquired ASLEEP,
 // under the kernel's lock, and the owner writes another one in its next call at the earliest, for which it took that
 // lock.
 unsafe impl Sync for Place {}
 
 impl Place {
     pub(crate) fn new() -> Place {
-        Place { word: AtomicU32::new(ENDED), mark: UnsafeCell::new(Mark::Done), sleeper: UnsafeCell::new(None) }
+        Place {
+            mark: Mark::Done.into(),
+            msglen: 0.into(),
+            word: AtomicU32::new(ENDED),
+            sleeper: None.into(),
+            lent: None.into(),
+        }
     }
 
-    /// Begins a call of the owner, which has the kernel's lock, so that no `end` comes first.
-    pub(crate) fn open(&self) {
+    /// Begins a call of the owner, which takes the kernel's lock afterwards, so that no `end` comes first.
+    ///
+    /// # Safety
+    /// The caller is the owner, and has no open call.
+    pub(crate) unsafe fn open(&self, lent: Lent) {
+        // SAFETY: nobody uses the buffer of a call that isn't open.
+        unsafe { *self.lent.get() = Some(lent) };
         self.word.store(OPEN, Ordering::Relaxed);
+    }
+
+    /// Takes the buffer of the call: of an open one, or the owner's of one that didn't wait.
+    ///
+    /// # Safety
+    /// The caller has the kernel's lock, or is the owner and has no open call.
+    pub(crate) unsafe fn lent(&self) -> Option<Lent> {
+        // SAFETY: the owner doesn't use it while its call is open.
+        unsafe { (*self.lent.get()).take() }
+    }
+
+    /// Returns the place of a message's length.
+    ///
+    /// # Safety
+    /// The caller has the kernel's lock, and doesn't keep it for longer.
+    #[allow(clippy::mut_from_ref)]
+    pub(crate) unsafe fn msglen(&self) -> &mut usize {
+        // SAFETY: it is used under the lock alone.
+        unsafe { &mut *self.msglen.get() }
     }
 
     pub(crate) fn is_ended(&self) -> bool {

@@ -180,6 +180,38 @@ void destroys(void) {
     close_few(kernel);
 }
 
+enum { PART = 1000 };
+
+/* Sends with a reply buffer that begins at the job's time. */
+static void *send_part(void *argument) {
+    struct job *job = argument;
+    check(neutrino_join(job->kernel, job->tid) == 0);
+    int coid = ConnectAttach(ND_LOCAL_NODE, SERVER, job->chid, _NTO_SIDE_CHANNEL, 0);
+    fails(MsgSend(coid, NULL, 0, (char *)(uintptr_t)job->time, PART), ESRCH);
+    check(neutrino_leave() == 0);
+    return NULL;
+}
+
+/* Calls that end together bring their buffers whole, though each is short. */
+void parts(void) {
+    static char buffers[3][PART];
+    neutrino *kernel = open_few();
+    struct job jobs[3];
+    pthread_t clients[3];
+    int chid = ChannelCreate(0);
+    for (int at = 0; at < 3; at++) {
+        jobs[at] = (struct job){.kernel = kernel, .tid = at + 2, .chid = chid, .time = (uintptr_t)buffers[at]};
+        clients[at] = start(send_part, &jobs[at]);
+        check(MsgWrite(MsgReceive(chid, NULL, 0, NULL), "written", 7, PART - 7) == 7);
+    }
+    check(ChannelDestroy(chid) == 0);
+    for (int at = 0; at < 3; at++) {
+        result_of(clients[at]);
+        check(memcmp(buffers[at] + PART - 7, "written", 7) == 0);
+    }
+    close_few(kernel);
+}
+
 void shutdowns(void) {
     neutrino *kernel = open_few();
     char room[8];

@@ -18,11 +18,11 @@ static neutrino k;
 static int all_at_once(enum table table, int count) {
     static int names[1024];
     for (int at = 0; at < count; at++) {
-        names[at] = new_name(&k, table, (1ull << 39) + (uint64_t)at * 4294967296u + 1, (uint8_t)(at % 200 + 1));
+        names[at] = new_name(&k, table, (1ull << 39) + ((uint64_t)at << 29) + 1, (uint8_t)(at % 200 + 1));
         check(names[at] > 0 && (table != CONNECTIONS || names[at] < SCOID));
     }
     for (int at = 0; at < count; at++) {
-        uint64_t id = (1ull << 39) + (uint64_t)at * 4294967296u + 1;
+        uint64_t id = (1ull << 39) + ((uint64_t)at << 29) + 1;
         check(id_of(&k, table, names[at], 0) == id && number_of(&k, table, id) == names[at]);
         check(id_of(&k, table, names[at], (uint8_t)(at % 200 + 1)) == id && id_of(&k, table, names[at], 201) == 0);
     }
@@ -38,7 +38,7 @@ static int all_at_once(enum table table, int count) {
 static int one_by_one(enum table table) {
     struct names *names = &k.tables[table];
     int count = 1 << names->bits, first = 0;
-    names->next = 0;
+    k.next[table] = 0;
     for (int place = 0; place < count; place++) names->places[place].turn = names->turns - 2;
     for (int at = 0; at < 3 * count; at++) {
         int number = new_name(&k, table, (uint64_t)at + 1, 1);
@@ -63,7 +63,7 @@ static int from_one(void) {
 }
 
 int main(void) {
-    open_names(&k);
+    open_tables(&k);
     if (from_one()) return 1;
     for (int table = CHANNELS; table < TABLES; table++) {
         if (all_at_once((enum table)table, 1 << k.tables[table].bits) || one_by_one((enum table)table)) return 1;

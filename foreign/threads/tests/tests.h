@@ -50,7 +50,8 @@ extern int rounds; /* of an echo test with one client */
 /* The tests, by file. */
 void not_joined(void), joins(void), versions(void), rosters(void), two_kernels(void);
 void messages(void), lengths(void), long_messages(void), pulses(void), priorities(void), limits(void), numbers(void);
-void unblocks(void), timeouts(void), timeout_states(void), detaches(void), destroys(void), shutdowns(void);
+void unblocks(void), timeouts(void), timeout_states(void), detaches(void), destroys(void), parts(void);
+void shutdowns(void);
 void forks(void), cancels(void), exits(void), signals(void), memory(void);
 void interrupts(void), cancelled(void), looks(void), hooks(void);
 void echo_1_1(void), echo_8_4(void), echo_32_16(void), late_8_4(void), late_40_8(void);

@@ -42,10 +42,9 @@ impl Record {
     }
 
     /// Records a call. The caller has the kernel's lock.
-    pub(crate) fn call(&self, thread: u8, call: Call<'_>, lent: Lent) {
-        let (request, sent, seen) = call.raw(thread);
+    pub(crate) fn call(&self, request: RawRequest, sent: &[u8], seen: usize, lent: Lent) {
         let (sent, room) = (sent.to_vec(), lent.bytes().to_vec());
-        self.keep(Kept { request, sent, room, seen: seen.len(), reads_on: false });
+        self.keep(Kept { request, sent, room, seen, reads_on: false });
     }
 
     /// Records that the rest of a message is read. The caller has the kernel's lock.

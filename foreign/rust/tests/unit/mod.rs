@@ -1,6 +1,7 @@
 //! Tests of parts that no program can see from outside.
 
 use crate::errors::{CallError, Errno, OpenError, outcome};
+use crate::ids::{ChannelFlags, ChannelId};
 use crate::kernel::{Call, Kernel, Mark, Thread, VERSION};
 
 #[test]
@@ -23,6 +24,18 @@ fn calls_are_numbered() {
     let mut kernel = Kernel::new(&[Thread::new(1, 1, 1)]).unwrap();
     let numbers: Vec<u64> = (0..3).map(|_| kernel.call(1, Call::State { thread: 1 }).unwrap().number).collect();
     assert_eq!(numbers, [1, 2, 3]);
+}
+
+#[test]
+fn room_for_all() {
+    let mut kernel = Kernel::new(&[Thread::new(1, 1, 1), Thread::new(2, 1, 1), Thread::new(3, 1, 1)]).unwrap();
+    let chid = ChannelId(1);
+    kernel.call(3, Call::ChannelCreate { flags: ChannelFlags::NONE }).unwrap();
+    for thread in 1..=2 {
+        kernel.call(thread, Call::Receive { chid, buffer: &[thread; 5000] }).unwrap();
+    }
+    let ended = kernel.call(3, Call::ChannelDestroy { chid }).unwrap();
+    assert_eq!(ended.iter().map(|one| one.buffer.len()).collect::<Vec<_>>(), [5000, 5000, 0]);
 }
 
 #[test]
