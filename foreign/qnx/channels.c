@@ -118,6 +118,9 @@ static struct connection *connection_of(int coid) {
     return NULL;
 }
 
+/* Takes no lock, so that handlers can ask. */
+static bool is_connection(int coid) { return connection_of(coid); }
+
 /* A connection as it stands; its coid is 0 if there is no such. */
 static struct connection connection_as_is(int coid) {
     hold();

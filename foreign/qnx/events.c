@@ -71,11 +71,6 @@ int MsgDeliverEvent(rcvid_t rcvid, const struct sigevent *event) {
     return pid == program ? signal_sender(rcvid, event) : fail(ENOTSUP);
 }
 
-static bool is_connection(int coid) {
-    struct connection c = connection_as_is(coid);
-    return c.coid;
-}
-
 int MsgVerifyEvent(rcvid_t rcvid, const struct sigevent *event) {
     int error = wrong_event(event);
     if (enter()) return -1;

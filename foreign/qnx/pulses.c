@@ -84,12 +84,12 @@ static int send_pulse(int coid, int priority, int code, union sigval value) {
 
 static int defer_pulse(int coid, int priority, int code, union sigval value);
 
-/* A handler that interrupted a call can make none, so the front's own thread sends its pulse. */
+/* A handler may have interrupted a call or the allocator, so the front's own thread sends its pulse. */
 int MsgSendPulsePtr(int coid, int priority, int code, void *value) {
     union sigval sent = {.sival_ptr = value};
     if (wrong_pulse(priority, code)) return fail(EINVAL);
-    int result = enter() ? -1 : send_pulse(coid, priority, code, sent);
-    return result == -1 && errno == EDEADLK ? defer_pulse(coid, priority, code, sent) : result;
+    if (handling || holding) return is_connection(coid) ? defer_pulse(coid, priority, code, sent) : fail(EBADF);
+    return enter() ? -1 : send_pulse(coid, priority, code, sent);
 }
 
 int MsgSendPulse(int coid, int priority, int code, int value) {

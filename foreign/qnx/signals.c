@@ -8,8 +8,10 @@ static void on_signal(int signo, siginfo_t *info, void *context) {
     uintptr_t handler = atomic_load(&handlers[signo]);
     int before = errno; /* the call that is interrupted has set its own */
     neutrino_interrupt();
+    handling++;
     if (atomic_load(&flags_of[signo]) & SA_SIGINFO) ((void (*)(int, siginfo_t *, void *))handler)(signo, info, context);
     else ((void (*)(int))handler)(signo);
+    handling--;
     errno = before;
 }
 

@@ -176,13 +176,12 @@ int neutrino_pthread_join(pthread_t thread, void **value) {
 }
 
 int TimerTimeout(clockid_t id, int flags, const struct sigevent *notify, const uint64_t *ntime, uint64_t *otime) {
-    uint64_t left = 0;
+    uint64_t left = ntime ? *ntime : 0;
     if (enter()) return -1;
     if (notify && SIGEV_GET_TYPE(notify) != SIGEV_UNBLOCK) return fail(EINVAL);
     int known = _NTO_TIMEOUT_SEND | _NTO_TIMEOUT_RECEIVE | _NTO_TIMEOUT_REPLY | _NTO_TIMEOUT_JOIN;
     int others = _NTO_TIMEOUT_CONDVAR | _NTO_TIMEOUT_INTR | _NTO_TIMEOUT_MUTEX | _NTO_TIMEOUT_NANOSLEEP |
                  _NTO_TIMEOUT_SEM | _NTO_TIMEOUT_SIGSUSPEND | _NTO_TIMEOUT_SIGWAITINFO;
-    if (ntime) left = *ntime;
     if (flags & known) flags &= ~others;
     if (flags & TIMER_ABSTIME) {
         struct timespec now;

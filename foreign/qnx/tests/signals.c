@@ -96,7 +96,13 @@ static void call_within(int signo) {
     errno = before;
 }
 
-/* A handler that interrupted a call is refused calls, but its pulse is sent. */
+static void send_within(int signo) {
+    check(MsgSendPulse(over_all, SIGEV_PULSE_PRIO_INHERIT, 8, signo) == 0);
+    fails(MsgSendPulse(over_all ^ 1, 20, 8, signo), EBADF);
+}
+
+/* A handler that interrupted a call is refused calls, but its pulse is sent, by the front's own thread with that one's
+ * priority. So is the pulse of a handler that interrupted none. */
 void in_handlers(void) {
     struct _pulse pulse;
     int chid = ChannelCreate(0), other = ChannelCreate(0);
@@ -109,6 +115,10 @@ void in_handlers(void) {
         check(MsgReceivePulse(chid, &pulse, sizeof pulse, NULL) == 0 && pulse.code == 7);
         check(pulse.value.sival_int == SIGUSR1);
     }
+    check(setprio(0, 33) > 0 && signal(SIGUSR2, send_within) != SIG_ERR && raise(SIGUSR2) == 0);
+    check(MsgReceivePulse(chid, &pulse, sizeof pulse, NULL) == 0 && pulse.code == 8 && getprio(0) == 10);
+    check(signal(SIGUSR2, SIG_DFL) == send_within && setprio(0, 33) > 0 && MsgSendPulse(over_all, -1, 9, 0) == 0);
+    check(MsgReceivePulse(chid, &pulse, sizeof pulse, NULL) == 0 && pulse.code == 9 && getprio(0) == 33);
     check(signal(SIGUSR1, SIG_DFL) == call_within && ConnectDetach(over_all) == 0);
     check(ChannelDestroy(chid) == 0 && ChannelDestroy(other) == 0);
 }

@@ -1,4 +1,4 @@
-/* For programs that include it beside sys/dispatch.h and use nothing of it: iofunc_* and resource managers are missing. */
+/* For programs that include it beside sys/dispatch.h and use nothing of it: iofunc_* are missing. */
 #pragma GCC system_header
 #ifndef BALSAEUCHRE_QNX_IOFUNC_H
 #define BALSAEUCHRE_QNX_IOFUNC_H

@@ -16,9 +16,9 @@
  *
  * A call returns -1 and sets errno on an error. Every call also fails with EAGAIN (its thread has no place), ENOMEM,
  * EOVERFLOW (2^40 calls were made, or parts are too long), EFAULT (a buffer is null and its length is not 0), and
- * EDEADLK (a signal handler makes it, and has interrupted another call of its thread; but a pulse is sent, with the
- * usual priority if it inherits one). The forms in _r leave errno as it is: those of a function that returns a number
- * return the negative error, and the others the error or EOK.
+ * EDEADLK (a signal handler makes it, and has interrupted another call of its thread; but a handler's pulse is always
+ * sent, soon after, and with the usual priority if it inherits one). The forms in _r leave errno as it is: those of a
+ * function that returns a number return the negative error, and the others the error or EOK.
  *
  * MsgSend and MsgReceive, with their forms, are cancellation points, but for the forms in nc. A signal handler that ran
  * while a call was blocked ends it with EINTR; a client whose message is received, on a channel with _NTO_CHF_UNBLOCK,
