@@ -1,8 +1,6 @@
 -- The runs that are written out are lawful, and had memory.
-use Rattle.std.proofs.Common.{ℕ, List, [], inl, inr, refl}
+use Rattle.balsaeuchre_uses.proofs.Common.{HadMemory, IsLawful, List, [], followed_by, inl, inr, refl, ℕ}
 use Rattle.qbase.specs.declared.errno.Errno.TheVariants.{Srch, Down}
-use Rattle.balsaeuchre.specs.Lawful.{HadMemory, IsLawful}
-use Rattle.balsaeuchre.specs.Trace.{followed_by}
 use Rattle.balsaeuchre_uses.specs.FirstMessage as first
 use Rattle.balsaeuchre_uses.specs.ThreeThreads as three
 use Rattle.balsaeuchre_uses.specs.ShutDown as shut

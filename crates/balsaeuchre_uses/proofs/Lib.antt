@@ -1,3 +1,4 @@
+pub mod Common
 mod RunLemmas
 mod Lawful
 mod Told

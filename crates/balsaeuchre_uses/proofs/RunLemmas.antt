@@ -1,10 +1,7 @@
 -- What a run of written events comes to.
-use Rattle.std.proofs.Common.{◌≡◌, List, [], map, sym}
-use Rattle.qtables.specs.declared.member.Member.{Member}
-use Rattle.balsaeuchre.specs.Lawful.{event_call, HadMemory, IsLawful}
+use Rattle.balsaeuchre_uses.proofs.Common.{Event, HadMemory, IsLawful, List, Member, [], event_call, followed_by, map, sym, ◌≡◌}
 use Rattle.balsaeuchre.specs.Run.{IsWellRun}
 use Rattle.balsaeuchre.specs.Kernel.{State}
-use Rattle.balsaeuchre.specs.Trace.{Event, followed_by}
 use Rattle.qmodel.specs.Trace.{Run}
 use Rattle.balsaeuchre_uses.specs.Written.{IsRunOf}
 

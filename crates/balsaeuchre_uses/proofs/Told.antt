@@ -1,13 +1,11 @@
 -- What is told stands in the past that a later call meets.
-use Rattle.std.proofs.Common.{◌≡◌, ◌∙◌, ◌+◌, ◌++◌, ◌∷◌, [], List, ap, sym, arith, length, refl, true}
+use Rattle.balsaeuchre_uses.proofs.Common.{List, Member, Trace, [], ap, arith, length, refl, sym, true, ◌++◌, ◌+◌, ◌∙◌, ◌∷◌, ◌≡◌}
 use Rattle.std.proofs.lemmas.Bool.{true≢false}
 use Rattle.std.proofs.lemmas.List.{append_assoc}
-use Rattle.qtables.specs.declared.member.Member.{Member}
 use Rattle.qmodel.specs.declared.call.Call.{Call}
 use Rattle.balsaeuchre.specs.Answered.{AtPast}
 use Rattle.balsaeuchre.specs.Laws.{InRealTime}
 use Rattle.balsaeuchre.specs.SeenPast.{Extends}
-use Rattle.balsaeuchre.specs.Trace.{Trace}
 use Rattle.balsaeuchre_uses.specs.Answered.{is_sent, ToldAfterAnswer}
 
 -- a past that is met after the note was learned has the newest event of the note

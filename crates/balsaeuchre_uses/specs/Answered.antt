@@ -1,8 +1,7 @@
 -- What one client tells another once its message is answered.
-use Rattle.std.specs.Prelude.{◌≡◌, ◌∷◌, [], Bool, false, is_some, length, slice_get}
+use Rattle.balsaeuchre_uses.specs.Words.{◌≡◌, ◌∷◌, [], Bool, false, is_some, length, slice_get, Trace}
 use Rattle.balsaeuchre.specs.Laws.{event_at}
 use Rattle.balsaeuchre.specs.Rules.{effect_of}
-use Rattle.balsaeuchre.specs.Trace.{Trace}
 
 -- the newest event of what was seen sends a message
 abbrev pub is_sent : Trace → Bool

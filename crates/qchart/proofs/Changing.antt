@@ -1,19 +1,9 @@
 -- The threads whose priority a call changed, by their records.
-use Rattle.std.proofs.Common.{◌≡◌, ℕ, ◌<◌, List, [], ◌∷◌, refl, ap, ◌∙◌, map, cond, arith, true, false, eqb}
-use Rattle.std.specs.Prelude.{find, None, Some}
-use Rattle.std.specs.Option.{option_map_or}
-use Rattle.std.specs.List.{filter_map, AllByRecursion}
+use Rattle.qchart.proofs.Common.{AllByRecursion, IsRoster, List, Member, None, Some, StandsAt, State, [], ap, arith, change_since, changed_threads, cond, eqb, facts_in, facts_of, false, filter_map, find, level_of, map, members_of, option_map_or, priority_in, refl, thread_priority, true, ℕ, ◌<◌, ◌∙◌, ◌∷◌, ◌≡◌}
 use Rattle.std.proofs.lemmas.Bool.{eq-eqb, ne_eqb}
-use Rattle.qtables.specs.Members.{IsRoster}
-use Rattle.qtables.specs.declared.member.Member.{Member}
 use Rattle.qrules.specs.Facts.{threads_of}
-use Rattle.qrules.specs.Lawful.{facts_of}
 use Rattle.qrules.specs.Trace.{Trace}
-use Rattle.qstate.specs.Kept.{members_of, thread_priority}
 use Rattle.qstate.specs.declared.thread.Thread.{Thread}
-use Rattle.qkernel.specs.Kernel.{facts_in, State}
-use Rattle.qkernel.specs.Stands.{StandsAt}
-use Rattle.qchart.specs.Changes.{change_since, changed_threads, level_of, priority_in}
 
 -- ---- each thread has the priority of its own record
 

@@ -1,26 +1,13 @@
 -- The chart of a run that began on a new kernel.
-use Rattle.std.proofs.Common.{◌≡◌, ℕ, ◌+◌, List, [], refl, arith, subst, sym}
+use Rattle.qchart.proofs.Common.{Call, HasRows, IsRoster, List, Member, Run, StandsAt, State, [], arith, blocked_threads, facts_of, followed_by, headline_of, members_of, refl, roster_with, subst, sym, ℕ, ◌+◌, ◌≡◌}
 use Rattle.std.specs.List.Sorted.{IsPermutation}
-use Rattle.qtables.specs.Members.{IsRoster}
-use Rattle.qtables.specs.declared.member.Member.{Member}
-use Rattle.qmodel.specs.declared.call.Call.{Call}
-use Rattle.qkernel.specs.Blocked.{blocked_threads}
-use Rattle.qrules.specs.Lawful.{facts_of}
-use Rattle.qrules.specs.Trace.{followed_by}
-use Rattle.qmodel.specs.Trace.{Run}
-use Rattle.qkernel.specs.Stands.{StandsAt}
-use Rattle.qkernel.specs.Kernel.{State}
-use Rattle.qkernel.proofs.Running.{headline_of}
 use Rattle.qkernel.proofs.Traces.{stands_made}
-use Rattle.qstate.specs.Kept.{members_of}
 use Rattle.qreading.specs.Reading.Meaning.{meaning, IsFaultOf, Says}
-use Rattle.qscript.specs.Enrolled.{roster_with}
 use Rattle.qchart.specs.declared.chart.Chart.{Chart}
 use Rattle.qchart.specs.declared.fault.ChartFault.{ChartFault}
 use Rattle.qchart.specs.declared.fault.ChartFault.TheVariants.{Script, TooManyCalls}
 use Rattle.qchart.specs.declared.view.View.{View}
 use Rattle.qchart.specs.Charts.{IsChartFault, IsChartOf, IsUncharted}
-use Rattle.qchart.specs.Rows.{HasRows}
 
 pub charted : (roster : List Member) (calls : List (ℕ × Call)) (old new : State) (chart : Chart) → IsRoster (members_of old.threads) → StandsAt (roster_with [] roster) old []
     → HasRows old calls new chart.rows.items → IsPermutation roster chart.lifelines.items → IsChartOf roster calls chart

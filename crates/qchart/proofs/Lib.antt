@@ -1,3 +1,4 @@
+pub mod Common
 pub mod Changing
 pub mod Making
 pub mod Charting

@@ -1,25 +1,10 @@
 -- Rows that are made one after another.
-use Rattle.std.proofs.Common.{◌≡◌, ℕ, List, [], ◌∷◌, ◌++◌, map, refl, ap, sym, ◌∙◌, append_assoc, append-nil, true}
-use Rattle.std.specs.Prelude.{is_some}
+use Rattle.qchart.proofs.Common.{AnswersAtTraces, Call, Event, HasRows, List, Member, State, TellsChanges, Trace, [], ap, append-nil, append_assoc, arrows_from, blocked_from, blocked_threads, changed_threads, changes_from, event_arrows, event_call, event_thread, facts_of, filter_map, followed_by, is_some, map, member_at, members_of, refl, row_arrows, row_blocked, row_changes, row_thread, runs_more, sym, true, ℕ, ◌++◌, ◌∙◌, ◌∷◌, ◌≡◌}
 use Rattle.std.proofs.lemmas.List.{map-append}
-use Rattle.qtables.specs.Members.{member_at}
-use Rattle.qtables.specs.declared.member.Member.{Member}
-use Rattle.std.specs.List.{filter_map}
-use Rattle.qmodel.specs.declared.call.Call.{Call}
 use Rattle.qmodel.specs.declared.call.Completion.{Completion}
 use Rattle.qchart.specs.Arrows.{arrow_of}
-use Rattle.qkernel.specs.Blocked.{blocked_threads}
-use Rattle.qrules.specs.Trace.{followed_by}
-use Rattle.qrules.specs.Lawful.{event_call, facts_of}
-use Rattle.qmodel.specs.Trace.{Event, Trace}
-use Rattle.qstate.specs.Kept.{members_of}
-use Rattle.qkernel.specs.Stands.{AnswersAtTraces}
-use Rattle.qkernel.specs.Kernel.{State}
-use Rattle.qkernel.proofs.Running.{runs_more}
 use Rattle.qchart.specs.declared.row.Row.{Row}
 use Rattle.qscript.specs.Running.{AreBlocked}
-use Rattle.qchart.specs.Changes.{changed_threads}
-use Rattle.qchart.specs.Rows.{HasRows, TellsChanges, arrows_from, blocked_from, changes_from, event_arrows, event_thread, row_arrows, row_blocked, row_changes, row_thread}
 
 -- the arrows of one event more
 arrows_push : (before : List ℕ) (events : List Event) (e : Event) → arrows_from before (events ++ e ∷ []) ≡ arrows_from before events ++ event_arrows (before ++ map event_thread events) e ∷ []

@@ -1,3 +1,4 @@
+pub mod Words
 pub mod Printing
 pub mod Writing
 pub mod Watched

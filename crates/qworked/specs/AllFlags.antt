@@ -1,15 +1,10 @@
 -- On a channel with all three flags, each has its effect: priorities stay as they are, and a client that is
 -- to be unblocked stays blocked while its message is held.
-use Rattle.std.specs.Prelude.{List, [], ◌∷◌, replicate, pos, negsuc}
-use Rattle.qbase.specs.declared.errno.Errno.TheVariants.{Intr}
-use Rattle.qbase.specs.declared.state.ThreadState.TheVariants.{Ready, ReceiveBlocked, ReplyBlocked}
+use Rattle.qworked.specs.Words.{List, [], ◌∷◌, replicate, pos, negsuc, Intr, Ready, ReceiveBlocked}
+use Rattle.qworked.specs.Words.{ReplyBlocked, Send, Receive, Reply, Info, ReceivePulse, Pulse, PrioritySet}
+use Rattle.qworked.specs.Words.{Unblock, State, Blocked, Event, blocked, ended, event, info}
 use Rattle.qqueue.specs.declared.item.What.TheVariants as what
-use Rattle.qmodel.specs.declared.call.Call.TheVariants.{Send, Receive, Reply, Info, ReceivePulse, Pulse}
-use Rattle.qmodel.specs.declared.call.Call.TheVariants.{PrioritySet, Unblock, State}
 use Rattle.qmodel.specs.declared.call.Mark.TheVariants as mark
-use Rattle.qmodel.specs.declared.open_call.Blocked.{Blocked}
-use Rattle.qrules.specs.Trace.{Event}
-use Rattle.qworked.specs.Runs.{blocked, ended, event, info}
 use Rattle.qworked.specs.ThreeProcesses.{attached}
 
 -- a message is held while the priorities of its sender, which is blocked, and of the thread that unblocks it

@@ -1,11 +1,8 @@
 -- An offset at the end or past it copies nothing. An Error answers a message with a code and no bytes; the
 -- code 0 is like a reply of status 0.
-use Rattle.std.specs.Prelude.{List, [], ◌∷◌, pos}
-use Rattle.qmodel.specs.declared.call.Call.TheVariants.{Send, Receive, Error, Read, Write}
+use Rattle.qworked.specs.Words.{List, [], ◌∷◌, pos, Send, Receive, Error, Read, Write, Event, event, ended}
+use Rattle.qworked.specs.Words.{connected}
 use Rattle.qmodel.specs.declared.call.Mark.TheVariants as mark
-use Rattle.qrules.specs.Trace.{Event}
-use Rattle.qworked.specs.Runs.{event, ended}
-use Rattle.qworked.specs.Setting.{connected}
 
 -- nine calls, of both threads of the server
 abbrev pub events : List Event

@@ -1,15 +1,10 @@
 -- The limits count what is open, live or pending at the time, and nothing else.
-use Rattle.std.specs.Prelude.{count_by, ℕ, List, [], ◌∷◌, pos, negsuc}
-use Rattle.qbase.specs.declared.errno.Errno.TheVariants.{Srch, Inval}
+use Rattle.qworked.specs.Words.{count_by, ℕ, List, [], ◌∷◌, pos, negsuc, Srch, Inval, ChannelCreate}
+use Rattle.qworked.specs.Words.{ChannelDestroy, ConnectAttach, ConnectDetach, Send, ReceivePulse, Pulse}
+use Rattle.qworked.specs.Words.{Facts, facts_of, followed_by, Event, event, ended, flags_of}
 use Rattle.qqueue.specs.declared.item.What.TheVariants as what
-use Rattle.qmodel.specs.declared.call.Call.TheVariants.{ChannelCreate, ChannelDestroy, ConnectAttach}
-use Rattle.qmodel.specs.declared.call.Call.TheVariants.{ConnectDetach, Send, ReceivePulse, Pulse}
 use Rattle.qmodel.specs.declared.call.Mark.TheVariants as mark
-use Rattle.qrules.specs.Facts.{Facts}
-use Rattle.qrules.specs.Lawful.{facts_of}
-use Rattle.qrules.specs.Trace.{followed_by, Event}
 use Rattle.qqueue.specs.Best.{is_pulse}
-use Rattle.qworked.specs.Runs.{event, ended, flags_of}
 use Rattle.qworked.specs.ThreeProcesses.{attached, roster}
 
 -- three ChannelCreates, one of them refused, and a ChannelDestroy; four ConnectAttaches, one of them refused,

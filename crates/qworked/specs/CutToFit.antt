@@ -1,10 +1,7 @@
 -- A message that is received, the bytes of a Write and a reply are cut if they don't fit the buffer.
-use Rattle.std.specs.Prelude.{List, [], ◌∷◌, pos, negsuc}
-use Rattle.qmodel.specs.declared.call.Call.TheVariants.{Send, Receive, Reply, Write}
+use Rattle.qworked.specs.Words.{List, [], ◌∷◌, pos, negsuc, Send, Receive, Reply, Write, Event, event, ended}
+use Rattle.qworked.specs.Words.{connected}
 use Rattle.qmodel.specs.declared.call.Mark.TheVariants as mark
-use Rattle.qrules.specs.Trace.{Event}
-use Rattle.qworked.specs.Runs.{event, ended}
-use Rattle.qworked.specs.Setting.{connected}
 
 -- a message of five bytes is received into a buffer of two, and has a reply buffer of three
 abbrev pub events : List Event

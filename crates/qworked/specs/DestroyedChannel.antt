@@ -1,13 +1,9 @@
 -- A ChannelDestroy ends the calls that are blocked on the channel, and later calls on it are refused.
-use Rattle.std.specs.Prelude.{List, [], ◌∷◌, pos}
-use Rattle.qbase.specs.declared.errno.Errno.TheVariants.{Srch, Badf, Inval}
+use Rattle.qworked.specs.Words.{List, [], ◌∷◌, pos, Srch, Badf, Inval, ChannelCreate, ConnectAttach, Send}
+use Rattle.qworked.specs.Words.{Receive, Reply, ReceivePulse, Pulse, ChannelDestroy, Event, event, ended}
+use Rattle.qworked.specs.Words.{flags_of, connected}
 use Rattle.qqueue.specs.declared.item.What.TheVariants as what
-use Rattle.qmodel.specs.declared.call.Call.TheVariants.{ChannelCreate, ConnectAttach, Send, Receive, Reply}
-use Rattle.qmodel.specs.declared.call.Call.TheVariants.{ReceivePulse, Pulse, ChannelDestroy}
 use Rattle.qmodel.specs.declared.call.Mark.TheVariants as mark
-use Rattle.qrules.specs.Trace.{Event}
-use Rattle.qworked.specs.Runs.{event, ended, flags_of}
-use Rattle.qworked.specs.Setting.{connected}
 
 -- a held message, a pending one and a receiver; then calls that name the channel, its connection and its
 -- messages

@@ -1,16 +1,10 @@
 -- A ConnectDetach cancels the Sends over the connection, and the server of a channel with the disconnect flag
 -- gets a pulse for the last connection.
-use Rattle.std.specs.Prelude.{List, [], ◌∷◌, pos}
-use Rattle.qbase.specs.declared.errno.Errno.TheVariants.{Badf, Inval, Srch}
-use Rattle.qbase.specs.declared.state.ThreadState.TheVariants.{ReceiveBlocked}
+use Rattle.qworked.specs.Words.{List, [], ◌∷◌, pos, Badf, Inval, Srch, ReceiveBlocked, ChannelCreate}
+use Rattle.qworked.specs.Words.{ConnectAttach, ConnectDetach, Send, Receive, Reply, Read, Info, ReceivePulse}
+use Rattle.qworked.specs.Words.{Blocked, Event, blocked, ended, event, flags_of, info, connected}
 use Rattle.qqueue.specs.declared.item.What.TheVariants as what
-use Rattle.qmodel.specs.declared.call.Call.TheVariants.{ChannelCreate, ConnectAttach, ConnectDetach, Send}
-use Rattle.qmodel.specs.declared.call.Call.TheVariants.{Receive, Reply, Read, Info, ReceivePulse}
 use Rattle.qmodel.specs.declared.call.Mark.TheVariants as mark
-use Rattle.qmodel.specs.declared.open_call.Blocked.{Blocked}
-use Rattle.qrules.specs.Trace.{Event}
-use Rattle.qworked.specs.Runs.{blocked, ended, event, flags_of, info}
-use Rattle.qworked.specs.Setting.{connected}
 
 -- message 3 isn't received: it leaves the channel, and the connection isn't live any more
 abbrev pub waiting : List Event

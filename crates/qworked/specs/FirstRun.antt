@@ -1,11 +1,8 @@
 -- The first run: a server creates a channel; a client attaches to it and sends; the server receives and
 -- replies.
-use Rattle.std.specs.Prelude.{List, [], ◌∷◌, pos}
-use Rattle.qtables.specs.declared.member.Member.{Member}
-use Rattle.qmodel.specs.declared.call.Call.TheVariants.{ChannelCreate, ConnectAttach, Send, Receive, Reply}
+use Rattle.qworked.specs.Words.{List, [], ◌∷◌, pos, Member, ChannelCreate, ConnectAttach, Send, Receive}
+use Rattle.qworked.specs.Words.{Reply, Event, member, event, ended, flags_of, with_endings}
 use Rattle.qmodel.specs.declared.call.Mark.TheVariants as mark
-use Rattle.qrules.specs.Trace.{Event}
-use Rattle.qworked.specs.Runs.{member, event, ended, flags_of, with_endings}
 
 -- a server and a client, each with a process of its own
 abbrev pub roster : List Member

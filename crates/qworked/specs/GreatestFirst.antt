@@ -1,13 +1,8 @@
 -- The server receives the pending message of greatest priority first, and among equals the one that was sent
 -- first.
-use Rattle.std.specs.Prelude.{List, [], ◌∷◌}
-use Rattle.qbase.specs.declared.state.ThreadState.TheVariants.{ReplyBlocked}
-use Rattle.qmodel.specs.declared.call.Call.TheVariants.{ConnectAttach, Send, Receive}
+use Rattle.qworked.specs.Words.{List, [], ◌∷◌, ReplyBlocked, ConnectAttach, Send, Receive, Blocked, Event}
+use Rattle.qworked.specs.Words.{event, ended, blocked, with_endings, connected}
 use Rattle.qmodel.specs.declared.call.Mark.TheVariants as mark
-use Rattle.qmodel.specs.declared.open_call.Blocked.{Blocked}
-use Rattle.qrules.specs.Trace.{Event}
-use Rattle.qworked.specs.Runs.{event, ended, blocked, with_endings}
-use Rattle.qworked.specs.Setting.{connected}
 
 -- the later of two messages has the greater priority
 abbrev pub events : List Event

@@ -1,11 +1,7 @@
 -- Info, Read and Write are allowed on a held message until it is answered.
-use Rattle.std.specs.Prelude.{List, [], ◌∷◌, pos}
-use Rattle.qbase.specs.declared.errno.Errno.TheVariants.{Srch}
-use Rattle.qmodel.specs.declared.call.Call.TheVariants.{Send, Receive, Reply, Read, Write, Info}
+use Rattle.qworked.specs.Words.{List, [], ◌∷◌, pos, Srch, Send, Receive, Reply, Read, Write, Info, Event}
+use Rattle.qworked.specs.Words.{ended, event, info, connected}
 use Rattle.qmodel.specs.declared.call.Mark.TheVariants as mark
-use Rattle.qrules.specs.Trace.{Event}
-use Rattle.qworked.specs.Runs.{ended, event, info}
-use Rattle.qworked.specs.Setting.{connected}
 
 -- seven calls
 abbrev pub events : List Event

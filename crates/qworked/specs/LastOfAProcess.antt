@@ -1,12 +1,9 @@
 -- The server gets a pulse for the last connection of each process, though another process is still attached.
-use Rattle.std.specs.Prelude.{List, [], ◌∷◌, pos, negsuc}
-use Rattle.qbase.specs.declared.errno.Errno.TheVariants.{Badf, Inval, Srch}
+use Rattle.qworked.specs.Words.{List, [], ◌∷◌, pos, negsuc, Badf, Inval, Srch, ConnectAttach, ConnectDetach}
+use Rattle.qworked.specs.Words.{Send, Receive, Pulse, PrioritySet, ReceivePulse, ChannelDestroy, Event, event}
+use Rattle.qworked.specs.Words.{ended}
 use Rattle.qqueue.specs.declared.item.What.TheVariants as what
-use Rattle.qmodel.specs.declared.call.Call.TheVariants.{ConnectAttach, ConnectDetach, Send, Receive, Pulse}
-use Rattle.qmodel.specs.declared.call.Call.TheVariants.{PrioritySet, ReceivePulse, ChannelDestroy}
 use Rattle.qmodel.specs.declared.call.Mark.TheVariants as mark
-use Rattle.qrules.specs.Trace.{Event}
-use Rattle.qworked.specs.Runs.{event, ended}
 use Rattle.qworked.specs.ThreeProcesses.{attached}
 
 -- two Sends are open, over connections 4 and 3: the detach of connection 2 ends neither, and that of

@@ -1,12 +1,8 @@
 -- A thread has the last priority that was set for it or that it took with a receipt.
-use Rattle.std.specs.Prelude.{List, [], ◌∷◌, pos}
-use Rattle.qbase.specs.declared.state.ThreadState.TheVariants.{Ready}
+use Rattle.qworked.specs.Words.{List, [], ◌∷◌, pos, Ready, ChannelCreate, ConnectAttach, Send, Receive}
+use Rattle.qworked.specs.Words.{ReceivePulse, Pulse, PrioritySet, State, Event, event, ended, flags_of}
 use Rattle.qqueue.specs.declared.item.What.TheVariants as what
-use Rattle.qmodel.specs.declared.call.Call.TheVariants.{ChannelCreate, ConnectAttach, Send, Receive}
-use Rattle.qmodel.specs.declared.call.Call.TheVariants.{ReceivePulse, Pulse, PrioritySet, State}
 use Rattle.qmodel.specs.declared.call.Mark.TheVariants as mark
-use Rattle.qrules.specs.Trace.{Event}
-use Rattle.qworked.specs.Runs.{event, ended, flags_of}
 use Rattle.qworked.specs.ThreeProcesses.{attached}
 
 -- a thread's priority is set, taken from a message, set, and taken from a pulse, on a channel without the

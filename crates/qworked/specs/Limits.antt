@@ -1,21 +1,16 @@
 -- The results of calls at a limit: 64 open channels, 1,024 live connections, or 1,024 pulses that are pending
 -- on a channel.
-use Rattle.std.specs.Prelude.{◌≡◌, ℕ, ◌+◌, List, [], ◌∷◌, ◌++◌, replicate, pos}
+use Rattle.qworked.specs.Words.{◌≡◌, ℕ, ◌+◌, List, [], ◌∷◌, ◌++◌, replicate, pos, ChannelCreate}
+use Rattle.qworked.specs.Words.{ChannelDestroy, ConnectDetach, Completion, Facts, facts_of, followed_by}
+use Rattle.qworked.specs.Words.{Event, event, ended, flags_of, roster, connected}
 use Rattle.qbase.specs.declared.errno.Errno.{Errno}
 use Rattle.qqueue.specs.declared.item.Item.{Item}
 use Rattle.qmodel.specs.declared.call.Call.{Call}
-use Rattle.qmodel.specs.declared.call.Call.TheVariants.{ChannelCreate, ChannelDestroy, ConnectDetach}
-use Rattle.qmodel.specs.declared.call.Completion.{Completion}
 use Rattle.qmodel.specs.declared.call.Mark.TheVariants as mark
 use Rattle.qrules.specs.Outcome.{Answers}
 use Rattle.qrules.specs.Rule.{buffer_of}
-use Rattle.qrules.specs.Facts.{Facts}
-use Rattle.qrules.specs.Lawful.{facts_of}
-use Rattle.qrules.specs.Trace.{followed_by, Event}
 use Rattle.qqueue.specs.declared.item.What.TheVariants.{Message, User}
-use Rattle.qworked.specs.Runs.{event, ended, flags_of}
 use Rattle.qworked.specs.Detached.{twice_attached}
-use Rattle.qworked.specs.Setting.{roster, connected}
 use Rattle.qworked.specs.UnblockPulse.{held}
 
 -- the facts after these events

@@ -1,15 +1,10 @@
 -- A pending message takes the priority that is set for its sender, and is received at its place among the
 -- items of that priority. A held message and a pulse keep their priorities.
-use Rattle.std.specs.Prelude.{List, [], ◌∷◌, pos}
-use Rattle.qbase.specs.declared.errno.Errno.TheVariants.{Busy, Srch}
-use Rattle.qbase.specs.declared.state.ThreadState.TheVariants.{Ready, ReplyBlocked, SendBlocked}
+use Rattle.qworked.specs.Words.{List, [], ◌∷◌, pos, Busy, Srch, Ready, ReplyBlocked, SendBlocked}
+use Rattle.qworked.specs.Words.{ConnectAttach, Send, Receive, Info, ReceivePulse, Pulse, PrioritySet, State}
+use Rattle.qworked.specs.Words.{Unblock, Event, ended, event, info, connected}
 use Rattle.qqueue.specs.declared.item.What.TheVariants as what
-use Rattle.qmodel.specs.declared.call.Call.TheVariants.{ConnectAttach, Send, Receive, Info, ReceivePulse}
-use Rattle.qmodel.specs.declared.call.Call.TheVariants.{Pulse, PrioritySet, State, Unblock}
 use Rattle.qmodel.specs.declared.call.Mark.TheVariants as mark
-use Rattle.qrules.specs.Trace.{Event}
-use Rattle.qworked.specs.Runs.{ended, event, info}
-use Rattle.qworked.specs.Setting.{connected}
 use Rattle.qworked.specs.UnblockPulse.{held}
 
 -- two messages are pending, the later one of lesser priority, and then these events follow

@@ -1,13 +1,8 @@
 -- An item goes to the receiver that began to wait last, among those that may take it.
-use Rattle.std.specs.Prelude.{List, [], ◌∷◌, pos}
-use Rattle.qbase.specs.declared.state.ThreadState.TheVariants.{ReceiveBlocked, ReplyBlocked}
+use Rattle.qworked.specs.Words.{List, [], ◌∷◌, pos, ReceiveBlocked, ReplyBlocked, Send, Receive, ReceivePulse}
+use Rattle.qworked.specs.Words.{Pulse, Blocked, Event, event, ended, blocked, connected}
 use Rattle.qqueue.specs.declared.item.What.TheVariants as what
-use Rattle.qmodel.specs.declared.call.Call.TheVariants.{Send, Receive, ReceivePulse, Pulse}
 use Rattle.qmodel.specs.declared.call.Mark.TheVariants as mark
-use Rattle.qmodel.specs.declared.open_call.Blocked.{Blocked}
-use Rattle.qrules.specs.Trace.{Event}
-use Rattle.qworked.specs.Runs.{event, ended, blocked}
-use Rattle.qworked.specs.Setting.{connected}
 
 -- two receivers wait, and the later one takes a message
 abbrev pub newest : List Event

@@ -1,14 +1,9 @@
 -- Messages and pulses wait in one order: the greatest priority first, and among equals the one that was sent
 -- first.
-use Rattle.std.specs.Prelude.{List, [], ◌∷◌, pos, negsuc}
-use Rattle.qbase.specs.declared.state.ThreadState.TheVariants.{ReplyBlocked}
+use Rattle.qworked.specs.Words.{List, [], ◌∷◌, pos, negsuc, ReplyBlocked, Send, Receive, Pulse, PrioritySet}
+use Rattle.qworked.specs.Words.{Blocked, Event, event, ended, blocked, connected}
 use Rattle.qqueue.specs.declared.item.What.TheVariants as what
-use Rattle.qmodel.specs.declared.call.Call.TheVariants.{Send, Receive, Pulse, PrioritySet}
 use Rattle.qmodel.specs.declared.call.Mark.TheVariants as mark
-use Rattle.qmodel.specs.declared.open_call.Blocked.{Blocked}
-use Rattle.qrules.specs.Trace.{Event}
-use Rattle.qworked.specs.Runs.{event, ended, blocked}
-use Rattle.qworked.specs.Setting.{connected}
 
 -- a pulse, and then a message of the same priority, which was set for its sender
 abbrev pub pulse_first : List Event

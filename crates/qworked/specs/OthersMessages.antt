@@ -1,12 +1,8 @@
 -- A call on a message is refused if the message isn't received yet, is held by another process, or is
 -- answered.
-use Rattle.std.specs.Prelude.{List, [], ◌∷◌, pos}
-use Rattle.qbase.specs.declared.errno.Errno.TheVariants.{Srch}
-use Rattle.qmodel.specs.declared.call.Call.TheVariants.{Send, Receive, Reply, Error, Read, Write, Info}
+use Rattle.qworked.specs.Words.{List, [], ◌∷◌, pos, Srch, Send, Receive, Reply, Error, Read, Write, Info}
+use Rattle.qworked.specs.Words.{Event, event, ended, connected}
 use Rattle.qmodel.specs.declared.call.Mark.TheVariants as mark
-use Rattle.qrules.specs.Trace.{Event}
-use Rattle.qworked.specs.Runs.{event, ended}
-use Rattle.qworked.specs.Setting.{connected}
 
 -- calls on a message, from its sending until after its answer
 abbrev pub events : List Event

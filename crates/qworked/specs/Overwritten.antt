@@ -1,10 +1,8 @@
 -- A later Write goes over an earlier one, and the reply over both. A message is answered with a negative
 -- code.
-use Rattle.std.specs.Prelude.{List, [], ◌∷◌, pos, negsuc}
-use Rattle.qmodel.specs.declared.call.Call.TheVariants.{Send, Receive, Reply, Error, Write}
+use Rattle.qworked.specs.Words.{List, [], ◌∷◌, pos, negsuc, Send, Receive, Reply, Error, Write, Event, event}
+use Rattle.qworked.specs.Words.{ended}
 use Rattle.qmodel.specs.declared.call.Mark.TheVariants as mark
-use Rattle.qrules.specs.Trace.{Event}
-use Rattle.qworked.specs.Runs.{event, ended}
 use Rattle.qworked.specs.ThreeProcesses.{attached}
 
 -- two bytes are written at offset 1 and one at offset 2, and the reply has two

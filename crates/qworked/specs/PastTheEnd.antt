@@ -1,9 +1,7 @@
 -- An offset at the end or past it copies nothing, in a Read and in a Write, and is no error.
-use Rattle.std.specs.Prelude.{List, [], ◌∷◌, pos}
-use Rattle.qmodel.specs.declared.call.Call.TheVariants.{Send, Receive, Reply, Read, Write, Info}
+use Rattle.qworked.specs.Words.{List, [], ◌∷◌, pos, Send, Receive, Reply, Read, Write, Info, Event, ended}
+use Rattle.qworked.specs.Words.{event, info}
 use Rattle.qmodel.specs.declared.call.Mark.TheVariants as mark
-use Rattle.qrules.specs.Trace.{Event}
-use Rattle.qworked.specs.Runs.{ended, event, info}
 use Rattle.qworked.specs.ThreeProcesses.{attached}
 
 -- a message of three bytes is read, and its reply buffer of two is written over, each at the end, one byte

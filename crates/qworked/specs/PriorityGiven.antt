@@ -1,14 +1,9 @@
 -- A receiver that waits takes the priority of a pulse when that is sent, and keeps it until its priority is
 -- set.
-use Rattle.std.specs.Prelude.{List, [], ◌∷◌, pos}
-use Rattle.qbase.specs.declared.errno.Errno.TheVariants.{Srch}
-use Rattle.qbase.specs.declared.state.ThreadState.TheVariants.{Ready}
+use Rattle.qworked.specs.Words.{List, [], ◌∷◌, pos, Srch, Ready, Receive, Pulse, PrioritySet, State, Event}
+use Rattle.qworked.specs.Words.{event, ended, connected}
 use Rattle.qqueue.specs.declared.item.What.TheVariants as what
-use Rattle.qmodel.specs.declared.call.Call.TheVariants.{Receive, Pulse, PrioritySet, State}
 use Rattle.qmodel.specs.declared.call.Mark.TheVariants as mark
-use Rattle.qrules.specs.Trace.{Event}
-use Rattle.qworked.specs.Runs.{event, ended}
-use Rattle.qworked.specs.Setting.{connected}
 
 -- a pulse is received, and a fellow thread sets the receiver's priority; another process can't
 abbrev pub events : List Event

@@ -1,14 +1,9 @@
 -- A server takes the priority of a message that it receives, and sends with it, unless the channel leaves
 -- priorities as they are.
-use Rattle.std.specs.Prelude.{List, [], ◌∷◌}
-use Rattle.qbase.specs.declared.state.ThreadState.TheVariants.{Ready, ReplyBlocked}
-use Rattle.qmodel.specs.declared.call.Call.TheVariants.{ChannelCreate, ConnectAttach, Send, Receive, Info}
-use Rattle.qmodel.specs.declared.call.Call.TheVariants.{PrioritySet, State}
+use Rattle.qworked.specs.Words.{List, [], ◌∷◌, Ready, ReplyBlocked, ChannelCreate, ConnectAttach, Send}
+use Rattle.qworked.specs.Words.{Receive, Info, PrioritySet, State, Blocked, Event, blocked, ended, event}
+use Rattle.qworked.specs.Words.{flags_of, info, connected}
 use Rattle.qmodel.specs.declared.call.Mark.TheVariants as mark
-use Rattle.qmodel.specs.declared.open_call.Blocked.{Blocked}
-use Rattle.qrules.specs.Trace.{Event}
-use Rattle.qworked.specs.Runs.{blocked, ended, event, flags_of, info}
-use Rattle.qworked.specs.Setting.{connected}
 
 -- a client of greater priority sends to the server, which sends on to a channel of the client's process
 abbrev pub carried_on : List Event

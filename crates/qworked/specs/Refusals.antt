@@ -1,11 +1,7 @@
 -- Calls that are refused: each gets its buffer back as it was, and changes nothing.
-use Rattle.std.specs.Prelude.{List, [], ◌∷◌, pos}
-use Rattle.qbase.specs.declared.errno.Errno.TheVariants.{Srch, Badf, Inval, Busy}
-use Rattle.qmodel.specs.declared.call.Call.TheVariants.{ChannelCreate, ConnectAttach, Send, Receive, Reply}
+use Rattle.qworked.specs.Words.{List, [], ◌∷◌, pos, Srch, Badf, Inval, Busy, ChannelCreate, ConnectAttach}
+use Rattle.qworked.specs.Words.{Send, Receive, Reply, Event, event, ended, flags_of, connected}
 use Rattle.qmodel.specs.declared.call.Mark.TheVariants as mark
-use Rattle.qrules.specs.Trace.{Event}
-use Rattle.qworked.specs.Runs.{event, ended, flags_of}
-use Rattle.qworked.specs.Setting.{connected}
 
 -- eight refused calls, a Send among them that is accepted, and the receipt of its message
 abbrev pub events : List Event

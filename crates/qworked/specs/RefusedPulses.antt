@@ -1,12 +1,8 @@
 -- Refused pulses, with a negative code or over another process's connection, and refused calls on another
 -- process's channel.
-use Rattle.std.specs.Prelude.{List, [], ◌∷◌, pos, negsuc}
-use Rattle.qbase.specs.declared.errno.Errno.TheVariants.{Srch, Badf, Inval}
-use Rattle.qmodel.specs.declared.call.Call.TheVariants.{Receive, ReceivePulse, Pulse, ChannelDestroy}
+use Rattle.qworked.specs.Words.{List, [], ◌∷◌, pos, negsuc, Srch, Badf, Inval, Receive, ReceivePulse, Pulse}
+use Rattle.qworked.specs.Words.{ChannelDestroy, Event, event, ended, connected}
 use Rattle.qmodel.specs.declared.call.Mark.TheVariants as mark
-use Rattle.qrules.specs.Trace.{Event}
-use Rattle.qworked.specs.Runs.{event, ended}
-use Rattle.qworked.specs.Setting.{connected}
 
 -- calls that are all refused, and a Receive that finds the channel open and no pulse pending
 abbrev pub events : List Event

@@ -1,13 +1,8 @@
 -- A call of a blocked thread is refused with Busy. A shutdown ends every open call, and every later call is
 -- refused.
-use Rattle.std.specs.Prelude.{List, [], ◌∷◌}
-use Rattle.qbase.specs.declared.errno.Errno.TheVariants.{Srch, Busy, Down}
-use Rattle.qmodel.specs.declared.call.Call.TheVariants.{ChannelCreate, Send, Receive, Write, ReceivePulse}
-use Rattle.qmodel.specs.declared.call.Call.TheVariants.{State, Shutdown}
+use Rattle.qworked.specs.Words.{List, [], ◌∷◌, Srch, Busy, Down, ChannelCreate, Send, Receive, Write}
+use Rattle.qworked.specs.Words.{ReceivePulse, State, Shutdown, Event, event, ended, flags_of, connected}
 use Rattle.qmodel.specs.declared.call.Mark.TheVariants as mark
-use Rattle.qrules.specs.Trace.{Event}
-use Rattle.qworked.specs.Runs.{event, ended, flags_of}
-use Rattle.qworked.specs.Setting.{connected}
 
 -- the calls of a receiver are refused with Busy until the client shuts the kernel down
 abbrev pub events : List Event

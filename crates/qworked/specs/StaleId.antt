@@ -1,14 +1,8 @@
 -- A call on the id of a message whose sender was unblocked is refused, even while the sender waits in another
 -- Send.
-use Rattle.std.specs.Prelude.{List, [], ◌∷◌, pos}
-use Rattle.qbase.specs.declared.errno.Errno.TheVariants.{Srch, Intr}
-use Rattle.qbase.specs.declared.state.ThreadState.TheVariants.{ReplyBlocked}
-use Rattle.qmodel.specs.declared.call.Call.TheVariants.{Send, Receive, Reply, Unblock}
+use Rattle.qworked.specs.Words.{List, [], ◌∷◌, pos, Srch, Intr, ReplyBlocked, Send, Receive, Reply, Unblock}
+use Rattle.qworked.specs.Words.{Blocked, Event, event, ended, blocked, connected}
 use Rattle.qmodel.specs.declared.call.Mark.TheVariants as mark
-use Rattle.qmodel.specs.declared.open_call.Blocked.{Blocked}
-use Rattle.qrules.specs.Trace.{Event}
-use Rattle.qworked.specs.Runs.{event, ended, blocked}
-use Rattle.qworked.specs.Setting.{connected}
 
 -- a Send is cancelled, and the same thread sends again
 abbrev pub events : List Event

@@ -1,12 +1,7 @@
 -- The results of State for another thread, through a receipt and an answer.
-use Rattle.std.specs.Prelude.{List, [], ◌∷◌, pos}
-use Rattle.qbase.specs.declared.state.ThreadState.TheVariants.{Ready, SendBlocked, ReceiveBlocked}
-use Rattle.qbase.specs.declared.state.ThreadState.TheVariants.{ReplyBlocked}
-use Rattle.qmodel.specs.declared.call.Call.TheVariants.{Send, Receive, Reply, State}
+use Rattle.qworked.specs.Words.{List, [], ◌∷◌, pos, Ready, SendBlocked, ReceiveBlocked, ReplyBlocked, Send}
+use Rattle.qworked.specs.Words.{Receive, Reply, State, Event, event, ended, connected}
 use Rattle.qmodel.specs.declared.call.Mark.TheVariants as mark
-use Rattle.qrules.specs.Trace.{Event}
-use Rattle.qworked.specs.Runs.{event, ended}
-use Rattle.qworked.specs.Setting.{connected}
 
 -- a server waits, a message is received, and a second one is sent
 abbrev pub events : List Event

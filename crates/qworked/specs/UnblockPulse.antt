@@ -1,15 +1,10 @@
 -- On a channel with the unblock flag the client of a held message stays blocked, and its server gets one
 -- pulse.
-use Rattle.std.specs.Prelude.{List, [], ◌∷◌, pos}
-use Rattle.qbase.specs.declared.state.ThreadState.TheVariants.{ReceiveBlocked}
+use Rattle.qworked.specs.Words.{List, [], ◌∷◌, pos, ReceiveBlocked, ChannelCreate, ConnectAttach, Send}
+use Rattle.qworked.specs.Words.{Receive, Reply, ReceivePulse, Unblock, Blocked, Event, event, ended, blocked}
+use Rattle.qworked.specs.Words.{flags_of, connected}
 use Rattle.qqueue.specs.declared.item.What.TheVariants as what
-use Rattle.qmodel.specs.declared.call.Call.TheVariants.{ChannelCreate, ConnectAttach, Send, Receive, Reply}
-use Rattle.qmodel.specs.declared.call.Call.TheVariants.{ReceivePulse, Unblock}
 use Rattle.qmodel.specs.declared.call.Mark.TheVariants as mark
-use Rattle.qmodel.specs.declared.open_call.Blocked.{Blocked}
-use Rattle.qrules.specs.Trace.{Event}
-use Rattle.qworked.specs.Runs.{event, ended, blocked, flags_of}
-use Rattle.qworked.specs.Setting.{connected}
 
 -- channel 3 has the flag, connection 4 leads to it, message 5 is held, and then these events follow
 abbrev pub held : List Event → List Event

@@ -1,12 +1,8 @@
 -- A thread that waits in a Send or a receive is unblocked; nothing happens to one that doesn't wait.
-use Rattle.std.specs.Prelude.{List, [], ◌∷◌, pos}
-use Rattle.qbase.specs.declared.errno.Errno.TheVariants.{Srch, Intr}
+use Rattle.qworked.specs.Words.{List, [], ◌∷◌, pos, Srch, Intr, Send, Receive, ReceivePulse, Pulse, Unblock}
+use Rattle.qworked.specs.Words.{Event, event, ended, connected}
 use Rattle.qqueue.specs.declared.item.What.TheVariants as what
-use Rattle.qmodel.specs.declared.call.Call.TheVariants.{Send, Receive, ReceivePulse, Pulse, Unblock}
 use Rattle.qmodel.specs.declared.call.Mark.TheVariants as mark
-use Rattle.qrules.specs.Trace.{Event}
-use Rattle.qworked.specs.Runs.{event, ended}
-use Rattle.qworked.specs.Setting.{connected}
 
 -- a message is cancelled before its receipt and never received; another process's thread and an unknown one
 -- are refused

@@ -1,5 +1,5 @@
 -- Words with spaces.
-use Rattle.std.specs.Prelude.{ℕ, List, [], ◌∷◌, ◌++◌}
+use Rattle.qscript.specs.Words.{ℕ, List, [], ◌∷◌, ◌++◌}
 
 -- each word behind a space
 abbrev pub words_with_spaces : List (List ℕ) → List ℕ

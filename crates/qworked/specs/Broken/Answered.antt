@@ -1,11 +1,7 @@
 -- A held message is answered wrongly in one way; the rest of the answer is right.
-use Rattle.std.specs.Prelude.{ℕ, [], ◌∷◌, pos}
-use Rattle.qbase.specs.declared.errno.Errno.TheVariants.{Srch}
-use Rattle.qmodel.specs.declared.call.Call.TheVariants.{Send, Receive, Reply, Error, ReceivePulse}
-use Rattle.qmodel.specs.declared.call.Completion.{Completion}
+use Rattle.qworked.specs.Words.{ℕ, [], ◌∷◌, pos, Srch, Send, Receive, Reply, Error, ReceivePulse, Completion}
+use Rattle.qworked.specs.Words.{Trace, event, ended}
 use Rattle.qmodel.specs.declared.call.Mark.TheVariants as mark
-use Rattle.qrules.specs.Trace.{Trace}
-use Rattle.qworked.specs.Runs.{event, ended}
 use Rattle.qworked.specs.Broken.Held.{held, sent}
 
 -- thread t gets the answer to message 4

@@ -1,13 +1,9 @@
 -- A byte or a count isn't as the copying requires.
-use Rattle.std.specs.Prelude.{[], ◌∷◌, pos}
-use Rattle.qbase.specs.declared.errno.Errno.TheVariants.{Intr}
-use Rattle.qbase.specs.declared.state.ThreadState.TheVariants.{Ready}
+use Rattle.qworked.specs.Words.{[], ◌∷◌, pos, Intr, Ready, ChannelCreate, ConnectAttach, Receive, Reply}
+use Rattle.qworked.specs.Words.{Error, Read, Write, Info, Pulse, Unblock, State, Trace, ended, event}
+use Rattle.qworked.specs.Words.{flags_of, info}
 use Rattle.qqueue.specs.declared.item.What.TheVariants as what
-use Rattle.qmodel.specs.declared.call.Call.TheVariants.{ChannelCreate, ConnectAttach, Receive, Reply, Error}
-use Rattle.qmodel.specs.declared.call.Call.TheVariants.{Read, Write, Info, Pulse, Unblock, State}
 use Rattle.qmodel.specs.declared.call.Mark.TheVariants as mark
-use Rattle.qrules.specs.Trace.{Trace}
-use Rattle.qworked.specs.Runs.{ended, event, flags_of, info}
 use Rattle.qworked.specs.Broken.Held.{held, run_of, sent}
 
 -- the second byte that is received isn't the one that was sent

@@ -1,9 +1,6 @@
 -- The beginnings of the broken runs.
-use Rattle.std.specs.Prelude.{List, [], ◌∷◌}
-use Rattle.qmodel.specs.declared.call.Call.TheVariants.{Send, Receive}
+use Rattle.qworked.specs.Words.{List, [], ◌∷◌, Send, Receive, followed_by, Event, Trace, event, ended}
 use Rattle.qmodel.specs.declared.call.Mark.TheVariants as mark
-use Rattle.qrules.specs.Trace.{followed_by, Event, Trace}
-use Rattle.qworked.specs.Runs.{event, ended}
 use Rattle.qworked.specs.ThreeProcesses.{attached}
 
 -- channel 1 is created, connections 2 and 3 are attached, and then these events follow

@@ -1,11 +1,8 @@
 -- An item is received twice or too early, or a call is ended twice.
-use Rattle.std.specs.Prelude.{[], ◌∷◌, pos}
-use Rattle.qbase.specs.declared.errno.Errno.TheVariants.{Srch}
+use Rattle.qworked.specs.Words.{[], ◌∷◌, pos, Srch, Send, Receive, Reply, ReceivePulse, Pulse, Shutdown}
+use Rattle.qworked.specs.Words.{Trace, event, ended}
 use Rattle.qqueue.specs.declared.item.What.TheVariants as what
-use Rattle.qmodel.specs.declared.call.Call.TheVariants.{Send, Receive, Reply, ReceivePulse, Pulse, Shutdown}
 use Rattle.qmodel.specs.declared.call.Mark.TheVariants as mark
-use Rattle.qrules.specs.Trace.{Trace}
-use Rattle.qworked.specs.Runs.{event, ended}
 use Rattle.qworked.specs.Broken.Held.{run_of, held}
 
 -- message 4 is received by a second Receive

@@ -1,10 +1,7 @@
 -- A channel is destroyed, and calls on it go on.
-use Rattle.std.specs.Prelude.{[], ◌∷◌}
-use Rattle.qbase.specs.declared.errno.Errno.TheVariants.{Srch}
-use Rattle.qmodel.specs.declared.call.Call.TheVariants.{ConnectDetach, Receive, ReceivePulse, ChannelDestroy}
+use Rattle.qworked.specs.Words.{[], ◌∷◌, Srch, ConnectDetach, Receive, ReceivePulse, ChannelDestroy, Trace}
+use Rattle.qworked.specs.Words.{event, ended}
 use Rattle.qmodel.specs.declared.call.Mark.TheVariants as mark
-use Rattle.qrules.specs.Trace.{Trace}
-use Rattle.qworked.specs.Runs.{event, ended}
 use Rattle.qworked.specs.Broken.Held.{held, run_of, sent}
 
 -- message 4 is received after its Send has failed with the channel

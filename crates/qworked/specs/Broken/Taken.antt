@@ -1,11 +1,8 @@
 -- Another item is received than the best one.
-use Rattle.std.specs.Prelude.{[], ◌∷◌, pos}
+use Rattle.qworked.specs.Words.{[], ◌∷◌, pos, ChannelCreate, Send, Receive, Pulse, PrioritySet, ReceivePulse}
+use Rattle.qworked.specs.Words.{Trace, event, ended, flags_of}
 use Rattle.qqueue.specs.declared.item.What.TheVariants as what
-use Rattle.qmodel.specs.declared.call.Call.TheVariants.{ChannelCreate, Send, Receive, Pulse, PrioritySet}
-use Rattle.qmodel.specs.declared.call.Call.TheVariants.{ReceivePulse}
 use Rattle.qmodel.specs.declared.call.Mark.TheVariants as mark
-use Rattle.qrules.specs.Trace.{Trace}
-use Rattle.qworked.specs.Runs.{event, ended, flags_of}
 use Rattle.qworked.specs.Broken.Held.{sent}
 
 -- message 4 has the priority 23, message 5 26, and message 4 is received

@@ -1,4 +1,4 @@
-use Rattle.std.proofs.Common.{ap, sym}
+use Rattle.balsaeuchre_uses.proofs.Common.{ap, sym}
 use Rattle.balsaeuchre_uses.proofs.Told.{met_after}
 use Rattle.balsaeuchre_uses.proofs.answered.look.Goals as goal
 

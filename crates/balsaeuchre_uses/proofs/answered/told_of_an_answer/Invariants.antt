@@ -1,4 +1,4 @@
-use Rattle.balsaeuchre.specs.Naming.{ledger_of, names_of, shares_of}
+use Rattle.balsaeuchre_uses.proofs.Common.{ledger_of, names_of, shares_of}
 use Rattle.balsaeuchre_uses.proofs.answered.told_of_an_answer.Given as goal
 
 abbrev pub ghosts-run-K-Ledger : goal.ghosts-run-K-Ledger

@@ -1,7 +1,5 @@
 -- proofs/carried/carried/Answers.antt
-use Rattle.std.proofs.Common.{◌≡◌, [], map, refl, ap, ◌∙◌}
-use Rattle.qworked.specs.Runs.{flags_of}
-use Rattle.balsaeuchre.specs.Lawful.{event_call}
+use Rattle.balsaeuchre_uses.proofs.Common.{[], ap, event_call, flags_of, map, refl, ◌∙◌, ◌≡◌}
 use Rattle.balsaeuchre_uses.specs.Carried.{roster, events}
 use Rattle.balsaeuchre_uses.proofs.Lawful.{carried_lawful, carried_memory}
 use Rattle.balsaeuchre_uses.proofs.RunLemmas.{run_of}

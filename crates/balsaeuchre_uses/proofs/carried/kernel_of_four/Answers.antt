@@ -1,5 +1,4 @@
-use Rattle.std.proofs.Common.{[], subst}
-use Rattle.balsaeuchre.specs.Stands.{StandsAt}
+use Rattle.balsaeuchre_uses.proofs.Common.{StandsAt, [], subst}
 use Rattle.balsaeuchre_uses.proofs.carried.kernel_of_four.Goals as goal
 
 pub returns : goal.returns

@@ -1,4 +1,4 @@
-use Rattle.std.proofs.Common.{refl}
+use Rattle.balsaeuchre_uses.proofs.Common.{refl}
 use Rattle.balsaeuchre_uses.proofs.carried.roster_of_four.Goals as goal
 
 pub returns : goal.returns

@@ -1,6 +1,4 @@
-use Rattle.std.proofs.Common.{◌≡◌, [], map, refl, ap, ◌∙◌}
-use Rattle.qworked.specs.Runs.{flags_of}
-use Rattle.balsaeuchre.specs.Lawful.{event_call}
+use Rattle.balsaeuchre_uses.proofs.Common.{[], ap, event_call, flags_of, map, refl, ◌∙◌, ◌≡◌}
 use Rattle.balsaeuchre_uses.specs.FirstMessage.{roster, events}
 use Rattle.balsaeuchre_uses.proofs.Lawful.{first_lawful, first_memory}
 use Rattle.balsaeuchre_uses.proofs.RunLemmas.{run_of}

@@ -1,4 +1,4 @@
-use Rattle.std.proofs.Common.{refl}
+use Rattle.balsaeuchre_uses.proofs.Common.{refl}
 use Rattle.balsaeuchre_uses.proofs.first_message.roster_of_two.Goals as goal
 
 pub returns : goal.returns

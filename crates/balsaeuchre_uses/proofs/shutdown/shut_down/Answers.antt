@@ -1,7 +1,4 @@
-use Rattle.std.proofs.Common.{◌≡◌, [], map, refl, ap, ◌∙◌}
-use Rattle.qworked.specs.Runs.{flags_of}
-use Rattle.balsaeuchre.specs.Lawful.{event_call}
-use Rattle.balsaeuchre_uses.specs.ThreeThreads.{roster}
+use Rattle.balsaeuchre_uses.proofs.Common.{[], ap, event_call, flags_of, map, refl, roster, ◌∙◌, ◌≡◌}
 use Rattle.balsaeuchre_uses.specs.ShutDown.{events}
 use Rattle.balsaeuchre_uses.proofs.Lawful.{shut_down_lawful, shut_down_memory}
 use Rattle.balsaeuchre_uses.proofs.RunLemmas.{run_of}

@@ -1,5 +1,4 @@
-use Rattle.std.proofs.Common.{[], subst}
-use Rattle.balsaeuchre.specs.Stands.{StandsAt}
+use Rattle.balsaeuchre_uses.proofs.Common.{StandsAt, [], subst}
 use Rattle.balsaeuchre_uses.proofs.three_threads.kernel_of_three.Goals as goal
 
 pub returns : goal.returns

@@ -1,4 +1,4 @@
-use Rattle.std.proofs.Common.{refl}
+use Rattle.balsaeuchre_uses.proofs.Common.{refl}
 use Rattle.balsaeuchre_uses.proofs.three_threads.roster_of_three.Goals as goal
 
 pub returns : goal.returns

@@ -1,7 +1,4 @@
-use Rattle.std.proofs.Common.{◌≡◌, [], map, refl, ◌∙◌}
-use Rattle.balsaeuchre.specs.Lawful.{event_call}
-use Rattle.balsaeuchre_uses.specs.ThreeThreads.{roster}
-use Rattle.balsaeuchre_uses.specs.Timeout.{told_events}
+use Rattle.balsaeuchre_uses.proofs.Common.{[], event_call, map, refl, roster, told_events, ◌∙◌, ◌≡◌}
 use Rattle.balsaeuchre_uses.proofs.Lawful.{told_lawful, told_memory}
 use Rattle.balsaeuchre_uses.proofs.RunLemmas.{run_of}
 use Rattle.balsaeuchre_uses.proofs.timeout.with_flag.Goals as goal

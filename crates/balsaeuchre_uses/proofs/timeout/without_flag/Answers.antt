@@ -1,8 +1,4 @@
-use Rattle.std.proofs.Common.{◌≡◌, [], map, refl, ap, ◌∙◌}
-use Rattle.qworked.specs.Runs.{flags_of}
-use Rattle.balsaeuchre.specs.Lawful.{event_call}
-use Rattle.balsaeuchre_uses.specs.ThreeThreads.{roster}
-use Rattle.balsaeuchre_uses.specs.Timeout.{cut_events}
+use Rattle.balsaeuchre_uses.proofs.Common.{[], ap, cut_events, event_call, flags_of, map, refl, roster, ◌∙◌, ◌≡◌}
 use Rattle.balsaeuchre_uses.proofs.Lawful.{cut_lawful, cut_memory}
 use Rattle.balsaeuchre_uses.proofs.RunLemmas.{run_of}
 use Rattle.balsaeuchre_uses.proofs.timeout.without_flag.Goals as goal

@@ -1,5 +1,4 @@
-use Rattle.std.proofs.Common.{◌≡◌, map, take}
-use Rattle.qchart.specs.Changes.{level_of}
+use Rattle.qchart.proofs.Common.{level_of, map, take, ◌≡◌}
 use Rattle.qchart.proofs.changes.levels_of.Given as goal
 
 abbrev pub invariant-loop-thread : goal.invariant-loop-thread

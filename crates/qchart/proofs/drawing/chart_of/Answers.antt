@@ -1,6 +1,4 @@
-use Rattle.std.proofs.Common.{[], ap, subst, sym, ◌∙◌}
-use Rattle.qkernel.specs.Stands.{StandsAt}
-use Rattle.qscript.specs.Enrolled.{roster_with, AllJoin}
+use Rattle.qchart.proofs.Common.{AllJoin, StandsAt, [], ap, roster_with, subst, sym, ◌∙◌}
 use Rattle.qchart.proofs.Charting.{charted}
 use Rattle.qchart.proofs.drawing.chart_of.Goals as goal
 

@@ -1,6 +1,4 @@
-use Rattle.std.proofs.Common.{rules, ◌≡◌, ℕ, [], ◌∷◌, ◌++◌, length, ap, ◌∙◌, append_assoc, arith}
-use Rattle.std.specs.Vec.Iter.{into_iter_items}
-use Rattle.qmodel.specs.declared.call.Call.{Call}
+use Rattle.qchart.proofs.Common.{Call, [], ap, append_assoc, arith, into_iter_items, length, rules, ℕ, ◌++◌, ◌∙◌, ◌∷◌, ◌≡◌}
 use Rattle.qchart.proofs.Making.{IsRowOf, going_more, going_none}
 use Rattle.qchart.proofs.run.rows_of.Goals as goal
 

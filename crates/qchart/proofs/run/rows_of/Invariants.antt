@@ -1,5 +1,4 @@
-use Rattle.std.proofs.Common.{◌≡◌, ◌++◌, length}
-use Rattle.std.specs.Vec.Iter.{into_iter_items, into_iter_len}
+use Rattle.qchart.proofs.Common.{into_iter_items, into_iter_len, length, ◌++◌, ◌≡◌}
 use Rattle.qchart.proofs.Making.{Going}
 use Rattle.qchart.proofs.run.rows_of.Given as goal
 

@@ -1,8 +1,4 @@
-use Rattle.std.proofs.Common.{◌≡◌, ap, map, subst, sym, ◌∙◌}
-use Rattle.std.specs.List.{filter_map}
-use Rattle.qtables.specs.Members.{IsRoster}
-use Rattle.qstate.specs.Kept.{members_of}
-use Rattle.qchart.specs.Changes.{change_since, level_of}
+use Rattle.qchart.proofs.Common.{IsRoster, ap, change_since, filter_map, level_of, map, members_of, subst, sym, ◌∙◌, ◌≡◌}
 use Rattle.qchart.proofs.Changing.{told_changes}
 use Rattle.qchart.proofs.run.Course.next_row.Goals as goal
 
