@@ -4,7 +4,7 @@
 #ifndef BALSAEUCHRE_QNX_DISPATCH_H
 #define BALSAEUCHRE_QNX_DISPATCH_H
 
-#include <sys/iomsg.h>
+#include <sys/iotypes.h>
 #include <sys/neutrino.h>
 
 #ifdef __cplusplus
@@ -49,8 +49,6 @@ NEUTRINO_MISSING_TYPE(resmgr_attr_t);
 NEUTRINO_MISSING_TYPE(resmgr_connect_funcs_t);
 NEUTRINO_MISSING_TYPE(resmgr_context_t);
 NEUTRINO_MISSING_TYPE(resmgr_io_funcs_t);
-NEUTRINO_MISSING_TYPE(thread_pool_attr_t);
-NEUTRINO_MISSING_TYPE(thread_pool_t);
 NEUTRINO_MISSING(dispatch_block);
 NEUTRINO_MISSING(dispatch_context_alloc);
 NEUTRINO_MISSING(dispatch_create);
@@ -68,9 +66,6 @@ NEUTRINO_MISSING(resmgr_attach);
 NEUTRINO_MISSING(resmgr_detach);
 NEUTRINO_MISSING(select_attach);
 NEUTRINO_MISSING(select_detach);
-NEUTRINO_MISSING(thread_pool_create);
-NEUTRINO_MISSING(thread_pool_destroy);
-NEUTRINO_MISSING(thread_pool_start);
 
 #ifdef __cplusplus
 }

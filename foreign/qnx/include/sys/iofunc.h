@@ -1,4 +1,5 @@
-/* For programs that include it beside sys/dispatch.h and use nothing of it: iofunc_* are missing. */
+/* For programs that include it beside sys/dispatch.h and use nothing of it: iofunc_* and thread pools are missing. A
+ * program that includes sys/dispatch.h alone may have a pool of its own. */
 #pragma GCC system_header
 #ifndef BALSAEUCHRE_QNX_IOFUNC_H
 #define BALSAEUCHRE_QNX_IOFUNC_H
@@ -13,11 +14,16 @@ NEUTRINO_MISSING_TYPE(iofunc_attr_t);
 NEUTRINO_MISSING_TYPE(iofunc_funcs_t);
 NEUTRINO_MISSING_TYPE(iofunc_mount_t);
 NEUTRINO_MISSING_TYPE(iofunc_ocb_t);
+NEUTRINO_MISSING_TYPE(thread_pool_attr_t);
+NEUTRINO_MISSING_TYPE(thread_pool_t);
 NEUTRINO_MISSING(iofunc_attr_init);
 NEUTRINO_MISSING(iofunc_func_init);
 NEUTRINO_MISSING(iofunc_lock_ocb_default);
 NEUTRINO_MISSING(iofunc_read_verify);
 NEUTRINO_MISSING(iofunc_write_verify);
+NEUTRINO_MISSING(thread_pool_create);
+NEUTRINO_MISSING(thread_pool_destroy);
+NEUTRINO_MISSING(thread_pool_start);
 
 #ifdef __cplusplus
 }
