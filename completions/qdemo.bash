@@ -11,7 +11,7 @@ _qdemo() {
         script) options="--explain --json --names --names-in --plain --strict -h --help" ;;
         check) options="--update --explain --json -h --help" ;;
         play) options="--names -h --help" ;;
-        chart) options="-o --output --text --bytes --from --to -h --help" ;;
+        chart) options="-o --output --text --bytes --names-in --from --to -h --help" ;;
         explore) options="--script --names --json --most --random --seed -h --help" ;;
         serve) options="--clients --servers --rounds --hold --time --json --quiet --record -h --help" ;;
     esac

@@ -29,6 +29,7 @@ complete -c qdemo -n 'not __fish_seen_subcommand_from help; and __fish_seen_subc
 complete -c qdemo -n 'not __fish_seen_subcommand_from help; and __fish_seen_subcommand_from chart' -s o -l output -r -F -d 'Write the drawing into this file; none or - is standard output'
 complete -c qdemo -n 'not __fish_seen_subcommand_from help; and __fish_seen_subcommand_from chart' -l text -d 'Draw in columns of text, as is done on a terminal, and not as SVG'
 complete -c qdemo -n 'not __fish_seen_subcommand_from help; and __fish_seen_subcommand_from chart' -l bytes -d 'Show the bytes of messages and answers, 8 at most'
+complete -c qdemo -n 'not __fish_seen_subcommand_from help; and __fish_seen_subcommand_from chart' -l names-in -d 'Read a script with names, whatever its file is called'
 complete -c qdemo -n 'not __fish_seen_subcommand_from help; and __fish_seen_subcommand_from chart' -l from -x -d 'The number of the first call that is drawn [default: 1]'
 complete -c qdemo -n 'not __fish_seen_subcommand_from help; and __fish_seen_subcommand_from chart' -l to -x -d 'The number of the last call that is drawn'
 complete -c qdemo -n 'not __fish_seen_subcommand_from help; and __fish_seen_subcommand_from chart' -s h -l help -d 'Print help (see more with \'--help\')'

@@ -31,9 +31,14 @@ pub fn run_chart<R: Files + Input + Print + Eprint + AllocGlobal>(
     let text = text_of(rt, file)?;
     let text = text.as_slice();
     let view = view_of(run);
-    let drawn = if file.is_some_and(is_named) {
-        let shows = false;
-        let Named { script, check, .. } = named_of(rt, Source { file, text, shows })?;
+    let drawn = if run.names_in || file.is_some_and(is_named) {
+        let source = Source {
+            file,
+            text,
+            shows: false,
+            colours: run.colours.errors,
+        };
+        let Named { script, check, .. } = named_of(rt, source)?;
         drawing_of(check.context(), script, &view)
     } else {
         drawing(rt.alloc(), text, &view)

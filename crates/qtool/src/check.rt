@@ -3,6 +3,7 @@
 mod places;
 mod tally;
 
+use crate::colours::{Mood, marks};
 use crate::command::CheckRun;
 use crate::designs::{faults_of as faults_of_design, is_design, words_of};
 use crate::difference::{Difference, difference_of};
@@ -165,7 +166,13 @@ impl<R: Files + Print + Eprint + AllocGlobal + Clone + Drop> Check<'_, R> {
     /// Prints the outcome of an example, in words or as an object of JSON with a word for it.
     fn tell<D: Display + Drop>(&self, name: &str, outcome: &str, words: D) -> io::Result<()> {
         if !self.run.json {
-            return println!(self.rt; "{name}: {words}");
+            let mood = match outcome {
+                "differs" | "faulty" => Mood::Bad,
+                "without" => Mood::Unsure,
+                _ => Mood::Good,
+            };
+            let (begin, end) = marks(mood, self.run.colours.output);
+            return println!(self.rt; "{name}: {begin}{words}{end}");
         }
         let alloc = self.rt.alloc();
         let name = quoted(alloc, name)?;

@@ -2,6 +2,7 @@
 
 mod options;
 
+use crate::colours::Colours;
 use clap::{ArgMatches, Error};
 use options::command;
 use std::alloc::{AllocError, Global};
@@ -25,6 +26,7 @@ pub struct ScriptRun {
     pub strict: bool,
     /// Whether standard error is a terminal, on which faults are always explained.
     pub terminal: bool,
+    pub colours: Colours,
 }
 
 /// The scripts to check.
@@ -38,6 +40,7 @@ pub struct CheckRun {
     pub explain: bool,
     /// Whether the outcomes are printed as objects of JSON.
     pub json: bool,
+    pub colours: Colours,
 }
 
 /// A kernel to play with.
@@ -47,6 +50,7 @@ pub struct PlayRun {
     pub file: Option<String>,
     /// Whether answers have names in place of numbers, once the lines have names.
     pub names: bool,
+    pub colours: Colours,
 }
 
 /// A script whose run is drawn.
@@ -60,12 +64,15 @@ pub struct ChartRun {
     pub text: bool,
     /// Whether the words have the bytes of messages and answers.
     pub bytes: bool,
+    /// Whether the script has names, whatever its file is called.
+    pub names_in: bool,
     /// The number of the first call that is drawn, at least 1.
     pub from: u32,
     /// The number of the last call that is drawn; `None` for the last of the script.
     pub to: Option<u32>,
     /// Whether standard output is a terminal, on which the drawing is always text.
     pub terminal: bool,
+    pub colours: Colours,
 }
 
 /// A design to explore.
@@ -87,6 +94,7 @@ pub struct ExploreRun {
     pub seed: u32,
     /// Whether standard error is a terminal, on which progress is shown.
     pub terminal: bool,
+    pub colours: Colours,
 }
 
 /// A server and its clients to run.
@@ -162,6 +170,7 @@ fn script_of(alloc: Global, matches: &ArgMatches<'_>) -> Result<ScriptRun, Alloc
         plain: matches.get_flag("plain"),
         strict: matches.get_flag("strict"),
         terminal: false,
+        colours: Colours::default(),
     })
 }
 
@@ -176,6 +185,7 @@ fn check_of(alloc: Global, matches: &ArgMatches<'_>) -> Result<CheckRun, AllocEr
         update: matches.get_flag("update"),
         explain: matches.get_flag("explain"),
         json: matches.get_flag("json"),
+        colours: Colours::default(),
     })
 }
 
@@ -186,9 +196,11 @@ fn chart_of(alloc: Global, matches: &ArgMatches<'_>) -> Result<ChartRun, AllocEr
         output: file_of(alloc, matches, "output")?,
         text: matches.get_flag("text"),
         bytes: matches.get_flag("bytes"),
+        names_in: matches.get_flag("names-in"),
         from: matches.get_one("from").unwrap_or(1),
         to: matches.get_one("to"),
         terminal: false,
+        colours: Colours::default(),
     })
 }
 
@@ -203,6 +215,7 @@ fn explore_of(alloc: Global, matches: &ArgMatches<'_>) -> Result<ExploreRun, All
         random: matches.get_one("random"),
         seed: matches.get_one("seed").unwrap_or(1),
         terminal: false,
+        colours: Colours::default(),
     })
 }
 
@@ -230,6 +243,7 @@ pub fn action_of(alloc: Global, words: &[String]) -> Result<Action, Error> {
         Some(("play", play)) => Action::Play(PlayRun {
             file: file_of(alloc, play, "file")?,
             names: play.get_flag("names"),
+            colours: Colours::default(),
         }),
         Some(("chart", chart)) => Action::Chart(chart_of(alloc, chart)?),
         Some(("explore", explore)) => Action::Explore(explore_of(alloc, explore)?),

@@ -1,5 +1,6 @@
 //! Unproved: words and layout. Explores the design of a file: every interleaving of its threads.
 
+use crate::colours::{Mood, marks};
 use crate::command::ExploreRun;
 use crate::ending::{end_failed, print_text, text_of};
 use crate::json::quoted;
@@ -21,7 +22,7 @@ pub const MOST_MOMENTS: usize = 1_000_000;
 const NOT_ALL: u8 = 4;
 
 /// The number of steps of a search between two lines of its progress.
-const STEPS: u32 = 1000;
+const STEPS: u32 = 250;
 
 /// An observer that ignores the progress of a search.
 #[derive(Drop)]
@@ -97,6 +98,7 @@ pub fn run_explore<R: Files + Input + Print + Eprint + AllocGlobal>(
         file: Some(file),
         text,
         shows: run.terminal,
+        colours: run.colours.errors,
     };
     let told = match read(rt.alloc(), text) {
         Ok(Reading::Good(design)) => {
@@ -115,17 +117,37 @@ pub fn run_explore<R: Files + Input + Print + Eprint + AllocGlobal>(
         Err(error) => Err(error),
     };
     let (words, status) = told.map_err(|_| end_failed(rt, "out of memory"))?;
-    if run.json {
-        let object = object_of(rt.alloc(), file, words.as_str(), status);
-        let object = object.map_err(|_| end_failed(rt, "out of memory"))?;
-        print_text(rt, object.as_str())?;
-    } else if run.script && status != 1 {
+    let words = words.as_str();
+    if run.script && status != 1 && !run.json {
         // there is no run to print
         let _ = eprint!(rt; "{words}");
-    } else {
-        print_text(rt, words.as_str())?;
+        return Ok(ExitCode::from(status));
     }
+    let printed = if run.json {
+        object_of(rt.alloc(), file, words, status)
+    } else {
+        painted(rt.alloc(), words, status, run.colours.output && !run.script)
+    };
+    let printed = printed.map_err(|_| end_failed(rt, "out of memory"))?;
+    print_text(rt, printed.as_str())?;
     Ok(ExitCode::from(status))
+}
+
+/// Returns the words of a search, the first line of them in the colour of its outcome.
+fn painted(
+    alloc: Global,
+    words: &str,
+    status: u8,
+    has_colours: bool,
+) -> Result<String, AllocError> {
+    let mood = match status {
+        0 => Mood::Good,
+        1 => Mood::Bad,
+        _ => Mood::Unsure,
+    };
+    let (begin, end) = marks(mood, has_colours);
+    let (first, rest) = words.split_once('\n').unwrap_or((words, ""));
+    format!(in alloc; "{begin}{first}{end}\n{rest}")
 }
 
 /// Returns the outcome of a search as an object of JSON: the design's file, the outcome in a word, and the lines of its

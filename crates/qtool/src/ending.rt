@@ -1,5 +1,6 @@
 //! Unproved: words and layout. Ends the program: with its statuses, and a line on standard error.
 
+use crate::colours::{Mood, marks};
 use std::fmt::Display;
 use std::io::{Read, Write};
 use std::process::ExitCode;
@@ -16,7 +17,13 @@ pub fn end_quietly() -> ExitCode {
 
 /// Prints a line with the reason on standard error.
 pub fn tell_failed<D: Display + Drop>(rt: &impl Eprint, why: D) {
-    let _ = eprintln!(rt; "qdemo: {why}");
+    tell_fault(rt, false, why);
+}
+
+/// The same with a colour, if standard error has colours.
+pub fn tell_fault<D: Display + Drop>(rt: &impl Eprint, has_colours: bool, why: D) {
+    let (begin, end) = marks(Mood::Bad, has_colours);
+    let _ = eprintln!(rt; "{begin}qdemo:{end} {why}");
 }
 
 /// Reports a file or folder that can't be read or written.

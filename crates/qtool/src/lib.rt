@@ -4,6 +4,7 @@
 
 pub mod charts;
 pub mod check;
+pub mod colours;
 pub mod command;
 pub mod designs;
 pub mod difference;

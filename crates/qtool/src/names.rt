@@ -37,6 +37,7 @@ pub fn run_named<R: Files + Input + Print + Eprint + AllocGlobal>(
         file,
         text: text.as_slice(),
         shows: run.explain || run.terminal,
+        colours: run.colours.errors,
     };
     let named = named_of(rt, source)?;
     if run.plain {

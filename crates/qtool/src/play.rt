@@ -5,7 +5,7 @@ mod order;
 pub mod sheet;
 
 use crate::command::PlayRun;
-use crate::ending::{end_failed, end_unwritten, tell_failed, tell_unread, text_of};
+use crate::ending::{end_failed, end_unwritten, tell_failed, tell_fault, tell_unread, text_of};
 use crate::names::is_named;
 use crate::remarks::Source;
 use order::{Order, order_of};
@@ -47,6 +47,8 @@ struct Play<'a, R> {
     lines: u64,
     /// Whether one of these lines was faulty.
     faulty: bool,
+    /// Whether standard error has colours.
+    colours: bool,
 }
 
 /// Plays with the script of a file, or without one. Lines come from standard input; at its end, if it isn't a terminal,
@@ -63,6 +65,7 @@ pub fn run_play<R: Files + Input + Print + Eprint + AllocGlobal>(
         terminal,
         lines: 0,
         faulty: false,
+        colours: run.colours.errors,
     };
     let played = match run.file.as_deref() {
         None => play.go_on(),
@@ -101,7 +104,8 @@ impl<R: Files + Input + Print + Eprint + AllocGlobal> Play<'_, R> {
                 return Ok(true);
             }
             Ok(Taken::Plain(number, fault)) => {
-                tell_failed(self.rt, format_args!("{name}: line {number}: {fault}"));
+                let told = format_args!("{name}: line {number}: {fault}");
+                tell_fault(self.rt, self.colours, told);
             }
             Ok(Taken::Named(faults)) => self.tell_faults(faults.as_slice(), file, text),
             Err(ScriptFault::NoMemory) => return Err(AllocError.into()),
@@ -114,7 +118,13 @@ impl<R: Files + Input + Print + Eprint + AllocGlobal> Play<'_, R> {
     fn tell_faults(&mut self, faults: &[Fault], file: Option<&str>, text: &[u8]) {
         self.faulty = self.faulty || !faults.is_empty();
         let shows = self.terminal;
-        Source { file, text, shows }.tell_faults(self.rt, faults);
+        let source = Source {
+            file,
+            text,
+            shows,
+            colours: self.colours,
+        };
+        source.tell_faults(self.rt, faults);
     }
 
     /// Reads lines and answers them, up to the end of the input or to `quit`, and returns the exit code.
@@ -175,10 +185,10 @@ impl<R: Files + Input + Print + Eprint + AllocGlobal> Play<'_, R> {
     fn refuse(&mut self, why: &str) {
         self.faulty = true;
         if self.terminal {
-            tell_failed(self.rt, why);
+            tell_fault(self.rt, self.colours, why);
         } else {
             let number = self.lines;
-            tell_failed(self.rt, format_args!("line {number}: {why}"));
+            tell_fault(self.rt, self.colours, format_args!("line {number}: {why}"));
         }
     }
 

@@ -1,6 +1,8 @@
 //! Unproved: words and layout. Writes remarks on a script to standard error: all its faults, its
 //! oddities, why its calls failed, and who is blocked on whom.
 
+use crate::colours::{Mood, marks};
+use crate::ending::tell_fault;
 use qexplain::excerpt::excerpt_of;
 use qexplain::faults::{Remark, faults, oddities};
 use qexplain::report::Report;
@@ -9,12 +11,14 @@ use qreading::place::Fault;
 use std::io;
 use std::process::ExitCode;
 
-/// The source of faults: the name of its file, its text, and whether the faulty lines are shown.
+/// The source of faults: the name of its file, its text, whether the faulty lines are shown, and whether standard error
+/// has colours.
 #[derive(Clone, Copy)]
 pub struct Source<'a> {
     pub file: Option<&'a str>,
     pub text: &'a [u8],
     pub shows: bool,
+    pub colours: bool,
 }
 
 impl Source<'_> {
@@ -23,10 +27,13 @@ impl Source<'_> {
         for fault in faults {
             let Fault { place, what } = fault;
             let (line, column) = (place.line, place.column);
-            let _ = match self.file {
-                Some(file) => eprintln!(rt; "qdemo: {file}:{fault}"),
-                None => eprintln!(rt; "qdemo: line {line}, column {column}: {what}"),
-            };
+            match self.file {
+                Some(file) => tell_fault(rt, self.colours, format_args!("{file}:{fault}")),
+                None => {
+                    let told = format_args!("line {line}, column {column}: {what}");
+                    tell_fault(rt, self.colours, told);
+                }
+            }
             let number = line.saturating_sub(1) as usize;
             let place = Place {
                 at: column.saturating_sub(1) as usize,
@@ -48,20 +55,17 @@ impl Source<'_> {
     }
 }
 
-/// Prints the faults of a plain script: explains them, at most twenty, or else prints the first alone. Returns whether
-/// there was memory for that.
-pub fn tell_faults<R: Eprint + AllocGlobal>(
-    rt: &R,
-    file: Option<&str>,
-    text: &[u8],
-    explains: bool,
-) -> bool {
-    let Ok(remarks) = faults(rt.alloc(), text) else {
+/// Prints the faults of a plain script: explains them, at most twenty, if they are shown, or else prints the first alone.
+/// Returns whether there was memory for that.
+pub fn tell_faults<R: Eprint + AllocGlobal>(rt: &R, source: Source<'_>) -> bool {
+    let Ok(remarks) = faults(rt.alloc(), source.text) else {
         return false;
     };
+    let (begin, end) = marks(Mood::Bad, source.colours);
     for remark in &remarks {
-        let _ = tell_place(rt, "qdemo: ", file, remark);
-        if !explains {
+        let _ = eprint!(rt; "{begin}qdemo:{end} ");
+        let _ = tell_place(rt, source.file, remark);
+        if !source.shows {
             break;
         }
         let explanation = &remark.explanation;
@@ -70,10 +74,9 @@ pub fn tell_faults<R: Eprint + AllocGlobal>(
     !remarks.is_empty()
 }
 
-/// Prints `FILE:LINE:COLUMN: FAULT`, or `line LINE: FAULT` if the script has no file, behind these words.
+/// Prints `FILE:LINE:COLUMN: FAULT`, or `line LINE: FAULT` if the script has no file.
 fn tell_place<R: Eprint + AllocGlobal>(
     rt: &R,
-    front: &str,
     file: Option<&str>,
     remark: &Remark,
 ) -> io::Result<()> {
@@ -84,8 +87,8 @@ fn tell_place<R: Eprint + AllocGlobal>(
         None => format!(in rt.alloc(); "line {line}")?,
     };
     match remark.fault {
-        Some(fault) => eprintln!(rt; "{front}{place}: {fault}"),
-        None => eprintln!(rt; "{front}{place}: warning"),
+        Some(fault) => eprintln!(rt; "{place}: {fault}"),
+        None => eprintln!(rt; "{place}: warning"),
     }
 }
 
@@ -96,7 +99,7 @@ pub fn tell_oddities<R: Eprint + AllocGlobal>(
     text: &[u8],
 ) -> io::Result<()> {
     for remark in &oddities(rt.alloc(), text)? {
-        tell_place(rt, "", file, remark)?;
+        tell_place(rt, file, remark)?;
         let explanation = &remark.explanation;
         eprintln!(rt; "{explanation}")?;
     }

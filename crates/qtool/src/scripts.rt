@@ -4,6 +4,7 @@ use crate::command::ScriptRun;
 use crate::ending::{end_failed, end_quietly, end_unread, end_with, print_text};
 use crate::json::trace_json;
 use crate::names::{is_named, run_named};
+use crate::remarks;
 use crate::remarks::{tell_faults, tell_report};
 use crate::streams::{Outlet, Source};
 use qexplain::report::explained;
@@ -107,10 +108,16 @@ fn end_faulty<R: Eprint + AllocGlobal, S>(
     if let (ScriptFault::Read, Some(name), Some(error)) = (&fault, file, source.error()) {
         return end_unread(rt, name, error);
     }
-    if let (ScriptFault::Line { .. }, Some(text)) = (&fault, source.text())
-        && tell_faults(rt, file, text, run.explain || run.terminal)
-    {
-        return ExitCode::from(fault.status());
+    if let (ScriptFault::Line { .. }, Some(text)) = (&fault, source.text()) {
+        let faulty = remarks::Source {
+            file,
+            text,
+            shows: run.explain || run.terminal,
+            colours: run.colours.errors,
+        };
+        if tell_faults(rt, faulty) {
+            return ExitCode::from(fault.status());
+        }
     }
     end_with(rt, format_args!("{fault}"), fault.status())
 }

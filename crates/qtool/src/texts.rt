@@ -20,7 +20,8 @@ Status: 0; 1 for a faulty script, a trace that differs, or a run that isn't as i
 script expects; 2 for a faulty command line; 3 where reading, writing or memory
 fails; 4 where a worker fails, or a search didn't look at everything. Where nobody
 reads the output any more, as behind '| head -1', the program ends without a message,
-with status 141.";
+with status 141. On a terminal faults and outcomes have colours, unless NO_COLOR is
+set.";
 
 /// The texts of a subcommand.
 pub struct Texts {

@@ -14,6 +14,12 @@ const EXPLAIN: (&str, &str) = (
 /// The option that prints JSON: its name and its help.
 const JSON: (&str, &str) = ("json", "Print an object of JSON in place of each line");
 
+/// The option that reads names: its name and its help.
+const NAMES_IN: (&str, &str) = (
+    "names-in",
+    "Read a script with names, whatever its file is called",
+);
+
 /// The option that prints names: its name and its help.
 const NAMES: (&str, &str) = (
     "names",
@@ -93,10 +99,7 @@ fn script_command<'a>(alloc: Global) -> Result<Command<'a>, AllocError> {
         EXPLAIN,
         JSON,
         NAMES,
-        (
-            "names-in",
-            "Read a script with names, whatever its file is called",
-        ),
+        NAMES_IN,
         (
             "plain",
             "Print the plain script of one with names, and don't run it",
@@ -135,6 +138,7 @@ fn chart_command<'a>(alloc: Global) -> Result<Command<'a>, AllocError> {
             "Draw in columns of text, as is done on a terminal, and not as SVG",
         ),
         ("bytes", "Show the bytes of messages and answers, 8 at most"),
+        NAMES_IN,
     ];
     let call = value_parser!(u32).range(1..4294967295);
     let from = "The number of the first call that is drawn";

@@ -1,0 +1,30 @@
+//! Unproved: words and layout. Colours of faults and outcomes on a terminal.
+
+/// Which outputs have colours.
+#[derive(Clone, Copy, Default)]
+pub struct Colours {
+    /// Standard output.
+    pub output: bool,
+    /// Standard error.
+    pub errors: bool,
+}
+
+/// What a colour says.
+#[derive(Clone, Copy)]
+pub enum Mood {
+    Good,
+    Bad,
+    Unsure,
+}
+
+/// Returns what stands before and behind a text in its colour; nothing, if its output has none.
+pub fn marks(mood: Mood, has_colours: bool) -> (&'static str, &'static str) {
+    if !has_colours {
+        return ("", "");
+    }
+    match mood {
+        Mood::Good => ("\x1b[32m", "\x1b[0m"),
+        Mood::Bad => ("\x1b[31m", "\x1b[0m"),
+        Mood::Unsure => ("\x1b[33m", "\x1b[0m"),
+    }
+}
