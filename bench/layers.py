@@ -2,7 +2,7 @@
 """Counts the cache lines that Send, Receive and Reply touch under the lock of the layers for C and Rust, and compares
 them with bench/layers.txt.
 
-    bench/layers.py [LAYER..]      compares; a row with more lines or instructions is a fault, with status 1
+    bench/layers.py [LAYER..]      compares; a sum that is over 2 % greater is a fault, with status 1
     bench/layers.py --write        writes the file anew
     bench/layers.py --each LAYER   prints each line that the three calls touch, and compares nothing
     bench/layers.py .. --library FOLDER   takes the libraries of this folder, as BALSAEUCHRE_LIB_DIR has them
@@ -11,7 +11,8 @@ A LAYER is `c` or `rust`. Its bench runs with one client and one server, where o
 that the server receives first, and in a second run so that the client sends first. Counted is what bench/lines.py
 counts, by the same words, in each of the last 32 round trips, with the instructions under the lock (`steps`). But here
 a line moves, too, where the other thread touched it outside the lock, and it doesn't where this thread got it before it
-took the lock. `call` is the stack of the thread that waits. Figures are means.
+took the lock. `call` is the stack of the thread that waits. Figures are means, which differ by 0.2 from run to run;
+the machine may have other work, but each thread has to come to its wait within the pause.
 """
 
 import collections
@@ -28,9 +29,10 @@ TOP = pathlib.Path(__file__).resolve().parent
 FOREIGN = TOP.parent / "foreign"
 KEPT = TOP / "layers.txt"
 LAYERS = ("c", "rust")
-ROUNDS, LAST, PAUSE, BUFFER = 44, 32, 40, 16
+ROUNDS, LAST, PAUSE, BUFFER = 44, 32, 40, 16 # round trips, those that count, milliseconds, bytes
 ORDERS = [("Receive", "Send", "Reply"), ("Send", "Receive", "Reply")]
-STACK = 1 << 20
+STACK = 1 << 20 # stacks lie further apart
+TOLERANCE = 1.02
 
 # What lies in the kernel of the layer for C, by the first bytes of its parts.
 PARTS = r"""
@@ -207,8 +209,8 @@ def measured(program, calls, size, parts):
     counts = collections.Counter(it.thread for it in turns)
     # The server makes the most calls, two a round trip, and the client makes the Sends.
     server, client = (it for it, _ in counts.most_common(2))
-    sends = [k for k, turn in enumerate(turns) if turn.thread == client and {it.thread for it in turns[k + 1:k + 3]} == {server}]
-    sends = [k for k in sends if turns[k - 1].thread == server][-LAST - 1:-1]
+    around = [(k, {it.thread for it in turns[k - 1:k] + turns[k + 1:k + 3]}) for k in range(1, len(turns))]
+    sends = [k for k, others in around if turns[k].thread == client and others == {server}][-LAST - 1:-1]
     if len(sends) < LAST or any(b - a != 3 for a, b in zip(sends, sends[1:])):
         sys.exit("bench/layers.py: the machine is too busy: a thread did not wait for the other")
     first = 1 if calls[0] == "Receive" else 0
@@ -265,7 +267,7 @@ def main():
     print(text, end="")
     if "--each" in words:
         return
-    more = [it for it in zip(sums(kept(layers)), sums(text)) if it[1] > it[0]]
+    more = [it for it in zip(sums(kept(layers)), sums(text)) if it[1] > it[0] * TOLERANCE]
     print("MORE than in bench/layers.txt" if more else "ok: no more than in bench/layers.txt")
     sys.exit(1 if more else 0)
 

@@ -204,7 +204,7 @@ static void make_call(struct client *c) {
                             .room_len = a->room_len, .info = &c->answer.info, .cancels = a->flags & WIRE_CANCELS};
     int error = c->bytes ? prepare_call(c) : ENOMEM, kind = a->request.kind;
     if (!error && !(error = note_call(k, c->place, &c->call))) {
-        error = make_under_lock(k, c->place, &c->call, &ended);
+        error = make_under_lock(k, c->place, &c->call, &k->event, &ended);
         if (error && kind == BALSAEUCHRE_PULSE) end_note(c->call.request.value);
     }
     if (error) {

@@ -1,10 +1,13 @@
 /* The parts of the layer share these. Tested, not proved. sys/neutrino.h is for callers.
  *
  * A kernel is under one lock. Each of its threads has a place, with a word at which it sleeps while its call is
- * open. A call takes the lock, opens the word, and makes the call in the library, which returns endings: of this call,
- * and of calls that other threads wait in. Each ending is copied to the buffers of its own thread (that thread is
- * in its call, so its buffers live), and then the word is set to ENDED. After the lock is released, the threads that
- * sleep are woken.
+ * open. A call is noted in its place, with the word opened; then it takes the lock, and is made in the library, which
+ * returns endings: of this call, and of calls that other threads wait in. Each ending is copied to the buffers of its
+ * own thread (that thread is in its call, so its buffers live), and then the word is set to ENDED. After the lock is
+ * released, the threads that sleep are woken. Memory is taken and given back without the lock.
+ *
+ * What a call writes under the lock lies in cache lines of its thread, except what other threads have to learn.
+ * bench/layers.py counts the lines.
  */
 #ifndef LAYER_H
 #define LAYER_H

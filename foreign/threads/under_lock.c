@@ -67,17 +67,6 @@ static int make_room(neutrino *k, struct place *p, const struct call *c) {
     return 0;
 }
 
-/* Opens the room of a call's event. Only the kinds of call that are named here end more than one call of another
- * thread. What others bring fits into the thread's own room, unless a buffer is longer than half of it. */
-static struct event event_of(neutrino *k, const struct place *p, int kind) {
-    size_t at = (size_t)(p - k->places);
-    bool ends_many = kind == BALSAEUCHRE_CHANNEL_DESTROY || kind == BALSAEUCHRE_CONNECT_DETACH ||
-                     kind == BALSAEUCHRE_SHUTDOWN;
-    struct event e = {.rows = k->rows + OWN_ROWS * at, .bytes = k->near[at], .bytes_len = NEAR};
-    if (ends_many || k->most > NEAR / 2) e.bytes = k->event.bytes, e.bytes_len = k->event.bytes_len;
-    return e;
-}
-
 /* Makes room for a call, and notes it in its thread's place, before the lock is taken: nobody looks at that before the
  * call is open. Returns 0 or ENOMEM. */
 static int note_call(neutrino *k, struct place *p, struct call *c) {
@@ -101,15 +90,14 @@ static void note_unblock(neutrino *k, int tid) {
 
 /* Makes a noted call under the lock, and delivers the endings. Returns 0, and sets *ended to the threads whose calls
  * have ended; or returns an errno, and no call has. */
-static int make_under_lock(neutrino *k, struct place *p, struct call *c, uint64_t *ended) {
-    struct event e = event_of(k, p, p->kind);
+static int make_under_lock(neutrino *k, struct place *p, struct call *c, struct event *e, uint64_t *ended) {
     if (c->table) c->request.id = id_of(k, c->table, c->number, c->owner);
     if (p->kind == BALSAEUCHRE_PULSE && c->own_priority) c->request.priority = priority_of(k, p);
     if (c->cancels && p->cancelled) open_word(p, true);
-    uint32_t error = make_in_library(k, c, visible_length(c), &e);
+    uint32_t error = make_in_library(k, c, visible_length(c), e);
     if (error) return host_error(error);
     p->call = c;
-    *ended = deliver_rows(k, &e);
+    *ended = deliver_rows(k, e);
     if (p->kind == BALSAEUCHRE_UNBLOCK && !p->error) note_unblock(k, c->request.target);
     return 0;
 }
