@@ -1,7 +1,8 @@
 -- What one client tells another once its message is answered.
-use Rattle.balsaeuchre_uses.specs.Words.{◌≡◌, ◌∷◌, [], Bool, false, is_some, length, slice_get, Trace}
+use Rattle.std.specs.Prelude.{◌≡◌, ◌∷◌, [], Bool, false, is_some, length, slice_get}
 use Rattle.balsaeuchre.specs.Laws.{event_at}
 use Rattle.balsaeuchre.specs.Rules.{effect_of}
+use Rattle.balsaeuchre.specs.Trace.{Trace}
 
 -- the newest event of what was seen sends a message
 abbrev pub is_sent : Trace → Bool

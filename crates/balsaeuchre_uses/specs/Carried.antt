@@ -1,8 +1,12 @@
 -- A priority that is carried through two servers, event by event.
-use Rattle.balsaeuchre_uses.specs.Words.{List, [], ◌∷◌, pos, Member, ChannelCreate, ConnectAttach, Send}
-use Rattle.balsaeuchre_uses.specs.Words.{Receive, Reply, State, member, event, ended, flags_of, Event}
+use Rattle.std.specs.Prelude.{List, [], ◌∷◌, pos}
 use Rattle.qbase.specs.declared.state.ThreadState.TheVariants.{Ready}
+use Rattle.qtables.specs.declared.member.Member.{Member}
+use Rattle.qmodel.specs.declared.call.Call.TheVariants.{ChannelCreate, ConnectAttach, Send, Receive, Reply}
+use Rattle.qmodel.specs.declared.call.Call.TheVariants.{State}
 use Rattle.qmodel.specs.declared.call.Mark.TheVariants as mark
+use Rattle.qworked.specs.Runs.{member, event, ended, flags_of}
+use Rattle.balsaeuchre.specs.Trace.{Event}
 
 -- a store and a server of priority 10, an urgent client and a less urgent one, each in a process of its own
 abbrev pub roster : List Member

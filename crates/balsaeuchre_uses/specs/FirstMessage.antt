@@ -1,9 +1,11 @@
 -- The first message, event by event.
-use Rattle.balsaeuchre_uses.specs.Words.{ℕ, List, [], ◌∷◌, pos, replicate, Member, ChannelCreate}
-use Rattle.balsaeuchre_uses.specs.Words.{ConnectAttach, Send, Receive, Reply, member, event, ended, flags_of}
-use Rattle.balsaeuchre_uses.specs.Words.{Event}
+use Rattle.std.specs.Prelude.{ℕ, List, [], ◌∷◌, pos, replicate}
+use Rattle.qtables.specs.declared.member.Member.{Member}
+use Rattle.qmodel.specs.declared.call.Call.TheVariants.{ChannelCreate, ConnectAttach, Send, Receive, Reply}
 use Rattle.qmodel.specs.declared.call.Mark.TheVariants as mark
+use Rattle.qworked.specs.Runs.{member, event, ended, flags_of}
 use Rattle.balsaeuchre.specs.Laying.{laid_count, lay_over}
+use Rattle.balsaeuchre.specs.Trace.{Event}
 
 -- a server and a client, each in a process of its own
 abbrev pub roster : List Member

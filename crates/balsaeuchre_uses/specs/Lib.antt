@@ -1,4 +1,3 @@
-pub mod Words
 pub mod Written
 pub mod FirstMessage
 pub mod ThreeThreads

@@ -1,8 +1,11 @@
 -- A clean shutdown, event by event.
-use Rattle.balsaeuchre_uses.specs.Words.{List, [], ◌∷◌, pos, Srch, Down, ChannelCreate, ConnectAttach, Send}
-use Rattle.balsaeuchre_uses.specs.Words.{Receive, Reply, ChannelDestroy, ConnectDetach, Shutdown, event}
-use Rattle.balsaeuchre_uses.specs.Words.{ended, flags_of, Event}
+use Rattle.std.specs.Prelude.{List, [], ◌∷◌, pos}
+use Rattle.qbase.specs.declared.errno.Errno.TheVariants.{Srch, Down}
+use Rattle.qmodel.specs.declared.call.Call.TheVariants.{ChannelCreate, ConnectAttach, Send, Receive, Reply}
+use Rattle.qmodel.specs.declared.call.Call.TheVariants.{ChannelDestroy, ConnectDetach, Shutdown}
 use Rattle.qmodel.specs.declared.call.Mark.TheVariants as mark
+use Rattle.qworked.specs.Runs.{event, ended, flags_of}
+use Rattle.balsaeuchre.specs.Trace.{Event}
 
 -- message 3 is answered, message 5 ends with the channel, and the last call is refused
 abbrev pub events : List Event

@@ -1,5 +1,7 @@
 -- The roster of the examples with three threads.
-use Rattle.balsaeuchre_uses.specs.Words.{List, [], ◌∷◌, Member, member}
+use Rattle.std.specs.Prelude.{List, [], ◌∷◌}
+use Rattle.qtables.specs.declared.member.Member.{Member}
+use Rattle.qworked.specs.Runs.{member}
 
 -- a server, and two threads of one process, one of which is the client
 abbrev pub roster : List Member

@@ -1,11 +1,14 @@
 -- A timeout, event by event.
-use Rattle.balsaeuchre_uses.specs.Words.{ℕ, List, [], ◌∷◌, pos, Srch, Intr, ChannelCreate, ConnectAttach}
-use Rattle.balsaeuchre_uses.specs.Words.{Send, Receive, Reply, Error, ReceivePulse, Unblock, event, ended}
-use Rattle.balsaeuchre_uses.specs.Words.{flags_of, Event}
+use Rattle.std.specs.Prelude.{ℕ, List, [], ◌∷◌, pos}
+use Rattle.qbase.specs.declared.errno.Errno.TheVariants.{Srch, Intr}
 use Rattle.qqueue.specs.declared.item.What.TheVariants as what
 use Rattle.qbase.specs.declared.flags.ChannelFlags.{ChannelFlags}
 use Rattle.qmodel.specs.declared.call.Call.{Call}
+use Rattle.qmodel.specs.declared.call.Call.TheVariants.{ChannelCreate, ConnectAttach, Send, Receive, Reply}
+use Rattle.qmodel.specs.declared.call.Call.TheVariants.{Error, ReceivePulse, Unblock}
 use Rattle.qmodel.specs.declared.call.Mark.TheVariants as mark
+use Rattle.qworked.specs.Runs.{event, ended, flags_of}
+use Rattle.balsaeuchre.specs.Trace.{Event}
 
 -- the server holds message 3, and the timer unblocks its sender
 abbrev pub begun : ChannelFlags → List (ℕ × Call)

@@ -1,6 +1,8 @@
 -- The contract of a run.
-use Rattle.balsaeuchre_uses.specs.Words.{◌≡◌, List, [], Member, Event, followed_by}
+use Rattle.std.specs.Prelude.{◌≡◌, List, []}
+use Rattle.qtables.specs.declared.member.Member.{Member}
 use Rattle.balsaeuchre.specs.Lawful.{HadMemory, IsLawful}
+use Rattle.balsaeuchre.specs.Trace.{Event, followed_by}
 use Rattle.qmodel.specs.Trace.{Run}
 
 -- the run is lawful, and if none of its calls was refused for lack of memory it has just these events

@@ -1,5 +1,7 @@
 -- A roster as members join it one after another.
-use Rattle.qscript.specs.Words.{◌≡◌, List, [], ◌∷◌, None, Member, with_member, join_refusal}
+use Rattle.std.specs.Prelude.{◌≡◌, List, [], ◌∷◌, None}
+use Rattle.qtables.specs.declared.member.Member.{Member}
+use Rattle.qtables.specs.Members.{with_member, join_refusal}
 
 -- the roster after these members joined it, one after another
 abbrev pub roster_with : List Member → List Member → List Member

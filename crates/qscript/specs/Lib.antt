@@ -1,4 +1,3 @@
-pub mod Words
 pub mod Printing
 pub mod Writing
 pub mod Watched

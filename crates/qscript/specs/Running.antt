@@ -1,8 +1,13 @@
 -- A run that goes on call by call.
-use Rattle.qscript.specs.Words.{◌≡◌, ℕ, ◌+◌, List, length, Member, Call, Blocked, facts_of, blocked_threads}
-use Rattle.qscript.specs.Words.{State}
+use Rattle.std.specs.Prelude.{◌≡◌, ℕ, ◌+◌, List, length}
+use Rattle.qtables.specs.declared.member.Member.{Member}
+use Rattle.qmodel.specs.declared.call.Call.{Call}
+use Rattle.qmodel.specs.declared.open_call.Blocked.{Blocked}
 use Rattle.qmodel.specs.Trace.{Run as Events, Trace}
+use Rattle.qrules.specs.Lawful.{facts_of}
 use Rattle.qstate.specs.Kept.{members_of}
+use Rattle.qkernel.specs.Blocked.{blocked_threads}
+use Rattle.qkernel.specs.Kernel.{State}
 use Rattle.qkernel.specs.Stands.{StandsAt}
 use Rattle.qscript.specs.Printing.Printed.{printed}
 use Rattle.qscript.specs.Printing.Printer.{HasPrinted, HasRun}

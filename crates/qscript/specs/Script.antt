@@ -1,11 +1,19 @@
 -- The run of a script, from a reader to a writer.
-use Rattle.qscript.specs.Words.{◌≡◌, ℕ, ◌≤◌, ◌^◌, Bool, List, [], length, map, Option, Appends, IsRoster}
-use Rattle.qscript.specs.Words.{Member, Call, Blocked, blocked_threads, Run, AllKnown, event_call, facts_of}
-use Rattle.qscript.specs.Words.{HadMemory, IsLawful, meaning, Says, Faulty}
+use Rattle.std.specs.Prelude.{◌≡◌, ℕ, ◌≤◌, ◌^◌, Bool, List, [], length, map, Option}
+use Rattle.std.specs.Io.KnownBytes.{Appends}
+use Rattle.qtables.specs.Members.{IsRoster}
+use Rattle.qtables.specs.declared.member.Member.{Member}
+use Rattle.qmodel.specs.declared.call.Call.{Call}
+use Rattle.qmodel.specs.declared.open_call.Blocked.{Blocked}
+use Rattle.qkernel.specs.Blocked.{blocked_threads}
+use Rattle.qmodel.specs.Trace.{Run}
+use Rattle.qkernel.specs.Run.{AllKnown}
 use Rattle.qrules.specs.Properties.{HasProperties}
+use Rattle.qrules.specs.Lawful.{event_call, facts_of, HadMemory, IsLawful}
 use Rattle.qrules.specs.Trace.{followed_by}
 use Rattle.qreading.specs.declared.fault.LineFault.{LineFault}
 use Rattle.qscript.specs.Enrolled.{roster_with, AllJoin}
+use Rattle.qreading.specs.Reading.Meaning.{meaning, Says, Faulty}
 use Rattle.qscript.specs.Printing.Printed.{printed}
 use Rattle.qscript.specs.Transfer.{IsReading, FailsWithin, IsOverfull, StopsWithin}
 

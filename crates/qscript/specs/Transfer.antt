@@ -1,8 +1,9 @@
 -- Reading to the end, and writing all bytes.
-use Rattle.qscript.specs.Words.{◌≡◌, ℕ, ◌<◌, ◌≤◌, Bool, true, false, List, length, take, Option, Consumes}
-use Rattle.qscript.specs.Words.{Appends, IsAtEnd, most_text}
+use Rattle.std.specs.Prelude.{◌≡◌, ℕ, ◌<◌, ◌≤◌, Bool, true, false, List, length, take, Option}
+use Rattle.std.specs.Io.KnownBytes.{Consumes, Appends, IsAtEnd}
 use Rattle.qreading.specs.declared.fault.ScriptFault.{ScriptFault}
 use Rattle.qreading.specs.declared.fault.ScriptFault.TheVariants as faults
+use Rattle.qreading.specs.TextLimit.{most_text}
 
 -- a reader gave these bytes, and then its end
 pub record IsReading (before after : Option (List ℕ)) (bytes : List ℕ) : Type 0 where

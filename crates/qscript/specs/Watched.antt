@@ -1,5 +1,5 @@
 -- A watched reader or writer: whether it failed, and when a write counts as failed.
-use Rattle.qscript.specs.Words.{ℕ, ◌==◌, ◌&&◌, nat_lt, Bool, true, List, length, Result, Ok, Err}
+use Rattle.std.specs.Prelude.{ℕ, ◌==◌, ◌&&◌, nat_lt, Bool, true, List, length, Result, Ok, Err}
 use Rattle.qscript.specs.declared.watched.Watched.{Watched}
 
 module _ {T : Type 0} where

@@ -1,8 +1,9 @@
 -- On a channel with all three flags, each has its effect: priorities stay as they are, and a client that is
 -- to be unblocked stays blocked while its message is held.
-use Rattle.qworked.specs.Words.{List, [], ◌∷◌, replicate, pos, negsuc, Intr, Ready, ReceiveBlocked}
-use Rattle.qworked.specs.Words.{ReplyBlocked, Send, Receive, Reply, Info, ReceivePulse, Pulse, PrioritySet}
-use Rattle.qworked.specs.Words.{Unblock, State, Blocked, Event, blocked, ended, event, info}
+use Rattle.qworked.specs.Words.{List, [], replicate, pos, negsuc, Intr, Ready, ReceiveBlocked, ReplyBlocked}
+use Rattle.qworked.specs.Words.{Send, Receive, Reply, Info, ReceivePulse, Pulse, PrioritySet, Unblock, State}
+use Rattle.qworked.specs.Words.{Blocked, Event, blocked, ended, event, info}
+use Rattle.std.specs.Prelude.{◌∷◌}
 use Rattle.qqueue.specs.declared.item.What.TheVariants as what
 use Rattle.qmodel.specs.declared.call.Mark.TheVariants as mark
 use Rattle.qworked.specs.ThreeProcesses.{attached}

@@ -1,7 +1,8 @@
 -- An offset at the end or past it copies nothing. An Error answers a message with a code and no bytes; the
 -- code 0 is like a reply of status 0.
-use Rattle.qworked.specs.Words.{List, [], ◌∷◌, pos, Send, Receive, Error, Read, Write, Event, event, ended}
+use Rattle.qworked.specs.Words.{List, [], pos, Send, Receive, Error, Read, Write, Event, event, ended}
 use Rattle.qworked.specs.Words.{connected}
+use Rattle.std.specs.Prelude.{◌∷◌}
 use Rattle.qmodel.specs.declared.call.Mark.TheVariants as mark
 
 -- nine calls, of both threads of the server

@@ -1,7 +1,8 @@
 -- The limits count what is open, live or pending at the time, and nothing else.
-use Rattle.qworked.specs.Words.{count_by, ℕ, List, [], ◌∷◌, pos, negsuc, Srch, Inval, ChannelCreate}
+use Rattle.qworked.specs.Words.{count_by, ℕ, List, [], pos, negsuc, Srch, Inval, ChannelCreate}
 use Rattle.qworked.specs.Words.{ChannelDestroy, ConnectAttach, ConnectDetach, Send, ReceivePulse, Pulse}
 use Rattle.qworked.specs.Words.{Facts, facts_of, followed_by, Event, event, ended, flags_of}
+use Rattle.std.specs.Prelude.{◌∷◌}
 use Rattle.qqueue.specs.declared.item.What.TheVariants as what
 use Rattle.qmodel.specs.declared.call.Mark.TheVariants as mark
 use Rattle.qqueue.specs.Best.{is_pulse}

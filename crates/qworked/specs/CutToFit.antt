@@ -1,6 +1,7 @@
 -- A message that is received, the bytes of a Write and a reply are cut if they don't fit the buffer.
-use Rattle.qworked.specs.Words.{List, [], ◌∷◌, pos, negsuc, Send, Receive, Reply, Write, Event, event, ended}
+use Rattle.qworked.specs.Words.{List, [], pos, negsuc, Send, Receive, Reply, Write, Event, event, ended}
 use Rattle.qworked.specs.Words.{connected}
+use Rattle.std.specs.Prelude.{◌∷◌}
 use Rattle.qmodel.specs.declared.call.Mark.TheVariants as mark
 
 -- a message of five bytes is received into a buffer of two, and has a reply buffer of three

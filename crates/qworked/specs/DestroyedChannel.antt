@@ -1,7 +1,8 @@
 -- A ChannelDestroy ends the calls that are blocked on the channel, and later calls on it are refused.
-use Rattle.qworked.specs.Words.{List, [], ◌∷◌, pos, Srch, Badf, Inval, ChannelCreate, ConnectAttach, Send}
-use Rattle.qworked.specs.Words.{Receive, Reply, ReceivePulse, Pulse, ChannelDestroy, Event, event, ended}
-use Rattle.qworked.specs.Words.{flags_of, connected}
+use Rattle.qworked.specs.Words.{List, [], pos, Srch, Badf, Inval, ChannelCreate, ConnectAttach, Send, Receive}
+use Rattle.qworked.specs.Words.{Reply, ReceivePulse, Pulse, ChannelDestroy, Event, event, ended, flags_of}
+use Rattle.qworked.specs.Words.{connected}
+use Rattle.std.specs.Prelude.{◌∷◌}
 use Rattle.qqueue.specs.declared.item.What.TheVariants as what
 use Rattle.qmodel.specs.declared.call.Mark.TheVariants as mark
 

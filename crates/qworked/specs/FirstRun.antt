@@ -1,7 +1,8 @@
 -- The first run: a server creates a channel; a client attaches to it and sends; the server receives and
 -- replies.
-use Rattle.qworked.specs.Words.{List, [], ◌∷◌, pos, Member, ChannelCreate, ConnectAttach, Send, Receive}
-use Rattle.qworked.specs.Words.{Reply, Event, member, event, ended, flags_of, with_endings}
+use Rattle.qworked.specs.Words.{List, [], pos, Member, ChannelCreate, ConnectAttach, Send, Receive, Reply}
+use Rattle.qworked.specs.Words.{Event, member, event, ended, flags_of, with_endings}
+use Rattle.std.specs.Prelude.{◌∷◌}
 use Rattle.qmodel.specs.declared.call.Mark.TheVariants as mark
 
 -- a server and a client, each with a process of its own

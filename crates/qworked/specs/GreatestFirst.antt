@@ -1,7 +1,8 @@
 -- The server receives the pending message of greatest priority first, and among equals the one that was sent
 -- first.
-use Rattle.qworked.specs.Words.{List, [], ◌∷◌, ReplyBlocked, ConnectAttach, Send, Receive, Blocked, Event}
-use Rattle.qworked.specs.Words.{event, ended, blocked, with_endings, connected}
+use Rattle.qworked.specs.Words.{List, [], ReplyBlocked, ConnectAttach, Send, Receive, Blocked, Event, event}
+use Rattle.qworked.specs.Words.{ended, blocked, with_endings, connected}
+use Rattle.std.specs.Prelude.{◌∷◌}
 use Rattle.qmodel.specs.declared.call.Mark.TheVariants as mark
 
 -- the later of two messages has the greater priority

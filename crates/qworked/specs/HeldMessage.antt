@@ -1,6 +1,7 @@
 -- Info, Read and Write are allowed on a held message until it is answered.
-use Rattle.qworked.specs.Words.{List, [], ◌∷◌, pos, Srch, Send, Receive, Reply, Read, Write, Info, Event}
-use Rattle.qworked.specs.Words.{ended, event, info, connected}
+use Rattle.qworked.specs.Words.{List, [], pos, Srch, Send, Receive, Reply, Read, Write, Info, Event, ended}
+use Rattle.qworked.specs.Words.{event, info, connected}
+use Rattle.std.specs.Prelude.{◌∷◌}
 use Rattle.qmodel.specs.declared.call.Mark.TheVariants as mark
 
 -- seven calls

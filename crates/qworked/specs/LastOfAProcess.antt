@@ -1,7 +1,8 @@
 -- The server gets a pulse for the last connection of each process, though another process is still attached.
-use Rattle.qworked.specs.Words.{List, [], ◌∷◌, pos, negsuc, Badf, Inval, Srch, ConnectAttach, ConnectDetach}
-use Rattle.qworked.specs.Words.{Send, Receive, Pulse, PrioritySet, ReceivePulse, ChannelDestroy, Event, event}
+use Rattle.qworked.specs.Words.{List, [], pos, negsuc, Badf, Inval, Srch, ConnectAttach, ConnectDetach, Send}
+use Rattle.qworked.specs.Words.{Receive, Pulse, PrioritySet, ReceivePulse, ChannelDestroy, Event, event}
 use Rattle.qworked.specs.Words.{ended}
+use Rattle.std.specs.Prelude.{◌∷◌}
 use Rattle.qqueue.specs.declared.item.What.TheVariants as what
 use Rattle.qmodel.specs.declared.call.Mark.TheVariants as mark
 use Rattle.qworked.specs.ThreeProcesses.{attached}

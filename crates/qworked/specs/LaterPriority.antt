@@ -1,6 +1,7 @@
 -- A thread has the last priority that was set for it or that it took with a receipt.
-use Rattle.qworked.specs.Words.{List, [], ◌∷◌, pos, Ready, ChannelCreate, ConnectAttach, Send, Receive}
+use Rattle.qworked.specs.Words.{List, [], pos, Ready, ChannelCreate, ConnectAttach, Send, Receive}
 use Rattle.qworked.specs.Words.{ReceivePulse, Pulse, PrioritySet, State, Event, event, ended, flags_of}
+use Rattle.std.specs.Prelude.{◌∷◌}
 use Rattle.qqueue.specs.declared.item.What.TheVariants as what
 use Rattle.qmodel.specs.declared.call.Mark.TheVariants as mark
 use Rattle.qworked.specs.ThreeProcesses.{attached}

@@ -1,8 +1,9 @@
 -- The results of calls at a limit: 64 open channels, 1,024 live connections, or 1,024 pulses that are pending
 -- on a channel.
-use Rattle.qworked.specs.Words.{◌≡◌, ℕ, ◌+◌, List, [], ◌∷◌, ◌++◌, replicate, pos, ChannelCreate}
-use Rattle.qworked.specs.Words.{ChannelDestroy, ConnectDetach, Completion, Facts, facts_of, followed_by}
-use Rattle.qworked.specs.Words.{Event, event, ended, flags_of, roster, connected}
+use Rattle.qworked.specs.Words.{ℕ, List, [], replicate, pos, ChannelCreate, ChannelDestroy, ConnectDetach}
+use Rattle.qworked.specs.Words.{Completion, Facts, facts_of, followed_by, Event, event, ended, flags_of}
+use Rattle.qworked.specs.Words.{roster, connected}
+use Rattle.std.specs.Prelude.{◌≡◌, ◌+◌, ◌∷◌, ◌++◌}
 use Rattle.qbase.specs.declared.errno.Errno.{Errno}
 use Rattle.qqueue.specs.declared.item.Item.{Item}
 use Rattle.qmodel.specs.declared.call.Call.{Call}

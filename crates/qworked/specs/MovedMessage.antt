@@ -1,8 +1,9 @@
 -- A pending message takes the priority that is set for its sender, and is received at its place among the
 -- items of that priority. A held message and a pulse keep their priorities.
-use Rattle.qworked.specs.Words.{List, [], ◌∷◌, pos, Busy, Srch, Ready, ReplyBlocked, SendBlocked}
-use Rattle.qworked.specs.Words.{ConnectAttach, Send, Receive, Info, ReceivePulse, Pulse, PrioritySet, State}
-use Rattle.qworked.specs.Words.{Unblock, Event, ended, event, info, connected}
+use Rattle.qworked.specs.Words.{List, [], pos, Busy, Srch, Ready, ReplyBlocked, SendBlocked, ConnectAttach}
+use Rattle.qworked.specs.Words.{Send, Receive, Info, ReceivePulse, Pulse, PrioritySet, State, Unblock, Event}
+use Rattle.qworked.specs.Words.{ended, event, info, connected}
+use Rattle.std.specs.Prelude.{◌∷◌}
 use Rattle.qqueue.specs.declared.item.What.TheVariants as what
 use Rattle.qmodel.specs.declared.call.Mark.TheVariants as mark
 use Rattle.qworked.specs.UnblockPulse.{held}

@@ -1,7 +1,8 @@
 -- Messages and pulses wait in one order: the greatest priority first, and among equals the one that was sent
 -- first.
-use Rattle.qworked.specs.Words.{List, [], ◌∷◌, pos, negsuc, ReplyBlocked, Send, Receive, Pulse, PrioritySet}
+use Rattle.qworked.specs.Words.{List, [], pos, negsuc, ReplyBlocked, Send, Receive, Pulse, PrioritySet}
 use Rattle.qworked.specs.Words.{Blocked, Event, event, ended, blocked, connected}
+use Rattle.std.specs.Prelude.{◌∷◌}
 use Rattle.qqueue.specs.declared.item.What.TheVariants as what
 use Rattle.qmodel.specs.declared.call.Mark.TheVariants as mark
 

@@ -1,7 +1,8 @@
 -- A call on a message is refused if the message isn't received yet, is held by another process, or is
 -- answered.
-use Rattle.qworked.specs.Words.{List, [], ◌∷◌, pos, Srch, Send, Receive, Reply, Error, Read, Write, Info}
-use Rattle.qworked.specs.Words.{Event, event, ended, connected}
+use Rattle.qworked.specs.Words.{List, [], pos, Srch, Send, Receive, Reply, Error, Read, Write, Info, Event}
+use Rattle.qworked.specs.Words.{event, ended, connected}
+use Rattle.std.specs.Prelude.{◌∷◌}
 use Rattle.qmodel.specs.declared.call.Mark.TheVariants as mark
 
 -- calls on a message, from its sending until after its answer

@@ -1,7 +1,8 @@
 -- A later Write goes over an earlier one, and the reply over both. A message is answered with a negative
 -- code.
-use Rattle.qworked.specs.Words.{List, [], ◌∷◌, pos, negsuc, Send, Receive, Reply, Error, Write, Event, event}
+use Rattle.qworked.specs.Words.{List, [], pos, negsuc, Send, Receive, Reply, Error, Write, Event, event}
 use Rattle.qworked.specs.Words.{ended}
+use Rattle.std.specs.Prelude.{◌∷◌}
 use Rattle.qmodel.specs.declared.call.Mark.TheVariants as mark
 use Rattle.qworked.specs.ThreeProcesses.{attached}
 

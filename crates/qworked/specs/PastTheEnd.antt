@@ -1,6 +1,7 @@
 -- An offset at the end or past it copies nothing, in a Read and in a Write, and is no error.
-use Rattle.qworked.specs.Words.{List, [], ◌∷◌, pos, Send, Receive, Reply, Read, Write, Info, Event, ended}
-use Rattle.qworked.specs.Words.{event, info}
+use Rattle.qworked.specs.Words.{List, [], pos, Send, Receive, Reply, Read, Write, Info, Event, ended, event}
+use Rattle.qworked.specs.Words.{info}
+use Rattle.std.specs.Prelude.{◌∷◌}
 use Rattle.qmodel.specs.declared.call.Mark.TheVariants as mark
 use Rattle.qworked.specs.ThreeProcesses.{attached}
 

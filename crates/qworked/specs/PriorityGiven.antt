@@ -1,7 +1,8 @@
 -- A receiver that waits takes the priority of a pulse when that is sent, and keeps it until its priority is
 -- set.
-use Rattle.qworked.specs.Words.{List, [], ◌∷◌, pos, Srch, Ready, Receive, Pulse, PrioritySet, State, Event}
-use Rattle.qworked.specs.Words.{event, ended, connected}
+use Rattle.qworked.specs.Words.{List, [], pos, Srch, Ready, Receive, Pulse, PrioritySet, State, Event, event}
+use Rattle.qworked.specs.Words.{ended, connected}
+use Rattle.std.specs.Prelude.{◌∷◌}
 use Rattle.qqueue.specs.declared.item.What.TheVariants as what
 use Rattle.qmodel.specs.declared.call.Mark.TheVariants as mark
 

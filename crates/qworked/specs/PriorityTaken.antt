@@ -1,8 +1,9 @@
 -- A server takes the priority of a message that it receives, and sends with it, unless the channel leaves
 -- priorities as they are.
-use Rattle.qworked.specs.Words.{List, [], ◌∷◌, Ready, ReplyBlocked, ChannelCreate, ConnectAttach, Send}
-use Rattle.qworked.specs.Words.{Receive, Info, PrioritySet, State, Blocked, Event, blocked, ended, event}
-use Rattle.qworked.specs.Words.{flags_of, info, connected}
+use Rattle.qworked.specs.Words.{List, [], Ready, ReplyBlocked, ChannelCreate, ConnectAttach, Send, Receive}
+use Rattle.qworked.specs.Words.{Info, PrioritySet, State, Blocked, Event, blocked, ended, event, flags_of}
+use Rattle.qworked.specs.Words.{info, connected}
+use Rattle.std.specs.Prelude.{◌∷◌}
 use Rattle.qmodel.specs.declared.call.Mark.TheVariants as mark
 
 -- a client of greater priority sends to the server, which sends on to a channel of the client's process

@@ -1,6 +1,7 @@
 -- A ReceivePulse takes a pulse though a message was sent before it, and waits though a message is pending.
-use Rattle.qworked.specs.Words.{List, [], ◌∷◌, pos, ReceiveBlocked, ReplyBlocked, Send, Receive, ReceivePulse}
+use Rattle.qworked.specs.Words.{List, [], pos, ReceiveBlocked, ReplyBlocked, Send, Receive, ReceivePulse}
 use Rattle.qworked.specs.Words.{Pulse, Blocked, Event, event, ended, blocked, connected}
+use Rattle.std.specs.Prelude.{◌∷◌}
 use Rattle.qqueue.specs.declared.item.What.TheVariants as what
 use Rattle.qmodel.specs.declared.call.Mark.TheVariants as mark
 

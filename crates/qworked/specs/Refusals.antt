@@ -1,6 +1,7 @@
 -- Calls that are refused: each gets its buffer back as it was, and changes nothing.
-use Rattle.qworked.specs.Words.{List, [], ◌∷◌, pos, Srch, Badf, Inval, Busy, ChannelCreate, ConnectAttach}
-use Rattle.qworked.specs.Words.{Send, Receive, Reply, Event, event, ended, flags_of, connected}
+use Rattle.qworked.specs.Words.{List, [], pos, Srch, Badf, Inval, Busy, ChannelCreate, ConnectAttach, Send}
+use Rattle.qworked.specs.Words.{Receive, Reply, Event, event, ended, flags_of, connected}
+use Rattle.std.specs.Prelude.{◌∷◌}
 use Rattle.qmodel.specs.declared.call.Mark.TheVariants as mark
 
 -- eight refused calls, a Send among them that is accepted, and the receipt of its message

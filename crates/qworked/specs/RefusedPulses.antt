@@ -1,7 +1,8 @@
 -- Refused pulses, with a negative code or over another process's connection, and refused calls on another
 -- process's channel.
-use Rattle.qworked.specs.Words.{List, [], ◌∷◌, pos, negsuc, Srch, Badf, Inval, Receive, ReceivePulse, Pulse}
+use Rattle.qworked.specs.Words.{List, [], pos, negsuc, Srch, Badf, Inval, Receive, ReceivePulse, Pulse}
 use Rattle.qworked.specs.Words.{ChannelDestroy, Event, event, ended, connected}
+use Rattle.std.specs.Prelude.{◌∷◌}
 use Rattle.qmodel.specs.declared.call.Mark.TheVariants as mark
 
 -- calls that are all refused, and a Receive that finds the channel open and no pulse pending

@@ -1,7 +1,8 @@
 -- A call of a blocked thread is refused with Busy. A shutdown ends every open call, and every later call is
 -- refused.
-use Rattle.qworked.specs.Words.{List, [], ◌∷◌, Srch, Busy, Down, ChannelCreate, Send, Receive, Write}
-use Rattle.qworked.specs.Words.{ReceivePulse, State, Shutdown, Event, event, ended, flags_of, connected}
+use Rattle.qworked.specs.Words.{List, [], Srch, Busy, Down, ChannelCreate, Send, Receive, Write, ReceivePulse}
+use Rattle.qworked.specs.Words.{State, Shutdown, Event, event, ended, flags_of, connected}
+use Rattle.std.specs.Prelude.{◌∷◌}
 use Rattle.qmodel.specs.declared.call.Mark.TheVariants as mark
 
 -- the calls of a receiver are refused with Busy until the client shuts the kernel down

@@ -1,7 +1,8 @@
 -- A call on the id of a message whose sender was unblocked is refused, even while the sender waits in another
 -- Send.
-use Rattle.qworked.specs.Words.{List, [], ◌∷◌, pos, Srch, Intr, ReplyBlocked, Send, Receive, Reply, Unblock}
+use Rattle.qworked.specs.Words.{List, [], pos, Srch, Intr, ReplyBlocked, Send, Receive, Reply, Unblock}
 use Rattle.qworked.specs.Words.{Blocked, Event, event, ended, blocked, connected}
+use Rattle.std.specs.Prelude.{◌∷◌}
 use Rattle.qmodel.specs.declared.call.Mark.TheVariants as mark
 
 -- a Send is cancelled, and the same thread sends again

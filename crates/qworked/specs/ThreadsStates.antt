@@ -1,6 +1,7 @@
 -- The results of State for another thread, through a receipt and an answer.
-use Rattle.qworked.specs.Words.{List, [], ◌∷◌, pos, Ready, SendBlocked, ReceiveBlocked, ReplyBlocked, Send}
+use Rattle.qworked.specs.Words.{List, [], pos, Ready, SendBlocked, ReceiveBlocked, ReplyBlocked, Send}
 use Rattle.qworked.specs.Words.{Receive, Reply, State, Event, event, ended, connected}
+use Rattle.std.specs.Prelude.{◌∷◌}
 use Rattle.qmodel.specs.declared.call.Mark.TheVariants as mark
 
 -- a server waits, a message is received, and a second one is sent

@@ -1,7 +1,8 @@
 -- A setting in which no number is used for two things: three processes, their threads, a channel with all
 -- three flags, and a connection of each client.
-use Rattle.qworked.specs.Words.{List, [], ◌∷◌, Member, ChannelCreate, ConnectAttach, Event, member, event}
-use Rattle.qworked.specs.Words.{ended, flags_of}
+use Rattle.qworked.specs.Words.{List, [], Member, ChannelCreate, ConnectAttach, Event, member, event, ended}
+use Rattle.qworked.specs.Words.{flags_of}
+use Rattle.std.specs.Prelude.{◌∷◌}
 use Rattle.qmodel.specs.declared.call.Mark.TheVariants as mark
 
 -- a server's process 107 of threads 31 and 35, a client's 152 of threads 42 and 43, and another client's 189

@@ -1,8 +1,9 @@
 -- On a channel with the unblock flag the client of a held message stays blocked, and its server gets one
 -- pulse.
-use Rattle.qworked.specs.Words.{List, [], ◌∷◌, pos, ReceiveBlocked, ChannelCreate, ConnectAttach, Send}
-use Rattle.qworked.specs.Words.{Receive, Reply, ReceivePulse, Unblock, Blocked, Event, event, ended, blocked}
-use Rattle.qworked.specs.Words.{flags_of, connected}
+use Rattle.qworked.specs.Words.{List, [], pos, ReceiveBlocked, ChannelCreate, ConnectAttach, Send, Receive}
+use Rattle.qworked.specs.Words.{Reply, ReceivePulse, Unblock, Blocked, Event, event, ended, blocked, flags_of}
+use Rattle.qworked.specs.Words.{connected}
+use Rattle.std.specs.Prelude.{◌∷◌}
 use Rattle.qqueue.specs.declared.item.What.TheVariants as what
 use Rattle.qmodel.specs.declared.call.Mark.TheVariants as mark
 

@@ -1,6 +1,7 @@
 -- A thread that waits in a Send or a receive is unblocked; nothing happens to one that doesn't wait.
-use Rattle.qworked.specs.Words.{List, [], ◌∷◌, pos, Srch, Intr, Send, Receive, ReceivePulse, Pulse, Unblock}
-use Rattle.qworked.specs.Words.{Event, event, ended, connected}
+use Rattle.qworked.specs.Words.{List, [], pos, Srch, Intr, Send, Receive, ReceivePulse, Pulse, Unblock, Event}
+use Rattle.qworked.specs.Words.{event, ended, connected}
+use Rattle.std.specs.Prelude.{◌∷◌}
 use Rattle.qqueue.specs.declared.item.What.TheVariants as what
 use Rattle.qmodel.specs.declared.call.Mark.TheVariants as mark
 

@@ -1,7 +1,8 @@
 -- A server that waits takes a message when that is sent. The message is copied over the front of the server's
 -- buffer, and the reply over the front of the sender's.
-use Rattle.qworked.specs.Words.{List, [], ◌∷◌, ℕ, replicate, pos, Send, Receive, Reply, Event, event, ended}
+use Rattle.qworked.specs.Words.{List, [], ℕ, replicate, pos, Send, Receive, Reply, Event, event, ended}
 use Rattle.qworked.specs.Words.{connected}
+use Rattle.std.specs.Prelude.{◌∷◌}
 use Rattle.qmodel.specs.declared.call.Mark.TheVariants as mark
 
 -- the bytes 68 65 6c 6c 6f

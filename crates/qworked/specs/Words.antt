@@ -14,4 +14,4 @@ pub use Rattle.qrules.specs.Trace.{Event, Trace, followed_by}
 pub use Rattle.qtables.specs.declared.member.Member.{Member}
 pub use Rattle.qworked.specs.Runs.{blocked, ended, event, flags_of, info, member, with_endings}
 pub use Rattle.qworked.specs.Setting.{connected, roster}
-pub use Rattle.std.specs.Prelude.{List, [], count_by, negsuc, pos, replicate, ℕ, ◌++◌, ◌+◌, ◌∷◌, ◌≡◌}
+pub use Rattle.std.specs.Prelude.{List, [], count_by, negsuc, pos, replicate, ℕ}

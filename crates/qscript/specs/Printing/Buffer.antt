@@ -1,5 +1,6 @@
 -- The hexadecimal digits of a buffer.
-use Rattle.qscript.specs.Words.{ℕ, ◌==◌, List, [], ◌∷◌, length, if◌then◌else◌, codes, encode_lower}
+use Rattle.std.specs.Prelude.{ℕ, ◌==◌, List, [], ◌∷◌, length, if◌then◌else◌, codes}
+use Rattle.hex.specs.Hex.{encode_lower}
 
 -- lowercase hexadecimal digits, or `-` if there are no bytes
 abbrev pub buffer_word : List ℕ → List ℕ

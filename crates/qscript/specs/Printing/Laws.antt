@@ -1,6 +1,8 @@
 -- Laws of the text of a run.
-use Rattle.qscript.specs.Words.{◌≡◌, ◌≢◌, ℕ, ◌+◌, List, [], ◌∷◌, ◌++◌, length, AllByRecursion, flat_map}
-use Rattle.qscript.specs.Words.{Blocked, Event, Run}
+use Rattle.std.specs.Prelude.{◌≡◌, ◌≢◌, ℕ, ◌+◌, List, [], ◌∷◌, ◌++◌, length}
+use Rattle.std.specs.List.{AllByRecursion, flat_map}
+use Rattle.qmodel.specs.declared.open_call.Blocked.{Blocked}
+use Rattle.qmodel.specs.Trace.{Event, Run}
 use Rattle.qscript.specs.Printing.OpenLine.{open_text}
 use Rattle.qscript.specs.Printing.Printed.{texts_from, printed}
 

@@ -1,6 +1,8 @@
 -- The words for how a call ended.
-use Rattle.qscript.specs.Words.{ℕ, List, [], ◌∷◌, ◌++◌, codes, decimal, signed_decimal, ThreadState}
+use Rattle.std.specs.Prelude.{ℕ, List, [], ◌∷◌, ◌++◌, codes, decimal}
+use Rattle.std.specs.Fmt.{signed_decimal}
 use Rattle.qbase.specs.Errno.{word_of}
+use Rattle.qbase.specs.declared.state.ThreadState.{ThreadState}
 use Rattle.qqueue.specs.declared.item.What.{What}
 use Rattle.qqueue.specs.declared.item.What.TheVariants.{Message, User, Unblock, Disconnect}
 use Rattle.qmodel.specs.declared.call.Info.{Info}

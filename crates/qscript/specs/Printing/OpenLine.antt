@@ -1,5 +1,6 @@
 -- The line of a thread that is blocked when a run is over.
-use Rattle.qscript.specs.Words.{ℕ, List, [], ◌∷◌, ◌++◌, codes, decimal, Blocked}
+use Rattle.std.specs.Prelude.{ℕ, List, [], ◌∷◌, ◌++◌, codes, decimal}
+use Rattle.qmodel.specs.declared.open_call.Blocked.{Blocked}
 use Rattle.qscript.specs.Printing.State.{state_words}
 use Rattle.qscript.specs.Printing.Words.{words_with_spaces}
 

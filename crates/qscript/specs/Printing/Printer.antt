@@ -1,6 +1,11 @@
 -- The text of a run, made event by event.
-use Rattle.qscript.specs.Words.{◌≡◌, ℕ, ◌+◌, ◌-◌, ◌&&◌, nat_le, Bool, false, List, map, slice_index_or}
-use Rattle.qscript.specs.Words.{string_bytes, event_call, Event, Run, Call, RunsAtTraces, State}
+use Rattle.std.specs.Prelude.{◌≡◌, ℕ, ◌+◌, ◌-◌, ◌&&◌, nat_le, Bool, false, List, map, slice_index_or}
+use Rattle.std.specs.Prelude.{string_bytes}
+use Rattle.qrules.specs.Lawful.{event_call}
+use Rattle.qmodel.specs.Trace.{Event, Run}
+use Rattle.qmodel.specs.declared.call.Call.{Call}
+use Rattle.qkernel.specs.Run.{RunsAtTraces}
+use Rattle.qkernel.specs.Kernel.{State}
 use Rattle.qscript.specs.Printing.Printed.{shows_buffer, texts_from}
 use Rattle.qscript.specs.declared.printing.printer.Printer.{Printer}
 

@@ -1,5 +1,6 @@
 -- The state of a thread.
-use Rattle.qscript.specs.Words.{ℕ, List, [], ◌∷◌, codes, decimal, ThreadState}
+use Rattle.std.specs.Prelude.{ℕ, List, [], ◌∷◌, codes, decimal}
+use Rattle.qbase.specs.declared.state.ThreadState.{ThreadState}
 use Rattle.qbase.specs.declared.state.ThreadState.TheVariants.{Ready, SendBlocked, ReceiveBlocked}
 use Rattle.qbase.specs.declared.state.ThreadState.TheVariants.{ReplyBlocked}
 

@@ -1,5 +1,5 @@
 -- Words with spaces.
-use Rattle.qscript.specs.Words.{ℕ, List, [], ◌∷◌, ◌++◌}
+use Rattle.std.specs.Prelude.{ℕ, List, [], ◌∷◌, ◌++◌}
 
 -- each word behind a space
 abbrev pub words_with_spaces : List (List ℕ) → List ℕ

@@ -1,9 +1,18 @@
 -- The meaning of a script that was written.
-use Rattle.qscript.specs.Words.{◌≡◌, ℕ, ◌<◌, ◌≤◌, ◌^◌, true, false, List, [], ◌∷◌, ◌++◌, length, map}
-use Rattle.qscript.specs.Words.{AllByRecursion, IsBytes, Member, Call, Operand, buffer_of, bytes_of, kind_of}
-use Rattle.qscript.specs.Words.{operands_of, sorts_of, event_call, Event, Says, is_in, meaning, most_text}
+use Rattle.std.specs.Prelude.{◌≡◌, ℕ, ◌<◌, ◌≤◌, ◌^◌, true, false, List, [], ◌∷◌, ◌++◌, length, map}
+use Rattle.std.specs.List.{AllByRecursion}
+use Rattle.hex.specs.Hex.{IsBytes}
+use Rattle.qtables.specs.declared.member.Member.{Member}
+use Rattle.qmodel.specs.declared.call.Call.{Call}
+use Rattle.qmodel.specs.declared.operands.Operand.{Operand}
 use Rattle.qmodel.specs.declared.operands.Operand.TheVariants as sort
+use Rattle.qmodel.specs.Buffers.{buffer_of, bytes_of}
+use Rattle.qmodel.specs.Kinds.{kind_of, operands_of, sorts_of}
+use Rattle.qrules.specs.Lawful.{event_call}
+use Rattle.qmodel.specs.Trace.{Event}
+use Rattle.qreading.specs.Reading.Meaning.{Says, is_in, meaning}
 use Rattle.qreading.specs.Reading.Number.{is_within}
+use Rattle.qreading.specs.TextLimit.{most_text}
 use Rattle.qscript.specs.Writing.Line.{call_line}
 use Rattle.qscript.specs.Writing.Text.{script_text}
 

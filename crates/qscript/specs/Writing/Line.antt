@@ -1,7 +1,12 @@
 -- The lines of a written script.
-use Rattle.qscript.specs.Words.{ℕ, List, [], ◌∷◌, ◌++◌, codes, decimal, map, signed_decimal, Member, Call}
-use Rattle.qscript.specs.Words.{Operand, buffer_of, bytes_of, kind_of, operands_of, script_word, sorts_of}
+use Rattle.std.specs.Prelude.{ℕ, List, [], ◌∷◌, ◌++◌, codes, decimal, map}
+use Rattle.std.specs.Fmt.{signed_decimal}
+use Rattle.qtables.specs.declared.member.Member.{Member}
+use Rattle.qmodel.specs.declared.call.Call.{Call}
+use Rattle.qmodel.specs.declared.operands.Operand.{Operand}
 use Rattle.qmodel.specs.declared.operands.Operand.TheVariants as sort
+use Rattle.qmodel.specs.Buffers.{buffer_of, bytes_of}
+use Rattle.qmodel.specs.Kinds.{kind_of, operands_of, script_word, sorts_of}
 use Rattle.qscript.specs.Printing.Buffer.{buffer_word}
 use Rattle.qscript.specs.Printing.Words.{words_with_spaces}
 

@@ -1,5 +1,8 @@
 -- The text of a written script.
-use Rattle.qscript.specs.Words.{ℕ, List, [], ◌∷◌, ◌++◌, flat_map, Member, Event}
+use Rattle.std.specs.Prelude.{ℕ, List, [], ◌∷◌, ◌++◌}
+use Rattle.std.specs.List.{flat_map}
+use Rattle.qtables.specs.declared.member.Member.{Member}
+use Rattle.qmodel.specs.Trace.{Event}
 use Rattle.qscript.specs.Writing.Line.{call_line, member_line}
 
 -- the line of a thread, with its end

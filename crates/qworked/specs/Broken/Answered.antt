@@ -1,6 +1,7 @@
 -- A held message is answered wrongly in one way; the rest of the answer is right.
-use Rattle.qworked.specs.Words.{ℕ, [], ◌∷◌, pos, Srch, Send, Receive, Reply, Error, ReceivePulse, Completion}
+use Rattle.qworked.specs.Words.{ℕ, [], pos, Srch, Send, Receive, Reply, Error, ReceivePulse, Completion}
 use Rattle.qworked.specs.Words.{Trace, event, ended}
+use Rattle.std.specs.Prelude.{◌∷◌}
 use Rattle.qmodel.specs.declared.call.Mark.TheVariants as mark
 use Rattle.qworked.specs.Broken.Held.{held, sent}
 

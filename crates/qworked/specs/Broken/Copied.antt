@@ -1,7 +1,7 @@
 -- A byte or a count isn't as the copying requires.
-use Rattle.qworked.specs.Words.{[], ◌∷◌, pos, Intr, Ready, ChannelCreate, ConnectAttach, Receive, Reply}
-use Rattle.qworked.specs.Words.{Error, Read, Write, Info, Pulse, Unblock, State, Trace, ended, event}
-use Rattle.qworked.specs.Words.{flags_of, info}
+use Rattle.qworked.specs.Words.{[], pos, Intr, Ready, ChannelCreate, ConnectAttach, Receive, Reply, Error}
+use Rattle.qworked.specs.Words.{Read, Write, Info, Pulse, Unblock, State, Trace, ended, event, flags_of, info}
+use Rattle.std.specs.Prelude.{◌∷◌}
 use Rattle.qqueue.specs.declared.item.What.TheVariants as what
 use Rattle.qmodel.specs.declared.call.Mark.TheVariants as mark
 use Rattle.qworked.specs.Broken.Held.{held, run_of, sent}

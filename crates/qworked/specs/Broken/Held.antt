@@ -1,5 +1,6 @@
 -- The beginnings of the broken runs.
-use Rattle.qworked.specs.Words.{List, [], ◌∷◌, Send, Receive, followed_by, Event, Trace, event, ended}
+use Rattle.qworked.specs.Words.{List, [], Send, Receive, followed_by, Event, Trace, event, ended}
+use Rattle.std.specs.Prelude.{◌∷◌}
 use Rattle.qmodel.specs.declared.call.Mark.TheVariants as mark
 use Rattle.qworked.specs.ThreeProcesses.{attached}
 

@@ -1,6 +1,7 @@
 -- An item is received twice or too early, or a call is ended twice.
-use Rattle.qworked.specs.Words.{[], ◌∷◌, pos, Srch, Send, Receive, Reply, ReceivePulse, Pulse, Shutdown}
-use Rattle.qworked.specs.Words.{Trace, event, ended}
+use Rattle.qworked.specs.Words.{[], pos, Srch, Send, Receive, Reply, ReceivePulse, Pulse, Shutdown, Trace}
+use Rattle.qworked.specs.Words.{event, ended}
+use Rattle.std.specs.Prelude.{◌∷◌}
 use Rattle.qqueue.specs.declared.item.What.TheVariants as what
 use Rattle.qmodel.specs.declared.call.Mark.TheVariants as mark
 use Rattle.qworked.specs.Broken.Held.{run_of, held}

@@ -1,6 +1,7 @@
 -- A channel is destroyed, and calls on it go on.
-use Rattle.qworked.specs.Words.{[], ◌∷◌, Srch, ConnectDetach, Receive, ReceivePulse, ChannelDestroy, Trace}
-use Rattle.qworked.specs.Words.{event, ended}
+use Rattle.qworked.specs.Words.{[], Srch, ConnectDetach, Receive, ReceivePulse, ChannelDestroy, Trace, event}
+use Rattle.qworked.specs.Words.{ended}
+use Rattle.std.specs.Prelude.{◌∷◌}
 use Rattle.qmodel.specs.declared.call.Mark.TheVariants as mark
 use Rattle.qworked.specs.Broken.Held.{held, run_of, sent}
 

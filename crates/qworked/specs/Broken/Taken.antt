@@ -1,6 +1,7 @@
 -- Another item is received than the best one.
-use Rattle.qworked.specs.Words.{[], ◌∷◌, pos, ChannelCreate, Send, Receive, Pulse, PrioritySet, ReceivePulse}
+use Rattle.qworked.specs.Words.{[], pos, ChannelCreate, Send, Receive, Pulse, PrioritySet, ReceivePulse}
 use Rattle.qworked.specs.Words.{Trace, event, ended, flags_of}
+use Rattle.std.specs.Prelude.{◌∷◌}
 use Rattle.qqueue.specs.declared.item.What.TheVariants as what
 use Rattle.qmodel.specs.declared.call.Mark.TheVariants as mark
 use Rattle.qworked.specs.Broken.Held.{sent}
