@@ -197,11 +197,15 @@ fn ends_all(end: impl FnOnce(&mut Port, balsaeuchre::ChannelId)) {
         // Waits until all are asleep.
         thread::sleep(20 * MILLI);
         end(&mut last, busy);
-        senders.into_iter().for_each(|sender| assert_eq!(sender.join().unwrap(), Some(CallError::Cancelled(Errno::Srch))));
+        senders
+            .into_iter()
+            .for_each(|sender| assert_eq!(sender.join().unwrap(), Some(CallError::Cancelled(Errno::Srch))));
         if last.state(1).is_ok() {
             last.channel_destroy(idle).unwrap();
         }
-        receivers.into_iter().for_each(|server| assert_eq!(server.join().unwrap(), Some(CallError::Cancelled(Errno::Srch))));
+        receivers
+            .into_iter()
+            .for_each(|server| assert_eq!(server.join().unwrap(), Some(CallError::Cancelled(Errno::Srch))));
     });
     made_again(&mut last);
 }
