@@ -1,20 +1,7 @@
 -- Each step is allowed.
-use Rattle.std.proofs.Common.{◌≡◌, ◌≢◌, ℕ, zero, suc, ◌+◌, ◌<◌, ◌≤◌, eqb, Bool, true, false, List, [], ◌∷◌, ◌++◌, length, replicate, map, get_or, set, sym, refl, ap, ◌∙◌, subst, ⊎_elim, ◌⊎◌, inl, inr, arith, Option, Some, None, length-set, length-append, get_or-set_other, get_or-set_same}
+use Rattle.qhandoff.proofs.Common.{◌≡◌, ◌≢◌, ℕ, zero, suc, ◌+◌, ◌<◌, ◌≤◌, eqb, Bool, true, false, List, [], ◌∷◌, ◌++◌, length, replicate, map, get_or, set, sym, refl, ap, ◌∙◌, subst, ⊎_elim, ◌⊎◌, inl, inr, arith, Option, Some, None, length-set, length-append, get_or-set_other, get_or-set_same, dite, none, some, ℕ_discrete, get_elem?, Me, Act, keeps, takes, gives, Valid, stepped, step, carried_after, Allows, set_here, set_else, set_again, exchanged, Line, Desk, Hand, View, Kernel, Thread, KeepsRule, Fits, line, word_of, OpenTells, CancelTells, BeginPutTells, EndPutTells, TakeTells, GiveBackTells, IsBusy, opened_desk, cancelled_desk, putting_desk, put_desk}
 use Rattle.std.proofs.lemmas.List.{set-get_or}
-use mathlib.Core.Logic.{dite}
-use mathlib.Core.Option.{none, some}
-use native.Mathlib.Decide.{ℕ_discrete}
-use lib.ListN.{get_elem?}
 use prog.Atomic.{either}
-use Rattle.atomic_table.specs.Table.{Me, Act, keeps, takes, gives, Valid, stepped, step, carried_after, Allows}
-use Rattle.atomic_table.proofs.Lists.{set_here, set_else, set_again, exchanged}
-use Rattle.qhandoff.specs.declared.view.Line.{Line}
-use Rattle.qhandoff.specs.declared.view.Desk.{Desk}
-use Rattle.qhandoff.specs.declared.view.Hand.{Hand}
-use Rattle.qhandoff.specs.declared.view.View.{View}
-use Rattle.qhandoff.specs.declared.view.View.TheVariants.{Kernel, Thread}
-use Rattle.qhandoff.specs.Rule.{KeepsRule, Fits, line, word_of}
-use Rattle.qhandoff.specs.Steps.{OpenTells, CancelTells, BeginPutTells, EndPutTells, TakeTells, GiveBackTells, IsBusy, opened_desk, cancelled_desk, putting_desk, put_desk}
 use Rattle.qhandoff.proofs.Changes.{St, cell_of_word, kernel_changes, kernel_sees, thread_changes, thread_sees, fits_open, fits_idle, fits_busy, fits_cancel, fits_begin, fits_end, fits_take, fits_give}
 
 abbrev pub Sat : Type 0 → Type 0

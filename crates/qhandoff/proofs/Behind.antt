@@ -1,12 +1,5 @@
 -- What a thread took is a beginning of what was put for it, at most one shorter.
-use Rattle.std.proofs.Common.{◌≡◌, ℕ, zero, suc, ◌<◌, ◌≤◌, List, [], ◌∷◌, ◌++◌, length, sym, ◌∙◌, subst, arith, get_or, append-nil}
-use mathlib.Core.Option.{some}
-use lib.ListN.{get_elem?}
-use Rattle.qhandoff.specs.declared.view.Line.{Line}
-use Rattle.qhandoff.specs.declared.view.Desk.{Desk}
-use Rattle.qhandoff.specs.declared.view.Hand.{Hand}
-use Rattle.qhandoff.specs.declared.view.View.TheVariants.{Kernel, Thread}
-use Rattle.qhandoff.specs.Rule.{Fits, KeepsRule, Slot, line, word_of}
+use Rattle.qhandoff.proofs.Common.{◌≡◌, ℕ, zero, suc, ◌<◌, ◌≤◌, List, [], ◌∷◌, ◌++◌, length, sym, ◌∙◌, subst, arith, get_or, append-nil, some, get_elem?, Line, Desk, Hand, Kernel, Thread, Fits, KeepsRule, Slot, line, word_of}
 use Rattle.qhandoff.proofs.Changes.{St}
 
 module _ {T : Type 0} where

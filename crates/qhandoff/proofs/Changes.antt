@@ -1,21 +1,8 @@
 -- One cell changes, and the rule holds again.
-use Rattle.std.proofs.Common.{◌≡◌, ◌≢◌, ℕ, zero, suc, ◌<◌, eqb, Bool, true, false, if◌then◌else◌, List, [], ◌∷◌, ◌++◌, length, get_or, set, sym, refl, ap, ◌∙◌, subst, ⊎_elim, inl, inr, arith, Option, Some, None, length-set, length-append, get_or-set_other, get_or-set_same, eq-eqb, ne_eqb}
+use Rattle.qhandoff.proofs.Common.{◌≡◌, ◌≢◌, ℕ, zero, suc, ◌<◌, eqb, Bool, true, false, if◌then◌else◌, List, [], ◌∷◌, ◌++◌, length, get_or, set, sym, refl, ap, ◌∙◌, subst, ⊎_elim, inl, inr, arith, Option, Some, None, length-set, length-append, get_or-set_other, get_or-set_same, eq-eqb, ne_eqb, dite, none, some, some-ne-none, ℕ_discrete, get_elem?, State, at_set, set_here, set_else, Line, Desk, Hand, View, Kernel, Thread, Joined, KeepsRule, Fits, FitsPut, FitsTake, Settled, Knows, line, with_line, idle_line, word_of, cell_of, IsBusy}
 use Rattle.std.proofs.lemmas.Bool.{false≢true}
 use Rattle.std.proofs.Math.Nat.{mul-div_cancel}
-use mathlib.Core.Logic.{dite}
-use mathlib.Core.Option.{none, some, some-ne-none}
 use mathlib.Core.Option as maybe
-use native.Mathlib.Decide.{ℕ_discrete}
-use lib.ListN.{get_elem?}
-use Rattle.atomic_table.specs.Table.{State}
-use Rattle.atomic_table.proofs.Lists.{at_set, set_here, set_else}
-use Rattle.qhandoff.specs.declared.view.Line.{Line}
-use Rattle.qhandoff.specs.declared.view.Desk.{Desk}
-use Rattle.qhandoff.specs.declared.view.Hand.{Hand}
-use Rattle.qhandoff.specs.declared.view.View.{View}
-use Rattle.qhandoff.specs.declared.view.View.TheVariants.{Kernel, Thread, Joined}
-use Rattle.qhandoff.specs.Rule.{KeepsRule, Fits, FitsPut, FitsTake, Settled, Knows, line, with_line, idle_line, word_of, cell_of}
-use Rattle.qhandoff.specs.Steps.{IsBusy}
 
 pub hand_at : {H : Type 0} → (ℕ → H) → ℕ → H → ℕ → H
 hand_at f t h u = if eqb u t then h else f u

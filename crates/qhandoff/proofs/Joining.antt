@@ -1,16 +1,5 @@
 -- The seats are joined from the last one on.
-use Rattle.std.proofs.Common.{◌≡◌, ℕ, ◌<◌, ◌≤◌, List, [], ◌∷◌, ◌++◌, length, sym, refl, ap, ◌∙◌, subst, arith, Some, length-set, length-append}
-use mathlib.Core.Logic.{dite}
-use mathlib.Core.Option.{some}
-use native.Mathlib.Decide.{ℕ_discrete}
-use lib.ListN.{get_elem?}
-use Rattle.atomic_table.proofs.Lists.{at_longer, at_last}
-use Rattle.qhandoff.specs.declared.view.Line.{Line}
-use Rattle.qhandoff.specs.declared.view.Desk.{Desk}
-use Rattle.qhandoff.specs.declared.seats.ThreadSeat.{ThreadSeat}
-use Rattle.qhandoff.specs.Rule.{line}
-use Rattle.qhandoff.specs.Steps.{joined_at}
-use Rattle.qhandoff.specs.Words.{taken, took}
+use Rattle.qhandoff.proofs.Common.{◌≡◌, ℕ, ◌<◌, ◌≤◌, List, [], ◌∷◌, ◌++◌, length, sym, refl, ap, ◌∙◌, subst, arith, Some, length-set, length-append, dite, some, ℕ_discrete, get_elem?, at_longer, at_last, Line, Desk, ThreadSeat, line, joined_at, taken, took}
 use Rattle.qhandoff.proofs.Changes.{line_else, line_here}
 
 -- the seats in `left` are still to be joined

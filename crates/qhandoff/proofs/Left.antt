@@ -1,10 +1,5 @@
 -- What is left for each thread.
-use Rattle.std.proofs.Common.{⊎_elim, subst, ◌≡◌, ◌≢◌, ℕ, ◌+◌, ◌<◌, ◌≤◌, eqb, List, [], ◌∷◌, ◌++◌, length, if◌then◌else◌, Bool, true, false, sym, refl, ap, ◌∙◌, arith, Option, Some, None, eq-eqb, ne_eqb}
-use mathlib.Core.Logic.{dite}
-use mathlib.Core.Option.{some, some-injective, some-ne-none}
-use native.Mathlib.Decide.{ℕ_discrete}
-use lib.ListN.{get_elem?}
-use Rattle.qhandoff.specs.Words.{left_for, one, tagged, Rises}
+use Rattle.qhandoff.proofs.Common.{⊎_elim, subst, ◌≡◌, ◌≢◌, ℕ, ◌+◌, ◌<◌, ◌≤◌, eqb, List, [], ◌∷◌, ◌++◌, length, if◌then◌else◌, Bool, true, false, sym, refl, ap, ◌∙◌, arith, Option, Some, None, eq-eqb, ne_eqb, dite, some, some-injective, some-ne-none, ℕ_discrete, get_elem?, left_for, one, tagged, Rises}
 use Rattle.qhandoff.proofs.Changes.{there}
 use Rattle.qhandoff.proofs.Starting.{at_end}
 

@@ -1,3 +1,4 @@
+pub mod Common
 pub mod Changes
 pub mod Allowed
 pub mod Rests

@@ -1,16 +1,6 @@
 -- Where a put and a poll end.
-use Rattle.std.proofs.Common.{◌≡◌, ℕ, zero, suc, ◌<◌, true, false, List, [], ◌∷◌, ◌++◌, length, set, sym, refl, ap, ◌∙◌, Option, Some, None, get_or-set_other, get_or-set_same}
-use mathlib.Core.Logic.{dite}
-use native.Mathlib.Decide.{ℕ_discrete}
-use Rattle.atomic_table.specs.Table.{rest}
+use Rattle.qhandoff.proofs.Common.{◌≡◌, ℕ, zero, suc, ◌<◌, true, false, List, [], ◌∷◌, ◌++◌, length, set, sym, refl, ap, ◌∙◌, Option, Some, None, get_or-set_other, get_or-set_same, dite, ℕ_discrete, rest, Line, Desk, Hand, View, Kernel, Thread, line, with_line, idle_line, putting_desk, put_desk, desk_in, hand_in}
 use Rattle.atomic_table.specs.declared.shared.Seat.{Seat}
-use Rattle.qhandoff.specs.declared.view.Line.{Line}
-use Rattle.qhandoff.specs.declared.view.Desk.{Desk}
-use Rattle.qhandoff.specs.declared.view.Hand.{Hand}
-use Rattle.qhandoff.specs.declared.view.View.{View}
-use Rattle.qhandoff.specs.declared.view.View.TheVariants.{Kernel, Thread}
-use Rattle.qhandoff.specs.Rule.{line, with_line, idle_line}
-use Rattle.qhandoff.specs.Steps.{putting_desk, put_desk, desk_in, hand_in}
 use Rattle.qhandoff.specs.Seated.{IsKernel, IsThread}
 use Rattle.qhandoff.proofs.Allowed.{Sat}
 

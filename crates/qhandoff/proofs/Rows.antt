@@ -1,10 +1,6 @@
 -- A row of thread seats.
-use Rattle.std.proofs.Common.{◌≡◌, ℕ, zero, suc, List, [], ◌∷◌, ◌++◌, length, sym, refl, ap, ◌∙◌, subst, ⊎_elim}
-use lib.ListN.{get_elem?}
-use Rattle.atomic_table.proofs.Lists.{at_longer, at_last}
+use Rattle.qhandoff.proofs.Common.{◌≡◌, ℕ, zero, suc, List, [], ◌∷◌, ◌++◌, length, sym, refl, ap, ◌∙◌, subst, ⊎_elim, get_elem?, at_longer, at_last, ThreadSeat, taken, took, thread_id, thread_of, IsRow}
 use Rattle.atomic_table.specs.Seated.{TableId}
-use Rattle.qhandoff.specs.declared.seats.ThreadSeat.{ThreadSeat}
-use Rattle.qhandoff.specs.Words.{taken, took, thread_id, thread_of, IsRow}
 use Rattle.qhandoff.proofs.Starting.{at_end}
 
 module _ {T : Type 0} where

@@ -1,18 +1,6 @@
 -- The seats are joined, and the cells are closed.
-use Rattle.std.proofs.Common.{◌≡◌, ◌≢◌, ℕ, zero, suc, ◌<◌, false, List, [], ◌∷◌, ◌++◌, length, get_or, set, sym, refl, ap, ◌∙◌, subst, ⊎_elim, arith, Option, Some, None, length-set, append-nil}
-use mathlib.Core.Option.{none, some, some-injective, some-ne-none}
+use Rattle.qhandoff.proofs.Common.{◌≡◌, ◌≢◌, ℕ, zero, suc, ◌<◌, false, List, [], ◌∷◌, ◌++◌, length, get_or, set, sym, refl, ap, ◌∙◌, subst, ⊎_elim, arith, Option, Some, None, length-set, append-nil, none, some, some-injective, some-ne-none, get_elem?, Joins, Final, Seen, at_set, set_here, set_else, Line, Desk, Hand, View, Kernel, Thread, Joined, KeepsRule, Fits, Settled, Knows, line, with_line, word_of, joined_views, joined_desk, one}
 use mathlib.Core.Option as maybe
-use lib.ListN.{get_elem?}
-use Rattle.atomic_table.specs.Table.{Joins, Final, Seen}
-use Rattle.atomic_table.proofs.Lists.{at_set, set_here, set_else}
-use Rattle.qhandoff.specs.declared.view.Line.{Line}
-use Rattle.qhandoff.specs.declared.view.Desk.{Desk}
-use Rattle.qhandoff.specs.declared.view.Hand.{Hand}
-use Rattle.qhandoff.specs.declared.view.View.{View}
-use Rattle.qhandoff.specs.declared.view.View.TheVariants.{Kernel, Thread, Joined}
-use Rattle.qhandoff.specs.Rule.{KeepsRule, Fits, Settled, Knows, line, with_line, word_of}
-use Rattle.qhandoff.specs.Steps.{joined_views, joined_desk}
-use Rattle.qhandoff.specs.Words.{one}
 use Rattle.qhandoff.proofs.Changes.{St, there, line_else, line_here, cells_stay, CellOk, still_empty, still_has}
 use Rattle.qhandoff.proofs.Allowed.{Sat}
 

@@ -1,17 +1,6 @@
 -- The cells are made, their seats are split off and joined, and they are closed.
-use Rattle.std.proofs.Common.{◌≡◌, ◌≢◌, ℕ, zero, suc, ◌*◌, ◌<◌, List, [], ◌∷◌, ◌++◌, length, replicate, map, get_or, set, sym, refl, ap, ◌∙◌, subst, ⊎_elim, ◌⊎◌, inl, inr, arith, Option, None, length-set, length-append}
-use mathlib.Core.Option.{none, some, some-injective, some-ne-none}
+use Rattle.qhandoff.proofs.Common.{◌≡◌, ◌≢◌, ℕ, zero, suc, ◌*◌, ◌<◌, List, [], ◌∷◌, ◌++◌, length, replicate, map, get_or, set, sym, refl, ap, ◌∙◌, subst, ⊎_elim, ◌⊎◌, inl, inr, arith, Option, None, length-set, length-append, none, some, some-injective, some-ne-none, get_elem?, length-replicate, Splits, opening, at_set, set_here, at_longer, Line, Desk, Hand, View, Kernel, Thread, Joined, KeepsRule, Fits, Settled, Knows, idle_line, new_hand, word_of, first_view, seated_desk, seats_one_more, next_hand}
 use mathlib.Core.Option as maybe
-use lib.ListN.{get_elem?, length-replicate}
-use Rattle.atomic_table.specs.Table.{Splits, opening}
-use Rattle.atomic_table.proofs.Lists.{at_set, set_here, at_longer}
-use Rattle.qhandoff.specs.declared.view.Line.{Line}
-use Rattle.qhandoff.specs.declared.view.Desk.{Desk}
-use Rattle.qhandoff.specs.declared.view.Hand.{Hand}
-use Rattle.qhandoff.specs.declared.view.View.{View}
-use Rattle.qhandoff.specs.declared.view.View.TheVariants.{Kernel, Thread, Joined}
-use Rattle.qhandoff.specs.Rule.{KeepsRule, Fits, Settled, Knows, idle_line, new_hand, word_of}
-use Rattle.qhandoff.specs.Steps.{first_view, seated_desk, seats_one_more, next_hand}
 use Rattle.qhandoff.proofs.Changes.{St, there}
 use Rattle.qhandoff.proofs.Allowed.{Sat}
 

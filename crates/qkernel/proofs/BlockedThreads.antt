@@ -1,20 +1,8 @@
 -- The threads that are blocked, by their records.
-use Rattle.std.proofs.Common.{◌≡◌, ℕ, ◌+◌, ◌<◌, List, [], ◌∷◌, ◌++◌, length, take, get_or, refl, ap, ◌∙◌}
-use Rattle.std.specs.List.{filter_map, cons_option, AllByRecursion}
-use Rattle.std.specs.Option.{option_map, option_to_list, option_map_or}
-use Rattle.std.proofs.lemmas.Grind.{take_at_read}
-use Rattle.std.proofs.lemmas.List.Elements.{filter_map-append}
+use Rattle.qkernel.proofs.Common.{◌≡◌, ℕ, ◌+◌, ◌<◌, List, [], ◌∷◌, ◌++◌, length, take, get_or, refl, ap, ◌∙◌, filter_map, cons_option, AllByRecursion, option_map, option_to_list, option_map_or, take_at_read, filter_map-append, blocked_thread, state_in, facts_of, Trace, own_open, Ready, number_of, Option, None, Some, IsRoster, Member, threads_of, Facts, filter_map_same, StandsAt, State, facts_in, open_in, members_of, OpenCall, Thread}
 use Rattle.qrules.proofs.Words.Blocked.{blocked_threads_in}
-use Rattle.qrules.specs.Records.{blocked_thread}
-use Rattle.qrules.specs.Rules.Threads.{state_in}
-use Rattle.qrules.specs.Lawful.{facts_of}
 use Rattle.qkernel.specs.Blocked.{blocked_threads}
-use Rattle.qmodel.specs.Trace.{Trace}
 use Rattle.qmodel.specs.declared.open_call.Blocked.{Blocked}
-use Rattle.qstate.proofs.Senders.{own_open}
-use Rattle.qbase.specs.declared.state.ThreadState.TheVariants.{Ready}
-use Rattle.qrules.specs.Facts.{number_of}
-use Rattle.qkernel.proofs.Common.{Option, None, Some, IsRoster, Member, threads_of, Facts, filter_map_same, StandsAt, State, facts_in, open_in, members_of, OpenCall, Thread}
 use Rattle.qkernel.specs.Blocked as told
 
 -- what is told of each thread that is blocked, by its record

@@ -1,8 +1,6 @@
 -- The caller: who it is, and that nothing refuses its call.
-use Rattle.std.proofs.Common.{◌≡◌, ℕ, List, [], ◌∷◌, refl, ap, sym, ◌∙◌, cond, Bool, true, false, eqb}
-use Rattle.qbase.specs.declared.errno.Errno.TheVariants.{Busy, Down}
+use Rattle.qkernel.proofs.Common.{◌≡◌, ℕ, List, [], ◌∷◌, refl, ap, sym, ◌∙◌, cond, Bool, true, false, eqb, Busy, Down, Option, None, Some, is_some, eqb-true, same_Some, none-some, member_at, Member, OpenCall}
 use Rattle.qkernel.specs.declared.kernel.caller.Caller.{Caller}
-use Rattle.qkernel.proofs.Common.{Option, None, Some, is_some, eqb-true, same_Some, none-some, member_at, Member, OpenCall}
 
 -- the caller's entry of the roster
 abbrev pub caller_of : Caller → ℕ → Member

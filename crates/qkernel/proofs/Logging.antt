@@ -1,9 +1,6 @@
 -- A log of events: what its entries and endings say.
-use Rattle.std.proofs.Common.{◌≡◌, ℕ, ◌-◌, ◌≤◌, List, [], ◌∷◌, ◌++◌, length, map, take, drop, refl, ap, sym, ◌∙◌, arith}
-use Rattle.std.specs.Prelude.{slice_range}
+use Rattle.qkernel.proofs.Common.{◌≡◌, ℕ, ◌-◌, ◌≤◌, List, [], ◌∷◌, ◌++◌, length, map, take, drop, refl, ap, sym, ◌∙◌, arith, slice_range, common_steps, Completion}
 use Rattle.std.proofs.lemmas.List.{append-nil, drop-append-le, take-append-drop}
-use Rattle.std.proofs.lemmas.Grind.{common_steps}
-use Rattle.qmodel.specs.declared.call.Completion.{Completion}
 use Rattle.qkernel.specs.declared.trace.Entry.{Entry}
 use Rattle.qkernel.specs.Kept.{entry_call, events_of, logged_by, AllWithin, IsKept}
 

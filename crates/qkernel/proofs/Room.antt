@@ -1,20 +1,7 @@
 -- An event ends no more calls than its own and the open ones.
-use Rattle.std.proofs.Common.{◌≡◌, ℕ, ◌+◌, ◌≤◌, List, [], ◌∷◌, length, refl, ap, sym, subst, ◌∙◌, cond, arith, Bool, true, false, eqb}
-use Rattle.std.specs.Prelude.{Option, None, Some, is_some, ◌||◌, ◌&&◌}
-use Rattle.std.specs.List.{filter_map, cons_option, AllByRecursion}
-use Rattle.qrules.specs.Outcome.{completion_to, Outcome}
+use Rattle.qkernel.proofs.Common.{◌≡◌, ℕ, ◌+◌, ◌≤◌, List, [], ◌∷◌, length, refl, ap, sym, subst, ◌∙◌, cond, arith, Bool, true, false, eqb, Option, None, Some, is_some, ◌||◌, ◌&&◌, filter_map, cons_option, AllByRecursion, completion_to, Outcome, makes, unblocks, writes, Step, Steps, facts_in, Follows, unless, after_receipt, after_write, after_unblock, is_thread, held_call, written_call, unblocked_call, row_passes, RowLaws, row_laws, Rises, rises, not_among, own_open, option_map, eqb-true, eq-eqb, true≢false, IsRoster, Call, Completion, OpenCall, Thread, receipt_of, Received, row_of, SentItem, State, open_in, blocked_count, members_of, is_among}
 use Rattle.qrules.proofs.Words.Facts.{Facts, sender, threads_of}
-use Rattle.qrules.proofs.Words.Effects.{makes, unblocks, writes}
-use Rattle.qkernel.specs.Private.Steps.{Step, Steps, facts_in}
-use Rattle.qrules.proofs.Words.Step.{Follows, unless, after_receipt, after_write, after_unblock}
-use Rattle.qrules.specs.Records.{is_thread, held_call, written_call, unblocked_call}
-use Rattle.qrules.proofs.Traces.Past.Ends.{row_passes}
-use Rattle.qrules.proofs.Traces.Past.Laws.{RowLaws}
-use Rattle.qrules.proofs.Traces.Calls.{row_laws}
-use Rattle.qrules.proofs.Traces.Rosters.{Rises, rises, not_among}
-use Rattle.qstate.proofs.Senders.{own_open}
 use Rattle.qrules.specs.Rule.{Transfer}
-use Rattle.qkernel.proofs.Common.{option_map, eqb-true, eq-eqb, true≢false, IsRoster, Call, Completion, OpenCall, Thread, receipt_of, Received, row_of, SentItem, State, open_in, blocked_count, members_of, is_among}
 
 -- one where there is something
 abbrev one : {A : Type 0} → Option A → ℕ

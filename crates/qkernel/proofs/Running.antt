@@ -1,15 +1,10 @@
 -- One more call of a run.
-use Rattle.std.proofs.Common.{◌≡◌, ℕ, suc, ◌+◌, ◌-◌, ◌<◌, ◌≤◌, ◌^◌, List, [], ◌∷◌, ◌++◌, length, map, reverse, refl, ap, sym, subst, ◌∙◌, cond, arith, true, false}
+use Rattle.qkernel.proofs.Common.{◌≡◌, ℕ, suc, ◌+◌, ◌-◌, ◌<◌, ◌≤◌, ◌^◌, List, [], ◌∷◌, ◌++◌, length, map, reverse, refl, ap, sym, subst, ◌∙◌, cond, arith, true, false, Logged, with_next, event_call, AnswersAtTraces, Event, Trace, is_some, member_at, IsRoster, Call, Completion, Thread, State, blocked_count, members_of}
 use Rattle.std.proofs.lemmas.List.{append-nil, reverse-append}
-use Rattle.qkernel.specs.EventLog.{Logged, with_next}
 use Rattle.qkernel.specs.Run.{RunsAtTraces, AllKnown, Headline}
-use Rattle.qrules.specs.Lawful.{event_call}
 use Rattle.qrules.specs.Trace.{followed_by}
-use Rattle.qkernel.specs.Stands.{AnswersAtTraces}
-use Rattle.qmodel.specs.Trace.{Event, Trace}
 use Rattle.qrules.proofs.Traces.OnlyRun.{only_run}
 use Rattle.qkernel.proofs.Traces.{followed_push, properties_of, stands_roster}
-use Rattle.qkernel.proofs.Common.{is_some, member_at, IsRoster, Call, Completion, Thread, State, blocked_count, members_of}
 
 -- ---- events one after another
 

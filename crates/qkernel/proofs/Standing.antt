@@ -1,19 +1,9 @@
 -- A step of the kernel's content is a step at each trace at which it stands.
-use Rattle.std.proofs.Common.{◌≡◌, ℕ, ◌+◌, ◌≤◌, List, [], ◌∷◌, map, cond, eqb, length, refl, ap, sym, subst, ◌∙◌, arith, Bool, true, false, inl, inr}
-use Rattle.std.proofs.lemmas.Bool.{eqb-false, true≢false}
-use Rattle.qrules.specs.Outcome.{Answers, Outcome, completion_to}
+use Rattle.qkernel.proofs.Common.{◌≡◌, ℕ, ◌+◌, ◌≤◌, List, [], ◌∷◌, map, cond, eqb, length, refl, ap, sym, subst, ◌∙◌, arith, Bool, true, false, inl, inr, eqb-false, true≢false, Answers, Outcome, completion_to, is_failure, priority_in, StandsAt, AnswersAtTraces, LeavesIfRefused, Step, Steps, facts_in, Follows, open_in, ready_thread, all_filter_map, completion_names, laws_of, None, Some, is_some, AllByRecursion, filter_map, length-map, Errno, member_at, IsRoster, Member, Call, Completion, refusal_completion, Facts, threads_of, State, IsSound, members_of, thread_priority}
 use Rattle.qrules.proofs.Words.Lawful.{facts_of, with_event}
-use Rattle.qrules.proofs.Words.Past.{is_failure, priority_in}
-use Rattle.qkernel.specs.Stands.{StandsAt, AnswersAtTraces, LeavesIfRefused}
-use Rattle.qkernel.specs.Private.Steps.{Step, Steps, facts_in}
-use Rattle.qrules.proofs.Words.Step.{Follows}
-use Rattle.qstate.specs.Thread.{open_in, ready_thread}
-use Rattle.qbase.proofs.Lists.{all_filter_map}
-use Rattle.qrules.proofs.Traces.Past.Ends.{completion_names, laws_of}
 use Rattle.qrules.proofs.Traces.Past.Follows.{past_follows}
 use Rattle.qrules.proofs.Traces.TraceLaws.Refused.{only_counted}
 use Rattle.qrules.proofs.Once.{follows_once, one_facts}
-use Rattle.qkernel.proofs.Common.{None, Some, is_some, AllByRecursion, filter_map, length-map, Errno, member_at, IsRoster, Member, Call, Completion, refusal_completion, Facts, threads_of, State, IsSound, members_of, thread_priority}
 
 answers_of : (accept : Bool) (f : Facts) (t : ℕ) (c : Call) (X : List Completion) → Outcome accept f t c X → Answers f t c X
 answers_of true f t c X a = inl a

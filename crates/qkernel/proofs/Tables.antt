@@ -1,11 +1,6 @@
 -- A table with one more entry or one less, and counts over it.
-use Rattle.std.proofs.Common.{◌≡◌, ℕ, ◌+◌, ◌≤◌, ◌<◌, List, [], ◌∷◌, ◌++◌, suc, zero, length, refl, ap, sym, ◌∙◌, cond, arith, true, false, eqb, length-append}
-use Rattle.std.proofs.lemmas.Bool.{eqb-true, eqb-false, eq-eqb, ne_eqb}
-use Rattle.qtables.specs.Entries.{entry_at, without_entry, IsRising}
-use Rattle.qrules.proofs.Words.Facts.{count_to}
-use Rattle.qbase.proofs.Lists.{all_append, all_filter, eqb_same}
+use Rattle.qkernel.proofs.Common.{◌≡◌, ℕ, ◌+◌, ◌≤◌, ◌<◌, List, [], ◌∷◌, ◌++◌, suc, zero, length, refl, ap, sym, ◌∙◌, cond, arith, true, false, eqb, length-append, eqb-true, eqb-false, eq-eqb, ne_eqb, entry_at, without_entry, IsRising, count_to, all_append, all_filter, eqb_same, Option, None, Some, filter, is_some, not, AllByRecursion}
 use Rattle.qrules.proofs.Traces.Past.Live.{count_less, count_same}
-use Rattle.qkernel.proofs.Common.{Option, None, Some, filter, is_some, not, AllByRecursion}
 
 -- the record of each id, with one more entry of a new id
 pub entry_at-push : {R : Type 0} (entries : List (ℕ × R)) (n : ℕ) (r : R) (k : ℕ) → AllByRecursion (λ e. e.0 ≤ n) entries → entry_at (entries ++ (n + 1, r) ∷ []) k ≡ cond (eqb k (n + 1)) (Some r) (entry_at entries k)

@@ -1,13 +1,9 @@
 -- What the rules say of a past and of a kernel that stands at it, in the words of the laws of `qmodel`.
-use Rattle.std.proofs.Common.{◌≡◌, ◌+◌, ℕ, List, [], ◌∷◌, ◌++◌, arith, length, refl, ap}
-use Rattle.qrules.proofs.Words.Past.{open_call}
+use Rattle.qkernel.proofs.Common.{◌≡◌, ◌+◌, ℕ, List, [], ◌∷◌, ◌++◌, arith, length, refl, ap, open_call, is_blocked, facts_of, IsLawful, is_some, IsRoster, Member, members_of, State, StandsAt}
 use Rattle.qrules.proofs.Traces.Properties.All.{has_properties}
-use Rattle.qrules.specs.Facts.{is_blocked}
-use Rattle.qrules.specs.Lawful.{facts_of, IsLawful}
 use Rattle.qrules.specs.Past.{was_done}
 use Rattle.qrules.specs.Properties.{HasProperties}
 use Rattle.qrules.specs.Trace.{followed_by, Event, Trace}
-use Rattle.qkernel.proofs.Common.{is_some, IsRoster, Member, members_of, State, StandsAt}
 
 -- ---- a past
 

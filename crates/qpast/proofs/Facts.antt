@@ -1,11 +1,5 @@
 -- Facts that a walk hears at its start and tells at its end. Assumes `Logic`.
-use Rattle.std.proofs.Common.{List, [], ◌∷◌}
-use seplogic.Ra.Ura.{Ura}
-use base.Logic.{SProp, ent, sep, emp, id⊢, via, emp∗, mono∗}
-use base.Fml.{ftrue}
-use types.Logic.{Logic}
-use contract.Monad.{fact, fact_i}
-use types.Kit.{Item, Goal, Seq, ‵, raw, ◌⊛◌, given, ◌$◌, drop, split, learn, use1}
+use Rattle.qpast.proofs.Common.{List, [], ◌∷◌, Ura, SProp, ent, sep, emp, id⊢, via, emp∗, mono∗, ftrue, Logic, fact, fact_i, Item, Goal, Seq, ‵, raw, ◌⊛◌, given, ◌$◌, drop, split, learn, use1}
 use borrow.Fn.Claims.{AllOf}
 
 module _ {M : Type 1} {𝓤 : Ura M} {𝓛 : Logic 𝓤} {K : Type 0} {Γ : List (Item 𝓤)} where

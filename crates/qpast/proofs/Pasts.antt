@@ -1,21 +1,12 @@
 -- Pasts that begin alike, and the steps of a past that only grows. Assumes `Logic`.
-use Rattle.std.proofs.Common.{◌≡◌, List, [], ◌∷◌, ◌++◌, ℕ, ◌≤◌, Bool, true, false, reverse, length, leb, cond, refl, sym, ap, ◌∙◌, arith}
-use Rattle.std.proofs.Common.{leb-true, leb-false}
+use Rattle.qpast.proofs.Common.{◌≡◌, List, [], ◌∷◌, ◌++◌, ℕ, ◌≤◌, Bool, true, false, reverse, length, leb, cond, refl, sym, ap, ◌∙◌, arith, leb-true, leb-false, Ura, SProp, ent, sep, emp, ex, guard, wand, via, apply∗, Lft, Fml, fbor, Logic, sem, lfts, ‵, raw, ◌⊛◌, some, given, later, ◌$◌, ◌∵◌, !, qed, by, move, keep, drop, split, learn, pick, check, use1, use2, await, updating, now, done, Lends, Event, Trace, Extends, longer, pasts, history_owns, seen_owns}
 use Rattle.std.proofs.lemmas.List.{reverse-append, reverse-reverse, length-reverse}
 use mathlib.Core.List.{IsPrefix}
-use seplogic.Ra.Ura.{Ura}
-use base.Logic.{SProp, ent, sep, emp, ex, guard, wand, via, apply∗}
-use base.Fml.{Lft, Fml, fbor}
 use base.Fraction.{full_share}
 use base.Growing.{Least, at_least, prefix_refl}
-use types.Logic.{Logic, sem, lfts}
 use types.Owned.{basic}
 use types.Growing as growing
-use types.Kit.{‵, raw, ◌⊛◌, some, given, later, ◌$◌, ◌∵◌, !, qed, by, move, keep, drop, split, learn, pick, check, use1, use2, await, updating, now, done}
 use denote.Sharing.{said}
-use denote.Struct.Lending.{Lends}
-use Rattle.qmodel.specs.Trace.{Event, Trace}
-use Rattle.qpast.specs.History.{Extends, longer, pasts, history_owns, seen_owns}
 
 pub extends : (past seen : Trace) → IsPrefix (reverse seen) (reverse past) → Extends past seen
 extends past seen h =

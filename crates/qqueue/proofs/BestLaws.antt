@@ -1,20 +1,7 @@
 -- The best of the items, by the first ones of the greatest levels.
-use Rattle.std.proofs.Common.{◌≡◌, ◌≢◌, ℕ, ◌<◌, ◌≤◌, ◌⊎◌, List, [], ◌∷◌, map, Bool, true, false, cond, refl, ap, sym, subst, ◌∙◌, inl, inr, arith}
+use Rattle.qqueue.proofs.Common.{◌≡◌, ◌≢◌, ℕ, ◌<◌, ◌≤◌, ◌⊎◌, List, [], ◌∷◌, map, Bool, true, false, cond, refl, ap, sym, subst, ◌∙◌, inl, inr, arith, AllByRecursion, cases_Bool, cases_eq, cases_lt, lt-ltb, le-ltb, true≢false, nat_tests, Slab, all_more, Item, Kind, Node, is_pulse, may_take, first_of_two, best_of, comes_before, IsForemost, places_of, items_at, Rises, is_on, item_of, item_at, first_of, AreRings}
 use Rattle.std.specs.Prelude.{Option, None, Some, filter, nat_lt, ◌==◌, ◌&&◌, ◌||◌, IfSome}
-use Rattle.std.specs.List.{AllByRecursion}
-use Rattle.std.proofs.lemmas.Bool.{cases_Bool, cases_eq, cases_lt, lt-ltb, le-ltb, true≢false}
-use Rattle.std.proofs.lemmas.Bool.Decides.{nat_tests}
-use Rattle.slab.specs.Slab.{Slab}
-use Rattle.qbase.proofs.Lists.{all_more}
-use Rattle.qqueue.specs.declared.item.Item.{Item}
-use Rattle.qqueue.specs.declared.item.Kind.{Kind}
 use Rattle.qqueue.specs.declared.item.Kind.TheVariants.{Any, PulseOnly}
-use Rattle.qqueue.specs.declared.node.Node.{Node}
-use Rattle.qqueue.specs.Best.{is_pulse, may_take, first_of_two, best_of}
-use Rattle.qqueue.specs.Order.{comes_before}
-use Rattle.qqueue.specs.Lanes.{IsForemost}
-use Rattle.qqueue.specs.Rings.{places_of, items_at, Rises, is_on, item_of, item_at, first_of}
-use Rattle.qqueue.specs.Kept.{AreRings}
 use Rattle.qqueue.proofs.OrderLaws.{before-from, before-transitive, best-at, best-may, may-none}
 use Rattle.qqueue.proofs.PlaceLaws.{In, all_in, all_at, all_items, only_place}
 use Rattle.qqueue.proofs.KeptLaws.{on_true, on_from, held}

@@ -1,15 +1,6 @@
 -- What is under the keys of a queue's rings.
-use Rattle.std.proofs.Common.{◌≡◌, ◌≢◌, ℕ, suc, ◌<◌, List, [], ◌∷◌, length, Bool, true, false, eqb, refl, ap, sym, subst, ◌∙◌, arith, zero-add}
+use Rattle.qqueue.proofs.Common.{◌≡◌, ◌≢◌, ℕ, suc, ◌<◌, List, [], ◌∷◌, length, Bool, true, false, eqb, refl, ap, sym, subst, ◌∙◌, arith, zero-add, AllByRecursion, eq-eqb, eqb-true, true≢false, Slab, slab_len, all_more, Item, Node, is_pulse, places_of, is_on, keys_on, item_of, first_of, AreRings}
 use Rattle.std.specs.Prelude.{Option, None, Some, not, ◌&&◌}
-use Rattle.std.specs.List.{AllByRecursion}
-use Rattle.std.proofs.lemmas.Bool.{eq-eqb, eqb-true, true≢false}
-use Rattle.slab.specs.Slab.{Slab, slab_len}
-use Rattle.qbase.proofs.Lists.{all_more}
-use Rattle.qqueue.specs.declared.item.Item.{Item}
-use Rattle.qqueue.specs.declared.node.Node.{Node}
-use Rattle.qqueue.specs.Best.{is_pulse}
-use Rattle.qqueue.specs.Rings.{places_of, is_on, keys_on, item_of, first_of}
-use Rattle.qqueue.specs.Kept.{AreRings}
 use Rattle.qqueue.proofs.PlaceLaws.{all_places, at_places, In, all_in, length-places_from}
 use Rattle.qqueue.proofs.RingLaws.{all_keys}
 

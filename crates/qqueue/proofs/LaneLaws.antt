@@ -1,14 +1,7 @@
 -- A change of one lane leaves the other.
-use Rattle.std.proofs.Common.{◌≡◌, ◌≢◌, ℕ, List, Bool, true, false, refl, sym, ap, subst, ◌∙◌}
+use Rattle.qqueue.proofs.Common.{◌≡◌, ◌≢◌, ℕ, List, Bool, true, false, refl, sym, ap, subst, ◌∙◌, option_map, Slab, first_in, Node, SameLinks, first_at, AreRings, places_from, places_of, keys_on, first_of, Ring}
 use Rattle.std.specs.Prelude.{Option, None, slice_index_or}
-use Rattle.std.specs.Option.{option_map}
-use Rattle.slab.specs.Slab.{Slab}
 use Rattle.qqueue.specs.declared.lane.Lane.{Lane}
-use Rattle.qqueue.specs.Lanes.{first_in}
-use Rattle.qqueue.specs.declared.node.Node.{Node}
-use Rattle.qqueue.specs.Joins.{SameLinks}
-use Rattle.qqueue.specs.Kept.{first_at, AreRings}
-use Rattle.qqueue.specs.Rings.{places_from, places_of, keys_on, first_of, Ring}
 use Rattle.qqueue.proofs.RingLaws.{ring_same}
 
 pub pulse_others : (messages pulses new : Lane) (level : ℕ) → ((other : ℕ) → other ≢ level → first_in new other ≡ first_in pulses other)

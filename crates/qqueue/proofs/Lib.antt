@@ -1,3 +1,4 @@
+pub mod Common
 pub mod BestLaws
 pub mod KeptLaws
 pub mod LaneLaws

@@ -1,16 +1,6 @@
 -- A walk along a ring to the first node of a greater number.
-use Rattle.std.proofs.Common.{◌≡◌, ℕ, ◌<◌, ◌≤◌, List, [], ◌∷◌, ◌++◌, map, Bool, true, false, cond, refl, ap, sym, subst, ◌∙◌, arith, append_assoc}
+use Rattle.qqueue.proofs.Common.{◌≡◌, ℕ, ◌<◌, ◌≤◌, List, [], ◌∷◌, ◌++◌, map, Bool, true, false, cond, refl, ap, sym, subst, ◌∙◌, arith, append_assoc, AllByRecursion, option_map, lt-ltb, le-ltb, map-append, Slab, get, all_every, all_filter, filter_same, filter_twice, Item, Node, is_pulse, places_after, places_of, Rises, is_on, keys_on, item_of, after_of, before_of, Ring, first_of}
 use Rattle.std.specs.Prelude.{Option, None, Some, is_some, IsSome, unwrap_or, filter, nat_lt, ◌&&◌}
-use Rattle.std.specs.List.{AllByRecursion}
-use Rattle.std.specs.Option.{option_map}
-use Rattle.std.proofs.lemmas.Bool.{lt-ltb, le-ltb}
-use Rattle.std.proofs.lemmas.List.{map-append}
-use Rattle.slab.specs.Slab.{Slab, get}
-use Rattle.qbase.proofs.Lists.{all_every, all_filter, filter_same, filter_twice}
-use Rattle.qqueue.specs.declared.item.Item.{Item}
-use Rattle.qqueue.specs.declared.node.Node.{Node}
-use Rattle.qqueue.specs.Best.{is_pulse}
-use Rattle.qqueue.specs.Rings.{places_after, places_of, Rises, is_on, keys_on, item_of, after_of, before_of, Ring, first_of}
 use Rattle.qqueue.proofs.RingLaws.{all_split, last_from, path_end, ring_turn}
 use Rattle.qqueue.proofs.KeptLaws.{held}
 

@@ -1,17 +1,7 @@
 -- What the order of receipt means.
-use Rattle.std.proofs.Common.{◌≡◌, ◌≢◌, ◌<◌, ◌≤◌, List, [], ◌∷◌, true, false, cond, refl, inl, inr, sym, subst, ◌∙◌, arith, ◌⊎◌}
+use Rattle.qqueue.proofs.Common.{◌≡◌, ◌≢◌, ◌<◌, ◌≤◌, List, [], ◌∷◌, true, false, cond, refl, inl, inr, sym, subst, ◌∙◌, arith, ◌⊎◌, AllByRecursion, ltb-true, ltb-false, true≢false, nat_tests, All-from_recursion, recursion_from_All, All-contains_itself, Item, Kind, may_take, first_of_two, best_of, IsRising, comes_before, BestIsFirst, NoBestIfNoneMayBeTaken, all_more}
 use Rattle.std.specs.Prelude.{None, Some, Contains, nat_lt}
-use Rattle.std.specs.List.{AllByRecursion}
-use Rattle.std.proofs.lemmas.Bool.{ltb-true, ltb-false, true≢false}
-use Rattle.std.proofs.lemmas.Bool.Decides.{nat_tests}
-use Rattle.std.proofs.lemmas.List.Elements.{All-from_recursion, recursion_from_All, All-contains_itself}
 use Rattle.std.proofs.lemmas.Option.{none-some, same_Some}
-use Rattle.qqueue.specs.declared.item.Item.{Item}
-use Rattle.qqueue.specs.declared.item.Kind.{Kind}
-use Rattle.qqueue.specs.Best.{may_take, first_of_two, best_of}
-use Rattle.qqueue.specs.Contents.{IsRising}
-use Rattle.qqueue.specs.Order.{comes_before, BestIsFirst, NoBestIfNoneMayBeTaken}
-use Rattle.qbase.proofs.Lists.{all_more}
 
 -- of greater priority, or of equal priority and made first
 pub before-from : (a b : Item) → (b.priority < a.priority) ⊎ ((a.priority ≡ b.priority) × (a.number < b.number)) → comes_before a b ≡ true

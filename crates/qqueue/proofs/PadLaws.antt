@@ -1,6 +1,5 @@
 -- Numbers filled up with zeros.
-use Rattle.std.proofs.Common.{◌≡◌, ℕ, zero, suc, ◌≤◌, List, [], ◌∷◌, ◌++◌, length, get_or, take, replicate, cond, Bool, true, false, refl, ap, ◌∙◌}
-use Rattle.std.proofs.lemmas.List.{take_all}
+use Rattle.qqueue.proofs.Common.{◌≡◌, ℕ, zero, suc, ◌≤◌, List, [], ◌∷◌, ◌++◌, length, get_or, take, replicate, cond, Bool, true, false, refl, ap, ◌∙◌, take_all}
 
 zeros : (n k : ℕ) → let zeroes : List ℕ = replicate n 0 in get_or zeroes k 0 ≡ 0
 zeros zero k = refl

@@ -1,16 +1,6 @@
 -- What a queue's lists keep true where one item is put among them.
-use Rattle.std.proofs.Common.{◌≡◌, ◌≢◌, ℕ, List, [], ◌∷◌, ◌++◌, Bool, refl, ap, sym, subst, ◌∙◌, inl, inr, zero-add}
+use Rattle.qqueue.proofs.Common.{◌≡◌, ◌≢◌, ℕ, List, [], ◌∷◌, ◌++◌, Bool, refl, ap, sym, subst, ◌∙◌, inl, inr, zero-add, AllByRecursion, cases_Bool, true≢false, Slab, all_more, Item, Node, is_pulse, put_place, places_after, places_of, Rises, is_on, keys_on, item_of, after_of, before_of, Linked, Ring, first_of, Relinked, SameLinks, Joined, AreRings}
 use Rattle.std.specs.Prelude.{Option, None, Some, unwrap_or, is_some, IsSome}
-use Rattle.std.specs.List.{AllByRecursion}
-use Rattle.std.proofs.lemmas.Bool.{cases_Bool, true≢false}
-use Rattle.slab.specs.Slab.{Slab}
-use Rattle.qbase.proofs.Lists.{all_more}
-use Rattle.qqueue.specs.declared.item.Item.{Item}
-use Rattle.qqueue.specs.declared.node.Node.{Node}
-use Rattle.qqueue.specs.Best.{is_pulse}
-use Rattle.qqueue.specs.Rings.{put_place, places_after, places_of, Rises, is_on, keys_on, item_of, after_of, before_of, Linked, Ring, first_of}
-use Rattle.qqueue.specs.Joins.{Relinked, SameLinks, Joined}
-use Rattle.qqueue.specs.Kept.{AreRings}
 use Rattle.qqueue.proofs.PlaceLaws.{places_put, rises_put}
 use Rattle.qqueue.proofs.RingLaws.{Apart, apart_turn, last_from, last_all, path_end, all_split, all_join, ring_turn, ring_away, ring_between, keys_put_after, keys_put_other, keys_apart}
 use Rattle.qqueue.proofs.KeptLaws.{on_true, on_from, IsOf, held, at_place, keys_used, used_apart, used_not_free}

@@ -1,14 +1,6 @@
 -- Rings of nodes: where one begins, one node more, one less.
-use Rattle.std.proofs.Common.{◌≡◌, ◌≢◌, ℕ, ◌<◌, List, [], ◌∷◌, ◌++◌, map, Bool, true, false, cond, refl, ap, sym, subst, ◌∙◌, arith, append-nil, append_assoc}
+use Rattle.qqueue.proofs.Common.{◌≡◌, ◌≢◌, ℕ, ◌<◌, List, [], ◌∷◌, ◌++◌, map, Bool, true, false, cond, refl, ap, sym, subst, ◌∙◌, arith, append-nil, append_assoc, AllByRecursion, map-append, filter-append, Slab, Item, Node, put_place, places_after, Rises, is_on, keys_on, item_of, after_of, before_of, Linked, Path, Ring, Relinked, SameLinks}
 use Rattle.std.specs.Prelude.{Some, filter}
-use Rattle.std.specs.List.{AllByRecursion}
-use Rattle.std.proofs.lemmas.List.{map-append}
-use Rattle.std.proofs.lemmas.List.Elements.{filter-append}
-use Rattle.slab.specs.Slab.{Slab}
-use Rattle.qqueue.specs.declared.item.Item.{Item}
-use Rattle.qqueue.specs.declared.node.Node.{Node}
-use Rattle.qqueue.specs.Rings.{put_place, places_after, Rises, is_on, keys_on, item_of, after_of, before_of, Linked, Path, Ring}
-use Rattle.qqueue.specs.Joins.{Relinked, SameLinks}
 use Rattle.qqueue.proofs.PlaceLaws.{split_put, split_after}
 
 -- ---- keys of their own

@@ -1,10 +1,5 @@
 -- Lists of rising numbers: one item more, some left.
-use Rattle.std.proofs.Common.{◌<◌, List, [], ◌∷◌, ◌++◌, Bool, true, false, cond}
-use Rattle.std.specs.Prelude.{filter}
-use Rattle.std.specs.List.{AllByRecursion}
-use Rattle.qqueue.specs.declared.item.Item.{Item}
-use Rattle.qqueue.specs.Contents.{IsRising}
-use Rattle.qbase.proofs.Lists.{all_append, all_filter}
+use Rattle.qqueue.proofs.Common.{◌<◌, List, [], ◌∷◌, ◌++◌, Bool, true, false, cond, filter, AllByRecursion, Item, IsRising, all_append, all_filter}
 
 -- one more item behind them
 pub IsRising-push : (items : List Item) (x : Item) → IsRising items → AllByRecursion (λ y. y.number < x.number) items → IsRising (items ++ x ∷ [])

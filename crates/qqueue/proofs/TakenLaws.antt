@@ -1,17 +1,6 @@
 -- What a queue's lists keep true where one item is taken out.
-use Rattle.std.proofs.Common.{◌≡◌, ◌≢◌, ℕ, ◌+◌, List, [], ◌∷◌, ◌++◌, Bool, true, cond, refl, ap, sym, subst, ◌∙◌, inl, inr, zero-add, append-nil}
+use Rattle.qqueue.proofs.Common.{◌≡◌, ◌≢◌, ℕ, ◌+◌, List, [], ◌∷◌, ◌++◌, Bool, true, cond, refl, ap, sym, subst, ◌∙◌, inl, inr, zero-add, append-nil, AllByRecursion, option_map, cases_eq, cases_Bool, true≢false, Slab, get, Updates, all_more, Item, Node, is_pulse, without_item, put_place, places_of, items_at, pulses_of, Rises, is_on, keys_on, item_of, after_of, before_of, Linked, Ring, first_of, Relinked, SameLinks, ClosedUp, AreRings}
 use Rattle.std.specs.Prelude.{Option, None, Some, is_some, IsSome}
-use Rattle.std.specs.List.{AllByRecursion}
-use Rattle.std.specs.Option.{option_map}
-use Rattle.std.proofs.lemmas.Bool.{cases_eq, cases_Bool, true≢false}
-use Rattle.slab.specs.Slab.{Slab, get, Updates}
-use Rattle.qbase.proofs.Lists.{all_more}
-use Rattle.qqueue.specs.declared.item.Item.{Item}
-use Rattle.qqueue.specs.declared.node.Node.{Node}
-use Rattle.qqueue.specs.Best.{is_pulse, without_item}
-use Rattle.qqueue.specs.Rings.{put_place, places_of, items_at, pulses_of, Rises, is_on, keys_on, item_of, after_of, before_of, Linked, Ring, first_of}
-use Rattle.qqueue.specs.Joins.{Relinked, SameLinks, ClosedUp}
-use Rattle.qqueue.specs.Kept.{AreRings}
 use Rattle.qqueue.proofs.PlaceLaws.{places_put, places_same, only_place, rises_but_put, without_put, all_places, pulses_put}
 use Rattle.qqueue.proofs.RingLaws.{Apart, apart_turn, last_from, last_all, all_split, all_join, ring_turn, ring_away, ring_but_first, Stands, stands, keys_put, keys_put_other, keys_apart}
 use Rattle.qqueue.proofs.KeptLaws.{on_true, on_from, IsOf, held, placed, at_place, keys_used, used_apart}

@@ -1,12 +1,9 @@
 -- The open Send of a number.
-use Rattle.std.proofs.Common.{◌≡◌, ◌⊎◌, inl, inr, ℕ, refl, true, false, sym}
+use Rattle.qrules.proofs.Common.{◌≡◌, ◌⊎◌, inl, inr, ℕ, refl, true, false, sym, message_in, reply_buffer_in, Receive, Send, None, Some, option_map_or, OpenCall}
 use Rattle.std.proofs.lemmas.Bool.{true≢false}
 use Rattle.qrules.proofs.Words.Facts.{is_for_answer, is_held_by, sender_call}
-use Rattle.qrules.specs.Records.{message_in, reply_buffer_in}
-use Rattle.qmodel.specs.declared.open_call.OpenCall.TheVariants.{Receive, Send}
 use Rattle.qrules.proofs.Traces.Past.Senders.{sender_sends}
 use Rattle.qrules.specs.Facts.{holds, message, number_of, open_send, reply_buffer, sender, threads_of, Facts, OpenSend}
-use Rattle.qrules.proofs.Common.{None, Some, option_map_or, OpenCall}
 
 -- no Send of number i is open
 pub record NoSend (f : Facts) (i : ℕ) : Type 0 where

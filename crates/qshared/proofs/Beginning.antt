@@ -1,21 +1,6 @@
 -- What lies under the lock at the beginning.
-use Rattle.std.proofs.Common.{◌≡◌, ℕ, ◌≤◌, List, [], length, get_or, refl, ap, sym, subst, ◌∙◌, arith}
-use Rattle.std.specs.Prelude.{replicate}
-use Rattle.std.proofs.lemmas.List.{length-map}
-use Rattle.qtables.specs.Members.{IsRoster}
-use Rattle.qtables.specs.declared.member.Member.{Member}
+use Rattle.qshared.proofs.Common.{◌≡◌, ℕ, ◌≤◌, List, [], length, get_or, refl, ap, sym, subst, ◌∙◌, arith, replicate, length-map, IsRoster, Member, Completion, members_of, StandsAt, State, IsSound, Line, idle_line, seated_desk, true≢false, AreLater, IsUnderLock, blocked_same, properties_of}
 use Rattle.qrules.proofs.Words.Facts.{threads_of}
-use Rattle.qmodel.specs.declared.call.Completion.{Completion}
-use Rattle.qstate.specs.Kept.{members_of}
-use Rattle.qkernel.specs.Stands.{StandsAt}
-use Rattle.qkernel.specs.Kernel.{State, IsSound}
-use Rattle.qhandoff.specs.declared.view.Line.{Line}
-use Rattle.qhandoff.specs.Rule.{idle_line}
-use Rattle.qhandoff.specs.Steps.{seated_desk}
-use Rattle.std.proofs.lemmas.Bool.{true≢false}
-use Rattle.qshared.specs.Due.{AreLater}
-use Rattle.qshared.specs.UnderLock.{IsUnderLock}
-use Rattle.qkernel.proofs.Traces.{blocked_same, properties_of}
 
 same_replicate : {A : Type 0} (n i : ℕ) (x : A) → get_or (replicate n x) i x ≡ x
 same_replicate Prim.Native.Nat.zero i x = refl

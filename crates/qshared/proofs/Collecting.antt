@@ -1,18 +1,6 @@
 -- What a port collects, call by call.
-use Rattle.std.proofs.Common.{◌≡◌, ℕ, List, [], ◌∷◌, ◌++◌, refl, ap, sym, subst, ◌∙◌, cond, Bool, true, false, append-nil, arith}
-use Rattle.std.proofs.lemmas.Bool.{eq-eqb}
-use Rattle.qtables.specs.declared.member.Member.{Member}
-use Rattle.qmodel.specs.declared.call.Call.{Call}
-use Rattle.qmodel.specs.declared.call.Completion.{Completion}
+use Rattle.qshared.proofs.Common.{◌≡◌, ℕ, List, [], ◌∷◌, ◌++◌, refl, ap, sym, subst, ◌∙◌, cond, Bool, true, false, append-nil, arith, eq-eqb, Member, Call, Completion, Extends, Answered, IsMet, calls_of, gives, is_call, pends, AreLater, at_once, collected, Admits, Refuses, Called, Done, Blocked, Refused}
 use Rattle.qmodel.specs.Trace.{Trace}
-use Rattle.qpast.specs.History.{Extends}
-use Rattle.qshared.specs.Answered.{Answered, IsMet}
-use Rattle.qshared.specs.Asking.{calls_of}
-use Rattle.qshared.specs.Counting.{gives, is_call, pends}
-use Rattle.qshared.specs.Due.{AreLater, at_once, collected}
-use Rattle.qshared.specs.Performing.{Admits, Refuses}
-use Rattle.qshared.specs.declared.port.Called.{Called}
-use Rattle.qshared.specs.declared.port.Called.TheVariants.{Done, Blocked, Refused}
 use Rattle.qshared.proofs.Turns.{now_waits, once_same, still_none, turn_none, turn_once}
 
 module _ (roster : List Member) (refuses : Refuses) (admits : Admits) (t : ℕ) (c : Call) (asked : List Call) (seen last past after : Trace)

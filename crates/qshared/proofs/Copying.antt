@@ -1,15 +1,5 @@
 -- Endings that are copied one after another.
-use Rattle.std.proofs.Common.{◌≡◌, ℕ, ◌+◌, ◌-◌, ◌<◌, ◌≤◌, List, [], ◌∷◌, ◌++◌, length, get_or, set, drop, ap, sym, subst, ◌∙◌, arith, false, eqb, inl, inr, append_assoc, length-append, length-set, get_or-set_other}
-use Rattle.std.specs.Prelude.{Some, ◌||◌}
-use Rattle.std.specs.List.{AllByRecursion}
-use Rattle.std.proofs.lemmas.Bool.{cases_Bool, eqb-false, true≢false}
-use Rattle.std.proofs.lemmas.List.Folds.{list_any-append}
-use Rattle.std.proofs.Math.Seq.{drop-cons}
-use Rattle.qmodel.specs.declared.call.Completion.{Completion}
-use Rattle.qrules.specs.Trace.{gets, AreApart}
-use Rattle.qkernel.specs.EventLog.{Logged}
-use Rattle.qshared.specs.Due.{place}
-use Rattle.qshared.specs.Private.Rooms.{MayCopy, Copied}
+use Rattle.qshared.proofs.Common.{◌≡◌, ℕ, ◌+◌, ◌-◌, ◌<◌, ◌≤◌, List, [], ◌∷◌, ◌++◌, length, get_or, set, drop, ap, sym, subst, ◌∙◌, arith, false, eqb, inl, inr, append_assoc, length-append, length-set, get_or-set_other, Some, ◌||◌, AllByRecursion, cases_Bool, eqb-false, true≢false, list_any-append, drop-cons, Completion, gets, AreApart, Logged, place, MayCopy, Copied}
 use Rattle.qshared.proofs.Places.{place_same}
 use Rattle.qshared.proofs.Puts.{gets_here, or_first, or_second, gets_middle, all_middle}
 

@@ -1,40 +1,11 @@
 -- What is so under the lock before a call and after it.
-use Rattle.std.proofs.Common.{◌≡◌, ℕ, ◌+◌, ◌<◌, ◌^◌, List, [], length, refl, ap, sym, subst, ◌∙◌, arith, true, false, inl, inr}
-use Rattle.std.specs.List.{AllByRecursion}
-use Rattle.std.specs.Prelude.{None, Option, Some, is_some}
-use Rattle.std.proofs.lemmas.Bool.{cases_Bool, eq-eqb, eqb-true}
-use Rattle.std.proofs.lemmas.Option.{same_Some}
-use Rattle.qbase.proofs.Lists.{all_more}
-use Rattle.std.proofs.lemmas.List.{length-map}
-use Rattle.qbase.specs.declared.errno.Errno.TheVariants.{Busy}
-use Rattle.qtables.specs.Members.{member_at}
-use Rattle.qtables.specs.declared.member.Member.{Member}
-use Rattle.qmodel.specs.declared.call.Call.{Call}
-use Rattle.qmodel.specs.declared.call.Completion.{Completion}
-use Rattle.qrules.specs.Trace.{AreApart, gets, thread_at}
+use Rattle.qshared.proofs.Common.{◌≡◌, ℕ, ◌+◌, ◌<◌, ◌^◌, List, [], length, refl, ap, sym, subst, ◌∙◌, arith, true, false, inl, inr, AllByRecursion, None, Option, Some, is_some, cases_Bool, eq-eqb, eqb-true, same_Some, all_more, length-map, Busy, member_at, Member, Call, Completion, AreApart, gets, thread_at, with_event, among_member, caller_gets_its_own, endings_are_apart, is_blocked, Answers, AnswersAtTraces, State, Desk, line, opened_desk, cancelled_desk, IsBusy, one, HasWaited, at_once, later_due, of_thread, place, has_ending_of, is_down, IsUnderLock, Admits, IsFree, IsServed, IsReason, IsEvent, Performs, Refuses, outcome, MayPut, Handed, stands_down}
 use Rattle.qrules.proofs.Words.Facts.{threads_of}
-use Rattle.qrules.proofs.Words.Lawful.{with_event}
 use Rattle.qmodel.specs.Trace.{Trace}
-use Rattle.qrules.proofs.Traces.Rosters.{among_member}
-use Rattle.qrules.proofs.Traces.TraceLaws.Blocked.{caller_gets_its_own, endings_are_apart}
 use Rattle.qrules.proofs.Traces.TraceLaws.Ending.{endings_name_own_calls}
-use Rattle.qrules.specs.Facts.{is_blocked}
 use Rattle.qrules.specs.Lawful.{facts_of}
-use Rattle.qrules.specs.Outcome.{Answers}
-use Rattle.qkernel.specs.Stands.{AnswersAtTraces}
-use Rattle.qkernel.specs.Kernel.{State}
-use Rattle.qhandoff.specs.declared.view.Desk.{Desk}
-use Rattle.qhandoff.specs.Rule.{line}
-use Rattle.qhandoff.specs.Steps.{opened_desk, cancelled_desk, IsBusy}
-use Rattle.qhandoff.specs.Words.{one}
-use Rattle.qshared.specs.Due.{HasWaited, at_once, later_due, of_thread, place}
-use Rattle.qshared.specs.Past.{has_ending_of, is_down}
-use Rattle.qshared.specs.UnderLock.{IsUnderLock}
-use Rattle.qshared.specs.Performing.{Admits, IsFree, IsServed, IsReason, IsEvent, Performs, Refuses, outcome}
-use Rattle.qshared.specs.Private.Putting.{MayPut, Handed}
 use Rattle.qshared.proofs.Places.{place_among, place_below}
 use Rattle.qshared.proofs.Turns.{gets_of, none_later, not_nil, of_one, own_number, waited_due}
-use Rattle.qkernel.proofs.Traces.{stands_down}
 use Rattle.qshared.proofs.Telling.{undone, is_free, lawful_after, all_may_put, told_after}
 
 module _ (roster : List Member) (slots : ℕ) (kernel : State) (d : Desk Completion) (threads : List ℕ) (past : Trace)

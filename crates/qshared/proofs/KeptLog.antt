@@ -1,38 +1,15 @@
 -- A kept past after an event: what an event requires is enough.
-use Rattle.std.proofs.Common.{◌≡◌, ◌≢◌, ℕ, ◌+◌, ◌-◌, ◌<◌, ◌≤◌, ◌^◌, List, [], ◌∷◌, ◌++◌, length, get_or, set, refl, ap, sym, subst, ◌∙◌, arith, Bool, true, false, eqb, inl, inr, ◌⊎◌, length-append, length-set, get_or-set_other, get_or-set_same}
-use Rattle.std.specs.Prelude.{None, Some, is_some}
-use Rattle.std.specs.List.{AllByRecursion}
-use Rattle.std.proofs.lemmas.Bool.{cases_Bool, eqb-true, eqb-false, true≢false}
-use Rattle.std.proofs.lemmas.Option.{none-some, same_Some}
-use Rattle.qbase.proofs.Lists.{none_of, some_of}
+use Rattle.qshared.proofs.Common.{◌≡◌, ◌≢◌, ℕ, ◌+◌, ◌-◌, ◌<◌, ◌≤◌, ◌^◌, List, [], ◌∷◌, ◌++◌, length, get_or, set, refl, ap, sym, subst, ◌∙◌, arith, Bool, true, false, eqb, inl, inr, ◌⊎◌, length-append, length-set, get_or-set_other, get_or-set_same, None, Some, is_some, AllByRecursion, cases_Bool, eqb-true, eqb-false, true≢false, none-some, same_Some, none_of, some_of, TraceFull, NoMemory, member_at, Member, Call, Completion, Answers, refusal_of, AreApart, gets, followed_by, Event, Trace, GoesToBlocked, blocked_unless_ended, endings_are_apart, endings_go_to_blocked, IsLawful, facts_of, with_event, open_call, is_blocked, effect_of, known, Logged, with_next, place, is_down, HasRoomFor, HasRooms, MayCopy, Copied, IsKept, blocked_same, followed_length, followed_push}
 use Rattle.qbase.specs.declared.errno.Errno.{Errno}
-use Rattle.qbase.specs.declared.errno.Errno.TheVariants.{TraceFull, NoMemory}
-use Rattle.qtables.specs.Members.{member_at}
-use Rattle.qtables.specs.declared.member.Member.{Member}
-use Rattle.qmodel.specs.declared.call.Call.{Call}
 use Rattle.qmodel.specs.declared.call.Call.TheVariants.{Shutdown}
-use Rattle.qmodel.specs.declared.call.Completion.{Completion}
-use Rattle.qrules.specs.Outcome.{Answers, refusal_of}
-use Rattle.qrules.specs.Trace.{AreApart, gets, followed_by, Event, Trace}
-use Rattle.qrules.proofs.Traces.TraceLaws.Blocked.{GoesToBlocked, blocked_unless_ended, endings_are_apart, endings_go_to_blocked}
 use Rattle.qrules.proofs.Traces.TraceLaws.Lengths.{buffer_brought, after_fits, completion_fits}
 use Rattle.qrules.proofs.Words.Facts.{threads_of}
-use Rattle.qrules.proofs.Words.Lawful.{IsLawful, facts_of, with_event}
-use Rattle.qrules.proofs.Words.Past.{open_call}
 use Rattle.qrules.proofs.Words.Past as old_past
-use Rattle.qrules.specs.Facts.{is_blocked}
 use Rattle.qrules.specs.Lawful as rules
 use Rattle.qrules.specs.Outcome as outcome
-use Rattle.qrules.specs.Rules.{effect_of}
 use Rattle.qrules.proofs.Traces.Past.Ends.{accepted}
-use Rattle.qrules.proofs.Traces.Rosters.{known}
-use Rattle.qkernel.specs.EventLog.{Logged, with_next}
-use Rattle.qshared.specs.Due.{place}
-use Rattle.qshared.specs.Past.{is_down}
 use Rattle.qshared.specs.Rooms.{KeptPast, admits_kept, refuses_kept}
-use Rattle.qshared.specs.Private.Rooms.{HasRoomFor, HasRooms, MayCopy, Copied, IsKept}
 use Rattle.qshared.proofs.Places.{place_below, place_same, place_some}
-use Rattle.qkernel.proofs.Traces.{blocked_same, followed_length, followed_push}
 
 -- ---- a call that isn't noted
 

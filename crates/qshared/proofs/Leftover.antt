@@ -1,27 +1,9 @@
 -- What is left in the cells, as completions alone.
-use Rattle.std.proofs.Common.{◌≡◌, ℕ, zero, suc, ◌+◌, ◌<◌, ◌≤◌, List, [], ◌∷◌, ◌++◌, length, map, get_or, refl, ap, sym, subst, ◌∙◌, cond, Bool, true, false, eqb, inl, inr, arith}
-use Rattle.std.specs.Prelude.{Some}
-use Rattle.std.specs.List.{AllByRecursion}
-use Rattle.std.proofs.lemmas.Bool.{cases_Bool, eqb-true, eqb-false, eq-eqb, ne_eqb, true≢false}
-use Rattle.std.proofs.lemmas.Option.{same_Some}
-use mathlib.Core.Option.{some, some-injective, some-ne-none}
-use lib.ListN.{get_elem?}
-use Rattle.qbase.proofs.Lists.{all_more}
-use Rattle.qmodel.specs.declared.call.Completion.{Completion}
+use Rattle.qshared.proofs.Common.{◌≡◌, ℕ, zero, suc, ◌+◌, ◌<◌, ◌≤◌, List, [], ◌∷◌, ◌++◌, length, map, get_or, refl, ap, sym, subst, ◌∙◌, cond, Bool, true, false, eqb, inl, inr, arith, Some, AllByRecursion, cases_Bool, eqb-true, eqb-false, eq-eqb, ne_eqb, true≢false, same_Some, some, some-injective, some-ne-none, get_elem?, all_more, Completion, Rises, all_at, among_member, AreBelow, left_for, took, Member, ThreadSeat, Call, Extends, IsSince, calls_of, AreDue, AreKnown, AreLater, at_once, collected, endings_due, in_turn, later_due, later_of, of_thread, place, at_map, RiseByThread}
 use Rattle.qmodel.specs.Trace.{Trace}
-use Rattle.qrules.proofs.Traces.Rosters.{Rises, all_at, among_member}
-use Rattle.qhandoff.specs.Words.{AreBelow, left_for, took}
 use Rattle.qhandoff.specs.Words as cells
 use Rattle.qrules.proofs.Words.Facts.{threads_of}
-use Rattle.qtables.specs.declared.member.Member.{Member}
-use Rattle.qhandoff.specs.declared.seats.ThreadSeat.{ThreadSeat}
-use Rattle.qmodel.specs.declared.call.Call.{Call}
-use Rattle.qpast.specs.History.{Extends}
-use Rattle.qshared.specs.Asking.{IsSince, calls_of}
-use Rattle.qshared.specs.Due.{AreDue, AreKnown, AreLater, at_once, collected, endings_due, in_turn, later_due, later_of, of_thread, place}
-use Rattle.atomic_table.proofs.Lists.{at_map}
 use Rattle.qshared.proofs.Turns.{extends_since, left_over, once_same}
-use Rattle.qshared.specs.Past.{RiseByThread}
 use Rattle.qshared.proofs.Places.{IsAt, at_among, is_at, place_among, place_at, place_below, place_same}
 
 -- a completion with the number of its cell

@@ -1,3 +1,4 @@
+pub mod Common
 pub mod Beginning
 pub mod Collecting
 pub mod Copying

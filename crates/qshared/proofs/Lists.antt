@@ -1,27 +1,9 @@
 -- The lists of what the threads asked for.
-use Rattle.std.proofs.Common.{◌≡◌, ℕ, zero, suc, ◌<◌, List, [], ◌∷◌, ◌++◌, map, set, length, get_or, refl, ap, sym, subst, ◌∙◌, arith, true, false, eqb, inl, inr, append-nil, get_or-set_other}
-use Rattle.std.specs.Prelude.{Some}
-use Rattle.std.proofs.lemmas.Bool.{cases_Bool, eqb-true, eqb-false, true≢false}
+use Rattle.qshared.proofs.Common.{◌≡◌, ℕ, zero, suc, ◌<◌, List, [], ◌∷◌, ◌++◌, map, set, length, get_or, refl, ap, sym, subst, ◌∙◌, arith, true, false, eqb, inl, inr, append-nil, get_or-set_other, Some, cases_Bool, eqb-true, eqb-false, true≢false, same_Some, none, some, get_elem?, Member, Call, Completion, with_event, Heard, Answered, AreCallsOf, calls_of, heard_in, is_call, place, UnderLock, Admits, Performs, Refuses, Called, Done, Blocked, Refused}
 use Rattle.std.proofs.lemmas.List.{get_or-set_same, get_or-map, map-set, set-get_or}
-use Rattle.std.proofs.lemmas.Option.{same_Some}
-use mathlib.Core.Option.{none, some}
 use mathlib.Core.Option as maybe
-use lib.ListN.{get_elem?}
-use Rattle.qtables.specs.declared.member.Member.{Member}
-use Rattle.qmodel.specs.declared.call.Call.{Call}
-use Rattle.qmodel.specs.declared.call.Completion.{Completion}
 use Rattle.qrules.proofs.Words.Facts.{threads_of}
-use Rattle.qrules.proofs.Words.Lawful.{with_event}
 use Rattle.qmodel.specs.Trace.{Trace}
-use Rattle.qpast.specs.declared.asking.Heard.{Heard}
-use Rattle.qshared.specs.Answered.{Answered}
-use Rattle.qshared.specs.Asking.{AreCallsOf, calls_of, heard_in}
-use Rattle.qshared.specs.Counting.{is_call}
-use Rattle.qshared.specs.Due.{place}
-use Rattle.qshared.specs.UnderLock.{UnderLock}
-use Rattle.qshared.specs.Performing.{Admits, Performs, Refuses}
-use Rattle.qshared.specs.declared.port.Called.{Called}
-use Rattle.qshared.specs.declared.port.Called.TheVariants.{Done, Blocked, Refused}
 use Rattle.qshared.proofs.Places.{place_same}
 
 -- ---- rows

@@ -1,21 +1,9 @@
 -- Where a thread stands among the threads of a roster.
-use Rattle.std.proofs.Common.{◌≡◌, ℕ, suc, zero, ◌+◌, ◌<◌, List, [], ◌∷◌, length, get_or, refl, ap, sym, subst, ◌∙◌, cond, arith, true, false, eqb}
-use Rattle.std.specs.Prelude.{None, Some, is_some, ◌||◌}
-use Rattle.std.specs.List.{position_from, AllByRecursion}
-use Rattle.std.proofs.lemmas.Bool.{eqb-true, ne_eqb, eq-eqb, true≢false}
-use Rattle.std.proofs.lemmas.Iterator.Adapters.{position_from-zero}
-use Rattle.std.proofs.lemmas.Option.{same_Some, none-some}
-use Rattle.qbase.proofs.Lists.{is_among}
-use Rattle.qrules.proofs.Traces.Rosters.{Rises}
-use Rattle.qrules.specs.Facts.{threads_of}
+use Rattle.qshared.proofs.Common.{◌≡◌, ℕ, suc, zero, ◌+◌, ◌<◌, List, [], ◌∷◌, length, get_or, refl, ap, sym, subst, ◌∙◌, cond, arith, true, false, eqb, None, Some, is_some, ◌||◌, position_from, AllByRecursion, eqb-true, ne_eqb, eq-eqb, true≢false, position_from-zero, same_Some, none-some, is_among, Rises, threads_of, members_of, is_there, member_at, place}
 use Rattle.qstate.specs.declared.seat.Seat.{Seat}
 use Rattle.qstate.specs.declared.thread.Thread.{Thread}
-use Rattle.qstate.specs.Kept.{members_of}
 use Rattle.qstate.specs.Thread.{seat_in}
 use Rattle.qstate.specs.Threads.{IsSeatIn}
-use Rattle.qstate.proofs.Seats.{is_there}
-use Rattle.qtables.specs.Members.{member_at}
-use Rattle.qshared.specs.Due.{place}
 
 -- thread t stands at i, and nowhere before
 abbrev pub IsAt : List ℕ → ℕ → ℕ → Type 0

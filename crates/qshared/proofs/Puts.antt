@@ -1,21 +1,6 @@
 -- Endings that are put one after another.
-use Rattle.std.proofs.Common.{◌≡◌, ℕ, ◌<◌, List, [], ◌∷◌, ◌++◌, length, refl, ap, sym, subst, ◌∙◌, cond, Bool, true, false, eqb, inl, inr, append-nil, append_assoc}
-use Rattle.std.specs.Prelude.{None, Option, Some, ◌||◌}
-use Rattle.std.specs.List.{AllByRecursion}
-use Rattle.std.proofs.lemmas.Bool.{cases_Bool, eqb-true, eqb-false, eq-eqb, ne_eqb, true≢false}
+use Rattle.qshared.proofs.Common.{◌≡◌, ℕ, ◌<◌, List, [], ◌∷◌, ◌++◌, length, refl, ap, sym, subst, ◌∙◌, cond, Bool, true, false, eqb, inl, inr, append-nil, append_assoc, None, Option, Some, ◌||◌, AllByRecursion, cases_Bool, eqb-true, eqb-false, eq-eqb, ne_eqb, true≢false, list_any-append, same_Some, Completion, Desk, Line, line, cancelled_desk, put_desk, one, line_else, line_here, gets, AreApart, later_of, place, of_thread, MayPut, Handed}
 use Rattle.std.proofs.lemmas.List.Elements.{filter-append}
-use Rattle.std.proofs.lemmas.List.Folds.{list_any-append}
-use Rattle.std.proofs.lemmas.Option.{same_Some}
-use Rattle.qmodel.specs.declared.call.Completion.{Completion}
-use Rattle.qhandoff.specs.declared.view.Desk.{Desk}
-use Rattle.qhandoff.specs.declared.view.Line.{Line}
-use Rattle.qhandoff.specs.Rule.{line}
-use Rattle.qhandoff.specs.Steps.{cancelled_desk, put_desk}
-use Rattle.qhandoff.specs.Words.{one}
-use Rattle.qhandoff.proofs.Changes.{line_else, line_here}
-use Rattle.qrules.specs.Trace.{gets, AreApart}
-use Rattle.qshared.specs.Due.{later_of, place, of_thread}
-use Rattle.qshared.specs.Private.Putting.{MayPut, Handed}
 use Rattle.qshared.proofs.Places.{place_same}
 use Rattle.qshared.proofs.Turns.{of_none}
 

@@ -1,12 +1,6 @@
 -- The seats of a row of ports, and the ports of a row of seats.
-use Rattle.std.proofs.Common.{◌≡◌, ℕ, zero, suc, List, [], ◌∷◌, ◌++◌, map, sym, refl, ap, ◌∙◌, subst}
-use mathlib.Core.Option.{some, some-injective, some-ne-none}
-use lib.ListN.{get_elem?}
+use Rattle.qshared.proofs.Common.{◌≡◌, ℕ, zero, suc, List, [], ◌∷◌, ◌++◌, map, sym, refl, ap, ◌∙◌, subst, some, some-injective, some-ne-none, get_elem?, at_map, ThreadSeat, Completion, IsRow, thread_id, thread_of, taken, took}
 use Rattle.atomic_table.specs.Seated.{TableId}
-use Rattle.atomic_table.proofs.Lists.{at_map}
-use Rattle.qhandoff.specs.declared.seats.ThreadSeat.{ThreadSeat}
-use Rattle.qmodel.specs.declared.call.Completion.{Completion}
-use Rattle.qhandoff.specs.Words.{IsRow, thread_id, thread_of, taken, took}
 
 module _ {P : Type 0} where
   pub map_same : (xs : List P) → map (λ x. x) xs ≡ xs

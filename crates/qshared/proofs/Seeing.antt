@@ -1,16 +1,9 @@
 -- What was seen of the past.
-use Rattle.std.proofs.Common.{◌≡◌, ℕ, ◌+◌, ◌<◌, List, [], ◌∷◌, ◌++◌, length, reverse, take, refl, ap, sym, subst, ◌∙◌, arith, eqb, sum}
-use Rattle.std.specs.Prelude.{Some}
-use Rattle.std.proofs.lemmas.Bool.{eq-eqb, ne_eqb}
+use Rattle.qshared.proofs.Common.{◌≡◌, ℕ, ◌+◌, ◌<◌, List, [], ◌∷◌, ◌++◌, length, reverse, take, refl, ap, sym, subst, ◌∙◌, arith, eqb, sum, Some, eq-eqb, ne_eqb, take-append_seam, get_elem?, followed_by, Extends, AreSeen}
 use Rattle.std.proofs.lemmas.List.Sums.{sum_by-append}
 use Rattle.std.proofs.lemmas.List.{append_assoc, reverse-append, reverse-reverse}
-use Rattle.std.proofs.Math.Seq.{take-append_seam}
-use lib.ListN.{get_elem?}
 use Rattle.qmodel.specs.Trace.{Event, Trace}
-use Rattle.qrules.specs.Trace.{followed_by}
-use Rattle.qpast.specs.History.{Extends}
 use Rattle.qshared.specs.Laws.{event_at, InRealTime, IsBeginning}
-use Rattle.qshared.specs.Past.{AreSeen}
 use Rattle.qshared.proofs.Rows.{each_pushed, map_snoc}
 
 pub on : (a b c : Trace) → Extends c b → Extends b a → Extends c a

@@ -1,39 +1,10 @@
 -- What the past, the kernel and the cells are after an event.
-use Rattle.std.proofs.Common.{◌≡◌, ◌≢◌, ℕ, zero, suc, ◌<◌, List, [], ◌∷◌, ◌++◌, length, set, refl, ap, sym, subst, ◌∙◌, cond, Bool, true, false, eqb, inl, inr}
-use Rattle.std.specs.Prelude.{Some, is_some, ◌||◌}
-use Rattle.std.specs.List.{AllByRecursion}
-use Rattle.std.proofs.lemmas.Bool.{cases_Bool, eqb-true, eqb-false, eq-eqb, ne_eqb, true≢false}
-use Rattle.std.proofs.lemmas.List.{set-get_or}
-use Rattle.std.proofs.lemmas.Option.{same_Some}
-use Rattle.qbase.proofs.Lists.{some_of}
-use Rattle.qtables.specs.Members.{IsRoster}
-use Rattle.qtables.specs.declared.member.Member.{Member}
-use Rattle.qmodel.specs.declared.call.Call.{Call}
-use Rattle.qmodel.specs.declared.call.Completion.{Completion}
-use Rattle.qrules.specs.Trace.{AreApart, gets}
-use Rattle.qrules.proofs.Traces.TraceLaws.Blocked.{GoesToBlocked, may_end, blocked_unless_ended, endings_are_apart, endings_go_to_blocked}
-use Rattle.qrules.proofs.Words.Past.{open_call}
+use Rattle.qshared.proofs.Common.{◌≡◌, ◌≢◌, ℕ, zero, suc, ◌<◌, List, [], ◌∷◌, ◌++◌, length, set, refl, ap, sym, subst, ◌∙◌, cond, Bool, true, false, eqb, inl, inr, Some, is_some, ◌||◌, AllByRecursion, cases_Bool, eqb-true, eqb-false, eq-eqb, ne_eqb, true≢false, set-get_or, same_Some, some_of, IsRoster, Member, Call, Completion, AreApart, gets, GoesToBlocked, may_end, blocked_unless_ended, endings_are_apart, endings_go_to_blocked, open_call, with_event, among_member, known, is_blocked, Answers, StandsAt, State, Desk, Line, idle_line, line, opened_desk, cancelled_desk, line_else, line_here, AreLater, IsOwed, at_once, endings_due, in_turn, later_due, later_of, of_thread, place, Agrees, IsFree, MayPut, Handed, blocked_same, properties_of, stands_down}
 use Rattle.qrules.proofs.Words.Facts.{threads_of}
-use Rattle.qrules.proofs.Words.Lawful.{with_event}
 use Rattle.qmodel.specs.Trace.{Event, Trace}
-use Rattle.qrules.proofs.Traces.Rosters.{among_member, known}
-use Rattle.qrules.specs.Facts.{is_blocked}
 use Rattle.qrules.specs.Lawful.{IsLawful, facts_of}
-use Rattle.qrules.specs.Outcome.{Answers}
-use Rattle.qkernel.specs.Stands.{StandsAt}
-use Rattle.qkernel.specs.Kernel.{State}
-use Rattle.qhandoff.specs.declared.view.Desk.{Desk}
-use Rattle.qhandoff.specs.declared.view.Line.{Line}
-use Rattle.qhandoff.specs.Rule.{idle_line, line}
-use Rattle.qhandoff.specs.Steps.{opened_desk, cancelled_desk}
-use Rattle.qhandoff.proofs.Changes.{line_else, line_here}
-use Rattle.qshared.specs.Due.{AreLater, IsOwed, at_once, endings_due, in_turn, later_due, later_of, of_thread, place}
-use Rattle.qshared.specs.UnderLock.{Agrees}
-use Rattle.qshared.specs.Performing.{IsFree}
-use Rattle.qshared.specs.Private.Putting.{MayPut, Handed}
 use Rattle.qshared.proofs.Places.{place_among, place_same, place_some}
 use Rattle.qshared.proofs.Turns.{of_none, of_one, owed_other, owed_own}
-use Rattle.qkernel.proofs.Traces.{blocked_same, properties_of, stands_down}
 
 -- ---- an opened cell
 

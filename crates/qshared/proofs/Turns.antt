@@ -1,17 +1,6 @@
 -- Endings that came at once and endings that came later, in turn.
-use Rattle.std.proofs.Common.{◌≡◌, ℕ, zero, suc, ◌+◌, ◌-◌, ◌<◌, ◌≤◌, ◌⊎◌, List, [], ◌∷◌, ◌++◌, length, length-append, take, drop, refl, ap, sym, subst, ◌∙◌, cond, Bool, true, false, eqb, inl, inr, arith, append-nil, append_assoc}
-use Rattle.std.specs.Prelude.{None, Option, Some, is_none, MatchOption}
-use Rattle.std.specs.List.{AllByRecursion, list_any}
-use Rattle.std.proofs.lemmas.List.{take-append-drop}
-use Rattle.std.proofs.Math.Seq.{drop-append_seam}
-use Rattle.std.proofs.lemmas.Bool.{cases_Bool, eqb-true, eq-eqb, true≢false}
-use Rattle.qmodel.specs.declared.call.Completion.{Completion}
-use Rattle.qrules.specs.Trace.{gets, AreApart}
+use Rattle.qshared.proofs.Common.{◌≡◌, ℕ, zero, suc, ◌+◌, ◌-◌, ◌<◌, ◌≤◌, ◌⊎◌, List, [], ◌∷◌, ◌++◌, length, length-append, take, drop, refl, ap, sym, subst, ◌∙◌, cond, Bool, true, false, eqb, inl, inr, arith, append-nil, append_assoc, None, Option, Some, is_none, MatchOption, AllByRecursion, list_any, take-append-drop, drop-append_seam, cases_Bool, eqb-true, eq-eqb, true≢false, Completion, gets, AreApart, Extends, Call, IsSince, WaitedBefore, calls_of, HasWaited, of_thread, at_once, ends_open, in_turn, waits, AreLater}
 use Rattle.qmodel.specs.Trace.{Trace}
-use Rattle.qpast.specs.History.{Extends}
-use Rattle.qmodel.specs.declared.call.Call.{Call}
-use Rattle.qshared.specs.Asking.{IsSince, WaitedBefore, calls_of}
-use Rattle.qshared.specs.Due.{HasWaited, of_thread, at_once, ends_open, in_turn, waits, AreLater}
 
 -- the head and the tail of equal lists
 heads : {A : Type 0} (x y : A) (xs ys : List A) → x ∷ xs ≡ y ∷ ys → x ≡ y

@@ -1,18 +1,8 @@
 -- What a write to one channel's record changes, and what its removal does.
-use Rattle.std.proofs.Common.{◌≡◌, ℕ, ◌+◌, ◌≤◌, List, [], ◌∷◌, length, map, not, refl, ap, sym, ◌∙◌, cond, true, false, eqb}
+use Rattle.qstate.proofs.Common.{◌≡◌, ℕ, ◌+◌, ◌≤◌, List, [], ◌∷◌, length, map, not, refl, ap, sym, ◌∙◌, cond, true, false, eqb, AllByRecursion, option_map, eqb-true, true≢false, Item, with_item_priority, entry_at, with_record, without_entry, eqb_either, Channel, SetsItems, ClosesIn, open_channel_of, channel_in, pending_in, items_waiting_on}
 use Rattle.std.specs.Prelude.{Option, None, Some, is_some, OnSome}
-use Rattle.std.specs.List.{AllByRecursion}
-use Rattle.std.specs.Option.{option_map}
-use Rattle.std.proofs.lemmas.Bool.{eqb-true, true≢false}
-use Rattle.qqueue.specs.declared.item.Item.{Item}
-use Rattle.qqueue.specs.Best.{with_item_priority}
 use Rattle.qqueue.specs.Contents.{Contents}
-use Rattle.qtables.specs.Entries.{entry_at, with_record, without_entry}
 use Rattle.qtables.proofs.LookUps.{entry_at-with_record, entry_at-without_entry}
-use Rattle.qbase.proofs.Lists.{eqb_either}
-use Rattle.qstate.specs.declared.channel.Channel.{Channel}
-use Rattle.qstate.specs.Channel.{SetsItems, ClosesIn}
-use Rattle.qstate.specs.Kept.{open_channel_of, channel_in, pending_in, items_waiting_on}
 
 module _ {R : Type 0} where
   -- the record of each number, after a write to one that is there

@@ -1,31 +1,11 @@
 -- What is kept of where the threads stand stays right as their records are written.
-use Rattle.std.proofs.Common.{◌≡◌, ◌≢◌, ◌<◌, ◌≤◌, ℕ, suc, zero, ◌+◌, List, [], ◌∷◌, length, map, set, get_or, Bool, ◌&&◌, refl, ap, sym, ◌∙◌, cond, arith, true, false, eqb, option_and_then, slice_get, IfSome}
+use Rattle.qstate.proofs.Common.{◌≡◌, ◌≢◌, ◌<◌, ◌≤◌, ℕ, suc, zero, ◌+◌, List, [], ◌∷◌, length, map, set, get_or, Bool, ◌&&◌, refl, ap, sym, ◌∙◌, cond, arith, true, false, eqb, option_and_then, slice_get, IfSome, position_from, option_map, eqb-true, eq-eqb, true≢false, ltb-true, and_parts, position_from-zero, length-map, same_Some, none-some, has, IsRoster, OpenCall, Receipt, Receive, Send, held_call, unblocked_call, written_call, with_buffer, CancelSet, Index, Thread, is_cancelled_by, is_cancelled_open, thread_after_cancelled, members_of, ready_thread, seat_in, IsIndexed, number_at, open_at, receive_at, opener_at, lay_over}
 use Rattle.std.specs.Prelude.{Option, None, Some, nat_lt}
-use Rattle.std.specs.List.{position_from}
-use Rattle.std.specs.Option.{option_map}
-use Rattle.std.proofs.lemmas.Bool.{eqb-true, eq-eqb, true≢false, ltb-true, and_parts}
-use Rattle.std.proofs.lemmas.Iterator.Adapters.{position_from-zero}
-use Rattle.std.proofs.lemmas.List.{length-map}
-use Rattle.std.proofs.lemmas.Option.{same_Some, none-some}
-use Rattle.qbase.specs.ByteSet.{has}
-use Rattle.qtables.specs.Members.{IsRoster}
 use Rattle.qtables.specs.declared.member.Member.{Member}
-use Rattle.qmodel.specs.declared.open_call.OpenCall.{OpenCall}
-use Rattle.qmodel.specs.declared.open_call.Receipt.{Receipt}
-use Rattle.qmodel.specs.declared.open_call.OpenCall.TheVariants.{Receive, Send}
-use Rattle.qrules.specs.Records.{held_call, unblocked_call, written_call, with_buffer}
-use Rattle.qstate.specs.declared.cancelling.CancelSet.{CancelSet}
-use Rattle.qstate.specs.declared.index.Index.{Index}
-use Rattle.qstate.specs.declared.thread.Thread.{Thread}
-use Rattle.qstate.specs.Cancelling.{is_cancelled_by, is_cancelled_open, thread_after_cancelled}
 use Rattle.qstate.specs.Index.{is_receive, Forgets, Notes}
-use Rattle.qstate.specs.Kept.{members_of}
 use Rattle.qmodel.specs.OpenCalls.{receive_in, thread_of, number_of}
-use Rattle.qstate.specs.Thread.{ready_thread, seat_in}
-use Rattle.qstate.specs.Threads.{IsIndexed, number_at, open_at, receive_at, opener_at}
 use Rattle.qstate.proofs.Seats.{call_here, first_at, first_below, set_members, IsFirstAt, first_number}
 use Rattle.qstate.proofs.Senders.{roster_first}
-use Rattle.qbase.specs.Laying.{lay_over}
 use Rattle.qrules.proofs.Traces.Past.Open.{held_number, buffer_number, held_thread, buffer_thread}
 use Rattle.qrules.specs.Facts.{threads_of}
 

@@ -1,21 +1,7 @@
 -- What becomes of a message that isn't received as its thread's priority is set.
-use Rattle.std.proofs.Common.{◌≡◌, ℕ, List, [], ◌∷◌, map, refl, ap, sym, ◌∙◌, cond, Bool, true, false, eqb, is_some, not}
+use Rattle.qstate.proofs.Common.{◌≡◌, ℕ, List, [], ◌∷◌, map, refl, ap, sym, ◌∙◌, cond, Bool, true, false, eqb, is_some, not, and-false, and-true, eqb-true, none-some, same_Some, with_item_priority, with_priority, Item, is_unread_send, OpenCall, Receive, Send, eqb_either, Channel, SetsItems, pending_in, MovesUnread, unread_in, OpenSend}
 use Rattle.std.specs.Prelude.{Option, None, Some, ◌&&◌}
-use Rattle.std.proofs.Math.Bool.{and-false, and-true}
-use Rattle.std.proofs.lemmas.Bool.{eqb-true}
-use Rattle.std.proofs.lemmas.Option.{none-some, same_Some}
-use Rattle.qqueue.specs.Best.{with_item_priority, with_priority}
-use Rattle.qqueue.specs.declared.item.Item.{Item}
-use Rattle.qrules.specs.Records.{is_unread_send}
-use Rattle.qmodel.specs.declared.open_call.OpenCall.{OpenCall}
-use Rattle.qmodel.specs.declared.open_call.OpenCall.TheVariants.{Receive, Send}
-use Rattle.qbase.proofs.Lists.{eqb_either}
-use Rattle.qstate.specs.declared.channel.Channel.{Channel}
 use Rattle.qstate.specs.declared.unread.Unread.{Unread}
-use Rattle.qstate.specs.Channel.{SetsItems}
-use Rattle.qstate.specs.Kept.{pending_in}
-use Rattle.qstate.specs.Unread.{MovesUnread, unread_in}
-use Rattle.qmodel.specs.declared.open_call.OpenSend.{OpenSend}
 
 -- ---- an open call and what waits on a channel
 

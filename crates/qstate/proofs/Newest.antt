@@ -1,24 +1,8 @@
 -- The newest receiver, by a look at the receivers alone.
-use Rattle.std.proofs.Common.{◌≡◌, ◌≢◌, ◌<◌, ◌≤◌, ◌+◌, ℕ, suc, zero, List, [], ◌∷◌, drop, length, get_or, refl, ap, sym, ◌∙◌, arith, cond, ◌&&◌, ◌-◌, true, false, eqb}
+use Rattle.qstate.proofs.Common.{◌≡◌, ◌≢◌, ◌<◌, ◌≤◌, ◌+◌, ℕ, suc, zero, List, [], ◌∷◌, drop, length, get_or, refl, ap, sym, ◌∙◌, arith, cond, ◌&&◌, ◌-◌, true, false, eqb, option_map, eqb-true, eq-eqb, ltb-false, ltb-true, true≢false, at_drop_more, drop_all, none-some, same_Some, has, HasNone, IsGreatest, may_take, Item, IsRoster, OpenCall, Receive, Send, wait_on, Index, Thread, members_of, later_of_two, newest_in, newer_of, newest_of, number_and_thread, open_at, receive_at, IsIndexed, IsSeatIn}
 use Rattle.std.specs.Prelude.{Option, None, Some, nat_lt, IfSome}
-use Rattle.std.specs.Option.{option_map}
-use Rattle.std.proofs.lemmas.Bool.{eqb-true, eq-eqb, ltb-false, ltb-true, true≢false}
-use Rattle.std.proofs.lemmas.List.{at_drop_more, drop_all}
-use Rattle.std.proofs.lemmas.Option.{none-some, same_Some}
-use Rattle.qbase.specs.ByteSet.{has, HasNone, IsGreatest}
 use Rattle.qbase.specs.declared.byte_set.ByteSet.{ByteSet}
-use Rattle.qqueue.specs.Best.{may_take}
-use Rattle.qqueue.specs.declared.item.Item.{Item}
-use Rattle.qtables.specs.Members.{IsRoster}
-use Rattle.qmodel.specs.declared.open_call.OpenCall.{OpenCall}
-use Rattle.qmodel.specs.declared.open_call.OpenCall.TheVariants.{Receive, Send}
-use Rattle.qrules.specs.Records.{wait_on}
-use Rattle.qstate.specs.declared.index.Index.{Index}
 use Rattle.qstate.specs.declared.seat.Seat.{Seat}
-use Rattle.qstate.specs.declared.thread.Thread.{Thread}
-use Rattle.qstate.specs.Kept.{members_of}
-use Rattle.qstate.specs.Thread.{later_of_two, newest_in}
-use Rattle.qstate.specs.Threads.{newer_of, newest_of, number_and_thread, open_at, receive_at, IsIndexed, IsSeatIn}
 use Rattle.qstate.proofs.Indexing.{receive_number}
 use Rattle.qstate.proofs.Receivers.{newest_by, newest_found}
 

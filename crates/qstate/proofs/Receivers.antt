@@ -1,28 +1,10 @@
 -- The receivers of a channel, by the records of their threads.
-use Rattle.std.proofs.Common.{◌≡◌, ◌<◌, ℕ, List, [], ◌∷◌, refl, ap, sym, ◌∙◌, arith, cond, true, false, eqb, option_and_then}
+use Rattle.qstate.proofs.Common.{◌≡◌, ◌<◌, ℕ, List, [], ◌∷◌, refl, ap, sym, ◌∙◌, arith, cond, true, false, eqb, option_and_then, AllByRecursion, le-ltb, ltb-false, ltb-true, none-some, same_Some, Item, IsRoster, Completion, OpenCall, Receive, Send, Thread, threads_of, is_after, wait_on, receipt_completion, takes, receive_in, later_of_two, newest_in, open_in, members_of, is_among}
 use Rattle.std.specs.Prelude.{Option, None, Some, is_some, not, nat_lt, Bool, ◌||◌}
-use Rattle.std.specs.List.{AllByRecursion}
 use Rattle.std.specs.Option.{option_map, option_map_or, IfSome}
-use Rattle.std.proofs.lemmas.Bool.{le-ltb, ltb-false, ltb-true}
-use Rattle.std.proofs.lemmas.Option.{none-some, same_Some}
-use Rattle.qqueue.specs.declared.item.Item.{Item}
-use Rattle.qtables.specs.Members.{IsRoster}
-use Rattle.qmodel.specs.declared.call.Completion.{Completion}
-use Rattle.qmodel.specs.declared.open_call.OpenCall.{OpenCall}
-use Rattle.qmodel.specs.declared.open_call.OpenCall.TheVariants.{Receive, Send}
-use Rattle.qstate.specs.declared.thread.Thread.{Thread}
-use Rattle.qrules.proofs.Words.Facts.{threads_of}
 use Rattle.std.specs.Prelude.{find}
-use Rattle.qrules.specs.Records.{is_after}
-use Rattle.qrules.specs.Records.{wait_on}
-use Rattle.qrules.specs.Delivery.{receipt_completion}
-use Rattle.qrules.specs.Records.{takes}
 use Rattle.qmodel.specs.declared.open_call.OpenReceive.{OpenReceive}
-use Rattle.qmodel.specs.OpenCalls.{receive_in}
 use Rattle.qrules.proofs.Traces.Properties.Receivers.{after_less, any_after, newest_parts}
-use Rattle.qstate.specs.Thread.{later_of_two, newest_in, open_in}
-use Rattle.qstate.specs.Kept.{members_of}
-use Rattle.qbase.proofs.Lists.{is_among}
 use Rattle.qstate.proofs.Senders.{own_open}
 
 -- ---- the search through the threads, and what it finds

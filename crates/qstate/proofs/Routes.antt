@@ -1,12 +1,7 @@
 -- Where a connection leads.
-use Rattle.std.proofs.Common.{◌≡◌, ℕ, List, refl, sym, cond, true, false, eqb, ◌&&◌}
+use Rattle.qstate.proofs.Common.{◌≡◌, ℕ, List, refl, sym, cond, true, false, eqb, ◌&&◌, none-some, same_Some, entry_at, Channel, own_channel_in, route_in, channel_in}
 use Rattle.std.specs.Prelude.{Option, None, Some, is_some}
-use Rattle.std.proofs.lemmas.Option.{none-some, same_Some}
-use Rattle.qtables.specs.Entries.{entry_at}
 use Rattle.qtables.specs.declared.connection.Connection.{Connection}
-use Rattle.qstate.specs.declared.channel.Channel.{Channel}
-use Rattle.qstate.specs.Channel.{own_channel_in, route_in}
-use Rattle.qstate.specs.Kept.{channel_in}
 
 module _ (p : ℕ) (channels : List (ℕ × Channel)) where
   -- a process may send over its connection to a channel that is open

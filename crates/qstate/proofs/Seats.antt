@@ -1,17 +1,6 @@
 -- Where a thread stands among the threads, and what a write there changes.
-use Rattle.std.proofs.Common.{◌≡◌, ℕ, suc, zero, ◌+◌, ◌<◌, List, [], ◌∷◌, length, set, get_or, refl, ap, sym, subst, ◌∙◌, cond, arith, true, false, eqb}
+use Rattle.qstate.proofs.Common.{◌≡◌, ℕ, suc, zero, ◌+◌, ◌<◌, List, [], ◌∷◌, length, set, get_or, refl, ap, sym, subst, ◌∙◌, cond, arith, true, false, eqb, position_from, eqb-true, eqb-false, eq-eqb, ne_eqb, true≢false, position_from-zero, same_Some, none-some, member_at, Thread, open_in, seat_in, ChangesOpen, SetsOpen, SetsPriority, Wakes, members_of, thread_priority, open_at, IsRecordOf, OpenCall, option_map}
 use Rattle.std.specs.Prelude.{None, Some, is_some, Option, unwrap_or}
-use Rattle.std.specs.List.{position_from}
-use Rattle.std.proofs.lemmas.Bool.{eqb-true, eqb-false, eq-eqb, ne_eqb, true≢false}
-use Rattle.std.proofs.lemmas.Iterator.Adapters.{position_from-zero}
-use Rattle.std.proofs.lemmas.Option.{same_Some, none-some}
-use Rattle.qtables.specs.Members.{member_at}
-use Rattle.qstate.specs.declared.thread.Thread.{Thread}
-use Rattle.qstate.specs.Thread.{open_in, seat_in, ChangesOpen, SetsOpen, SetsPriority, Wakes}
-use Rattle.qstate.specs.Kept.{members_of, thread_priority}
-use Rattle.qstate.specs.Threads.{open_at, IsRecordOf}
-use Rattle.qmodel.specs.declared.open_call.OpenCall.{OpenCall}
-use Rattle.std.specs.Option.{option_map}
 
 -- the thread stands at k, and nowhere before
 abbrev pub IsFirstAt : List Thread → ℕ → ℕ → Type 0

@@ -1,29 +1,13 @@
 -- The thread whose open call is a Send, by its place and by its number.
-use Rattle.std.proofs.Common.{◌≡◌, ℕ, suc, zero, ◌+◌, ◌<◌, List, [], ◌∷◌, length, get_or, refl, ap, sym, subst, ◌∙◌, cond, arith, true, false, eqb, option_and_then}
+use Rattle.qstate.proofs.Common.{◌≡◌, ℕ, suc, zero, ◌+◌, ◌<◌, List, [], ◌∷◌, length, get_or, refl, ap, sym, subst, ◌∙◌, cond, arith, true, false, eqb, option_and_then, position_from, AllByRecursion, eqb-true, eq-eqb, ne_eqb, true≢false, and_parts, position_from-zero, same_Some, none-some, IsRoster, Channel, OpenCall, Receive, Send, OpenSend, Thread, threads_of, is_send, sender_among, message_in, is_sending, open_in, seat_in, sender_in, sent_call, message_from, ChangesOpen, ChangesSender, members_of, channel_in, number_at, is_of}
 use Rattle.std.specs.Prelude.{Option, None, Some, Result, Bool, is_some, find, position, ◌&&◌}
-use Rattle.std.specs.List.{position_from, AllByRecursion}
 use Rattle.std.specs.Option.{ok_or, option_map, IfNone, IfSome, option_map_or}
 use Rattle.std.specs.Result.{IfErr, IfOk}
-use Rattle.std.proofs.lemmas.Bool.{eqb-true, eq-eqb, ne_eqb, true≢false, and_parts}
-use Rattle.std.proofs.lemmas.Iterator.Adapters.{position_from-zero}
-use Rattle.std.proofs.lemmas.Option.{same_Some, none-some}
-use Rattle.qtables.specs.Members.{IsRoster}
-use Rattle.qstate.specs.declared.channel.Channel.{Channel}
-use Rattle.qmodel.specs.declared.open_call.OpenCall.{OpenCall}
-use Rattle.qmodel.specs.declared.open_call.OpenCall.TheVariants.{Receive, Send}
 use Rattle.qrules.proofs.Words.Items.{Finish}
 use Rattle.qrules.proofs.Words.Items.{answer_completion}
-use Rattle.qmodel.specs.declared.open_call.OpenSend.{OpenSend}
 use Rattle.qmodel.specs.OpenCalls.{send_in, number_of}
-use Rattle.qstate.specs.declared.thread.Thread.{Thread}
-use Rattle.qrules.proofs.Words.Facts.{threads_of, is_send}
-use Rattle.qrules.specs.Records.{sender_among, message_in}
 use Rattle.qstate.specs.Held.{is_held_in, is_held_of}
-use Rattle.qstate.specs.Thread.{is_sending, open_in, seat_in, sender_in, sent_call, message_from, ChangesOpen, ChangesSender}
-use Rattle.qstate.specs.Kept.{members_of, channel_in}
-use Rattle.qstate.specs.Threads.{number_at}
 use Rattle.qstate.proofs.Seats.{call_here, first_at, first_number, IsFirstAt, first_open}
-use Rattle.qstate.specs.Channel.{is_of}
 
 -- ---- each thread waits for what its own record says
 

@@ -1,9 +1,6 @@
 -- Counts over the records of entries.
-use Rattle.std.proofs.Common.{◌≡◌, ℕ, ◌+◌, ◌<◌, Bool, true, false, cond, List, length, take, get_or, refl, sym, ap, ◌∙◌, add-zero}
+use Rattle.qtables.proofs.Common.{◌≡◌, ℕ, ◌+◌, ◌<◌, Bool, true, false, cond, List, length, take, get_or, refl, sym, ap, ◌∙◌, add-zero, option_map, count_by_more_yes, count_by_more_no, slice_get-get_or}
 use Rattle.std.specs.Prelude.{Some, count_by, slice_get}
-use Rattle.std.specs.Option.{option_map}
-use Rattle.std.proofs.lemmas.List.Sums.{count_by_more_yes, count_by_more_no}
-use Rattle.std.proofs.lemmas.Option.{slice_get-get_or}
 
 -- one entry more is counted where its record passes
 pub count_by_more : {R : Type 0} (p : R → Bool) (es : List (ℕ × R)) (i : ℕ) (d : ℕ × R) (r : R) → i < length es → option_map (λ e. e.1) (slice_get es i) ≡ Some r → count_by (λ e. p e.1) (take (i + 1) es) ≡ count_by (λ e. p e.1) (take i es) + cond (p r) 1 0

@@ -1,3 +1,4 @@
+pub mod Common
 pub mod Counts
 pub mod LookUps
 pub mod Places

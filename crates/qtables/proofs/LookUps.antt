@@ -1,11 +1,5 @@
 -- What a look-up by number finds after each change of the entries.
-use Rattle.std.proofs.Common.{◌≡◌, ℕ, ◌<◌, true, false, cond, not, eqb, List, [], ◌∷◌, ◌++◌, refl, subst, sym, ◌∙◌, arith}
-use Rattle.std.specs.Prelude.{None, Some}
-use Rattle.std.specs.List.{AllByRecursion}
-use Rattle.std.specs.Option.{option_map}
-use Rattle.std.proofs.lemmas.Bool.{ne_eqb, eqb-true, eqb-false}
-use Rattle.std.proofs.lemmas.Option.{same_Some}
-use Rattle.qtables.specs.Entries.{entry_at, with_record, without_entry, IsRising}
+use Rattle.qtables.proofs.Common.{◌≡◌, ℕ, ◌<◌, true, false, cond, not, eqb, List, [], ◌∷◌, ◌++◌, refl, subst, sym, ◌∙◌, arith, None, Some, AllByRecursion, option_map, ne_eqb, eqb-true, eqb-false, same_Some, entry_at, with_record, without_entry, IsRising}
 use Rattle.qbase.proofs.Lists.{cond_same, eqb_either}
 
 -- all numbers are below n

@@ -1,16 +1,6 @@
 -- Where a number stands among entries in rising number, and what is left where that place is taken out.
-use Rattle.std.proofs.Common.{◌≡◌, ◌≢◌, ℕ, zero, suc, ◌<◌, ◌≤◌, List, [], ◌∷◌, length, get_or, refl, sym, ap, ◌∙◌, arith}
-use Rattle.std.specs.Prelude.{None, Some, slice_get, Result, Ok, Err, IfSome, IfNone}
-use Rattle.std.specs.Option.{option_map}
+use Rattle.qtables.proofs.Common.{◌≡◌, ◌≢◌, ℕ, zero, suc, ◌<◌, ◌≤◌, List, [], ◌∷◌, length, get_or, refl, sym, ap, ◌∙◌, arith, None, Some, slice_get, Result, Ok, Err, IfSome, IfNone, option_map, AllByRecursion, remove, IsSearchInRange, IsBinarySearchResult, IsNonDecreasingBy, nat_cmp, ordering_index, ranked, slice_get_read, ne_eqb, eq-eqb, nat_tests, entry_at, without_entry, IsRising}
 use Rattle.std.specs.Result.{result_ok}
-use Rattle.std.specs.List.{AllByRecursion, remove}
-use Rattle.std.specs.List.Sorted.{IsSearchInRange, IsBinarySearchResult, IsNonDecreasingBy}
-use Rattle.std.specs.Ordering.{nat_cmp, ordering_index}
-use Rattle.std.proofs.lemmas.Cmp.{ranked}
-use Rattle.std.proofs.lemmas.Option.{slice_get_read}
-use Rattle.std.proofs.lemmas.Bool.{ne_eqb, eq-eqb}
-use Rattle.std.proofs.lemmas.Bool.Decides.{nat_tests}
-use Rattle.qtables.specs.Entries.{entry_at, without_entry, IsRising}
 
 module _ {R : Type 0} where
   all_at : (P : ℕ → Type 0) (es : List (ℕ × R)) → AllByRecursion (λ e. P e.0) es → (i : ℕ) (d : ℕ × R) → i < length es → P (get_or es i d).0

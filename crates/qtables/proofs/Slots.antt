@@ -1,13 +1,8 @@
 -- Entries in slots under the keys of an index: what a look-up, a new entry, a write and a removal make of both.
-use Rattle.std.proofs.Common.{◌≡◌, ◌≢◌, inl, inr, ℕ, zero, suc, ◌+◌, ◌<◌, true, false, cond, not, eqb, List, [], ◌∷◌, ◌++◌, length, refl, sym, ap, ◌∙◌, arith, length-append, subst}
+use Rattle.qtables.proofs.Common.{◌≡◌, ◌≢◌, inl, inr, ℕ, zero, suc, ◌+◌, ◌<◌, true, false, cond, not, eqb, List, [], ◌∷◌, ◌++◌, length, refl, sym, ap, ◌∙◌, arith, length-append, subst, option_map, is_some, AllByRecursion, ne_eqb, eq-eqb, eqb-true, eqb-false, cases_eq, sum_by-set, entry_at, with_record, without_entry, IsRising}
 use Rattle.std.specs.Prelude.{Option, None, Some, slice_get, slice_index_or, filter_map, count_by}
-use Rattle.std.specs.Option.{option_map, is_some}
-use Rattle.std.specs.List.{AllByRecursion}
-use Rattle.std.proofs.lemmas.Bool.{ne_eqb, eq-eqb, eqb-true, eqb-false, cases_eq}
-use Rattle.std.proofs.lemmas.List.Sums.{sum_by-set}
 use Rattle.slab.specs.Slab.{Slab, get, slab_len, ContainsKey, Updates, with_value}
 use Rattle.slab.proofs.SlabLemmas.{ContainsKey-within, Updates-with_value}
-use Rattle.qtables.specs.Entries.{entry_at, with_record, without_entry, IsRising}
 use Rattle.qtables.specs.Slots.{entries_at, Holds, IsIndexed}
 
 no_more : (n id k : ℕ) (ix : List (ℕ × ℕ)) → n ≡ id → AllByRecursion (λ p. n < p.0) ix → AllByRecursion (λ p. p.0 ≡ id → p.1 ≡ k) ix

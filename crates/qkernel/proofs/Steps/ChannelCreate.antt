@@ -1,13 +1,9 @@
 -- ChannelCreate as a step of the kernel.
-use Rattle.std.proofs.Common.{◌≡◌, ℕ, ◌+◌, ◌≤◌, List, [], ◌∷◌, ◌++◌, length, refl, ap, sym, ◌∙◌, cond, arith, true, false, eqb, append-nil, inl, inr, add-zero}
+use Rattle.qkernel.proofs.Common.{◌≡◌, ℕ, ◌+◌, ◌≤◌, List, [], ◌∷◌, ◌++◌, length, refl, ap, sym, ◌∙◌, cond, arith, true, false, eqb, append-nil, inl, inr, add-zero, ChannelCreate, creates, put_at, one_for, None, Some, nat_lt, AllByRecursion, option_map, eqb-true, Errno, Again, NoMemory, entry_at, member_at, Member, Completion, Channel, MayRefuse, refusal_completion, ids_of, open_channel_of, channel_in, items_waiting_on, pending_in, members_of, State, IsSound, Steps, facts_in, open_in, rises, among, only_own, all_append}
 use Rattle.qbase.specs.declared.flags.ChannelFlags.{ChannelFlags}
 use Rattle.qqueue.specs.Contents.{Contents}
-use Rattle.qmodel.specs.declared.call.Call.TheVariants.{ChannelCreate}
-use Rattle.qrules.proofs.Words.Effects.{creates}
-use Rattle.qrules.proofs.Words.Step.{put_at, one_for}
 use Rattle.qkernel.proofs.Steps.Common.{uncancelled, counted, step_refused_alone, all_up_to, stays_free}
 use Rattle.qkernel.proofs.Tables.{entry_at-push, entry_at-above, length-push}
-use Rattle.qkernel.proofs.Common.{None, Some, nat_lt, AllByRecursion, option_map, eqb-true, Errno, Again, NoMemory, entry_at, member_at, Member, Completion, Channel, MayRefuse, refusal_completion, ids_of, open_channel_of, channel_in, items_waiting_on, pending_in, members_of, State, IsSound, Steps, facts_in, open_in, rises, among, only_own, all_append}
 use Rattle.qmodel.specs.declared.call.Mark.TheVariants as mark
 
 ids_entries : (n : ℕ) (channels : List (ℕ × Channel)) → AllByRecursion (λ id. id ≤ n) (ids_of channels) → AllByRecursion (λ e. e.0 ≤ n) channels

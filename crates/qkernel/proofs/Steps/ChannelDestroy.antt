@@ -1,13 +1,8 @@
 -- ChannelDestroy as a step of the kernel.
-use Rattle.std.proofs.Common.{◌≡◌, ℕ, ◌+◌, ◌≤◌, List, [], ◌∷◌, refl, ap, sym, ◌∙◌, cond, arith, length, true, false, eqb, inl}
+use Rattle.qkernel.proofs.Common.{◌≡◌, ℕ, ◌+◌, ◌≤◌, List, [], ◌∷◌, refl, ap, sym, ◌∙◌, cond, arith, length, true, false, eqb, inl, owns, ChannelDestroy, ClosesIn, is_of, On, None, Some, AllByRecursion, Inval, Srch, Item, member_at, Member, refusal_completion, uncancelled_items, Completion, channel_in, pending_in, members_of, AreCancelled, LoseCancelled, open_in, Channel, Thread, State, IsSound, Steps, facts_in}
 use Rattle.std.proofs.lemmas.List.{append-nil}
-use Rattle.qrules.proofs.Words.Facts.{owns}
-use Rattle.qmodel.specs.declared.call.Call.TheVariants.{ChannelDestroy}
-use Rattle.qstate.specs.Channel.{ClosesIn, is_of}
-use Rattle.qstate.specs.declared.cancelling.CancelSet.TheVariants.{On}
 use Rattle.qkernel.proofs.Steps.Common.{counted, count_same, owned_by_member, step_refused_alone}
 use Rattle.qkernel.proofs.Steps.Cancelling.{endings_cancelled, open_after, sound_cancelled}
-use Rattle.qkernel.proofs.Common.{None, Some, AllByRecursion, Inval, Srch, Item, member_at, Member, refusal_completion, uncancelled_items, Completion, channel_in, pending_in, members_of, AreCancelled, LoseCancelled, open_in, Channel, Thread, State, IsSound, Steps, facts_in}
 
 module _ (s : State) (t chid : ℕ) (m : Member) (known : member_at (members_of s.threads) t ≡ Some m) (up : s.down ≡ false) (free : open_in s.threads t ≡ None) where
   module _ (threads : List Thread) (cancel closed : List (ℕ × Channel)) (are : AreCancelled (On chid) Srch s.threads threads) (lose : LoseCancelled (On chid) Srch s.threads s.channels cancel)

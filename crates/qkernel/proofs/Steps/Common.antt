@@ -1,18 +1,5 @@
 -- What the steps of all calls share.
-use Rattle.std.proofs.Common.{◌≡◌, ℕ, ◌+◌, ◌<◌, ◌≤◌, List, [], ◌∷◌, ◌++◌, length, refl, ap, sym, ◌∙◌, cond, arith, true, false, eqb}
-use Rattle.std.specs.Prelude.{Option, None, Some, is_some, ◌&&◌}
-use Rattle.qtables.specs.declared.connection.Connection.{Connection}
-use Rattle.qrules.specs.Outcome.{MayRefuse, refusal_of}
-use Rattle.qrules.proofs.Words.Items.{refusal_completion, receipt_of, names}
-use Rattle.qrules.proofs.Words.Effects.{closes, makes, sets}
-use Rattle.qrules.proofs.Words.Step.{uncancelled_items, items_with_priority_set, pending_after, unreceived_items}
-use Rattle.qrules.proofs.Traces.Past.Cancels.{EndsSettled, none_cancelled}
-use Rattle.qrules.proofs.Traces.Past.Ends.{row_passes}
-use Rattle.qrules.proofs.Traces.Past.Laws.{is_forceful}
-use Rattle.qrules.proofs.Traces.Calls.{row_laws}
-use Rattle.qmodel.specs.Trace.{OpenChannel}
-use Rattle.qrules.proofs.Traces.Parts.{is_owned_by, leads_to}
-use Rattle.qkernel.proofs.Common.{AllByRecursion, eqb-true, length-map, entry_at, member_at, Member, Call, Completion, Channel, Thread, Errno, Item, made_on, ids_of, is_of, route_in, channel_in, pending_in, members_of, thread_priority, Facts, is_in_process, State, IsSound, Steps, facts_in, open_in}
+use Rattle.qkernel.proofs.Common.{◌≡◌, ℕ, ◌+◌, ◌<◌, ◌≤◌, List, [], ◌∷◌, ◌++◌, length, refl, ap, sym, ◌∙◌, cond, arith, true, false, eqb, Option, None, Some, is_some, ◌&&◌, Connection, MayRefuse, refusal_of, refusal_completion, receipt_of, names, closes, makes, sets, uncancelled_items, items_with_priority_set, pending_after, unreceived_items, EndsSettled, none_cancelled, row_passes, is_forceful, row_laws, OpenChannel, is_owned_by, leads_to, AllByRecursion, eqb-true, length-map, entry_at, member_at, Member, Call, Completion, Channel, Thread, Errno, Item, made_on, ids_of, is_of, route_in, channel_in, pending_in, members_of, thread_priority, Facts, is_in_process, State, IsSound, Steps, facts_in, open_in}
 
 -- ---- refused calls
 

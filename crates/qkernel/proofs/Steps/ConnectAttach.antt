@@ -1,11 +1,7 @@
 -- ConnectAttach as a step of the kernel.
-use Rattle.std.proofs.Common.{◌≡◌, ℕ, ◌+◌, ◌≤◌, ◌<◌, List, [], ◌∷◌, ◌++◌, length, add-zero, refl, ap, sym, ◌∙◌, cond, arith, true, false, append-nil, inl, inr}
-use Rattle.qmodel.specs.declared.call.Call.TheVariants.{ConnectAttach}
-use Rattle.qrules.proofs.Words.Effects.{attaches}
-use Rattle.qrules.proofs.Words.Step.{put_at, one_for}
+use Rattle.qkernel.proofs.Common.{◌≡◌, ℕ, ◌+◌, ◌≤◌, ◌<◌, List, [], ◌∷◌, ◌++◌, length, add-zero, refl, ap, sym, ◌∙◌, cond, arith, true, false, append-nil, inl, inr, ConnectAttach, attaches, put_at, one_for, None, Some, is_some, nat_lt, Errno, Srch, Again, NoMemory, entry_at, member_at, Member, Completion, MayRefuse, refusal_completion, channel_in, members_of, State, IsSound, Steps, facts_in, open_in, rises, among, only_own, all_append}
 use Rattle.qkernel.proofs.Steps.Common.{uncancelled, counted, step_refused_alone, all_up_to, stays_free, up_to_below}
 use Rattle.qkernel.proofs.Tables.{entry_at-push, length-push, rising_push}
-use Rattle.qkernel.proofs.Common.{None, Some, is_some, nat_lt, Errno, Srch, Again, NoMemory, entry_at, member_at, Member, Completion, MayRefuse, refusal_completion, channel_in, members_of, State, IsSound, Steps, facts_in, open_in, rises, among, only_own, all_append}
 use Rattle.qmodel.specs.declared.call.Mark.TheVariants as mark
 
 -- the table's refusal is the row's, or want of memory

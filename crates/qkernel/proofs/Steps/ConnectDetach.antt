@@ -1,31 +1,15 @@
 -- ConnectDetach as a step of the kernel.
-use Rattle.qrules.proofs.Traces.Rows.{pulse_same}
-use Rattle.std.proofs.Common.{◌≡◌, ℕ, ◌+◌, ◌<◌, ◌≤◌, List, [], ◌∷◌, ◌++◌, length, refl, ap, sym, subst, ◌∙◌, cond, arith, true, false, eqb, inl, inr, add-zero}
+use Rattle.qkernel.proofs.Common.{pulse_same, ◌≡◌, ℕ, ◌+◌, ◌<◌, ◌≤◌, List, [], ◌∷◌, ◌++◌, length, refl, ap, sym, subst, ◌∙◌, cond, arith, true, false, eqb, inl, inr, add-zero, filter_map, list_any, and_comm, filter_agree, entry_at, without_entry, Connection, connection_between, connections_between, due_pulse_over, is_own, is_over, refusal_if_full_for, newest_receiver, cancel_where, tells_disconnect, disconnect_item, is_unread_send, is_cancelled, uncancelled_items, unreceived_items, unless, ConnectDetach, Over, own_channel_in, AreCancelled, LoseCancelled, completion_for, is_cancelled_among, all_filter, cond_same, filter_twice, or_none, row_of, eqb-true, ne_eqb, true≢false, length-map, none-some, same_Some, option_or, Again, Badf, Inval, NoMemory, without_item, Item, member_at, Member, MayRefuse, completion_to, refusal_completion, ends_receiver, pulse_receipt, Received, threads_of, SentItem, made_on, Completion, Channel, Thread, channel_in, pending_in, thread_priority, members_of, with_completion_if, has_room, newest_in, open_in, State, IsSound, Steps, facts_in, filter_map_same}
 use Rattle.std.specs.Prelude.{Bool, Option, None, Some, filter, count_by, is_some, not, ◌&&◌}
-use Rattle.std.specs.List.{filter_map, list_any}
-use Rattle.std.proofs.Math.Bool.{and_comm}
 use Rattle.std.proofs.lemmas.List.Sums.{length-filter}
-use Rattle.std.proofs.lemmas.List.Elements.{filter_agree}
-use Rattle.qtables.specs.Entries.{entry_at, without_entry}
-use Rattle.qtables.specs.declared.connection.Connection.{Connection}
-use Rattle.qrules.proofs.Traces.Parts.{connection_between, connections_between, due_pulse_over, is_own}
 use Rattle.qrules.specs.Rules.Connections.{disconnect_pulse}
-use Rattle.qrules.specs.Delivery.{is_over, refusal_if_full_for, newest_receiver}
-use Rattle.qrules.specs.Records.{cancel_where, tells_disconnect, disconnect_item, is_unread_send}
-use Rattle.qrules.proofs.Words.Step.{is_cancelled, uncancelled_items, unreceived_items, unless}
-use Rattle.qmodel.specs.declared.call.Call.TheVariants.{ConnectDetach}
-use Rattle.qstate.specs.declared.cancelling.CancelSet.TheVariants.{Over}
-use Rattle.qstate.specs.Channel.{own_channel_in}
-use Rattle.qstate.specs.Cancelling.{AreCancelled, LoseCancelled, completion_for, is_cancelled_among}
 use Rattle.qtables.proofs.LookUps.{entry_at-without_entry}
 use Rattle.qrules.proofs.Traces.Calls.Cancelling.{cancel_parts}
-use Rattle.qbase.proofs.Lists.{all_filter, cond_same, filter_twice, or_none}
 use Rattle.qkernel.proofs.Tables.{count_picked, rising_without}
 use Rattle.qkernel.proofs.Steps.Common.{all_up_to, counted, step_refused_alone}
 use Rattle.qkernel.proofs.Steps.Cancelling.{mine, sound_less}
 use Rattle.qkernel.proofs.Steps.Delivering.{count_kept}
 use Rattle.qkernel.proofs.Steps.Told.{IsNew, IsTold, made_for, not_caller, told_waits}
-use Rattle.qkernel.proofs.Common.{row_of, eqb-true, ne_eqb, true≢false, length-map, none-some, same_Some, option_or, Again, Badf, Inval, NoMemory, without_item, Item, member_at, Member, MayRefuse, completion_to, refusal_completion, ends_receiver, pulse_receipt, Received, threads_of, SentItem, made_on, Completion, Channel, Thread, channel_in, pending_in, thread_priority, members_of, with_completion_if, has_room, newest_in, open_in, State, IsSound, Steps, facts_in, filter_map_same}
 
 -- ---- the connection, and how many there are
 

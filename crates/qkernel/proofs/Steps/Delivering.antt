@@ -1,10 +1,6 @@
 -- What the steps share that deliver an item.
-use Rattle.std.proofs.Common.{◌≡◌, ℕ, ◌+◌, ◌≤◌, List, [], ◌∷◌, ◌++◌, refl, ap, sym, ◌∙◌, cond, arith, true, false, eqb, append-nil, length}
-use Rattle.qrules.proofs.Words.Items.{item_sent_over}
-use Rattle.qbase.proofs.Lists.{all_append, eqb_either}
-use Rattle.qrules.proofs.Traces.Calls.Delivering.{sent_way}
+use Rattle.qkernel.proofs.Common.{◌≡◌, ℕ, ◌+◌, ◌≤◌, List, [], ◌∷◌, ◌++◌, refl, ap, sym, ◌∙◌, cond, arith, true, false, eqb, append-nil, length, item_sent_over, all_append, eqb_either, sent_way, Option, None, Some, AllByRecursion, length-map, eqb-true, eq-eqb, ne_eqb, without_item, Item, entry_at, member_at, Member, Channel, Thread, ids_of, route_in, SetsItems, pending_in, channel_in, members_of, route, is_fixed, State, IsSound, facts_in, made_on}
 use Rattle.qkernel.proofs.Steps.Common.{Counted, count_same, all_up_to, route-leads_to}
-use Rattle.qkernel.proofs.Common.{Option, None, Some, AllByRecursion, length-map, eqb-true, eq-eqb, ne_eqb, without_item, Item, entry_at, member_at, Member, Channel, Thread, ids_of, route_in, SetsItems, pending_in, channel_in, members_of, route, is_fixed, State, IsSound, facts_in, made_on}
 
 -- the priority that a receiver on channel h takes of the item
 abbrev pub priority_at : State → ℕ → Item → Option ℕ

@@ -1,12 +1,7 @@
 -- Error as a step of the kernel.
-use Rattle.qrules.specs.Facts.{sender}
-use Rattle.qrules.proofs.Traces.Rows.{answer_same}
-use Rattle.std.proofs.Common.{◌≡◌, ℕ, ◌+◌, List, [], ◌∷◌, refl, sym, arith, true, append-nil, false}
-use Rattle.qmodel.specs.declared.call.Call.TheVariants.{Error}
-use Rattle.qrules.proofs.Traces.Parts.{error_finish}
+use Rattle.qkernel.proofs.Common.{sender, answer_same, ◌≡◌, ℕ, ◌+◌, List, [], ◌∷◌, refl, sym, arith, true, append-nil, false, Error, error_finish, ℤ, None, Some, member_at, Member, Completion, Thread, with_completion_in_place, answer_completion, is_held_in, State, IsSound, Steps, facts_in, open_in, sender_in, SetsOpen, members_of}
 use Rattle.qkernel.proofs.Steps.Common.{uncancelled}
 use Rattle.qkernel.proofs.Steps.Held.{is_held, two_ended, answered_calls}
-use Rattle.qkernel.proofs.Common.{ℤ, None, Some, member_at, Member, Completion, Thread, with_completion_in_place, answer_completion, is_held_in, State, IsSound, Steps, facts_in, open_in, sender_in, SetsOpen, members_of}
 use Rattle.qmodel.specs.declared.call.Mark.TheVariants as mark
 
 pub step_errored : (s : State) (t : ℕ) (m : Member) (i : ℕ) (sound : IsSound s) (known : member_at (members_of s.threads) t ≡ Some m) (code : ℤ) (u : ℕ) (y : Completion)

@@ -1,19 +1,9 @@
 -- What the calls on held messages share, by the kernel's content.
-use Rattle.std.proofs.Common.{◌≡◌, ◌≢◌, ℕ, ◌+◌, List, [], ◌∷◌, refl, ap, sym, ◌∙◌, cond, true, false, eqb, inl}
-use Rattle.std.specs.Prelude.{Option, None, Some, is_some, ◌||◌, ◌&&◌}
+use Rattle.qkernel.proofs.Common.{◌≡◌, ◌≢◌, ℕ, ◌+◌, List, [], ◌∷◌, refl, ap, sym, ◌∙◌, cond, true, false, eqb, inl, Option, None, Some, is_some, ◌||◌, ◌&&◌, refusal_completion, Finish, ends_sender, answer_completion, sender_among, refusal_unless_held, holds, is_held_for, is_held_in, is_held_of, open_in, sender_in, sent_call, SetsOpen, two_endings, filter_map, eqb-true, eq-eqb, same_Some, none-some, Srch, member_at, Member, Call, Completion, OpenCall, Thread, completion_to, row_of, channel_in, members_of, with_completion_in_place, State, IsSound, Steps, facts_in, unless, is_among, cond_same, rises, among, filter_map_same, option_map_or}
 use Rattle.qmodel.specs.declared.open_call.OpenCall.TheVariants.{Receive, Send}
-use Rattle.qrules.proofs.Words.Items.{refusal_completion, Finish, ends_sender, answer_completion}
 use Rattle.qrules.proofs.Words.Facts.{is_send, sender, threads_of}
-use Rattle.qrules.specs.Records.{sender_among}
-use Rattle.qrules.specs.Rules.Held.{refusal_unless_held}
-use Rattle.qrules.specs.Facts.{holds}
 use Rattle.qrules.proofs.Messages.{held_same as holds_by_call}
-use Rattle.qrules.proofs.Traces.Parts.{is_held_for}
-use Rattle.qstate.specs.Held.{is_held_in, is_held_of}
-use Rattle.qstate.specs.Thread.{open_in, sender_in, sent_call, SetsOpen}
-use Rattle.qstate.proofs.Inserting.{two_endings}
 use Rattle.qkernel.proofs.Steps.Common.{counted, step_refused_alone, owned_by_member}
-use Rattle.qkernel.proofs.Common.{filter_map, eqb-true, eq-eqb, same_Some, none-some, Srch, member_at, Member, Call, Completion, OpenCall, Thread, completion_to, row_of, channel_in, members_of, with_completion_in_place, State, IsSound, Steps, facts_in, unless, is_among, cond_same, rises, among, filter_map_same, option_map_or}
 use Rattle.qmodel.specs.declared.call.Mark.TheVariants as mark
 
 module _ (s : State) (t : ℕ) (m : Member) (i : ℕ) (sound : IsSound s) (known : member_at (members_of s.threads) t ≡ Some m) where

@@ -1,22 +1,13 @@
 -- Info as a step of the kernel.
-use Rattle.std.proofs.Common.{◌≡◌, ℕ, ◌+◌, List, [], ◌∷◌, refl, ap, sym, ◌∙◌, cond, eqb, arith, true, append-nil, false}
+use Rattle.qkernel.proofs.Common.{◌≡◌, ℕ, ◌+◌, List, [], ◌∷◌, refl, ap, sym, ◌∙◌, cond, eqb, arith, true, append-nil, false, true≢false, and_parts, Info, info_of, info_of_open, info_completion, is_held_in, is_held_of, InfoAtTraces, held_sent, Option, None, Some, is_some, filter_map, member_at, IsRoster, Member, Completion, Channel, OpenCall, Thread, State, IsSound, Steps, facts_in, open_in, sender_in, members_of, channel_in, among, only_own, rises, is_of}
 use Rattle.std.specs.Option.{option_and_then, option_map, option_map_or}
-use Rattle.std.proofs.lemmas.Bool.{true≢false, and_parts}
-use Rattle.qmodel.specs.declared.call.Call.TheVariants.{Info}
 use Rattle.qmodel.specs.declared.open_call.OpenCall.TheVariants.{Receive, Send}
 use Rattle.qmodel.specs.declared.call.Info.{Info as Told}
-use Rattle.qrules.specs.Rules.Held.{info_of}
-use Rattle.qrules.specs.Records.{info_of_open}
-use Rattle.qrules.proofs.Words.Items.{info_completion}
 use Rattle.qrules.proofs.Words.Facts.{sender, threads_of}
-use Rattle.qstate.specs.Held.{is_held_in, is_held_of}
-use Rattle.qkernel.specs.Stands.{InfoAtTraces}
 use Rattle.qstate.specs.Threads.{IsRecordOf}
-use Rattle.qstate.proofs.Senders.{held_sent}
 use Rattle.qkernel.proofs.Steps.Common.{uncancelled, counted, stays_free}
 use Rattle.qkernel.proofs.Steps.Held.{is_held}
 use Rattle.qrules.proofs.Traces.Past.Waits.{some_map}
-use Rattle.qkernel.proofs.Common.{Option, None, Some, is_some, filter_map, member_at, IsRoster, Member, Completion, Channel, OpenCall, Thread, State, IsSound, Steps, facts_in, open_in, sender_in, members_of, channel_in, among, only_own, rises, is_of}
 
 -- what is told of the thread that sent it
 pub info_there : (s : State) (i u : ℕ) (t : Thread) → sender_in s.threads i ≡ Some u → IsRecordOf u s.threads t → info_of (facts_in s) (sender (facts_in s) i) ≡ info_of_open t.member t.open_call

@@ -1,16 +1,9 @@
 -- PrioritySet as a step of the kernel.
-use Rattle.std.proofs.Common.{◌≡◌, ℕ, ◌+◌, ◌≤◌, List, [], ◌∷◌, ◌++◌, length, refl, ap, sym, subst, ◌∙◌, cond, arith, true, false, eqb, inl}
+use Rattle.qkernel.proofs.Common.{◌≡◌, ℕ, ◌+◌, ◌≤◌, List, [], ◌∷◌, ◌++◌, length, refl, ap, sym, subst, ◌∙◌, cond, arith, true, false, eqb, inl, with_priority, PrioritySet, open_in, SetsPriority, items_with_priority_set, none_cancelled, all_map, all_more, None, Some, unwrap_or, none-some, AllByRecursion, option_or, Srch, Item, member_at, Member, refusal_completion, is_in_process, is_unread_send, Completion, Channel, Thread, State, IsSound, Steps, facts_in, pending_in, thread_priority, members_of, among, only_own, rises}
 use Rattle.std.proofs.lemmas.List.{append-nil}
-use Rattle.qqueue.specs.Best.{with_priority}
-use Rattle.qmodel.specs.declared.call.Call.TheVariants.{PrioritySet}
-use Rattle.qstate.specs.Thread.{open_in, SetsPriority}
 use Rattle.qstate.specs.Unread.{MovesUnread}
-use Rattle.qrules.proofs.Words.Step.{items_with_priority_set}
-use Rattle.qrules.proofs.Traces.Past.Cancels.{none_cancelled}
-use Rattle.qbase.proofs.Lists.{all_map, all_more}
 use Rattle.qkernel.proofs.Steps.Delivering.{sound_threads}
 use Rattle.qkernel.proofs.Steps.Common.{count_same, counted, stays_free, step_refused_alone}
-use Rattle.qkernel.proofs.Common.{None, Some, unwrap_or, none-some, AllByRecursion, option_or, Srch, Item, member_at, Member, refusal_completion, is_in_process, is_unread_send, Completion, Channel, Thread, State, IsSound, Steps, facts_in, pending_in, thread_priority, members_of, among, only_own, rises}
 use Rattle.qmodel.specs.declared.call.Mark.TheVariants as mark
 
 module _ (s : State) (t thread priority : ℕ) (m : Member) (known : member_at (members_of s.threads) t ≡ Some m) (up : s.down ≡ false) (free : open_in s.threads t ≡ None) where

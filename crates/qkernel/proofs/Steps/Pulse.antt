@@ -1,16 +1,10 @@
 -- Pulse as a step of the kernel.
 use Rattle.qrules.specs.Rules.Pulse.{pulse_over}
-use Rattle.qrules.proofs.Traces.Rows.{pulse_same}
-use Rattle.std.proofs.Common.{◌≡◌, ℕ, ◌+◌, List, [], ◌∷◌, refl, ap, ◌∙◌, true, false, inl, inr}
-use Rattle.std.specs.Prelude.{ℤ, int_lt, pos, None, Some}
+use Rattle.qkernel.proofs.Common.{pulse_same, ◌≡◌, ℕ, ◌+◌, List, [], ◌∷◌, refl, ap, ◌∙◌, true, false, inl, inr, ℤ, int_lt, pos, None, Some, Pulse, refusal_completion, pulse_item, ends_receiver, pulse_receipt, refusal_if_full, has_to_wait, newest_receiver, Again, Badf, Inval, NoMemory, entry_at, member_at, Member, Completion, MayRefuse, route_in, has_room, route, State, Steps, facts_in, newest_in, open_in, members_of}
 use lib.Signed.{lt_z}
-use Rattle.qmodel.specs.declared.call.Call.TheVariants.{Pulse}
-use Rattle.qrules.proofs.Words.Items.{refusal_completion, pulse_item, ends_receiver, pulse_receipt}
-use Rattle.qrules.specs.Delivery.{refusal_if_full, has_to_wait, newest_receiver}
 use Rattle.qkernel.proofs.Steps.Common.{counted, step_refused_alone, route-leads_to}
 use Rattle.qkernel.proofs.Steps.Delivering.{some_sent, some_way}
 use Rattle.qkernel.proofs.Steps.Telling.{Tells}
-use Rattle.qkernel.proofs.Common.{Again, Badf, Inval, NoMemory, entry_at, member_at, Member, Completion, MayRefuse, route_in, has_room, route, State, Steps, facts_in, newest_in, open_in, members_of}
 
 -- ---- the tests of the code and of the queue
 

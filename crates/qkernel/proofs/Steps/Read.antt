@@ -1,13 +1,8 @@
 -- Read as a step of the kernel.
-use Rattle.qrules.proofs.Messages.{message_same}
-use Rattle.std.proofs.Common.{◌≡◌, ℕ, ◌+◌, List, [], ◌∷◌, refl, sym, ◌∙◌, arith, true, append-nil, false}
+use Rattle.qkernel.proofs.Common.{message_same, ◌≡◌, ℕ, ◌+◌, List, [], ◌∷◌, refl, sym, ◌∙◌, arith, true, append-nil, false, laid_count, lay_over, Read, message_from, open_in, member_at, Member, Completion, is_held_in, State, IsSound, Steps, facts_in, members_of, among, only_own, rises}
 use Rattle.std.specs.Prelude.{drop, None, Some}
-use Rattle.qbase.specs.Laying.{laid_count, lay_over}
-use Rattle.qmodel.specs.declared.call.Call.TheVariants.{Read}
-use Rattle.qstate.specs.Thread.{message_from, open_in}
 use Rattle.qkernel.proofs.Steps.Common.{uncancelled, counted, stays_free}
 use Rattle.qkernel.proofs.Steps.Held.{is_held}
-use Rattle.qkernel.proofs.Common.{member_at, Member, Completion, is_held_in, State, IsSound, Steps, facts_in, members_of, among, only_own, rises}
 use Rattle.qmodel.specs.declared.call.Mark.TheVariants as mark
 
 module _ (s : State) (t : ℕ) (m : Member) (i : ℕ) (sound : IsSound s) (known : member_at (members_of s.threads) t ≡ Some m) (up : s.down ≡ false) (free : open_in s.threads t ≡ None)

@@ -1,23 +1,10 @@
 -- Receive and ReceivePulse as steps of the kernel.
-use Rattle.qrules.specs.Facts.{message}
-use Rattle.qrules.proofs.Messages.{message_same}
-use Rattle.std.proofs.Common.{◌≡◌, ℕ, ◌+◌, ◌≤◌, List, [], ◌∷◌, ◌++◌, refl, ap, sym, subst, ◌∙◌, cond, arith, Bool, true, false, eqb, append-nil, inl}
-use Rattle.qqueue.specs.Best.{best_of, is_pulse, without_item}
+use Rattle.qkernel.proofs.Common.{message, message_same, ◌≡◌, ℕ, ◌+◌, ◌≤◌, List, [], ◌∷◌, ◌++◌, refl, ap, sym, subst, ◌∙◌, cond, arith, Bool, true, false, eqb, append-nil, inl, best_of, is_pulse, without_item, Receive, ReceivePulse, owns, threads_of, is_fixed, receive_of, is_thread, held_call, own_receipt, receipt_when_taken, Received, receipt_completion, after_receipt, unreceived_items, unless, priority_taken, open_in, message_from, sender_in, SetsOpen, HandsOver, SetsPriority, all_filter, eqb_either, cond_same, rises, among, nothing, filter_map_same, only_own, Option, None, Some, is_some, not, unwrap_or, filter_map, option_map, eqb-true, laid_count, Srch, Item, member_at, Member, Completion, Channel, OpenCall, Receipt, Thread, completion_to, ids_of, is_of, SetsItems, channel_in, pending_in, members_of, thread_priority, State, IsSound, Steps, facts_in}
 use Rattle.qqueue.specs.declared.item.Kind.{Kind}
 use Rattle.qqueue.specs.declared.item.Kind.TheVariants.{Any, PulseOnly}
-use Rattle.qmodel.specs.declared.call.Call.TheVariants.{Receive, ReceivePulse}
-use Rattle.qrules.proofs.Words.Facts.{owns, threads_of}
-use Rattle.qrules.specs.Records.{is_fixed, receive_of, is_thread, held_call}
-use Rattle.qrules.proofs.Words.Items.{own_receipt, receipt_when_taken, Received}
-use Rattle.qrules.specs.Delivery.{receipt_completion}
-use Rattle.qrules.proofs.Words.Step.{after_receipt, unreceived_items, unless, priority_taken}
-use Rattle.qstate.specs.Thread.{open_in, message_from, sender_in, SetsOpen, HandsOver, SetsPriority}
-use Rattle.qbase.proofs.Lists.{all_filter, eqb_either, cond_same}
-use Rattle.qrules.proofs.Traces.Rosters.{rises, among, nothing, filter_map_same, only_own}
 use Rattle.qkernel.proofs.Steps.Common.{uncancelled, counted, step_refused_alone, owned_by_member, all_up_to, stays_free}
 use Rattle.qkernel.proofs.Steps.Delivering.{count_kept, sound_items}
 use Rattle.qrules.proofs.Traces.Calls.Receiving.{receiver}
-use Rattle.qkernel.proofs.Common.{Option, None, Some, is_some, not, unwrap_or, filter_map, option_map, eqb-true, laid_count, Srch, Item, member_at, Member, Completion, Channel, OpenCall, Receipt, Thread, completion_to, ids_of, is_of, SetsItems, channel_in, pending_in, members_of, thread_priority, State, IsSound, Steps, facts_in}
 use Rattle.qmodel.specs.declared.call.Mark.TheVariants as mark
 
 -- ---- refused

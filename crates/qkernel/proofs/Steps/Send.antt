@@ -1,17 +1,8 @@
 -- Send as a step of the kernel.
-use Rattle.qrules.specs.Delivery.{has_to_wait, newest_receiver}
-use Rattle.qrules.proofs.Traces.Rows.{sent_same}
-use Rattle.std.proofs.Common.{◌≡◌, ◌≢◌, ℕ, ◌+◌, List, [], ◌∷◌, ◌++◌, refl, ap, sym, ◌∙◌, cond, arith, true, false, eqb, inl, inr}
-use Rattle.qmodel.specs.declared.call.Call.TheVariants.{Send}
+use Rattle.qkernel.proofs.Common.{has_to_wait, newest_receiver, sent_same, ◌≡◌, ◌≢◌, ℕ, ◌+◌, List, [], ◌∷◌, ◌++◌, refl, ap, sym, ◌∙◌, cond, arith, true, false, eqb, inl, inr, Send, refusal_completion, message_numbered, item_in, item_sent_over, takes, held_call, open_in, newest_in, SetsOpen, Wakes, rises, nothing, filter_map_same, only_own, ended_thread, row_of, Option, None, Some, is_some, option_map, eqb-true, ne_eqb, none-some, Errno, Badf, NoMemory, Item, entry_at, member_at, Member, Completion, Channel, OpenCall, Receipt, Thread, completion_to, route_in, SetsItems, pending_in, members_of, thread_priority, route, threads_of, State, IsSound, Steps, facts_in, unless, made_on, is_among, cond_same, without_item}
 use Rattle.qmodel.specs.declared.open_call.OpenCall.TheVariants.{Send as InSend}
-use Rattle.qrules.proofs.Words.Items.{refusal_completion, message_numbered, item_in, item_sent_over}
-use Rattle.qrules.specs.Records.{takes, held_call}
-use Rattle.qstate.specs.Thread.{open_in, newest_in, SetsOpen, Wakes}
-use Rattle.qrules.proofs.Traces.Rosters.{rises, nothing, filter_map_same, only_own}
 use Rattle.qkernel.proofs.Steps.Delivering.{counted_room, count_kept, items_after, some_sent, some_way, with_item, priority_at}
-use Rattle.qstate.proofs.Receivers.{ended_thread}
 use Rattle.qkernel.proofs.Steps.Common.{uncancelled, counted, step_refused, step_refused_alone, route-leads_to}
-use Rattle.qkernel.proofs.Common.{row_of, Option, None, Some, is_some, option_map, eqb-true, ne_eqb, none-some, Errno, Badf, NoMemory, Item, entry_at, member_at, Member, Completion, Channel, OpenCall, Receipt, Thread, completion_to, route_in, SetsItems, pending_in, members_of, thread_priority, route, threads_of, State, IsSound, Steps, facts_in, unless, made_on, is_among, cond_same, without_item}
 
 -- ---- refusals
 

@@ -1,11 +1,8 @@
 -- Shutdown as a step of the kernel.
-use Rattle.std.proofs.Common.{◌≡◌, ℕ, ◌+◌, List, refl, ap, sym, ◌∙◌, arith, true, false}
+use Rattle.qkernel.proofs.Common.{◌≡◌, ℕ, ◌+◌, List, refl, ap, sym, ◌∙◌, arith, true, false, Shutdown, All, None, Some, Srch, member_at, Member, uncancelled_items, Completion, pending_in, members_of, AreCancelled, LoseCancelled, open_in, Channel, Thread, State, Steps, facts_in}
 use Rattle.std.proofs.lemmas.List.{append-nil}
-use Rattle.qmodel.specs.declared.call.Call.TheVariants.{Shutdown}
-use Rattle.qstate.specs.declared.cancelling.CancelSet.TheVariants.{All}
 use Rattle.qkernel.proofs.Steps.Cancelling.{endings_cancelled, open_after}
 use Rattle.qkernel.proofs.Steps.Delivering.{count_kept}
-use Rattle.qkernel.proofs.Common.{None, Some, Srch, member_at, Member, uncancelled_items, Completion, pending_in, members_of, AreCancelled, LoseCancelled, open_in, Channel, Thread, State, Steps, facts_in}
 
 pub step_shut : (s : State) (t : ℕ) (m : Member) (threads : List Thread) (channels : List (ℕ × Channel)) (X : List Completion) → member_at (members_of s.threads) t ≡ Some m → s.down ≡ false → open_in s.threads t ≡ None
     → AreCancelled All Srch s.threads threads → LoseCancelled All Srch s.threads s.channels channels → X ≡ endings_cancelled s t All Srch

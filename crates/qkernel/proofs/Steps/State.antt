@@ -1,11 +1,8 @@
 -- State as a step of the kernel.
-use Rattle.std.proofs.Common.{◌≡◌, ℕ, ◌+◌, List, [], ◌∷◌, refl, sym, ◌∙◌, arith, true, inl, false}
+use Rattle.qkernel.proofs.Common.{◌≡◌, ℕ, ◌+◌, List, [], ◌∷◌, refl, sym, ◌∙◌, arith, true, inl, false, state_in, Ready, None, Some, is_some, Srch, member_at, Member, refusal_completion, Completion, State, IsSound, Steps, facts_in, open_in, thread_priority, members_of, among, only_own, rises, option_map_or}
 use Rattle.std.proofs.lemmas.List.{append-nil}
-use Rattle.qrules.specs.Rules.Threads.{state_in}
 use Rattle.qmodel.specs.declared.call.Call.TheVariants.{State as Ask}
 use Rattle.qkernel.proofs.Steps.Common.{uncancelled, counted, stays_free, step_refused_alone}
-use Rattle.qbase.specs.declared.state.ThreadState.TheVariants.{Ready}
-use Rattle.qkernel.proofs.Common.{None, Some, is_some, Srch, member_at, Member, refusal_completion, Completion, State, IsSound, Steps, facts_in, open_in, thread_priority, members_of, among, only_own, rises, option_map_or}
 use Rattle.qmodel.specs.declared.call.Mark.TheVariants as mark
 
 module _ (s : State) (t target : ℕ) (m : Member) (known : member_at (members_of s.threads) t ≡ Some m) (up : s.down ≡ false) (free : open_in s.threads t ≡ None) where

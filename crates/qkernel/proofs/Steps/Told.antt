@@ -1,20 +1,8 @@
 -- A pulse that is sent, if one is due: what becomes of the threads and the channels, and whose call ends.
-use Rattle.std.proofs.Common.{◌≡◌, ◌≢◌, ℕ, ◌+◌, ◌<◌, ◌≤◌, List, [], ◌++◌, length, refl, ap, sym, subst, ◌∙◌, cond, true, false, eqb}
-use Rattle.std.specs.Prelude.{Option, None, Some, IfSome, is_some, unwrap_or}
+use Rattle.qkernel.proofs.Common.{◌≡◌, ◌≢◌, ℕ, ◌+◌, ◌<◌, ◌≤◌, List, [], ◌++◌, length, refl, ap, sym, subst, ◌∙◌, cond, true, false, eqb, Option, None, Some, IfSome, is_some, unwrap_or, eqb_same, is_among, or_none, refusal_if_full_for, newest_receiver, ends_receiver, pulse_receipt, item_in, takes, after_receipt, priority_taken, unreceived_items, unless, ForAnItem, met_item, met_settled, IsSettled, IsLeft, IsMet, IsSentIfDue, endings_fewer, inserted_among, ended_thread, newest_receives, waits_among, AllByRecursion, filter_map, eqb-true, ne_eqb, true≢false, none-some, same_Some, option_or, is_pulse, Item, threads_of, SentItem, made_on, Completion, OpenCall, filter_map_same, rises, ids_of, channel_in, pending_in, thread_priority, members_of, with_completion_if, open_in, Channel, Thread, State, IsSound, facts_in}
 use Rattle.std.proofs.lemmas.List.{append-nil}
-use Rattle.qbase.proofs.Lists.{eqb_same, is_among, or_none}
-use Rattle.qrules.specs.Delivery.{refusal_if_full_for, newest_receiver}
-use Rattle.qrules.proofs.Words.Items.{ends_receiver, pulse_receipt, item_in}
-use Rattle.qrules.specs.Records.{takes}
-use Rattle.qrules.proofs.Words.Step.{after_receipt, priority_taken, unreceived_items, unless}
 use Rattle.qmodel.specs.declared.open_call.OpenCall.TheVariants.{Receive, Send}
-use Rattle.qrules.proofs.Traces.Calls.Delivering.{ForAnItem, met_item, met_settled}
-use Rattle.qrules.proofs.Traces.Past.Laws.{IsSettled}
-use Rattle.qstate.specs.Pulses.{IsLeft, IsMet, IsSentIfDue}
-use Rattle.qstate.proofs.Inserting.{endings_fewer, inserted_among}
-use Rattle.qstate.proofs.Receivers.{ended_thread, newest_receives, waits_among}
 use Rattle.qkernel.proofs.Steps.Delivering.{items_after, with_item}
-use Rattle.qkernel.proofs.Common.{AllByRecursion, filter_map, eqb-true, ne_eqb, true≢false, none-some, same_Some, option_or, is_pulse, Item, threads_of, SentItem, made_on, Completion, OpenCall, filter_map_same, rises, ids_of, channel_in, pending_in, thread_priority, members_of, with_completion_if, open_in, Channel, Thread, State, IsSound, facts_in}
 
 -- the item that is due, with its channel
 abbrev pub made_for : ℕ → Option Item → Option SentItem

@@ -1,29 +1,15 @@
 -- Unblock as a step of the kernel.
-use Rattle.qrules.proofs.Traces.Rows.{unblocked_same}
-use Rattle.std.proofs.Common.{◌≡◌, ℕ, ◌+◌, List, [], ◌∷◌, ◌++◌, refl, ap, sym, subst, ◌∙◌, cond, arith, true, false, eqb, inl, inr, Bool, option_and_then}
-use Rattle.std.specs.Prelude.{Option, None, Some, filter, is_some, not, ◌&&◌}
-use Rattle.std.specs.List.{list_any}
+use Rattle.qkernel.proofs.Common.{unblocked_same, ◌≡◌, ℕ, ◌+◌, List, [], ◌∷◌, ◌++◌, refl, ap, sym, subst, ◌∙◌, cond, arith, true, false, eqb, inl, inr, Bool, option_and_then, Option, None, Some, filter, is_some, not, ◌&&◌, list_any, and-false, Again, Intr, NoMemory, Srch, refusal_completion, ends_unblocked, pulse_receipt, unblock_item, due_pulse_of_open, cancel_call, refusal_if_full, newest_receiver, cancel_where, is_in_process, tells_unblock, unblocked_call, is_unread_send, Unblock, Of, guarded_message_in, newest_in, open_in, ChangesOpen, row_of, option_map, eqb-true, none-some, same_Some, Item, member_at, Member, MayRefuse, completion_to, threads_of, SentItem, uncancelled_items, unreceived_items, made_on, Completion, OpenCall, Channel, Thread, pending_in, members_of, channel_in, AreCancelled, LoseCancelled, has_room, State, IsSound, Steps, facts_in, among, filter_map_same, only_own, rises, makes, Receipt}
 use Rattle.std.proofs.lemmas.List.{append-nil}
-use Rattle.std.proofs.Math.Bool.{and-false}
-use Rattle.qbase.specs.declared.errno.Errno.TheVariants.{Again, Intr, NoMemory, Srch}
-use Rattle.qrules.proofs.Words.Items.{refusal_completion, ends_unblocked, pulse_receipt, unblock_item}
 use Rattle.qrules.specs.Rules.Unblock.{unblock_pulse, guards}
-use Rattle.qrules.proofs.Traces.Parts.{due_pulse_of_open}
-use Rattle.qrules.specs.Delivery.{cancel_call, refusal_if_full, newest_receiver}
-use Rattle.qrules.specs.Records.{cancel_where, is_in_process, tells_unblock, unblocked_call, is_unread_send}
-use Rattle.qmodel.specs.declared.call.Call.TheVariants.{Unblock}
 use Rattle.qmodel.specs.declared.open_call.OpenCall.TheVariants.{Receive, Send}
-use Rattle.qstate.specs.declared.cancelling.CancelSet.TheVariants.{Of}
 use Rattle.qstate.specs.declared.held.Held.{Held}
-use Rattle.qstate.specs.Held.{guarded_message_in}
-use Rattle.qstate.specs.Thread.{newest_in, open_in, ChangesOpen}
 use Rattle.qkernel.proofs.Steps.Common.{counted, stays_free, step_refused_alone, uncancelled_by}
 use Rattle.qkernel.proofs.Steps.Cancelling.{endings_cancelled, mine, open_after}
 use Rattle.qkernel.proofs.Steps.Delivering.{count_kept}
 use Rattle.qkernel.proofs.Steps.Telling.{AreMarked, Tells}
 use Rattle.qkernel.proofs.Steps.Told.{IsNew}
 use Rattle.qmodel.specs.declared.open_call.OpenSend.{OpenSend}
-use Rattle.qkernel.proofs.Common.{row_of, option_map, eqb-true, none-some, same_Some, Item, member_at, Member, MayRefuse, completion_to, threads_of, SentItem, uncancelled_items, unreceived_items, made_on, Completion, OpenCall, Channel, Thread, pending_in, members_of, channel_in, AreCancelled, LoseCancelled, has_room, State, IsSound, Steps, facts_in, among, filter_map_same, only_own, rises, makes, Receipt}
 
 -- ---- what guards an open call, by the kernel's content
 

@@ -1,12 +1,7 @@
 -- Write as a step of the kernel.
-use Rattle.qrules.proofs.Messages.{reply_buffer_same}
-use Rattle.std.proofs.Common.{◌≡◌, ℕ, ◌+◌, List, [], ◌∷◌, refl, ap, sym, ◌∙◌, cond, eqb, arith, true, false, append-nil}
-use Rattle.qmodel.specs.declared.call.Call.TheVariants.{Write}
-use Rattle.qrules.specs.Records.{reply_buffer_in, is_thread, written_call}
-use Rattle.qstate.specs.Thread.{open_in, sender_in, sent_call, ChangesSender}
+use Rattle.qkernel.proofs.Common.{reply_buffer_same, ◌≡◌, ℕ, ◌+◌, List, [], ◌∷◌, refl, ap, sym, ◌∙◌, cond, eqb, arith, true, false, append-nil, Write, reply_buffer_in, is_thread, written_call, open_in, sender_in, sent_call, ChangesSender, None, Some, option_map, eqb-true, laid_count, member_at, Member, Completion, Thread, is_held_in, State, IsSound, Steps, facts_in, members_of, cond_same, among, only_own, rises}
 use Rattle.qkernel.proofs.Steps.Common.{uncancelled}
 use Rattle.qkernel.proofs.Steps.Held.{is_held}
-use Rattle.qkernel.proofs.Common.{None, Some, option_map, eqb-true, laid_count, member_at, Member, Completion, Thread, is_held_in, State, IsSound, Steps, facts_in, members_of, cond_same, among, only_own, rises}
 use Rattle.qmodel.specs.declared.call.Mark.TheVariants as mark
 
 module _ (s : State) (t : ℕ) (m : Member) (i : ℕ) (sound : IsSound s) (known : member_at (members_of s.threads) t ≡ Some m) (up : s.down ≡ false) (free : open_in s.threads t ≡ None)

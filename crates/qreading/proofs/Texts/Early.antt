@@ -1,16 +1,7 @@
 -- What a line says after others, it says alone.
-use Rattle.std.proofs.Common.{◌≡◌, ℕ, List, [], ◌∷◌, Bool, true, false, cond, length, refl, ◌∙◌, Result, Ok, Err, not, ◌==◌, nat_lt, nat_le, slice_index, codes}
-use Rattle.std.specs.List.{list_all}
-use Rattle.std.specs.Str.{bytes_eq}
-use Rattle.qtables.specs.declared.member.Member.{Member}
-use Rattle.qmodel.specs.declared.call.Call.{Call}
-use Rattle.qreading.specs.declared.reading.line.Line.{Line}
+use Rattle.qreading.proofs.Common.{◌≡◌, ℕ, List, [], ◌∷◌, Bool, true, false, cond, length, refl, ◌∙◌, Result, Ok, Err, not, ◌==◌, nat_lt, nat_le, slice_index, codes, list_all, bytes_eq, Member, Call, Line, LineFault, LongLine, BadByte, DoubleThread, TooManyThreads, UnknownThread, ◌>>=◌, words_of}
 use Rattle.qreading.specs.declared.reading.line.Line.TheVariants as lines
-use Rattle.qreading.specs.declared.fault.LineFault.{LineFault}
-use Rattle.qreading.specs.declared.fault.LineFault.TheVariants.{LongLine, BadByte, DoubleThread, TooManyThreads, UnknownThread}
-use Rattle.qreading.specs.Reading.Steps.{◌>>=◌}
 use Rattle.qreading.specs.Reading.Line.{line_of, said_of, is_text, roster_line_of, call_line_of}
-use Rattle.qreading.specs.Reading.Words.{words_of}
 use Rattle.qreading.specs.Reading.Meaning.{is_in, line_after_roster, line_behind, line_with}
 
 pub bind_ok : {A B : Type 0} (r : Result A LineFault) (f : A → Result B LineFault) (y : B) → (r >>= f) ≡ Ok y → (x : A) × (r ≡ Ok x) × (f x ≡ Ok y)

@@ -1,10 +1,5 @@
 -- The lines of texts that stand one behind the other.
-use Rattle.std.proofs.Common.{◌≡◌, ℕ, ◌+◌, ◌-◌, ◌<◌, Bool, true, false, cond, List, [], ◌∷◌, ◌++◌, length, take, map, slice_index, refl, sym, ap, ◌∙◌, arith, inl, inr, length-append, append-nil, append_assoc}
-use Rattle.std.specs.List.{slice_split, onto_first}
-use Rattle.std.proofs.lemmas.List.{take_more, take_all, map-append}
-use Rattle.std.proofs.lemmas.List.Splits.{slice_split_none, length-slice_split}
-use Rattle.qreading.specs.Reading.Lines.{lines_of, is_newline, without_return, without_last_end}
-use Rattle.qreading.specs.Reading.Laws.{IsWhole, IsOneLine}
+use Rattle.qreading.proofs.Common.{◌≡◌, ℕ, ◌+◌, ◌-◌, ◌<◌, Bool, true, false, cond, List, [], ◌∷◌, ◌++◌, length, take, map, slice_index, refl, sym, ap, ◌∙◌, arith, inl, inr, length-append, append-nil, append_assoc, slice_split, onto_first, take_more, take_all, map-append, slice_split_none, length-slice_split, lines_of, is_newline, without_return, without_last_end, IsWhole, IsOneLine}
 use Rattle.qreading.proofs.Texts.Lines.{lines_none, lines_some, end_behind, end_behind_one, end_alone}
 
 -- ---- parts

@@ -1,12 +1,5 @@
 -- The lines of a text, the first and those after it.
-use Rattle.std.proofs.Common.{◌≡◌, ℕ, suc, ◌+◌, ◌-◌, ◌<◌, ◌==◌, Bool, true, false, not, cond, List, [], ◌∷◌, ◌++◌, length, take, drop, map, get_or, slice_index, refl, sym, ap, ◌∙◌, arith, inl, inr, length-append, append-nil}
-use Rattle.std.specs.List.{All, slice_split, position_or_len}
-use Rattle.std.proofs.lemmas.Grind.{common_steps}
-use Rattle.std.proofs.lemmas.Bool.{cases_lt}
-use Rattle.std.proofs.lemmas.List.{take_all, drop_all}
-use Rattle.std.proofs.lemmas.List.Splits.{slice_split_none, slice_split_at}
-use Rattle.std.proofs.lemmas.List.Sums.{split_at_first, fails_before_first, passes_at_first, prefix_len-le-length}
-use Rattle.qreading.specs.Reading.Words.{is_empty}
+use Rattle.qreading.proofs.Common.{◌≡◌, ℕ, suc, ◌+◌, ◌-◌, ◌<◌, ◌==◌, Bool, true, false, not, cond, List, [], ◌∷◌, ◌++◌, length, take, drop, map, get_or, slice_index, refl, sym, ap, ◌∙◌, arith, inl, inr, length-append, append-nil, All, slice_split, position_or_len, common_steps, cases_lt, take_all, drop_all, slice_split_none, slice_split_at, split_at_first, fails_before_first, passes_at_first, prefix_len-le-length, is_empty}
 use Rattle.qreading.specs.Reading.Lines.{lines_of, is_newline, without_return, without_last_end}
 
 -- a text that is empty has no lines

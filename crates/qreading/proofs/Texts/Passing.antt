@@ -1,22 +1,10 @@
 -- A line that is passed over, between others.
-use Rattle.std.proofs.Common.{◌≡◌, ℕ, zero, suc, ◌+◌, ◌<◌, ◌≤◌, List, [], ◌∷◌, ◌++◌, Bool, true, false, cond, length, take, get_or, refl, sym, ap, ◌∙◌, arith, Option, Some, None, Result, Ok, Err, nat_lt, nat_le, length-append}
-use Rattle.std.specs.List.{cons_option, filter_map}
-use Rattle.std.proofs.lemmas.Bool.{le-ltb}
-use Rattle.std.proofs.lemmas.Grind.{common_steps}
-use Rattle.std.proofs.lemmas.List.{take-append-le, get_or_append_left, get_or-append-add}
-use Rattle.std.proofs.lemmas.List.Elements.{filter_map-append}
-use Rattle.std.proofs.Math.Seq.{take-append_seam, take-append-add, get_or-append_seam}
+use Rattle.qreading.proofs.Common.{◌≡◌, ℕ, zero, suc, ◌+◌, ◌<◌, ◌≤◌, List, [], ◌∷◌, ◌++◌, Bool, true, false, cond, length, take, get_or, refl, sym, ap, ◌∙◌, arith, Option, Some, None, Result, Ok, Err, nat_lt, nat_le, length-append, cons_option, filter_map, le-ltb, common_steps, take-append-le, get_or_append_left, get_or-append-add, filter_map-append, take-append_seam, take-append-add, get_or-append_seam, Member, Call, Line, LineFault, words_of, is_passed_over, IsPassedOver, meaning_one_line_later}
 use Rattle.std.specs.Option.{option_or}
 use Rattle.qbase.proofs.Lists.{or_none}
-use Rattle.qtables.specs.declared.member.Member.{Member}
-use Rattle.qmodel.specs.declared.call.Call.{Call}
-use Rattle.qreading.specs.declared.reading.line.Line.{Line}
 use Rattle.qreading.specs.declared.reading.line.Line.TheVariants as lines
-use Rattle.qreading.specs.declared.fault.LineFault.{LineFault}
-use Rattle.qreading.specs.Reading.Words.{words_of}
 use Rattle.qreading.specs.Reading.Line.{line_of, said_of}
 use Rattle.qreading.specs.Reading.Meaning.{Faulty, Says, member_in, call_in, roster_of, calls_of, line_behind, line_with, line_after, fault_in, fault_at, first_fault, fault_or, of_lines}
-use Rattle.qreading.specs.Reading.Laws.{is_passed_over, IsPassedOver, meaning_one_line_later}
 
 -- ---- what it says
 

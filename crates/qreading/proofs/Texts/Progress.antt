@@ -1,20 +1,10 @@
 -- How far a text is read.
-use Rattle.std.proofs.Common.{◌≡◌, ℕ, zero, suc, ◌+◌, ◌-◌, ◌<◌, ◌≤◌, List, [], ◌∷◌, ◌++◌, false, length, take, drop, get_or, refl, sym, ap, ◌∙◌, arith, Option, Some, None, Result, Ok, Err, add-one, add-zero, add-suc}
-use Rattle.std.specs.List.{cons_option}
-use Rattle.std.proofs.lemmas.Bool.{le-ltb}
-use Rattle.std.proofs.lemmas.List.{take_more, take_all, drop_more, length-drop}
-use Rattle.std.proofs.lemmas.List.Elements.{filter_map-append}
-use Rattle.qtables.specs.declared.member.Member.{Member}
-use Rattle.qmodel.specs.declared.call.Call.{Call}
-use Rattle.qreading.specs.declared.reading.line.Line.{Line}
-use Rattle.qreading.specs.declared.fault.LineFault.{LineFault}
+use Rattle.qreading.proofs.Common.{◌≡◌, ℕ, zero, suc, ◌+◌, ◌-◌, ◌<◌, ◌≤◌, List, [], ◌∷◌, ◌++◌, false, length, take, drop, get_or, refl, sym, ap, ◌∙◌, arith, Option, Some, None, Result, Ok, Err, add-one, add-zero, add-suc, cons_option, le-ltb, take_more, take_all, drop_more, length-drop, filter_map-append, Member, Call, Line, LineFault, Fails, lines_of}
 use Rattle.qreading.specs.declared.fault.ParseError.{ParseError}
 use Rattle.qreading.specs.declared.fault.ParseError.TheVariants as errors
 use Rattle.qreading.specs.declared.fault.ScriptFault.{ScriptFault}
 use Rattle.qreading.specs.declared.fault.ScriptFault.TheVariants as scripts
-use Rattle.qreading.specs.Reading.Steps.{Fails}
 use Rattle.qreading.specs.Reading.Line.{line_of}
-use Rattle.qreading.specs.Reading.Lines.{lines_of}
 use Rattle.qreading.specs.Reading.Meaning.{TooLong, Faulty, Says, meaning, of_line, IsFaultOf, member_in, call_in, roster_of, calls_of, line_with, line_after, first_fault, fault_or, of_lines}
 use Rattle.qreading.proofs.Texts.Early.{alone}
 

@@ -1,12 +1,5 @@
 -- A carriage return before a line end.
-use Rattle.std.proofs.Common.{◌≡◌, ◌≢◌, ℕ, zero, suc, ◌+◌, ◌-◌, ◌<◌, ◌⊎◌, true, false, List, [], ◌∷◌, ◌++◌, length, map, slice_index, refl, sym, ap, ◌∙◌, arith, inl, inr, length-append, append-nil, append_assoc}
-use Rattle.std.specs.List.{slice_split}
-use Rattle.std.proofs.lemmas.Bool.{ne_eqb, eqb-true}
-use Rattle.std.proofs.lemmas.List.{map-append, get_or-append_right}
-use Rattle.std.proofs.lemmas.List.Splits.{slice_split_none}
-use Rattle.std.proofs.Math.Seq.{take-append_seam, get_or-append_seam}
-use Rattle.qreading.specs.Reading.Lines.{lines_of, is_newline, without_return, without_last_end}
-use Rattle.qreading.specs.Reading.Laws.{IsOneLine}
+use Rattle.qreading.proofs.Common.{◌≡◌, ◌≢◌, ℕ, zero, suc, ◌+◌, ◌-◌, ◌<◌, ◌⊎◌, true, false, List, [], ◌∷◌, ◌++◌, length, map, slice_index, refl, sym, ap, ◌∙◌, arith, inl, inr, length-append, append-nil, append_assoc, slice_split, ne_eqb, eqb-true, map-append, get_or-append_right, slice_split_none, take-append_seam, get_or-append_seam, lines_of, is_newline, without_return, without_last_end, IsOneLine}
 use Rattle.qreading.proofs.Texts.Lines.{lines_none, lines_some}
 use Rattle.qreading.proofs.Texts.Joins.{split_join, lines_join}
 

@@ -1,11 +1,5 @@
 -- The words of a text, the first and those after it.
-use Rattle.std.proofs.Common.{◌≡◌, ℕ, ◌+◌, ◌<◌, Bool, true, false, not, cond, List, [], ◌∷◌, length, take, drop, get_or, length-take, position, filter, suc, Some, None, nat_lt, refl, sym, ap, ◌∙◌, arith, inl, inr}
-use Rattle.std.specs.List.{All, slice_split, position_or_len}
-use Rattle.std.proofs.lemmas.Grind.{common_steps}
-use Rattle.std.proofs.lemmas.List.Splits.{slice_split_none, slice_split_first}
-use Rattle.std.proofs.lemmas.List.Sums.{fails_before_first, passes_at_first, prefix_len-le-length}
-use Rattle.std.proofs.lemmas.List.{take_all, drop_all, drop_more}
-use Rattle.std.proofs.lemmas.Bool.{cases_lt}
+use Rattle.qreading.proofs.Common.{◌≡◌, ℕ, ◌+◌, ◌<◌, Bool, true, false, not, cond, List, [], ◌∷◌, length, take, drop, get_or, length-take, position, filter, suc, Some, None, nat_lt, refl, sym, ap, ◌∙◌, arith, inl, inr, All, slice_split, position_or_len, common_steps, slice_split_none, slice_split_first, fails_before_first, passes_at_first, prefix_len-le-length, take_all, drop_all, drop_more, cases_lt}
 use Rattle.qreading.specs.Reading.Words.{words_of, is_blank, is_empty}
 
 -- ---- places

@@ -23,9 +23,8 @@ pub mod ChannelDestroy
 pub mod Shutdown
 pub mod Unblock
 pub mod ConnectDetach
-use Rattle.std.proofs.Common.{ℕ}
+use Rattle.qrules.proofs.Common.{ℕ, Call}
 use Rattle.qrules.proofs.Words.Facts.{Facts}
-use Rattle.qmodel.specs.declared.call.Call.{Call}
 use Rattle.qmodel.specs.declared.call.Call.TheVariants as calls
 use Rattle.qrules.proofs.Traces.Past.Laws.{CallLaws, RowLaws, Passes}
 use Rattle.qrules.proofs.Traces.Calls.ChannelCreate as channel_create

@@ -1,7 +1,6 @@
 -- Laying no bytes.
-use Rattle.std.proofs.Common.{◌≡◌, ℕ, List, [], arith}
+use Rattle.qrules.proofs.Common.{◌≡◌, ℕ, List, [], arith, laid_count, lay_over}
 use Rattle.std.proofs.lemmas.Grind.{common_steps}
-use Rattle.qbase.specs.Laying.{laid_count, lay_over}
 
 -- nothing laid over bytes leaves them
 pub lay_nothing : (b : List ℕ) → b ≡ lay_over b 0 []

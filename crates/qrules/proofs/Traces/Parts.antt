@@ -2,12 +2,8 @@
 use Rattle.std.specs.Prelude.{◌&&◌, ◌==◌, Bool, false, int_lt, is_some, List, ℕ, ℤ, pos, Option, None, Some, if◌then◌else◌}
 use Rattle.std.specs.Option.{option_and_then, option_map_or}
 use Rattle.qrules.proofs.Words.Items.{Finish}
-use Rattle.qrules.specs.Records.{error_mark, tells_disconnect, disconnect_item}
+use Rattle.qrules.proofs.Common.{error_mark, tells_disconnect, disconnect_item, OpenChannel, ChannelId, ProcessNo, ThreadNo, SentItem, refusal_if_full, due_pulse_of, Errno, Badf, Inval, Connection, OpenCall, laid_count, lay_over}
 use Rattle.qrules.proofs.Words.Facts.{count_to, Facts, is_of_process, is_held_by}
-use Rattle.qmodel.specs.Trace.{OpenChannel, ChannelId, ProcessNo, ThreadNo, SentItem}
-use Rattle.qrules.specs.Delivery.{refusal_if_full}
-use Rattle.qrules.specs.Rules.Unblock.{due_pulse_of}
-use Rattle.qrules.proofs.Common.{Errno, Badf, Inval, Connection, OpenCall, laid_count, lay_over}
 use Rattle.qmodel.specs.declared.call.Mark.TheVariants as mark
 
 -- this channel is of the thread's process

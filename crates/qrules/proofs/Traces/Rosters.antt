@@ -1,9 +1,8 @@
 -- The threads of a roster, in rising number, and what they give where one of them gets something.
-use Rattle.std.proofs.Common.{◌≡◌, ℕ, ◌<◌, List, [], ◌∷◌, refl, ap, sym, subst, ◌∙◌, cond, arith, true, false, eqb}
+use Rattle.qrules.proofs.Common.{◌≡◌, ℕ, ◌<◌, List, [], ◌∷◌, refl, ap, sym, subst, ◌∙◌, cond, arith, true, false, eqb, filter_map, cons_option, AllByRecursion, option_to_list, member_at, IsRoster, Member, is_among}
 use Rattle.std.specs.Prelude.{Option, None, Some, is_some, ◌||◌}
 use Rattle.std.proofs.lemmas.Bool.{eqb-true, ne_eqb, true≢false}
 use Rattle.qrules.proofs.Words.Facts.{threads_of}
-use Rattle.qrules.proofs.Common.{filter_map, cons_option, AllByRecursion, option_to_list, member_at, IsRoster, Member, is_among}
 
 -- the numbers rise
 abbrev pub Rises : List ℕ → Type 0

@@ -1,10 +1,8 @@
 -- Where a way leads: over a live connection to an open channel.
-use Rattle.std.proofs.Common.{◌≡◌, ℕ, refl, sym, subst, cond, true}
+use Rattle.qrules.proofs.Common.{◌≡◌, ℕ, refl, sym, subst, cond, true, none-some, cond_some, and_parts, Badf, Connection}
 use Rattle.std.specs.Prelude.{ℤ, Option, None, Some, is_some, ◌&&◌}
-use Rattle.std.proofs.lemmas.Option.{none-some, cond_some}
 use Rattle.qrules.proofs.Traces.Parts.{refusal_on, leads_to}
 use Rattle.qrules.proofs.Words.Facts.{Facts, route, is_of_process}
-use Rattle.qrules.proofs.Common.{and_parts, Badf, Connection}
 
 -- there is a connection, it is to channel h, and that is open
 pub record Leads (f : Facts) (o : Option Connection) (h : ℕ) : Type 0 where

@@ -1,16 +1,10 @@
 -- The endings of rows, each by the open call that it ends.
-use Rattle.std.proofs.Common.{◌≡◌, ◌∙◌, ℕ, List, [], refl, ap, sym, cond, eqb, true, false}
+use Rattle.qrules.proofs.Common.{◌≡◌, ◌∙◌, ℕ, List, [], refl, ap, sym, cond, eqb, true, false, or_none, due_pulse_of, guards, unblock_pulse, Receive, Send, cancel_call, cancels, deliver, newest_receiver, receipt_completion, has_flag, receive_in, receive_of, route, send_in, send_of, Facts, Item, Intr, eqb-true, none-some, option_or, OpenCall, SentItem, takes, cancel_where, row_of}
 use Rattle.std.specs.Prelude.{Option, None, Some, is_some, not, option_and_then, option_map, ◌&&◌, ◌==◌}
 use Rattle.qmodel.specs.declared.call.Call.TheVariants.{Send as SendCall, Unblock as UnblockCall}
-use Rattle.qbase.proofs.Lists.{or_none}
-use Rattle.qrules.specs.Rules.Unblock.{due_pulse_of, guards, unblock_pulse}
-use Rattle.qmodel.specs.declared.open_call.OpenCall.TheVariants.{Receive, Send}
-use Rattle.qrules.specs.Delivery.{cancel_call, cancels, deliver, newest_receiver, receipt_completion}
-use Rattle.qrules.specs.Facts.{has_flag, receive_in, receive_of, route, send_in, send_of, Facts}
 use Rattle.qrules.proofs.Words.Items.{answer_completion, delivers, ends_receiver, ends_sender, message_item, receiver, ends_unblocked, Finish}
 use Rattle.qrules.proofs.Traces.Calls.Delivering.{sent_way}
 use Rattle.qrules.proofs.Traces.Routes.{has_way}
-use Rattle.qrules.proofs.Common.{Item, Intr, eqb-true, none-some, option_or, OpenCall, SentItem, takes, cancel_where, row_of}
 use Rattle.qqueue.specs.declared.item.What.TheVariants as what
 
 takes_same : (item : Item) (message : List ℕ) (u : ℕ) (o : Option OpenCall) → option_map (λ r. receipt_completion item message u r.number r.buffer) (option_and_then receive_in o) ≡ takes item message u o

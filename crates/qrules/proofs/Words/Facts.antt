@@ -4,8 +4,7 @@ pub use Rattle.qrules.specs.Records.{is_for_receipt, sender_among, message_of, m
 pub use Rattle.qrules.specs.Records.{reply_buffer_in, info_of_open, buffer_of_open, held_call, with_buffer}
 use Rattle.std.specs.Prelude.{◌&&◌, is_some, Bool, false, Option}
 use Rattle.std.specs.Option.{option_and_then}
-use Rattle.qmodel.specs.declared.open_call.OpenCall.TheVariants.{Send, Receive}
-use Rattle.qrules.proofs.Common.{OpenCall, ReceiveId, ThreadNo}
+use Rattle.qrules.proofs.Common.{Send, Receive, OpenCall, ReceiveId, ThreadNo}
 pub use Rattle.qrules.specs.Facts.{count_to, has_flag, is_for_answer, is_of_process, is_of_same_process}
 pub use Rattle.qrules.specs.Facts.{is_send, message, owns, reply_buffer, route, sender, threads_of, Facts}
 pub use Rattle.qmodel.specs.OpenCalls.{buffer_in, number_of, receive_in, send_in}

@@ -7,12 +7,8 @@ use Rattle.std.specs.Option.{option_and_then, option_map, option_map_or}
 use Rattle.std.specs.Prelude.{ℕ, ℤ, ◌&&◌, ◌==◌, Bool, false, List, not, Option, None, Some, if◌then◌else◌, []}
 use Rattle.qqueue.specs.declared.item.What.TheVariants.{Message, User}
 use Rattle.qmodel.specs.declared.call.Info.{Info}
-use Rattle.qmodel.specs.Trace.{SentItem, CallNo, ChannelId, Priority, ReceiveId, ThreadNo}
-use Rattle.qrules.specs.Rule.{PriorityChange, buffer_of, own_completion}
+use Rattle.qrules.proofs.Common.{SentItem, CallNo, ChannelId, Priority, ReceiveId, ThreadNo, PriorityChange, buffer_of, own_completion, Receive, Send, pulse_over, Item, Kind, Any, PulseOnly, best_of, is_pulse, Connection, Call, Completion, Mark, Receipt, OpenCall, Errno, Intr, newest_receiver, receipt_completion, disconnect_pulse, guards, unblock_pulse}
 use Rattle.qrules.proofs.Words.Facts.{Facts, message, route, sender}
-use Rattle.qmodel.specs.declared.open_call.OpenCall.TheVariants.{Receive, Send}
-use Rattle.qrules.specs.Rules.Pulse.{pulse_over}
-use Rattle.qrules.proofs.Common.{Item, Kind, Any, PulseOnly, best_of, is_pulse, Connection, Call, Completion, Mark, Receipt, OpenCall, Errno, Intr, newest_receiver, receipt_completion, disconnect_pulse, guards, unblock_pulse}
 use Rattle.qqueue.specs.declared.item.What.TheVariants as what
 use Rattle.qmodel.specs.declared.call.Call.TheVariants as calls
 use Rattle.qmodel.specs.declared.call.Mark.TheVariants as mark

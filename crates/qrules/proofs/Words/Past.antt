@@ -1,11 +1,8 @@
 -- Searches in the list of all past calls, which has the newest event first.
 use Rattle.std.specs.Prelude.{ℕ, ◌==◌, ◌&&◌, Bool, List, [], ◌∷◌, length, Option, None, Some, if◌then◌else◌, option_and_then, ◌+◌, is_some}
-use Rattle.qmodel.specs.Trace.{CallNo, ChannelId, Priority, ThreadNo, Event, Trace, OpenChannel, SentItem, ReceiveId}
+use Rattle.qrules.proofs.Common.{CallNo, ChannelId, Priority, ThreadNo, Event, Trace, OpenChannel, SentItem, ReceiveId, number_of, facts_of, item_made_by, items_and_priorities, list_any, option_map_or, Item, Member, Completion, OpenCall, channel_of}
 use Rattle.qrules.proofs.Words.Facts.{count_to, is_fixed, with_buffer, held_call}
 use Rattle.qrules.proofs.Words.Items.{item_in}
-use Rattle.qmodel.specs.OpenCalls.{number_of}
-use Rattle.qrules.specs.Lawful.{facts_of, item_made_by, items_and_priorities}
-use Rattle.qrules.proofs.Common.{list_any, option_map_or, Item, Member, Completion, OpenCall, channel_of}
 pub use Rattle.qrules.specs.Past.{accepted_at, attached_connection, channel_at, connection_at}
 pub use Rattle.qrules.specs.Past.{is_accepted, is_destroyed, is_ended, is_failure, is_unblock_for}
 pub use Rattle.qrules.specs.Past.{item_among, priority_set_by, sender_of, was_done, with_writes}

@@ -1,22 +1,6 @@
 -- What becomes of the queues as items leave them.
-use Rattle.std.proofs.Common.{◌≡◌, ℕ, List, [], Bool, not, ◌&&◌, ◌||◌, refl, ap, sym, subst, ◌∙◌, cond, true, false, eqb, is_some}
+use Rattle.qstate.proofs.Common.{◌≡◌, ℕ, List, [], Bool, not, ◌&&◌, ◌||◌, refl, ap, sym, subst, ◌∙◌, cond, true, false, eqb, is_some, eqb-true, and_left, and_right, not_from_false, none-some, filter_agree, and-true, Item, without_item, entry_at, OpenCall, Receive, Send, is_unread_send, Channel, SetsItems, pending_in, items_waiting_on, unread_on_by, call_if_cancelled, is_taken_from, Lose, eqb_either, filter_twice, filter_whole, number_of}
 use Rattle.std.specs.Prelude.{Option, None, Some, filter}
-use Rattle.std.proofs.lemmas.Bool.{eqb-true, and_left, and_right, not_from_false}
-use Rattle.std.proofs.lemmas.Option.{none-some}
-use Rattle.std.proofs.lemmas.List.Elements.{filter_agree}
-use Rattle.std.proofs.Math.Bool.{and-true}
-use Rattle.qqueue.specs.declared.item.Item.{Item}
-use Rattle.qqueue.specs.Best.{without_item}
-use Rattle.qtables.specs.Entries.{entry_at}
-use Rattle.qmodel.specs.declared.open_call.OpenCall.{OpenCall}
-use Rattle.qmodel.specs.declared.open_call.OpenCall.TheVariants.{Receive, Send}
-use Rattle.qrules.specs.Records.{is_unread_send}
-use Rattle.qstate.specs.declared.channel.Channel.{Channel}
-use Rattle.qstate.specs.Channel.{SetsItems}
-use Rattle.qstate.specs.Kept.{pending_in, items_waiting_on}
-use Rattle.qstate.specs.Cancelling.{unread_on_by, call_if_cancelled, is_taken_from, Lose}
-use Rattle.qbase.proofs.Lists.{eqb_either, filter_twice, filter_whole}
-use Rattle.qrules.proofs.Words.Facts.{number_of}
 
 -- without those of which one thing is so, and then without those of which another is
 pub filter_after : {A : Type 0} (p q : A → Bool) (xs : List A) → filter (λ x. not (q x)) (filter (λ x. not (p x)) xs) ≡ filter (λ x. not (p x || q x)) xs

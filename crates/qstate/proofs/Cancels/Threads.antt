@@ -1,26 +1,7 @@
 -- What a pass through the threads has done, that ends their calls one after another.
-use Rattle.std.proofs.Common.{◌≡◌, ℕ, suc, zero, ◌+◌, ◌<◌, ◌≤◌, List, [], ◌∷◌, ◌++◌, map, length, length-append, take, drop, set, get_or, append_assoc, Bool, not, ◌&&◌, ◌||◌, refl, ap, sym, subst, ◌∙◌, cond, arith, true, false, eqb}
+use Rattle.qstate.proofs.Common.{◌≡◌, ℕ, suc, zero, ◌+◌, ◌<◌, ◌≤◌, List, [], ◌∷◌, ◌++◌, map, length, length-append, take, drop, set, get_or, append_assoc, Bool, not, ◌&&◌, ◌||◌, refl, ap, sym, subst, ◌∙◌, cond, arith, true, false, eqb, AllByRecursion, list_any, cons_option, eqb-true, ne_eqb, true≢false, append-nil, drop_more, drop_all, take_at, filter_agree, IsRoster, Completion, OpenCall, cancel_call, cancel_where, is_unread_send, threads_of, Channel, CancelSet, Thread, ids_of, channel_in, pending_in, members_of, thread_priority, is_cancelled_by, is_cancelled_open, is_taken_from, is_cancelled_among, completion_for, with_completion, thread_after_cancelled, Lose, LoseCancelled, AreCancelled, open_in, filter_whole}
 use Rattle.std.specs.Prelude.{Option, None, Some, is_some, filter, filter_map}
-use Rattle.std.specs.List.{AllByRecursion, list_any, cons_option}
-use Rattle.std.proofs.lemmas.Bool.{eqb-true, ne_eqb, true≢false}
-use Rattle.std.proofs.lemmas.List.{append-nil, drop_more, drop_all, take_at}
-use Rattle.std.proofs.lemmas.List.Elements.{filter_agree}
 use Rattle.qbase.specs.declared.errno.Errno.{Errno}
-use Rattle.qtables.specs.Members.{IsRoster}
-use Rattle.qmodel.specs.declared.call.Completion.{Completion}
-use Rattle.qmodel.specs.declared.open_call.OpenCall.{OpenCall}
-use Rattle.qrules.specs.Delivery.{cancel_call}
-use Rattle.qrules.specs.Records.{cancel_where}
-use Rattle.qrules.specs.Records.{is_unread_send}
-use Rattle.qrules.proofs.Words.Facts.{threads_of}
-use Rattle.qstate.specs.declared.channel.Channel.{Channel}
-use Rattle.qstate.specs.declared.cancelling.CancelSet.{CancelSet}
-use Rattle.qstate.specs.declared.thread.Thread.{Thread}
-use Rattle.qstate.specs.Channel.{ids_of}
-use Rattle.qstate.specs.Kept.{channel_in, pending_in, members_of, thread_priority}
-use Rattle.qstate.specs.Cancelling.{is_cancelled_by, is_cancelled_open, is_taken_from, is_cancelled_among, completion_for, with_completion, thread_after_cancelled, Lose, LoseCancelled, AreCancelled}
-use Rattle.qstate.specs.Thread.{open_in}
-use Rattle.qbase.proofs.Lists.{filter_whole}
 use Rattle.qstate.proofs.Cancels.Queues.{filter_after}
 use Rattle.qstate.proofs.Senders.{own_open}
 

@@ -1,9 +1,4 @@
-use Rattle.std.proofs.Common.{subst, ◌≡◌, ℕ, length, rules, arith, sym, ap, ◌∙◌, length-append}
-use Rattle.std.proofs.lemmas.Grind.{common_steps}
-use mathlib.Core.Option.{some}
-use lib.ListN.{get_elem?}
-use Rattle.std.specs.Mem.Slots.{slots_items, slots_counts}
-use Rattle.qhandoff.specs.Words.{left_for, tagged, Rises}
+use Rattle.qhandoff.proofs.Common.{subst, ◌≡◌, ℕ, length, rules, arith, sym, ap, ◌∙◌, length-append, common_steps, some, get_elem?, slots_items, slots_counts, left_for, tagged, Rises}
 use Rattle.qhandoff.proofs.Changes.{there}
 use Rattle.qhandoff.proofs.Left.{more_before, more_after, few_tagged, rises_more, below_more, rises_none, below_none}
 use Rattle.qhandoff.proofs.closing.collect.Goals as goal

@@ -1,9 +1,5 @@
-use Rattle.std.proofs.Common.{◌≡◌, ℕ, ◌-◌, ◌<◌, ◌≤◌, [], length, false, get_or, vec_capacity}
-use mathlib.Core.Option.{some}
-use lib.ListN.{get_elem?}
-use Rattle.std.specs.Mem.Slots.{slots_items, slots_filled, slots_len}
+use Rattle.qhandoff.proofs.Common.{◌≡◌, ℕ, ◌-◌, ◌<◌, ◌≤◌, [], length, false, get_or, vec_capacity, some, get_elem?, slots_items, slots_filled, slots_len, left_for, one, Rises}
 use Rattle.std.specs.Mem.Slots.Ownership.{Filled}
-use Rattle.qhandoff.specs.Words.{left_for, one, Rises}
 use Rattle.qhandoff.proofs.closing.collect.Given as goal
 
 abbrev pub invariant-loop-i : goal.invariant-loop-i

@@ -1,5 +1,4 @@
-use Rattle.std.proofs.Common.{◌≡◌, ◌++◌, [], ◌∷◌, length, rules, sym, ap, ◌∙◌, le_of_eq}
-use Rattle.qhandoff.specs.Steps.{desk_in}
+use Rattle.qhandoff.proofs.Common.{◌≡◌, ◌++◌, [], ◌∷◌, length, rules, sym, ap, ◌∙◌, le_of_eq, desk_in}
 use Rattle.qhandoff.proofs.Joining.{is_next, joining_next}
 use Rattle.qhandoff.proofs.closing.join_all.Goals as goal
 

@@ -1,6 +1,4 @@
-use Rattle.std.proofs.Common.{◌≡◌, [], length}
-use Rattle.qhandoff.specs.declared.view.View.TheVariants.{Kernel}
-use Rattle.qhandoff.specs.Steps.{desk_in}
+use Rattle.qhandoff.proofs.Common.{◌≡◌, [], length, Kernel, desk_in}
 use Rattle.qhandoff.proofs.Joining.{Joining}
 use Rattle.qhandoff.proofs.closing.join_all.Given as goal
 

@@ -1,6 +1,4 @@
-use Rattle.std.proofs.Common.{◌<◌, ℕ, [], rules, arith, subst, ap, ◌∙◌}
-use Rattle.qhandoff.specs.declared.view.View.TheVariants.{Kernel}
-use Rattle.qhandoff.specs.Steps.{hand_in, desk_in, joined_views, joined_at}
+use Rattle.qhandoff.proofs.Common.{◌<◌, ℕ, [], rules, arith, subst, ap, ◌∙◌, Kernel, hand_in, desk_in, joined_views, joined_at}
 use Rattle.qhandoff.proofs.Settling.{join_allowed}
 use Rattle.qhandoff.proofs.closing.join_one.Goals as goal
 

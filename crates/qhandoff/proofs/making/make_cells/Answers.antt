@@ -1,8 +1,4 @@
-use Rattle.std.proofs.Common.{◌≡◌, [], rules, subst, sym}
-use Rattle.std.proofs.lemmas.Grind.{common_steps}
-use Rattle.std.proofs.Common.{arith}
-use lib.ListN.{get_elem?}
-use Rattle.qhandoff.specs.Words.{took, IsRow}
+use Rattle.qhandoff.proofs.Common.{◌≡◌, [], rules, subst, sym, common_steps, arith, get_elem?, took, IsRow}
 use Rattle.qhandoff.proofs.Starting.{starts}
 use Rattle.qhandoff.proofs.Rows.{row_more, took_more}
 use Rattle.qhandoff.proofs.making.make_cells.Goals as goal

@@ -1,8 +1,4 @@
-use Rattle.std.proofs.Common.{◌≡◌, ℕ, ◌≤◌, [], length, vec_capacity}
-use lib.ListN.{get_elem?}
-use Rattle.qhandoff.specs.declared.view.View.TheVariants.{Kernel}
-use Rattle.qhandoff.specs.Steps.{seated_desk}
-use Rattle.qhandoff.specs.Words.{took, IsRow}
+use Rattle.qhandoff.proofs.Common.{◌≡◌, ℕ, ◌≤◌, [], length, vec_capacity, get_elem?, Kernel, seated_desk, took, IsRow}
 use Rattle.qhandoff.proofs.making.make_cells.Given as goal
 
 abbrev pub invariant-loop-thread : goal.invariant-loop-thread

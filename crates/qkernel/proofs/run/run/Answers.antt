@@ -1,6 +1,4 @@
-use Rattle.std.proofs.Common.{◌+◌, ◌≤◌, map, length, arith, ap, ◌∙◌}
-use Rattle.qrules.specs.Lawful.{event_call}
-use Rattle.qstate.specs.Thread.{blocked_count}
+use Rattle.qkernel.proofs.Common.{◌+◌, ◌≤◌, map, length, arith, ap, ◌∙◌, event_call, blocked_count}
 use Rattle.qkernel.proofs.Running.{blocked_most, headline_of}
 use Rattle.qkernel.proofs.run.run.Goals as goal
 

@@ -1,6 +1,4 @@
-use Rattle.std.proofs.Common.{◌∙◌, ap}
-use Rattle.std.proofs.lemmas.List.{reverse-reverse}
-use Rattle.qkernel.specs.EventLog.{with_next}
+use Rattle.qkernel.proofs.Common.{◌∙◌, ap, reverse-reverse, with_next}
 use Rattle.qkernel.proofs.Running.{running_at_start, next_known, next_limit, next_noted, next_room, running_more, popped}
 use Rattle.qkernel.proofs.run.run_all.Goals as goal
 

@@ -1,33 +1,8 @@
 -- `halves` makes the name that both halves track. Assumes `Logic`.
-use Rattle.std.proofs.Common.{◌≡◌, List, [], ◌∷◌, ◌++◌, refl}
-use seplogic.Ra.Ura.{Ura}
-use mir.Syntax.{Fn}
-use mir.Val.{Val, vstruct, vcons, vnil, of_list}
-use base.Logic.{SProp, ent}
-use base.Fml.{feq, fsep}
-use prog.Memory.{Memory}
-use prog.Routine.{Routine}
-use prog.Wp.{Calls, Loops, WpFn, Tables}
-use contract.Monad.{Fun}
+use Rattle.qpast.proofs.Common.{◌≡◌, List, [], ◌∷◌, ◌++◌, refl, Ura, Fn, Val, vstruct, vcons, vnil, of_list, SProp, ent, feq, fsep, Memory, Routine, Calls, Loops, WpFn, Tables, Fun, WpFn-mono, Logic, ‵, raw, ◌⊛◌, ◌$◌, ◌∵◌, !, qed, by, move, keep, drop, split, join, fjoin, fjoin3, fpack, feq_i, suffices, frame, name_new, agg, enter, returns, no_more, and_then, alloc_all, pass_all, free_all, look_at, get, sets, RattleType, Valss, owns, types_at, nothing, Clauses, Ended, closing, alive, Meets, triple_of, entered, Stays, walk_of, ends_at, walk_Meets, calls_coded}
 use contract.Running.{tables, tables_of}
-use sound.WpLaws.{WpFn-mono}
-use types.Logic.{Logic}
-use types.Kit.{‵, raw, ◌⊛◌, ◌$◌, ◌∵◌, !, qed, by, move, keep, drop, split, join, fjoin, fjoin3, fpack, feq_i, suffices, frame}
-use types.Tokens.{name_new}
-use types.Part.{agg}
-use types.Run.{enter, returns, no_more, and_then}
-use types.ByLocal.{alloc_all, pass_all, free_all, look_at, get, sets}
-use denote.RattleType.{RattleType, Valss, owns}
-use denote.Signature.{types_at}
-use denote.Steps.{nothing}
-use denote.Triple.Clauses.{Clauses, Ended, closing}
-use denote.Triple.Entry.{alive}
-use denote.Triple.Spec.{Meets, triple_of}
-use denote.Triple.Table.{entered}
-use denote.Triple.Walked.{Stays, walk_of, ends_at, walk_Meets}
 use Rattle.qpast.proofs.Walks.{none, none_made}
 use Rattle.qpast.proofs.Facts.{tells_all}
-use Rattle.qpast.specs.Halves.{calls_coded}
 use Rattle.qpast.specs.contracts.asking.Asked as Asked
 use Rattle.qpast.specs.contracts.asking.Heard as Heard
 use Rattle.qpast.specs.contracts.asking.halves as F

@@ -1,6 +1,5 @@
-use Rattle.std.proofs.Common.{◌≡◌, ap, inl, inr, refl, ◌∙◌, arith}
+use Rattle.qqueue.proofs.Common.{◌≡◌, ap, inl, inr, refl, ◌∙◌, arith, get}
 use Rattle.std.specs.Prelude.{Some}
-use Rattle.slab.specs.Slab.{get}
 use Rattle.slab.proofs.SlabLemmas.{Contains-cons, Contains-cons_cases, Contains-entries}
 use Rattle.qqueue.proofs.links.search.Goals as goal
 

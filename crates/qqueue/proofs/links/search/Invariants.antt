@@ -1,6 +1,4 @@
-use Rattle.std.proofs.Common.{◌≡◌, ◌≢◌, ◌⊎◌, ℕ, Some, Contains}
-use Rattle.slab.specs.Slab.{get}
-use Rattle.qqueue.specs.declared.node.Node.{Node}
+use Rattle.qqueue.proofs.Common.{◌≡◌, ◌≢◌, ◌⊎◌, ℕ, Some, Contains, get, Node}
 use Rattle.qqueue.proofs.links.search.Given as goal
 
 -- what is left are nodes of the slab, and each other node of the slab has another number

@@ -1,7 +1,4 @@
-use Rattle.std.proofs.Common.{◌≡◌, ℕ, Option, None, Some, true, eqb, sym, ap, ◌∙◌, rules}
-use Rattle.std.specs.Option.{option_map, option_eq}
-use Rattle.std.proofs.lemmas.Bool.{eqb-true, true≢false}
-use Rattle.qqueue.specs.Rings.{before_of}
+use Rattle.qqueue.proofs.Common.{◌≡◌, ℕ, Option, None, Some, true, eqb, sym, ap, ◌∙◌, rules, option_map, option_eq, eqb-true, true≢false, before_of}
 use Rattle.qqueue.proofs.lists.join.Goals as goal
 
 pub link-requires-clause-first_there : goal.link-requires-clause-first_there

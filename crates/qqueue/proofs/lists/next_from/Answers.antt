@@ -1,5 +1,4 @@
-use Rattle.std.proofs.Common.{◌+◌, ◌-◌, ◌<◌, ap, arith}
-use Rattle.std.specs.Option.{option_map}
+use Rattle.qqueue.proofs.Common.{◌+◌, ◌-◌, ◌<◌, ap, arith, option_map}
 use Rattle.qqueue.proofs.NextLaws.{IsAt, IsLast, number_at, number_held, node_number, at_first, at_last, there_at, there_last, last_none, found_greater, step}
 use Rattle.qqueue.proofs.lists.next_from.Goals as goal
 

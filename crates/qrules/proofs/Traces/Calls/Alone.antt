@@ -1,10 +1,9 @@
 -- Calls that end in their own event and do nothing to any other.
-use Rattle.std.proofs.Common.{◌≡◌, ◌∙◌, ℕ, sym}
+use Rattle.qrules.proofs.Common.{◌≡◌, ◌∙◌, ℕ, sym, None, Some, none-some, row_of, Call, Completion, Transfer}
 use Rattle.qrules.proofs.Words.Items.{receipt_of, item_in}
 use Rattle.qrules.proofs.Words.Facts.{Facts, sender}
 use Rattle.qrules.proofs.Words.Effects.{asks, makes, writes}
 use Rattle.qrules.proofs.Traces.Past.Laws.{CallLaws, RowLaws, IsOwn}
-use Rattle.qrules.proofs.Common.{None, Some, none-some, row_of, Call, Completion, Transfer}
 
 -- a call that never waits and makes nothing
 pub waits_not : (c : Call) → ((n t h : ℕ) → asks n t h c ≡ None) → ((f : Facts) (t : ℕ) → makes f t c ≡ None) → CallLaws c

@@ -1,13 +1,11 @@
 -- Calls that answer a held message.
-use Rattle.std.proofs.Common.{◌≡◌, ◌∙◌, ℕ, List, ap, sym, is_some}
+use Rattle.qrules.proofs.Common.{◌≡◌, ◌∙◌, ℕ, List, ap, sym, is_some, Send, None, Some, none-some, same_Some, row_of, refusal_unless_held, Call, Completion, Transfer}
 use Rattle.qrules.proofs.Words.Items.{receipt_of, Finish, ends_sender, item_in}
 use Rattle.qrules.proofs.Words.Facts.{Facts, sender}
 use Rattle.qrules.proofs.Words.Effects.{makes, writes}
 use Rattle.qrules.proofs.Traces.Calls.Alone.{IsPlain}
 use Rattle.qrules.proofs.Traces.Calls.Held.{SenderEnds, sender_ends}
 use Rattle.qrules.proofs.Traces.Past.Laws.{IsOfOpen, IsSettled, RowLaws, is_settled}
-use Rattle.qmodel.specs.declared.open_call.OpenCall.TheVariants.{Send}
-use Rattle.qrules.proofs.Common.{None, Some, none-some, same_Some, row_of, refusal_unless_held, Call, Completion, Transfer}
 
 of_open : (f : Facts) (t rcvid : ℕ) (finish : Finish) (u : ℕ) (y : Completion) → SenderEnds f t rcvid finish u y → IsOfOpen f u y
 of_open f t rcvid finish u y s = record {

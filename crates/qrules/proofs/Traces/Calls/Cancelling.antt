@@ -1,5 +1,5 @@
 -- What the calls share that end others by force.
-use Rattle.std.proofs.Common.{◌≡◌, ◌∙◌, ℕ, ap, refl, sym, cond, true, false}
+use Rattle.qrules.proofs.Common.{◌≡◌, ◌∙◌, ℕ, ap, refl, sym, cond, true, false, none-some, same_Some, Errno, row_of, cancel_call, cancels, cancel_where, Call, Completion, OpenCall, Transfer}
 use Rattle.std.specs.Prelude.{Bool, Option, None, Some}
 use Rattle.std.proofs.lemmas.Bool.{true≢false}
 use Rattle.qrules.proofs.Words.Items.{receipt_of, item_in}
@@ -7,7 +7,6 @@ use Rattle.qrules.proofs.Words.Facts.{Facts, sender}
 use Rattle.qrules.proofs.Words.Effects.{makes, writes}
 use Rattle.qrules.proofs.Traces.Calls.Alone.{IsPlain}
 use Rattle.qrules.proofs.Traces.Past.Laws.{RowLaws, is_forceful}
-use Rattle.qrules.proofs.Common.{none-some, same_Some, Errno, row_of, cancel_call, cancels, cancel_where, Call, Completion, OpenCall, Transfer}
 
 -- the completion is of an open call that is cancelled
 pub record IsCancelledCall (is_cancelled : OpenCall → Bool) (e : Errno) (u : ℕ) (o : Option OpenCall) (y : Completion) : Type 0 where

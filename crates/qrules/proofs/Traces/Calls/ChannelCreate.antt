@@ -1,9 +1,7 @@
 -- The laws of ChannelCreate.
-use Rattle.std.proofs.Common.{ℕ, refl, subst}
-use Rattle.std.proofs.lemmas.Option.{none-some, same_Some}
+use Rattle.qrules.proofs.Common.{ℕ, refl, subst, none-some, same_Some, ChannelCreate}
 use Rattle.qbase.specs.declared.flags.ChannelFlags.{ChannelFlags}
 use Rattle.qrules.proofs.Words.Facts.{Facts}
-use Rattle.qmodel.specs.declared.call.Call.TheVariants.{ChannelCreate}
 use Rattle.qrules.proofs.Traces.Calls.Alone.{IsPlain, alone, waits_not}
 use Rattle.qrules.proofs.Traces.Past.Laws.{CallLaws, RowLaws, Passes}
 

@@ -1,10 +1,9 @@
 -- The laws of ChannelDestroy.
-use Rattle.std.proofs.Common.{ℕ, refl, subst}
+use Rattle.qrules.proofs.Common.{ℕ, refl, subst, none-some, same_Some, Srch, is_on, ChannelDestroy}
 use Rattle.qrules.proofs.Words.Facts.{Facts}
 use Rattle.qrules.proofs.Traces.Calls.Alone.{IsPlain, waits_not}
 use Rattle.qrules.proofs.Traces.Calls.Cancelling.{cancelling}
 use Rattle.qrules.proofs.Traces.Past.Laws.{CallLaws, RowLaws, Passes}
-use Rattle.qrules.proofs.Common.{none-some, same_Some, Srch, is_on, ChannelDestroy}
 
 pub call_laws : (chid : ℕ) → CallLaws (ChannelDestroy chid)
 call_laws chid = waits_not (ChannelDestroy chid) (λ n t h. refl) (λ f t. refl)

@@ -1,8 +1,6 @@
 -- The laws of ConnectAttach.
-use Rattle.std.proofs.Common.{ℕ, refl, subst}
-use Rattle.std.proofs.lemmas.Option.{none-some, same_Some}
+use Rattle.qrules.proofs.Common.{ℕ, refl, subst, none-some, same_Some, ConnectAttach}
 use Rattle.qrules.proofs.Words.Facts.{Facts}
-use Rattle.qmodel.specs.declared.call.Call.TheVariants.{ConnectAttach}
 use Rattle.qrules.proofs.Traces.Calls.Alone.{IsPlain, alone, waits_not}
 use Rattle.qrules.proofs.Traces.Past.Laws.{CallLaws, RowLaws, Passes}
 

@@ -1,17 +1,14 @@
 -- The laws of a call that delivers an item.
-use Rattle.std.proofs.Common.{◌≡◌, ◌∙◌, ℕ, List, ap, refl, sym, subst, inl, cond, eqb, true, false}
+use Rattle.qrules.proofs.Common.{◌≡◌, ◌∙◌, ℕ, List, ap, refl, sym, subst, inl, cond, eqb, true, false, option_map, Receive, Send, eqb-true, ne_eqb, none-some, same_Some, Item, Connection, completion_to, row_of, newest_receiver, receipt_completion, takes, SentItem, Call, Completion, OpenCall, eqb_same, ReceivedItem}
 use Rattle.std.specs.Prelude.{Option, None, Some, is_some}
-use Rattle.std.specs.Option.{option_map}
 use Rattle.qrules.proofs.Words.Items.{receipt_of, delivers, receiver, receipt_by, receipt_when_sent, Received, item_in, receipt_in, item_sent_over}
 use Rattle.qrules.proofs.Words.Facts.{Facts, route}
 use Rattle.qrules.proofs.Traces.Parts.{leads_to}
 use Rattle.qrules.proofs.Words.Effects.{asks, makes}
-use Rattle.qmodel.specs.declared.open_call.OpenCall.TheVariants.{Receive, Send}
 use Rattle.qrules.proofs.Traces.Past.Laws.{IsOfOpen, IsSettled, IsReceipt, IsReceived, is_settled}
 use Rattle.qrules.proofs.Traces.Calls.Taking.{Taken, taken_by, receipt_from, receipt_in_at}
 use Rattle.qrules.proofs.Traces.Routes.{leads_over}
 use Rattle.qmodel.specs.declared.open_call.OpenReceive.{OpenReceive}
-use Rattle.qrules.proofs.Common.{eqb-true, ne_eqb, none-some, same_Some, Item, Connection, completion_to, row_of, newest_receiver, receipt_completion, takes, SentItem, Call, Completion, OpenCall, eqb_same, ReceivedItem}
 
 -- what goes over a connection is the item
 pub sent_item : (o : Option Connection) (item : Item) (m : SentItem) → item_sent_over o item ≡ Some m → m.item ≡ item

@@ -1,13 +1,12 @@
 -- The laws of Error.
 use Rattle.qrules.proofs.Traces.Rows.{answer_same}
-use Rattle.std.proofs.Common.{◌≡◌, ℕ, refl, subst, cond, true, false}
+use Rattle.qrules.proofs.Common.{◌≡◌, ℕ, refl, subst, cond, true, false, ℤ, pos, None, int_eq, none-some, same_Some, error_mark, Error}
 use Rattle.qrules.proofs.Traces.Parts.{error_finish}
 use Rattle.qrules.proofs.Words.Facts.{Facts, sender}
 use Rattle.qrules.proofs.Words.Items.{item_in}
 use Rattle.qrules.proofs.Traces.Calls.Alone.{IsPlain, waits_not}
 use Rattle.qrules.proofs.Traces.Calls.Answering.{answers}
 use Rattle.qrules.proofs.Traces.Past.Laws.{CallLaws, RowLaws, Passes}
-use Rattle.qrules.proofs.Common.{ℤ, pos, None, int_eq, none-some, same_Some, error_mark, Error}
 use Rattle.qmodel.specs.declared.call.Mark.TheVariants as mark
 
 pub call_laws : (rcvid : ℕ) (code : ℤ) → CallLaws (Error rcvid code)

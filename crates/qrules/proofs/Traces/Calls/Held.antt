@@ -1,17 +1,14 @@
 -- What the calls on held messages share: whose message is held, and how an answer ends its Send.
-use Rattle.std.proofs.Common.{◌≡◌, ◌∙◌, ℕ, List, ap, refl, sym, subst, cond, eqb, Bool, true, false, is_some}
+use Rattle.qrules.proofs.Common.{◌≡◌, ◌∙◌, ℕ, List, ap, refl, sym, subst, cond, eqb, Bool, true, false, is_some, holds, Receive, Send, none-some, same_Some, Errno, refusal_unless_held, Completion, OpenCall, Receipt, some_of}
 use Rattle.std.specs.Prelude.{Option, None, Some}
 use Rattle.std.specs.Option.{option_and_then}
 use Rattle.std.proofs.lemmas.Bool.{eqb-true, true≢false, and_parts}
-use Rattle.qrules.specs.Facts.{holds}
 use Rattle.qrules.proofs.Messages.{held_same}
 use Rattle.qrules.proofs.Words.Facts.{Facts, sender, threads_of, number_of, owns}
 use Rattle.qrules.proofs.Words.Items.{Finish, ends_sender, answer_completion}
 use Rattle.qrules.proofs.Traces.Parts.{is_held_for}
-use Rattle.qmodel.specs.declared.open_call.OpenCall.TheVariants.{Receive, Send}
 use Rattle.qrules.proofs.Traces.Past.Senders.{sender_sends}
 use Rattle.qmodel.specs.declared.open_call.OpenSend.{OpenSend}
-use Rattle.qrules.proofs.Common.{none-some, same_Some, Errno, refusal_unless_held, Completion, OpenCall, Receipt, some_of}
 
 -- the completion of call m of thread u that is answered so
 abbrev pub answering : ℕ → ℕ → Finish → List ℕ → Completion

@@ -1,14 +1,11 @@
 -- The laws of Info.
-use Rattle.std.proofs.Common.{◌≡◌, ℕ, refl, subst}
+use Rattle.qrules.proofs.Common.{◌≡◌, ℕ, refl, subst, option_map, Info, none-some, same_Some, info_of, Completion}
 use Rattle.std.specs.Prelude.{Option, None, Some}
-use Rattle.std.specs.Option.{option_map}
 use Rattle.qrules.proofs.Words.Items.{info_completion}
 use Rattle.qrules.proofs.Words.Facts.{Facts, sender}
-use Rattle.qmodel.specs.declared.call.Call.TheVariants.{Info}
 use Rattle.qmodel.specs.declared.call.Info.{Info as Told}
 use Rattle.qrules.proofs.Traces.Calls.Alone.{IsPlain, alone, waits_not}
 use Rattle.qrules.proofs.Traces.Past.Laws.{CallLaws, RowLaws, Passes}
-use Rattle.qrules.proofs.Common.{none-some, same_Some, info_of, Completion}
 
 pub call_laws : (rcvid : ℕ) → CallLaws (Info rcvid)
 call_laws rcvid = waits_not (Info rcvid) (λ n t h. refl) (λ f t. refl)

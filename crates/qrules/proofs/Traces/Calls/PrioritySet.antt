@@ -1,12 +1,10 @@
 -- The laws of PrioritySet.
-use Rattle.std.proofs.Common.{◌≡◌, ◌⊎◌, ℕ, refl, subst, inl, inr}
+use Rattle.qrules.proofs.Common.{◌≡◌, ◌⊎◌, ℕ, refl, subst, inl, inr, PrioritySet, None, none-some, same_Some, Call}
 use Rattle.qrules.proofs.Words.Items.{receipt_of}
 use Rattle.qrules.proofs.Words.Facts.{Facts}
 use Rattle.qrules.proofs.Words.Effects.{makes, sets}
-use Rattle.qmodel.specs.declared.call.Call.TheVariants.{PrioritySet}
 use Rattle.qrules.proofs.Traces.Calls.Alone.{IsPlain, alone, waits_not}
 use Rattle.qrules.proofs.Traces.Past.Laws.{CallLaws, RowLaws, Passes}
-use Rattle.qrules.proofs.Common.{None, none-some, same_Some, Call}
 
 pub call_laws : (thread priority : ℕ) → CallLaws (PrioritySet thread priority)
 call_laws thread priority = waits_not (PrioritySet thread priority) (λ n t h. refl) (λ f t. refl)

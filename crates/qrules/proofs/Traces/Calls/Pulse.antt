@@ -1,15 +1,13 @@
 -- The laws of Pulse.
 use Rattle.qrules.proofs.Traces.Rows.{pulse_same}
-use Rattle.std.proofs.Common.{◌≡◌, ◌∙◌, ℕ, [], ap, refl, sym, subst, true}
+use Rattle.qrules.proofs.Common.{◌≡◌, ◌∙◌, ℕ, [], ap, refl, sym, subst, true, pulse_over, ℤ, None, Some, none-some, same_Some, is_pulse, SentItem, Pulse}
 use Rattle.std.proofs.lemmas.Bool.{true≢false}
-use Rattle.qrules.specs.Rules.Pulse.{pulse_over}
 use Rattle.qrules.proofs.Words.Facts.{Facts}
 use Rattle.qrules.proofs.Words.Past.{is_unblock_for}
 use Rattle.qrules.proofs.Words.Items.{ends_receiver, pulse_receipt, pulse_item, item_in}
 use Rattle.qrules.proofs.Traces.Past.Laws.{CallLaws, RowLaws, Passes, IsOwn}
 use Rattle.qrules.proofs.Traces.Calls.Delivering.{delivers_open, delivers_settled, delivers_receipt, delivers_received, goes_to_open, sent_item, sent_way}
 use Rattle.qrules.proofs.Traces.Routes.{pulse_way}
-use Rattle.qrules.proofs.Common.{ℤ, None, Some, none-some, same_Some, is_pulse, SentItem, Pulse}
 
 -- it is a pulse
 pub sent_is_pulse : (f : Facts) (coid priority : ℕ) (code value : ℤ) (m : SentItem) → pulse_over f coid priority code value ≡ Some m → is_pulse m.item.what ≡ true

@@ -1,9 +1,8 @@
 -- The laws of Read.
-use Rattle.std.proofs.Common.{ℕ, List, refl, subst}
+use Rattle.qrules.proofs.Common.{ℕ, List, refl, subst, none-some, same_Some, Read}
 use Rattle.qrules.proofs.Words.Facts.{Facts}
 use Rattle.qrules.proofs.Traces.Calls.Alone.{IsPlain, alone, waits_not}
 use Rattle.qrules.proofs.Traces.Past.Laws.{CallLaws, RowLaws, Passes}
-use Rattle.qrules.proofs.Common.{none-some, same_Some, Read}
 
 pub call_laws : (rcvid offset : ℕ) (buffer : List ℕ) → CallLaws (Read rcvid offset buffer)
 call_laws rcvid offset buffer = waits_not (Read rcvid offset buffer) (λ n t h. refl) (λ f t. refl)

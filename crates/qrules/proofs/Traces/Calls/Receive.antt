@@ -1,6 +1,5 @@
 -- The laws of Receive.
-use Rattle.std.proofs.Common.{ℕ, List, refl}
-use Rattle.qqueue.specs.declared.item.Kind.TheVariants.{Any}
+use Rattle.qrules.proofs.Common.{ℕ, List, refl, Any}
 use Rattle.qrules.proofs.Words.Facts.{Facts}
 use Rattle.qmodel.specs.declared.call.Call.TheVariants.{Receive}
 use Rattle.qrules.proofs.Traces.Calls.Receiving.{receiving_call, receiving_row}

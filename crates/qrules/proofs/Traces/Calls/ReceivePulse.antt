@@ -1,9 +1,8 @@
 -- The laws of ReceivePulse.
-use Rattle.std.proofs.Common.{ℕ, [], refl}
+use Rattle.qrules.proofs.Common.{ℕ, [], refl, PulseOnly, ReceivePulse}
 use Rattle.qrules.proofs.Words.Facts.{Facts}
 use Rattle.qrules.proofs.Traces.Calls.Receiving.{receiving_call, receiving_row}
 use Rattle.qrules.proofs.Traces.Past.Laws.{CallLaws, RowLaws, Passes}
-use Rattle.qrules.proofs.Common.{PulseOnly, ReceivePulse}
 
 pub call_laws : (chid : ℕ) → CallLaws (ReceivePulse chid)
 call_laws chid = receiving_call (ReceivePulse chid) chid PulseOnly [] (λ n t h. refl) (λ f t. refl) refl

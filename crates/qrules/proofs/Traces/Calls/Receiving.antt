@@ -1,13 +1,11 @@
 -- The laws of a call that receives.
-use Rattle.std.proofs.Common.{◌≡◌, ◌∙◌, ℕ, List, ap, refl, sym, subst, inr, true≢false}
+use Rattle.qrules.proofs.Common.{◌≡◌, ◌∙◌, ℕ, List, ap, refl, sym, subst, inr, true≢false, Receive, none-some, same_Some, best_of, Item, Kind, row_of, receipt_completion, Call, Completion, OpenCall, eqb_same, ReceivedItem}
 use Rattle.std.specs.Prelude.{Option, None, Some}
 use Rattle.qrules.proofs.Words.Items.{receipt_of, own_receipt, receipt_when_taken, sender_for, Received, item_in}
 use Rattle.qrules.proofs.Words.Facts.{Facts, message}
 use Rattle.qrules.proofs.Words.Effects.{asks, makes, writes}
-use Rattle.qmodel.specs.declared.open_call.OpenCall.TheVariants.{Receive}
 use Rattle.qrules.proofs.Traces.Past.Laws.{BeginsToWait, CallLaws, RowLaws, IsOwn, IsReceived}
 use Rattle.qrules.proofs.Traces.Calls.Taking.{given_no_failure, given_received, receipt_from, receipt_in_at}
-use Rattle.qrules.proofs.Common.{none-some, same_Some, best_of, Item, Kind, row_of, receipt_completion, Call, Completion, OpenCall, eqb_same, ReceivedItem}
 
 -- the open call of a receive
 abbrev pub receiver : ℕ → Kind → List ℕ → ℕ → ℕ → OpenCall

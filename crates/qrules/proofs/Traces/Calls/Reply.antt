@@ -1,12 +1,11 @@
 -- The laws of Reply.
 use Rattle.qrules.proofs.Traces.Rows.{answer_same}
-use Rattle.std.proofs.Common.{ℕ, List, refl, subst}
+use Rattle.qrules.proofs.Common.{ℕ, List, refl, subst, ℤ, none-some, same_Some, Reply}
 use Rattle.qrules.proofs.Traces.Parts.{reply_finish}
 use Rattle.qrules.proofs.Words.Facts.{Facts, sender}
 use Rattle.qrules.proofs.Traces.Calls.Alone.{IsPlain, waits_not}
 use Rattle.qrules.proofs.Traces.Calls.Answering.{answers}
 use Rattle.qrules.proofs.Traces.Past.Laws.{CallLaws, RowLaws, Passes}
-use Rattle.qrules.proofs.Common.{ℤ, none-some, same_Some, Reply}
 
 pub call_laws : (rcvid : ℕ) (status : ℤ) (bytes : List ℕ) → CallLaws (Reply rcvid status bytes)
 call_laws rcvid status bytes = waits_not (Reply rcvid status bytes) (λ n t h. refl) (λ f t. refl)

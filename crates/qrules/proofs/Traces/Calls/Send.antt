@@ -1,6 +1,6 @@
 -- The laws of Send.
 use Rattle.qrules.proofs.Traces.Rows.{sent_same}
-use Rattle.std.proofs.Common.{ℕ, List, ap, refl, sym, subst}
+use Rattle.qrules.proofs.Common.{ℕ, List, ap, refl, sym, subst, Some, none-some, same_Some, is_pulse, eqb_same}
 use Rattle.qrules.proofs.Words.Items.{message_item}
 use Rattle.qrules.proofs.Words.Facts.{Facts, route, is_for_answer}
 use Rattle.qrules.proofs.Words.Past.{is_unblock_for}
@@ -8,7 +8,6 @@ use Rattle.qmodel.specs.declared.call.Call.TheVariants.{Send}
 use Rattle.qrules.proofs.Traces.Past.Laws.{BeginsToWait, CallLaws, RowLaws, Passes}
 use Rattle.qrules.proofs.Traces.Calls.Delivering.{delivers_open, delivers_settled, delivers_receipt, delivers_received, goes_to_open, sent_item, sent_way}
 use Rattle.qrules.proofs.Traces.Routes.{has_way}
-use Rattle.qrules.proofs.Common.{Some, none-some, same_Some, is_pulse, eqb_same}
 
 pub call_laws : (coid : ℕ) (message reply_buffer : List ℕ) → CallLaws (Send coid message reply_buffer)
 call_laws coid message reply_buffer = record {

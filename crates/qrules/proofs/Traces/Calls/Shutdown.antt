@@ -1,10 +1,9 @@
 -- The laws of Shutdown.
-use Rattle.std.proofs.Common.{ℕ, refl, subst, true}
+use Rattle.qrules.proofs.Common.{ℕ, refl, subst, true, none-some, same_Some, Srch, Shutdown}
 use Rattle.qrules.proofs.Words.Facts.{Facts}
 use Rattle.qrules.proofs.Traces.Calls.Alone.{IsPlain, waits_not}
 use Rattle.qrules.proofs.Traces.Calls.Cancelling.{cancelling}
 use Rattle.qrules.proofs.Traces.Past.Laws.{CallLaws, RowLaws, Passes}
-use Rattle.qrules.proofs.Common.{none-some, same_Some, Srch, Shutdown}
 
 pub call_laws : CallLaws Shutdown
 call_laws = waits_not Shutdown (λ n t h. refl) (λ f t. refl)

@@ -1,14 +1,9 @@
 -- An open call that takes an item.
-use Rattle.std.proofs.Common.{◌≡◌, ℕ, List, cond, true, false, refl, subst}
+use Rattle.qrules.proofs.Common.{◌≡◌, ℕ, List, cond, true, false, refl, subst, delivery_of, takes_into, takes, Receive, Send, number_of, none-some, same_Some, laid_count, lay_over, is_pulse, Item, Completion, Mark, OpenCall, ReceivedItem}
 use Rattle.std.specs.Prelude.{Option, None, Some}
 use Rattle.qrules.proofs.Words.Past.{is_failure}
-use Rattle.qrules.specs.Delivery.{delivery_of}
-use Rattle.qrules.specs.Records.{takes_into, takes}
 use Rattle.qrules.proofs.Words.Items.{item_in, Received, receipt_in}
-use Rattle.qmodel.specs.declared.open_call.OpenCall.TheVariants.{Receive, Send}
 use Rattle.qrules.proofs.Traces.Past.Laws.{is_settled}
-use Rattle.qmodel.specs.OpenCalls.{number_of}
-use Rattle.qrules.proofs.Common.{none-some, same_Some, laid_count, lay_over, is_pulse, Item, Completion, Mark, OpenCall, ReceivedItem}
 use Rattle.qmodel.specs.declared.call.Mark.TheVariants as mark
 
 -- ---- the mark of a receipt

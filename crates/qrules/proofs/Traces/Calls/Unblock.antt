@@ -1,19 +1,15 @@
 -- The laws of Unblock.
 use Rattle.qrules.proofs.Traces.Rows.{unblocked_same}
-use Rattle.std.proofs.Common.{◌≡◌, ◌∙◌, ℕ, [], ap, refl, sym, subst, cond, eqb, Bool, true, false, option_and_then}
+use Rattle.qrules.proofs.Common.{◌≡◌, ◌∙◌, ℕ, [], ap, refl, sym, subst, cond, eqb, Bool, true, false, option_and_then, unblock_pulse, guards, pulse_for, tells_unblock, Receive, Send, none-some, same_Some, Intr, Srch, is_pulse, row_of, OpenChannel, SentItem, refusal_if_full_for, Unblock, Completion, OpenCall, Receipt, ReceivedItem}
 use Rattle.std.specs.Prelude.{Option, None, Some, is_some, not, ◌&&◌}
 use Rattle.std.proofs.lemmas.Bool.{true≢false, and_parts, not-true}
 use Rattle.qrules.proofs.Words.Items.{receipt_of, ends_unblocked, pulse_receipt, Received, item_in, unblock_item}
-use Rattle.qrules.specs.Rules.Unblock.{unblock_pulse, guards, pulse_for}
 use Rattle.qrules.proofs.Traces.Parts.{due_pulse_of_open}
 use Rattle.qrules.proofs.Words.Facts.{Facts, is_of_same_process, has_flag}
-use Rattle.qrules.specs.Records.{tells_unblock}
-use Rattle.qmodel.specs.declared.open_call.OpenCall.TheVariants.{Receive, Send}
 use Rattle.qrules.proofs.Traces.Past.Laws.{CallLaws, IsOfOpen, IsOwn, IsReceipt, IsReceived, Passes, RowLaws}
 use Rattle.qrules.proofs.Traces.Calls.Cancelling.{cancel_parts}
 use Rattle.qrules.proofs.Traces.Calls.Delivering.{delivers_open, delivers_receipt, delivers_received}
 use Rattle.qmodel.specs.declared.open_call.OpenSend.{OpenSend}
-use Rattle.qrules.proofs.Common.{none-some, same_Some, Intr, Srch, is_pulse, row_of, OpenChannel, SentItem, refusal_if_full_for, Unblock, Completion, OpenCall, Receipt, ReceivedItem}
 
 -- ---- the pulse that is due
 

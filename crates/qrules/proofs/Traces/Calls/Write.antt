@@ -1,11 +1,9 @@
 -- The laws of Write.
-use Rattle.std.proofs.Common.{◌≡◌, ℕ, List, ap, refl, subst}
+use Rattle.qrules.proofs.Common.{◌≡◌, ℕ, List, ap, refl, subst, Write, Some, same_Some}
 use Rattle.qrules.proofs.Words.Facts.{Facts, sender}
-use Rattle.qmodel.specs.declared.call.Call.TheVariants.{Write}
 use Rattle.qrules.proofs.Traces.Calls.Alone.{IsPlain, alone, waits_not}
 use Rattle.qrules.proofs.Traces.Calls.Held.{has_sender}
 use Rattle.qrules.proofs.Traces.Past.Laws.{CallLaws, RowLaws, Passes}
-use Rattle.qrules.proofs.Common.{Some, same_Some}
 
 pub call_laws : (rcvid offset : ℕ) (bytes : List ℕ) → CallLaws (Write rcvid offset bytes)
 call_laws rcvid offset bytes = waits_not (Write rcvid offset bytes) (λ n t h. refl) (λ f t. refl)

@@ -1,10 +1,7 @@
 -- The item that is received first among those that wait.
-use Rattle.std.proofs.Common.{◌≡◌, ℕ, ◌<◌, ◌≤◌, List, [], ◌∷◌, refl, sym, subst, ◌∙◌, cond, arith, true, false}
+use Rattle.qrules.proofs.Common.{◌≡◌, ℕ, ◌<◌, ◌≤◌, List, [], ◌∷◌, refl, sym, subst, ◌∙◌, cond, arith, true, false, option_map, best_of, first_of_two, may_take, AllByRecursion, none-some, same_Some, IsRising, Item, Kind, all_more}
 use Rattle.std.specs.Prelude.{Option, None, Some, nat_lt}
-use Rattle.std.specs.Option.{option_map}
 use Rattle.std.proofs.lemmas.Bool.{ltb-true, true≢false}
-use Rattle.qqueue.specs.Best.{best_of, first_of_two, may_take}
-use Rattle.qrules.proofs.Common.{AllByRecursion, none-some, same_Some, IsRising, Item, Kind, all_more}
 
 -- of what may be taken with the priority of x, nothing was made before x
 abbrev pub IsEarliest : Kind → List Item → Item → Type 0

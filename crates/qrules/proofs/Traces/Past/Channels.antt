@@ -1,5 +1,5 @@
 -- Which channels are open after one more event.
-use Rattle.std.proofs.Common.{◌≡◌, ℕ, ◌+◌, List, ◌∷◌, length, refl, sym, subst, cond, true, false}
+use Rattle.qrules.proofs.Common.{◌≡◌, ℕ, ◌+◌, List, ◌∷◌, length, refl, sym, subst, cond, true, false, ChannelCreate, ChannelDestroy, none-some, Inval, member_at, Member, Outcome, row_of, OpenChannel, Event, Trace, Call, Completion}
 use Rattle.std.specs.Prelude.{Option, None, Some, is_some, ◌||◌}
 use Rattle.std.proofs.lemmas.Bool.{eqb-true, true≢false}
 use Rattle.qrules.proofs.Words.Facts.{Facts, owns}
@@ -9,10 +9,8 @@ use Rattle.qrules.proofs.Words.Effects.{closes, creates}
 use Rattle.qrules.proofs.Words.Past.{channel_at, is_destroyed, open_channels, refuses}
 use Rattle.qrules.proofs.Words.Items.{names}
 use Rattle.qrules.proofs.Words.Step.{channel_after, one_for}
-use Rattle.qmodel.specs.declared.call.Call.TheVariants.{ChannelCreate, ChannelDestroy}
 use Rattle.qrules.proofs.Traces.Past.Ends.{passes_of}
 use Rattle.qrules.proofs.Traces.Past.Live.{IsLive, count_live_accepted, count_live_refused, gone_accepted, gone_refused, live_accepted, live_parts, live_refused}
-use Rattle.qrules.proofs.Common.{none-some, Inval, member_at, Member, Outcome, row_of, OpenChannel, Event, Trace, Call, Completion}
 
 -- ---- by each call's row
 

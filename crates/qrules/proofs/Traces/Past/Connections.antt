@@ -1,5 +1,5 @@
 -- Which connections are live after one more event.
-use Rattle.std.proofs.Common.{◌≡◌, ℕ, ◌+◌, List, ◌∷◌, length, refl, ap, sym, subst, cond, true, false}
+use Rattle.qrules.proofs.Common.{◌≡◌, ℕ, ◌+◌, List, ◌∷◌, length, refl, ap, sym, subst, cond, true, false, ConnectAttach, ConnectDetach, none-some, Inval, member_at, Connection, Member, Outcome, row_of, disconnect_pulse, refusal_if_full_for, Event, Trace, Call, Completion}
 use Rattle.std.specs.Prelude.{Option, None, Some, is_some}
 use Rattle.std.proofs.lemmas.Bool.{eqb-true, true≢false}
 use Rattle.qrules.proofs.Traces.Parts.{is_own}
@@ -9,10 +9,8 @@ use Rattle.qrules.proofs.Words.Effects.{attaches, detaches}
 use Rattle.qrules.proofs.Words.Past.{attached_connection, connection_at, live_connections, refuses}
 use Rattle.qrules.proofs.Words.Items.{names}
 use Rattle.qrules.proofs.Words.Step.{connection_after, one_for}
-use Rattle.qmodel.specs.declared.call.Call.TheVariants.{ConnectAttach, ConnectDetach}
 use Rattle.qrules.proofs.Traces.Past.Ends.{passes_of}
 use Rattle.qrules.proofs.Traces.Past.Live.{count_live_accepted, count_live_refused, live_accepted, live_parts, live_refused}
-use Rattle.qrules.proofs.Common.{none-some, Inval, member_at, Connection, Member, Outcome, row_of, disconnect_pulse, refusal_if_full_for, Event, Trace, Call, Completion}
 
 -- ---- by each call's row
 

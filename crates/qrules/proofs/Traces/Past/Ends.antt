@@ -1,19 +1,15 @@
 -- What the endings of an event are of: the event's own call, or what another thread waits for.
-use Rattle.std.proofs.Common.{◌≡◌, ◌≢◌, ℕ, ◌+◌, ◌<◌, ◌≤◌, List, [], ◌∷◌, length, refl, ap, sym, subst, ◌∙◌, cond, arith, true, false, eqb, ◌⊎◌, inl, inr}
+use Rattle.qrules.proofs.Common.{◌≡◌, ◌≢◌, ℕ, ◌+◌, ◌<◌, ◌≤◌, List, [], ◌∷◌, length, refl, ap, sym, subst, ◌∙◌, cond, arith, true, false, eqb, ◌⊎◌, inl, inr, Down, Busy, refusal_of, completion_to, Outcome, Answers, eqb_same, any_filter_map, any_filter_map_at, all_filter_map, list_any, filter_map, AllByRecursion, none-some, same_Some, and-false, member_at, Member, row_of, Trace, Call, Completion, OpenCall}
 use Rattle.std.specs.Prelude.{None, Some, is_some}
 use Rattle.std.proofs.lemmas.Bool.{eqb-true, eq-eqb, ne_eqb}
-use Rattle.qbase.specs.declared.errno.Errno.TheVariants.{Down, Busy}
-use Rattle.qrules.specs.Outcome.{refusal_of, completion_to, Outcome, Answers}
 use Rattle.qrules.proofs.Words.Facts.{Facts, threads_of, number_of}
 use Rattle.qrules.proofs.Words.Lawful.{facts_of, IsLawful}
 use Rattle.qrules.proofs.Words.Past.{has_completion_of, refuses, is_ended, open_call, block}
-use Rattle.qbase.proofs.Lists.{eqb_same, any_filter_map, any_filter_map_at, all_filter_map}
 use Rattle.qrules.proofs.Traces.Past.Laws.{Passes, RowLaws, IsOwn, IsOfOpen}
 use Rattle.qrules.proofs.Traces.Calls.{row_laws}
 use Rattle.qrules.proofs.Traces.Past.Numbers.{block_cases}
 use Rattle.qrules.proofs.Traces.Past.Open.{open_parts, open_below, open_thread}
 use Rattle.qrules.proofs.Traces.Rosters.{known}
-use Rattle.qrules.proofs.Common.{list_any, filter_map, AllByRecursion, none-some, same_Some, and-false, member_at, Member, row_of, Trace, Call, Completion, OpenCall}
 
 -- ---- what an accepted call passed
 

@@ -1,5 +1,5 @@
 -- The facts after one more event are those that its row says.
-use Rattle.std.proofs.Common.{◌≡◌, ℕ, ◌+◌, List, length, refl, arith, Bool, true, false}
+use Rattle.qrules.proofs.Common.{◌≡◌, ℕ, ◌+◌, List, length, refl, arith, Bool, true, false, member_at, IsRoster, Member, Outcome, Event, Trace, Call, Completion}
 use Rattle.std.specs.Prelude.{is_some}
 use Rattle.qrules.proofs.Words.Lawful.{facts_of, IsLawful, with_event}
 use Rattle.qrules.proofs.Words.Past.{refuses}
@@ -10,7 +10,6 @@ use Rattle.qrules.proofs.Traces.Past.Ends.{accepted, refused}
 use Rattle.qrules.proofs.Traces.Past.OpenCalls.{open_refused, open_accepted}
 use Rattle.qrules.proofs.Traces.Past.Pending.{pending_refused, pending_accepted}
 use Rattle.qrules.proofs.Traces.Past.Priorities.{priority_accepted, priority_refused}
-use Rattle.qrules.proofs.Common.{member_at, IsRoster, Member, Outcome, Event, Trace, Call, Completion}
 
 pub past_follows : (accept : Bool) (roster : List Member) (past : Trace) (t : ℕ) (c : Call) (X : List Completion)
     → IsRoster roster → IsLawful roster past → is_some (member_at roster t) ≡ true → Outcome accept (facts_of roster past) t c X

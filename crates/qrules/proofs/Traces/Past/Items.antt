@@ -1,19 +1,15 @@
 -- The items that were made: one of each number, with its channel and priority.
-use Rattle.std.proofs.Common.{◌≡◌, ◌≢◌, ℕ, ◌+◌, ◌≤◌, List, [], ◌∷◌, ◌++◌, map, length, refl, ap, sym, subst, ◌∙◌, cond, arith, true, false, eqb, append-nil}
+use Rattle.qrules.proofs.Common.{◌≡◌, ◌≢◌, ℕ, ◌+◌, ◌≤◌, List, [], ◌∷◌, ◌++◌, map, length, refl, ap, sym, subst, ◌∙◌, cond, arith, true, false, eqb, append-nil, option_map, option_to_list, eqb_same, all_append, all_map, all_more, all_passing, number_of, AllByRecursion, same_Some, none-some, Item, is_pulse, Member, call_at, SentItem, Event, Trace, Call, OpenCall}
 use Rattle.std.specs.Prelude.{Option, None, Some, not, filter}
-use Rattle.std.specs.Option.{option_map, option_to_list}
 use Rattle.std.proofs.lemmas.Bool.{eqb-true, eq-eqb, ne_eqb, not-true}
 use Rattle.qrules.proofs.Words.Facts.{is_for_answer}
 use Rattle.qrules.proofs.Words.Lawful.{facts_of}
 use Rattle.qrules.proofs.Words.Past.{items_by_now, is_accepted, item_of, items, item_among, priority_before, priority_of_made, priority_of_item, is_destroyed, is_gone, pending_items, current_priority, block}
 use Rattle.qrules.proofs.Words.Effects.{asks, makes}
-use Rattle.qbase.proofs.Lists.{eqb_same, all_append, all_map, all_more, all_passing}
 use Rattle.qrules.proofs.Traces.Past.Laws.{MakesItem}
 use Rattle.qrules.proofs.Traces.Calls.{call_laws}
 use Rattle.qrules.proofs.Traces.Past.Numbers.{call_below, call_earlier, call_newest, block_asked}
 use Rattle.qrules.proofs.Traces.Past.CurrentPriority.{SetsNone, among_now, channel_now, now, staying_now, worth_beyond, worth_newest, worth_stays}
-use Rattle.qmodel.specs.OpenCalls.{number_of}
-use Rattle.qrules.proofs.Common.{AllByRecursion, same_Some, none-some, Item, is_pulse, Member, call_at, SentItem, Event, Trace, Call, OpenCall}
 
 -- ---- the item of a number
 

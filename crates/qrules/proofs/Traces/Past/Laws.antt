@@ -1,14 +1,11 @@
 -- What is owed of each call: the laws on which the lemmas about all calls stand.
 use Rattle.std.specs.Prelude.{◌≡◌, ◌⊎◌, ℕ, Bool, true, false, is_some, not, Option, None, Some}
-use Rattle.std.specs.Option.{option_map}
+use Rattle.qrules.proofs.Common.{option_map, Receive, Send, thread_of, best_of, is_pulse, Item, Kind, completion_to, row_of, SentItem, Call, ChannelDestroy, Shutdown, Unblock, ConnectDetach, Completion, OpenCall, Transfer, ReceivedItem, is_on}
 use Rattle.qrules.proofs.Words.Items.{receipt_of, sender_for, Received, item_in}
 use Rattle.qrules.proofs.Words.Facts.{Facts, sender, number_of, is_for_answer}
 use Rattle.qrules.proofs.Words.Past.{is_failure, is_unblock_for}
 use Rattle.qrules.proofs.Words.Effects.{asks, makes, unblocks, writes}
-use Rattle.qmodel.specs.declared.open_call.OpenCall.TheVariants.{Receive, Send}
-use Rattle.qmodel.specs.OpenCalls.{thread_of}
 use Rattle.qmodel.specs.declared.open_call.OpenSend.{OpenSend}
-use Rattle.qrules.proofs.Common.{best_of, is_pulse, Item, Kind, completion_to, row_of, SentItem, Call, ChannelDestroy, Shutdown, Unblock, ConnectDetach, Completion, OpenCall, Transfer, ReceivedItem, is_on}
 use Rattle.qqueue.specs.declared.item.What.TheVariants as what
 
 -- ---- a call by itself

@@ -1,5 +1,5 @@
 -- A pending message that moves as the priority of its sender is set.
-use Rattle.std.proofs.Common.{◌≡◌, ℕ, ◌≤◌, List, [], ◌∷◌, ◌++◌, map, length, refl, ap, sym, ◌∙◌, cond, Bool, true, false, eqb, inl, inr}
+use Rattle.qrules.proofs.Common.{◌≡◌, ℕ, ◌≤◌, List, [], ◌∷◌, ◌++◌, map, length, refl, ap, sym, ◌∙◌, cond, Bool, true, false, eqb, inl, inr, AllByRecursion, map-append, is_pulse, with_priority, without_item, Item, Member, Outcome, is_unread_send, Event, Trace, Call, Completion, all_map, all_more, PriorityChange}
 use Rattle.std.specs.Prelude.{Option, None, Some, filter, not, unwrap_or}
 use Rattle.std.proofs.lemmas.Bool.{eqb-true, eq-eqb, or_parts}
 use Rattle.qrules.proofs.Words.Facts.{Facts, number_of}
@@ -13,7 +13,6 @@ use Rattle.qrules.proofs.Traces.Past.Cancels.{pulse_unread, sent_by, unread_else
 use Rattle.qrules.proofs.Traces.Past.Ends.{accepted}
 use Rattle.qrules.proofs.Traces.Past.Items.{Stands, item_below, standing_is}
 use Rattle.qrules.proofs.Traces.Past.CurrentPriority.{now, sets_none, worth_set, worth_stays}
-use Rattle.qrules.proofs.Common.{AllByRecursion, map-append, is_pulse, with_priority, without_item, Item, Member, Outcome, is_unread_send, Event, Trace, Call, Completion, all_map, all_more, PriorityChange}
 
 -- ---- items that are changed in their priority alone
 

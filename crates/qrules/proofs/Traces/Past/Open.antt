@@ -1,19 +1,15 @@
 -- The open call of a thread: its newest blocking call, unless that is ended.
-use Rattle.std.proofs.Common.{◌≡◌, ℕ, ◌+◌, ◌≤◌, List, [], ◌∷◌, length, refl, ap, sym, subst, ◌∙◌, cond, arith, Bool, true, false}
+use Rattle.qrules.proofs.Common.{◌≡◌, ℕ, ◌+◌, ◌≤◌, List, [], ◌∷◌, length, refl, ap, sym, subst, ◌∙◌, cond, arith, Bool, true, false, option_map, Receive, Send, thread_of, number_of, same_Some, none-some, Member, Trace, SentItem, OpenCall, Receipt, with_buffer, held_call, channel_of, item_among, none_of, is_on}
 use Rattle.std.specs.Prelude.{Option, None, Some, is_some, not}
-use Rattle.std.specs.Option.{option_map}
 use Rattle.qrules.proofs.Traces.Past.Waits.{some_map}
 use Rattle.qmodel.specs.declared.open_call.OpenSend.{OpenSend}
 use Rattle.qrules.proofs.Words.Past.{is_received, items_by_now, call_by_now, is_ended, newest_block, unless_ended, open_call, copied_count_of, priority_of_item, unblocked_among, items, block, with_receipt, filled, with_writes, item_of}
-use Rattle.qmodel.specs.declared.open_call.OpenCall.TheVariants.{Receive, Send}
 use Rattle.qrules.proofs.Traces.Past.Laws.{is_settled}
 use Rattle.qrules.proofs.Traces.Calls.{call_laws}
 use Rattle.qrules.proofs.Traces.Past.Numbers.{block_asked, block_below, block_fresh, block_thread}
 use Rattle.qrules.proofs.Traces.Past.CurrentPriority.{among_now, now}
 use Rattle.qrules.proofs.Traces.Past.Items.{found_earlier, found_there}
-use Rattle.qmodel.specs.OpenCalls.{thread_of, number_of}
 use Rattle.qrules.proofs.Words.Facts.{is_for_answer}
-use Rattle.qrules.proofs.Common.{same_Some, none-some, Member, Trace, SentItem, OpenCall, Receipt, with_buffer, held_call, channel_of, item_among, none_of, is_on}
 
 -- ---- open calls
 

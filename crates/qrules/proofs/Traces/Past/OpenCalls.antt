@@ -1,9 +1,7 @@
 -- The open calls after one more event.
-use Rattle.std.proofs.Common.{◌≡◌, ◌≢◌, ℕ, ◌+◌, ◌≤◌, List, ◌∷◌, length, refl, ap, sym, subst, ◌∙◌, cond, arith, Bool, true, false, eqb, ◌⊎◌, inl, inr}
+use Rattle.qrules.proofs.Common.{◌≡◌, ◌≢◌, ℕ, ◌+◌, ◌≤◌, List, ◌∷◌, length, refl, ap, sym, subst, ◌∙◌, cond, arith, Bool, true, false, eqb, ◌⊎◌, inl, inr, option_map, option_to_list, option_or, and-false, or-true, or-false, none-some, same_Some, is_pulse, Item, member_at, Member, Outcome, row_of, SentItem, Event, Trace, held_call, is_thread, unblocked_call, written_call, Call, Completion, OpenCall, eqb_same, none_of, Transfer, channel_of}
 use Rattle.std.specs.Prelude.{Option, None, Some, is_some, not, ◌||◌, ◌&&◌}
-use Rattle.std.specs.Option.{option_map, option_to_list, option_or}
 use Rattle.std.proofs.lemmas.Bool.{cases_Bool, eqb-true, eqb-false, eq-eqb, ne_eqb, or_parts, true≢false}
-use Rattle.std.proofs.Math.Bool.{and-false, or-true, or-false}
 use Rattle.qrules.proofs.Words.Items.{receipt_of, sender_for, Received, buffer_after_write}
 use Rattle.qrules.proofs.Words.Facts.{Facts, sender, threads_of, number_of}
 use Rattle.qrules.proofs.Words.Lawful.{facts_of, IsLawful, with_event}
@@ -24,7 +22,6 @@ use Rattle.qrules.proofs.Traces.Past.CurrentPriority.{refused_sets_none, sets_no
 use Rattle.qrules.proofs.Traces.Past.Writes.{changed, filled_accepted, filled_fresh, filled_refused, receipt_written, written_sender}
 use Rattle.qrules.proofs.Traces.Rosters.{known}
 use Rattle.qmodel.specs.declared.call.Call.TheVariants.{Send as CallSend}
-use Rattle.qrules.proofs.Common.{none-some, same_Some, is_pulse, Item, member_at, Member, Outcome, row_of, SentItem, Event, Trace, held_call, is_thread, unblocked_call, written_call, Call, Completion, OpenCall, eqb_same, none_of, Transfer, channel_of}
 
 -- ---- a receipt, and the thread that waits for its answer
 

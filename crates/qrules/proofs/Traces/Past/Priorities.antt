@@ -1,7 +1,6 @@
 -- The priorities of the threads after one more event: what it sets, and what a receiver takes.
-use Rattle.std.proofs.Common.{◌≡◌, ℕ, ◌+◌, List, ◌∷◌, length, refl, ap, sym, subst, ◌∙◌, cond, arith, Bool, true, false, eqb, ◌⊎◌, inl, inr}
+use Rattle.qrules.proofs.Common.{◌≡◌, ℕ, ◌+◌, List, ◌∷◌, length, refl, ap, sym, subst, ◌∙◌, cond, arith, Bool, true, false, eqb, ◌⊎◌, inl, inr, option_map, option_or, filter_map, none-some, Item, member_at, Member, completion_to, Outcome, SentItem, Event, Trace, Call, Completion, ReceivedItem}
 use Rattle.std.specs.Prelude.{Option, None, Some, is_some, not, option_and_then, unwrap_or}
-use Rattle.std.specs.Option.{option_map, option_or}
 use Rattle.qrules.proofs.Words.Items.{receipt_of, Received, item_in, priority_set_for}
 use Rattle.qrules.proofs.Words.Facts.{threads_of}
 use Rattle.qrules.proofs.Words.Lawful.{facts_of, IsLawful, with_event}
@@ -15,7 +14,6 @@ use Rattle.qrules.proofs.Traces.Past.Receipts.{among_none, among_one, best_pendi
 use Rattle.qrules.proofs.Traces.Calls.{call_laws}
 use Rattle.qrules.proofs.Traces.Past.CurrentPriority.{among_now, now, worth_beyond}
 use Rattle.qrules.proofs.Traces.Rosters.{known}
-use Rattle.qrules.proofs.Common.{filter_map, none-some, Item, member_at, Member, completion_to, Outcome, SentItem, Event, Trace, Call, Completion, ReceivedItem}
 
 -- the item that is received is among those that were made, and what it is worth
 record IsReceivedAt (roster : List Member) (past : Trace) (e : Event) (r : Received) (item : Item) : Type 0 where

@@ -1,5 +1,5 @@
 -- The items of a channel stand in rising number.
-use Rattle.std.proofs.Common.{◌≡◌, ℕ, ◌+◌, ◌<◌, ◌≤◌, List, [], ◌∷◌, ◌++◌, map, length, refl, sym, subst, cond, arith, true, false, eqb}
+use Rattle.qrules.proofs.Common.{◌≡◌, ℕ, ◌+◌, ◌<◌, ◌≤◌, List, [], ◌∷◌, ◌++◌, map, length, refl, sym, subst, cond, arith, true, false, eqb, AllByRecursion, IsRising, Item, Member, SentItem, Event, Trace, all_map, all_more}
 use Rattle.std.specs.Prelude.{Option, None, Some, not}
 use Rattle.std.proofs.lemmas.List.{append-nil}
 use Rattle.qqueue.proofs.RisingLaws.{IsRising-push, IsRising-filter}
@@ -7,7 +7,6 @@ use Rattle.qrules.proofs.Words.Past.{is_destroyed, is_gone, item_of, pending_ite
 use Rattle.qrules.proofs.Traces.Past.Items.{IsPending, Stands, items_on, stands_all, staying, pending_all, pending_is, item_below, made_by}
 use Rattle.qrules.proofs.Traces.Past.CurrentPriority.{now}
 use Rattle.qrules.proofs.Traces.Past.Pending.{items_more}
-use Rattle.qrules.proofs.Common.{AllByRecursion, IsRising, Item, Member, SentItem, Event, Trace, all_map, all_more}
 
 -- rising items, and one that is made after them
 rising_made : (items : List Item) (h : ℕ) (o : Option SentItem) → IsRising items → ((m : SentItem) → o ≡ Some m → AllByRecursion (λ y. y.number < m.item.number) items) → IsRising (items ++ made_on h o)

@@ -1,10 +1,8 @@
 -- The thread whose open call is the Send of a number.
-use Rattle.std.proofs.Common.{◌≡◌, ℕ, List, [], ◌∷◌, refl, ap, sym, subst, ◌∙◌, cond, true, false, eqb}
+use Rattle.qrules.proofs.Common.{◌≡◌, ℕ, List, [], ◌∷◌, refl, ap, sym, subst, ◌∙◌, cond, true, false, eqb, sender_among, none-some, same_Some, OpenCall, is_among}
 use Rattle.std.specs.Prelude.{Option, None, Some}
 use Rattle.std.proofs.lemmas.Bool.{eqb-true, eq-eqb, and_parts, and_from, true≢false, false_from_ne_true}
 use Rattle.qrules.proofs.Words.Facts.{is_send, number_of, is_for_answer}
-use Rattle.qrules.specs.Records.{sender_among}
-use Rattle.qrules.proofs.Common.{none-some, same_Some, OpenCall, is_among}
 
 -- the open call of a sender has that number, and is a Send
 pub record Sends (i : ℕ) (o : Option OpenCall) : Type 0 where

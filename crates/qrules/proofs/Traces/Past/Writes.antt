@@ -1,5 +1,5 @@
 -- What is written over the reply buffers of messages after one more event.
-use Rattle.std.proofs.Common.{◌≡◌, ℕ, ◌+◌, ◌<◌, ◌≤◌, List, [], ◌∷◌, length, refl, ap, sym, ◌∙◌, cond, arith, Bool, true, false, eqb, inl, inr}
+use Rattle.qrules.proofs.Common.{◌≡◌, ℕ, ◌+◌, ◌<◌, ◌≤◌, List, [], ◌∷◌, length, refl, ap, sym, ◌∙◌, cond, arith, Bool, true, false, eqb, inl, inr, Receive, Send, cases_Bool, eqb-true, eqb-false, ne_eqb, same_Some, lay_over, Member, Outcome, with_buffer, is_thread, written_call, Event, Trace, Call, Completion, OpenCall, eqb_same, Transfer}
 use Rattle.std.specs.Prelude.{Option, None, Some}
 use Rattle.qrules.proofs.Words.Facts.{Facts, sender, threads_of, number_of}
 use Rattle.qrules.proofs.Words.Lawful.{facts_of, IsLawful, with_event}
@@ -7,12 +7,10 @@ use Rattle.qrules.proofs.Words.Past.{is_accepted, open_call, refuses, with_write
 use Rattle.qrules.proofs.Words.Effects.{asks, writes}
 use Rattle.qrules.proofs.Words.Items.{buffer_after_write}
 use Rattle.qrules.proofs.Words.Step.{after_write}
-use Rattle.qmodel.specs.declared.open_call.OpenCall.TheVariants.{Receive, Send}
 use Rattle.qrules.proofs.Traces.Past.Ends.{accepted, laws_of, refused}
 use Rattle.qrules.proofs.Traces.Past.Open.{open_below, open_thread}
 use Rattle.qrules.proofs.Traces.Calls.{call_laws}
 use Rattle.qrules.proofs.Traces.Past.Senders.{sender_sends}
-use Rattle.qrules.proofs.Common.{cases_Bool, eqb-true, eqb-false, ne_eqb, same_Some, lay_over, Member, Outcome, with_buffer, is_thread, written_call, Event, Trace, Call, Completion, OpenCall, eqb_same, Transfer}
 
 -- ---- a reply buffer
 

@@ -1,14 +1,13 @@
 -- Every lawful trace has the properties.
 use Rattle.std.specs.Prelude.{List}
 use Rattle.qrules.proofs.Words.Lawful.{IsLawful}
-use Rattle.qrules.specs.Properties.{HasProperties}
+use Rattle.qrules.proofs.Common.{HasProperties, IsRoster, Member, Trace}
 use Rattle.qrules.proofs.Traces.Properties.AnsweredToSender.{answered_to_sender}
 use Rattle.qrules.proofs.Traces.Properties.BestFirst.{best_first}
 use Rattle.qrules.proofs.Traces.Properties.CopiedExactly.{copied_exactly}
 use Rattle.qrules.proofs.Traces.Properties.ReceivedOnce.{received_once}
 use Rattle.qrules.proofs.Traces.Properties.SentOrder.{sent_order}
 use Rattle.qrules.proofs.Traces.Properties.ShutForGood.{shut_for_good}
-use Rattle.qrules.proofs.Common.{IsRoster, Member, Trace}
 
 pub has_properties : (roster : List Member) (past : Trace) → IsRoster roster → IsLawful roster past → HasProperties roster past
 has_properties roster past r l = record {

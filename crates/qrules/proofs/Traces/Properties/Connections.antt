@@ -1,8 +1,7 @@
 -- What could be taken from a channel: items of that channel, and so of the connections over which they were sent.
-use Rattle.std.proofs.Common.{◌≡◌, ◌∙◌, ℕ, ◌+◌, List, [], ◌∷◌, length, refl, ap, sym, subst, cond, eqb, true, false}
+use Rattle.qrules.proofs.Common.{◌≡◌, ◌∙◌, ℕ, ◌+◌, List, [], ◌∷◌, length, refl, ap, sym, subst, cond, eqb, true, false, connection_of, takeable, AllByRecursion, none-some, same_Some, Item, Connection, Member, call_at, effect_of, SentItem, Event, Trace, Call, all_append, all_more}
 use Rattle.std.specs.Prelude.{Option, None, Some, is_some}
 use Rattle.std.specs.Option.{option_and_then, option_map, option_or}
-use Rattle.qrules.specs.Properties.{connection_of, takeable}
 use Rattle.qrules.proofs.Words.Effects.{makes}
 use Rattle.qrules.proofs.Words.Past.{item_of, pending_items, priority_before, attached_connection, made_on}
 use Rattle.qrules.proofs.Words.Items.{message_numbered, pulse_item, item_sent_over}
@@ -13,7 +12,6 @@ use Rattle.qrules.proofs.Traces.Properties.Sends.{made_stays}
 use Rattle.qrules.proofs.Words.Facts.{Facts}
 use Rattle.qrules.proofs.Words.Lawful.{facts_of}
 use Rattle.qrules.proofs.Traces.Past.Connections.{live_attached}
-use Rattle.qrules.proofs.Common.{AllByRecursion, none-some, same_Some, Item, Connection, Member, call_at, effect_of, SentItem, Event, Trace, Call, all_append, all_more}
 
 -- ---- each is an item of the channel
 

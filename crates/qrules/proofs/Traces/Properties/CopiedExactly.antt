@@ -1,6 +1,6 @@
 -- Every buffer and every count is what was to be copied.
 use Rattle.qrules.proofs.Traces.Rows.{answer_same, pulse_same, sent_same, unblocked_same}
-use Rattle.std.proofs.Common.{◌≡◌, ◌∙◌, ℕ, ◌+◌, ◌≤◌, List, [], ◌∷◌, length, refl, ap, sym, subst, cond, arith, Bool, true, false, inl, inr}
+use Rattle.qrules.proofs.Common.{◌≡◌, ◌∙◌, ℕ, ◌+◌, ◌≤◌, List, [], ◌∷◌, length, refl, ap, sym, subst, cond, arith, Bool, true, false, inl, inr, message_in, reply_buffer_in, buffer_at, message_at, CopiedExactly, IsCopied, AllByRecursion, int_eq, none-some, same_Some, Errno, Srch, Intr, Badf, is_pulse, Item, Kind, Any, PulseOnly, laid_count, lay_over, Member, completion_to, Answers, row_of, effect_of, info_of, refusal_unless_held, cancel_call, is_on, is_over, receipt_completion, call_at, SentItem, Event, Trace, Call, Completion, Mark, OpenCall, all_filter_map, buffer_in}
 use Rattle.std.specs.Prelude.{ℤ, pos, Option, None, Some}
 use Rattle.std.specs.Option.{option_and_then, option_map, option_map_or}
 use Rattle.std.proofs.lemmas.Bool.{true≢false}
@@ -9,9 +9,7 @@ use Rattle.qrules.proofs.Words.Effects.{writes}
 use Rattle.qrules.proofs.Traces.Parts.{error_finish, reply_finish}
 use Rattle.qrules.proofs.Words.Items.{info_completion, message_item, Finish}
 use Rattle.qrules.proofs.Words.Facts.{Facts, message, sender, threads_of, route, number_of, reply_buffer}
-use Rattle.qrules.specs.Records.{message_in, reply_buffer_in}
 use Rattle.qrules.proofs.Messages.{message_same, reply_buffer_same}
-use Rattle.qrules.specs.Properties.{buffer_at, message_at, CopiedExactly, IsCopied}
 use Rattle.qrules.proofs.Words.Lawful.{facts_of, IsLawful}
 use Rattle.qrules.proofs.Words.Past.{open_call, refuses}
 use Rattle.qmodel.specs.declared.call.Call.TheVariants.{Send, Receive, Reply, Error, Read, Write, Info, ReceivePulse, Pulse, ChannelDestroy, Shutdown, Unblock, ConnectDetach}
@@ -36,7 +34,6 @@ use Rattle.qrules.proofs.Traces.Calls.Pulse.{sent_is_pulse}
 use Rattle.qrules.proofs.Traces.Calls.ConnectDetach.{detach_ends}
 use Rattle.qrules.proofs.Traces.Calls.Unblock.{is_cancelled}
 use Rattle.qmodel.specs.declared.open_call.OpenCall.TheVariants.{Receive as InReceive, Send as InSend}
-use Rattle.qrules.proofs.Common.{AllByRecursion, int_eq, none-some, same_Some, Errno, Srch, Intr, Badf, is_pulse, Item, Kind, Any, PulseOnly, laid_count, lay_over, Member, completion_to, Answers, row_of, effect_of, info_of, refusal_unless_held, cancel_call, is_on, is_over, receipt_completion, call_at, SentItem, Event, Trace, Call, Completion, Mark, OpenCall, all_filter_map, buffer_in}
 use Rattle.qmodel.specs.declared.call.Mark.TheVariants as mark
 use Rattle.qrules.specs.Rules.Connections as connect_detach
 use Rattle.qrules.specs.Rules.Unblock as unblock

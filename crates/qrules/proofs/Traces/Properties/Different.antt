@@ -1,10 +1,8 @@
 -- Lists of numbers of which no two are equal.
-use Rattle.std.proofs.Common.{◌≡◌, ℕ, ◌<◌, List, [], ◌∷◌, ◌++◌, map, refl, ap, eqb, false}
+use Rattle.qrules.proofs.Common.{◌≡◌, ℕ, ◌<◌, List, [], ◌∷◌, ◌++◌, map, refl, ap, eqb, false, AllDifferent, filter_map, cons_option, AllByRecursion, Member, IsRoster, Completion, all_append}
 use Rattle.std.specs.Prelude.{Option, None, Some}
 use Rattle.std.specs.Option.{option_and_then}
 use Rattle.qrules.proofs.Words.Facts.{threads_of}
-use Rattle.qrules.specs.Properties.{AllDifferent}
-use Rattle.qrules.proofs.Common.{filter_map, cons_option, AllByRecursion, Member, IsRoster, Completion, all_append}
 
 -- a number is none of these
 abbrev pub IsNoneOf : ℕ → List ℕ → Type 0

@@ -1,13 +1,10 @@
 -- The messages and buffers of open calls are those that their calls brought, and a message that is pending has its Send open.
-use Rattle.std.proofs.Common.{◌≡◌, ◌∙◌, ℕ, ◌+◌, List, [], ◌∷◌, length, refl, ap, sym, subst, cond, eqb, true, false, Option}
+use Rattle.qrules.proofs.Common.{◌≡◌, ◌∙◌, ℕ, ◌+◌, List, [], ◌∷◌, length, refl, ap, sym, subst, cond, eqb, true, false, Option, message_in, message_of, held_call, with_buffer, buffer_at, message_at, buffer_of, none-some, same_Some, is_pulse, Item, Member, effect_of, SentItem, Event, Trace, Call, OpenCall, Receipt, eqb_same, channel_of, buffer_in}
 use Rattle.std.specs.Prelude.{None, Some, is_some, not, ◌&&◌}
 use Rattle.std.specs.Option.{option_and_then, option_map_or}
 use Rattle.std.proofs.lemmas.Bool.{eqb-true, or_parts, and_parts, true≢false}
 use Rattle.qrules.proofs.Messages.{message_same}
 use Rattle.qrules.proofs.Words.Facts.{is_for_answer, message, sender, threads_of, is_send, Facts, number_of}
-use Rattle.qrules.specs.Records.{message_in, message_of, held_call, with_buffer}
-use Rattle.qrules.specs.Properties.{buffer_at, message_at}
-use Rattle.qrules.specs.Rule.{buffer_of}
 use Rattle.qrules.proofs.Words.Lawful.{facts_of, IsLawful}
 use Rattle.qrules.proofs.Words.Past.{has_completion_of, is_ended, item_of, open_call, with_writes, block, filled}
 use Rattle.qrules.proofs.Words.Effects.{asks, makes}
@@ -25,7 +22,6 @@ use Rattle.qrules.proofs.Traces.Properties.Sends.{open_filled, open_keeps}
 use Rattle.qrules.proofs.Traces.Calls.Unblock.{due_is_pulse}
 use Rattle.qrules.proofs.Traces.Rosters.{known}
 use Rattle.qrules.proofs.Traces.Past.Open.{open_from, filled_answer, open_parts, open_thread, receipt_for_answer, kept, kept_number}
-use Rattle.qrules.proofs.Common.{none-some, same_Some, is_pulse, Item, Member, effect_of, SentItem, Event, Trace, Call, OpenCall, Receipt, eqb_same, channel_of, buffer_in}
 use Rattle.qrules.proofs.Traces.Calls.ConnectDetach as detaching
 
 -- ---- what a call brings is what it waits with

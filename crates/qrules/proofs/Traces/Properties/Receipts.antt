@@ -1,8 +1,7 @@
 -- A completion that receives an item: the caller's own of what was pending, or of a thread that waited for what the call makes.
 use Rattle.qrules.proofs.Traces.Rows.{answer_same, pulse_same, sent_same, unblocked_same}
-use Rattle.std.proofs.Common.{◌≡◌, ◌∙◌, ℕ, List, [], ap, refl, sym, cond, eqb, true, false, inl, inr, ◌⊎◌}
+use Rattle.qrules.proofs.Common.{◌≡◌, ◌∙◌, ℕ, List, [], ap, refl, sym, cond, eqb, true, false, inl, inr, ◌⊎◌, option_map, eqb-true, none-some, same_Some, Srch, best_of, may_take, Item, Kind, Any, PulseOnly, completion_to, row_of, effect_of, info_of, is_on, ReceiveRequest, number_received, SentItem, Call, Completion, OpenCall, ReceivedItem}
 use Rattle.std.specs.Prelude.{Option, None, Some}
-use Rattle.std.specs.Option.{option_map}
 use Rattle.qrules.proofs.Traces.Parts.{error_finish, reply_finish}
 use Rattle.qrules.proofs.Words.Items.{message_item, item_in}
 use Rattle.qrules.proofs.Words.Facts.{Facts, message, sender, route, number_of}
@@ -20,7 +19,6 @@ use Rattle.qrules.proofs.Traces.Calls.Info.{plain}
 use Rattle.qrules.proofs.Traces.Calls.ConnectDetach.{detach_ends}
 use Rattle.qrules.proofs.Traces.Properties.Rows.Telling.{Tells, told_meets, unblock_ends}
 use Rattle.qrules.proofs.Traces.Calls.Delivering.{sent_way}
-use Rattle.qrules.proofs.Common.{eqb-true, none-some, same_Some, Srch, best_of, may_take, Item, Kind, Any, PulseOnly, completion_to, row_of, effect_of, info_of, is_on, ReceiveRequest, number_received, SentItem, Call, Completion, OpenCall, ReceivedItem}
 use Rattle.qrules.specs.Rules.Connections as connect_detach
 use Rattle.qrules.specs.Rules.Unblock as unblock
 use Rattle.qrules.specs.Rules.Pulse as pulse

@@ -1,13 +1,8 @@
 -- No item is received twice, none before it was made, and no call is ended twice.
-use Rattle.std.proofs.Common.{◌≡◌, ◌≢◌, ◌∙◌, ℕ, ◌+◌, ◌≤◌, List, [], ◌∷◌, ◌++◌, length, map, refl, ap, sym, subst, arith, cond, eqb, true, false, inl, inr}
+use Rattle.qrules.proofs.Common.{◌≡◌, ◌≢◌, ◌∙◌, ℕ, ◌+◌, ◌≤◌, List, [], ◌∷◌, ◌++◌, length, map, refl, ap, sym, subst, arith, cond, eqb, true, false, inl, inr, option_map, option_or, filter_map-append, same_Some, option_and_then_some, AllDifferent, ReceivedOnce, items, number_received, InEachEvent, endings_of, AllByRecursion, filter_map, cons_option, map-append, Member, IsRoster, completion_to, Answers, Outcome, item_among, SentItem, Event, Trace, Call, Completion, all_append, all_map, all_more}
 use Rattle.std.specs.Prelude.{Option, None, Some, is_some}
-use Rattle.std.specs.Option.{option_map, option_or}
 use Rattle.std.proofs.lemmas.Bool.{or_parts, ne_eqb, eqb-false, true≢false}
-use Rattle.std.proofs.lemmas.List.Elements.{filter_map-append}
-use Rattle.std.proofs.lemmas.Option.{same_Some, option_and_then_some}
 use Rattle.qrules.proofs.Words.Facts.{Facts, threads_of}
-use Rattle.qrules.specs.Properties.{AllDifferent, ReceivedOnce, items, number_received}
-use Rattle.qrules.specs.Trace.{InEachEvent, endings_of}
 use Rattle.qrules.proofs.Words.Lawful.{facts_of, IsLawful}
 use Rattle.qrules.proofs.Words.Past.{copied_count_in, has_completion_of, is_ended, is_received, copied_count_among, copied_count_of}
 use Rattle.qrules.proofs.Words.Items.{item_in}
@@ -19,7 +14,6 @@ use Rattle.qrules.proofs.Traces.Past.Receipts.{best_pending, completion_receives
 use Rattle.qrules.proofs.Traces.Properties.Different.{IsNoneOf, different_append, different_kept, calls_as}
 use Rattle.qrules.proofs.Traces.Properties.Receipts.{TakesPending, TakesMade, receives_it}
 use Rattle.qrules.proofs.Traces.Properties.Events.{each_received, made_now}
-use Rattle.qrules.proofs.Common.{AllByRecursion, filter_map, cons_option, map-append, Member, IsRoster, completion_to, Answers, Outcome, item_among, SentItem, Event, Trace, Call, Completion, all_append, all_map, all_more}
 
 eqb_flip : (n m : ℕ) → eqb n m ≡ false → eqb m n ≡ false
 eqb_flip n m e = ne_eqb m n (λ same. eqb-false n m e (sym same))

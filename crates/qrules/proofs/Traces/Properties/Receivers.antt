@@ -1,12 +1,9 @@
 -- The receiver that began to wait last: it waits, no other that waits began later, and there is one where any waits.
-use Rattle.std.proofs.Common.{◌≡◌, ◌<◌, ◌≤◌, ◌∙◌, ℕ, List, [], ◌∷◌, refl, ap, sym, subst, arith, cond, eqb, true, false, inl, inr}
+use Rattle.qrules.proofs.Common.{◌≡◌, ◌<◌, ◌≤◌, ◌∙◌, ℕ, List, [], ◌∷◌, refl, ap, sym, subst, arith, cond, eqb, true, false, inl, inr, Receive, Send, is_after, is_last_wait, is_newest, newest_receiver_among, wait_on, list_any, option_map_or, none-some, same_Some, or-true, may_take, Item, OpenCall, newest_receiver, eqb_same, is_among}
 use Rattle.std.specs.Prelude.{Option, None, Some, is_some, ◌&&◌, ◌⊎◌, nat_lt, Bool, find}
 use Rattle.std.proofs.lemmas.Bool.{and_parts, cases_Bool, eqb-true, le-ltb, lt-ltb, ltb-true, not-true, or_cases, or_parts, true≢false}
-use Rattle.qmodel.specs.declared.open_call.OpenCall.TheVariants.{Receive, Send}
 use Rattle.qrules.proofs.Words.Facts.{Facts, threads_of}
-use Rattle.qrules.specs.Records.{is_after, is_last_wait, is_newest, newest_receiver_among, wait_on}
 use Rattle.qmodel.specs.declared.open_call.OpenReceive.{OpenReceive}
-use Rattle.qrules.proofs.Common.{list_any, option_map_or, none-some, same_Some, or-true, may_take, Item, OpenCall, newest_receiver, eqb_same, is_among}
 
 -- the open call waits for an item of channel h, and may take this one
 pub record WaitsOn (h : ℕ) (item : Item) (call : Option OpenCall) : Type 0 where

@@ -1,11 +1,10 @@
 -- A Send that waits: its thread, and the connection and channel of its item.
-use Rattle.std.proofs.Common.{◌≡◌, ◌∙◌, ℕ, ◌+◌, ◌≤◌, List, [], ◌∷◌, length, refl, ap, sym, subst, arith, cond, true, false, inl, inr, ◌⊎◌}
+use Rattle.qrules.proofs.Common.{◌≡◌, ◌∙◌, ℕ, ◌+◌, ◌≤◌, List, [], ◌∷◌, length, refl, ap, sym, subst, arith, cond, true, false, inl, inr, ◌⊎◌, Receive, Send, ne_eqb, and_parts, none-some, Connection, Member, held_call, with_buffer, SentItem, Event, Trace, OpenCall, Receipt, eqb_same, channel_of, is_on}
 use Rattle.std.specs.Prelude.{Option, None, Some, is_some}
 use Rattle.qrules.proofs.Words.Facts.{is_for_answer, number_of}
 use Rattle.qrules.proofs.Words.Lawful.{facts_of, IsLawful}
 use Rattle.qrules.proofs.Words.Effects.{asks, thread_of_send}
 use Rattle.qrules.proofs.Words.Past.{is_accepted, accepted_at, priority_of_item, copied_count_of, sender_of, with_receipt, with_writes, attached_connection, block, filled, item_of, open_call}
-use Rattle.qmodel.specs.declared.open_call.OpenCall.TheVariants.{Receive, Send}
 use Rattle.qrules.proofs.Traces.Past.Ends.{passes_of}
 use Rattle.qrules.proofs.Traces.Past.Items.{item_at, item_below, item_earlier, item_newest}
 use Rattle.qrules.proofs.Traces.Past.Numbers.{blocks, blocks_thread, made_below, block_below}
@@ -14,7 +13,6 @@ use Rattle.qrules.proofs.Traces.Properties.Answers.{over, sends_by, sends_over}
 use Rattle.qrules.proofs.Traces.Properties.Events.{made_now, outcome_of}
 use Rattle.qrules.proofs.Traces.Past.Connections.{live_attached}
 use Rattle.qrules.proofs.Traces.Past.Open.{IsOpen, buffer_answer, held_for_answer, is_unblocked, open_parts, held_on, buffer_on}
-use Rattle.qrules.proofs.Common.{ne_eqb, and_parts, none-some, Connection, Member, held_call, with_buffer, SentItem, Event, Trace, OpenCall, Receipt, eqb_same, channel_of, is_on}
 
 -- ---- what events made
 

@@ -1,14 +1,11 @@
 -- Of what was sent over one connection and has one priority as it is received, what was sent first is received first.
-use Rattle.std.proofs.Common.{◌≡◌, ◌∙◌, ℕ, ◌≤◌, List, [], ◌∷◌, ap, sym, subst, arith, true, inl, inr}
-use Rattle.std.proofs.lemmas.Bool.{cases_eq}
-use Rattle.qrules.specs.Properties.{connection_of, number_received, takeable, BestFirst, IsEarliest, SentOrder, TakesBest, TakesSent}
+use Rattle.qrules.proofs.Common.{◌≡◌, ◌∙◌, ℕ, ◌≤◌, List, [], ◌∷◌, ap, sym, subst, arith, true, inl, inr, cases_eq, connection_of, number_received, takeable, BestFirst, IsEarliest, SentOrder, TakesBest, TakesSent, Some, AllByRecursion, same_Some, best_of, may_take, IsRising, Item, Kind, Any, best-at, IsRoster, Member, ReceiveRequest, Event, Trace, Completion, all_more}
 use Rattle.qrules.proofs.Words.Lawful.{IsLawful}
 use Rattle.qrules.proofs.Words.Past.{priority_before}
 use Rattle.qrules.proofs.Traces.Past.Best.{best_earliest, some_number}
 use Rattle.qrules.proofs.Traces.Past.Rising.{takeable_rises}
 use Rattle.qrules.proofs.Traces.Properties.BestFirst.{best_first}
 use Rattle.qrules.proofs.Traces.Properties.Connections.{IsMadeFor, item_over, takeable_made, takeable_priorities}
-use Rattle.qrules.proofs.Common.{Some, AllByRecursion, same_Some, best_of, may_take, IsRising, Item, Kind, Any, best-at, IsRoster, Member, ReceiveRequest, Event, Trace, Completion, all_more}
 
 -- a Receive may take any item
 takes_any : (asked request : ReceiveRequest) (item : Item) → Some asked ≡ Some request → request.kind ≡ Any → may_take asked.kind item ≡ true

@@ -1,13 +1,11 @@
 -- Nothing is received from a channel that is destroyed, and no thread is blocked on it.
-use Rattle.std.proofs.Common.{◌≡◌, ◌∙◌, ℕ, ◌+◌, List, [], ◌∷◌, length, refl, ap, sym, subst, cond, eqb, true, false, inl, inr}
+use Rattle.qrules.proofs.Common.{◌≡◌, ◌∙◌, ℕ, ◌+◌, List, [], ◌∷◌, length, refl, ap, sym, subst, cond, eqb, true, false, inl, inr, receive_in, send_in, OpenReceive, OpenSend, number_received, IsShut, ShutForGood, AllByRecursion, none-some, same_Some, Srch, best_of, IsRoster, Member, Outcome, row_of, effect_of, is_on, item_among, channel_of, unblocked_call, Event, Trace, Call, Completion, OpenCall}
 use Rattle.std.specs.Prelude.{Option, None, Some, is_some, ◌||◌}
 use Rattle.std.specs.Option.{option_and_then, option_map}
 use Rattle.std.proofs.lemmas.Bool.{eq-eqb, eqb-true, or_cases, true≢false}
 use Rattle.qrules.proofs.Words.Items.{receipt_of, names, message_item}
 use Rattle.qrules.proofs.Words.Facts.{Facts, owns}
 use Rattle.qrules.proofs.Words.Effects.{asks, closes, makes, unblocks, writes}
-use Rattle.qrules.specs.Facts.{receive_in, send_in, OpenReceive, OpenSend}
-use Rattle.qrules.specs.Properties.{number_received, IsShut, ShutForGood}
 use Rattle.qrules.proofs.Words.Lawful.{facts_of, IsLawful}
 use Rattle.qrules.proofs.Words.Past.{attached_connection, is_destroyed, items, open_call}
 use Rattle.qrules.proofs.Words.Step.{after_receipt, after_write, channel_after, open_call_after, unless, after_unblock}
@@ -27,7 +25,6 @@ use Rattle.qmodel.specs.declared.open_call.OpenCall.TheVariants.{Receive as InRe
 use Rattle.qrules.proofs.Traces.Calls.Delivering.{sent_way, goes_to_open}
 use Rattle.qrules.proofs.Traces.Past.Open.{held_on, buffer_on}
 use Rattle.qrules.proofs.Traces.Properties.Sends.{open_on}
-use Rattle.qrules.proofs.Common.{AllByRecursion, none-some, same_Some, Srch, best_of, IsRoster, Member, Outcome, row_of, effect_of, is_on, item_among, channel_of, unblocked_call, Event, Trace, Call, Completion, OpenCall}
 
 -- ---- by each call's row
 

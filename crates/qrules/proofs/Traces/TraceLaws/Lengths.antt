@@ -1,15 +1,13 @@
 -- How long the buffers are that endings give back.
 use Rattle.qrules.proofs.Traces.Rows.{answer_same, pulse_same, sent_same, unblocked_same}
-use Rattle.std.proofs.Common.{◌≡◌, ℕ, ◌≤◌, List, [], ◌∷◌, length, refl, ap, sym, subst, ◌∙◌, cond, Bool, true, false, eqb, arith, inl, inr}
+use Rattle.qrules.proofs.Common.{◌≡◌, ℕ, ◌≤◌, List, [], ◌∷◌, length, refl, ap, sym, subst, ◌∙◌, cond, Bool, true, false, eqb, arith, inl, inr, option_map, buffer_of_open, with_buffer, held_call, is_thread, unblocked_call, written_call, AllByRecursion, none-some, same_Some, laid_count, lay_over, Errno, Srch, is_pulse, Item, Any, PulseOnly, completion_to, row_of, info_of, refusal_unless_held, is_on, receipt_completion, SentItem, Event, Trace, Call, Completion, Mark, OpenCall, Receipt, IsRoster, Member, call_at, all_filter_map, all_more, eqb_same, Transfer, buffer_in, channel_of}
 use Rattle.std.specs.Prelude.{Option, None, Some, is_some, ◌&&◌}
-use Rattle.std.specs.Option.{option_map}
 use Rattle.std.proofs.lemmas.Bool.{ne_eqb, true≢false}
 use Rattle.qmodel.specs.Buffers.{buffer_of}
 use Rattle.qrules.proofs.Words.Effects.{asks, makes, unblocks, writes}
 use Rattle.qrules.proofs.Traces.Parts.{error_finish, reply_finish}
 use Rattle.qrules.proofs.Words.Items.{message_item, receipt_of, info_completion, Finish, ends_sender, Received, buffer_after_write}
 use Rattle.qrules.proofs.Words.Facts.{Facts, message, sender, threads_of, route, number_of}
-use Rattle.qrules.specs.Records.{buffer_of_open, with_buffer, held_call, is_thread, unblocked_call, written_call}
 use Rattle.qrules.proofs.Words.Step.{after_receipt, after_unblock, after_write, open_call_after, unless}
 use Rattle.qrules.proofs.Words.Past.{is_accepted, with_writes, open_call, filled, with_receipt}
 use Rattle.qmodel.specs.declared.call.Call.TheVariants.{Send, Receive, Reply, Error, Read, Info, ReceivePulse, Pulse, ChannelDestroy, Shutdown, Unblock, ConnectDetach}
@@ -29,7 +27,6 @@ use Rattle.qbase.proofs.Lengths.{lay_length}
 use Rattle.qrules.proofs.Traces.Past.Ends.{completion_names, laws_of, passes_of}
 use Rattle.qrules.proofs.Traces.TraceLaws.Blocked.{some_receipt}
 use Rattle.qrules.proofs.Traces.Past.OpenCalls.{open_accepted, open_refused}
-use Rattle.qrules.proofs.Common.{AllByRecursion, none-some, same_Some, laid_count, lay_over, Errno, Srch, is_pulse, Item, Any, PulseOnly, completion_to, row_of, info_of, refusal_unless_held, is_on, receipt_completion, SentItem, Event, Trace, Call, Completion, Mark, OpenCall, Receipt, IsRoster, Member, call_at, all_filter_map, all_more, eqb_same, Transfer, buffer_in, channel_of}
 use Rattle.qrules.specs.Rules.Connections as connect_detach
 use Rattle.qrules.specs.Rules.Unblock as unblock
 use Rattle.qrules.specs.Rules.Pulse as pulse

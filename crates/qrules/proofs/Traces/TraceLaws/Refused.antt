@@ -1,9 +1,8 @@
 -- A refused call changes nothing but how many were made.
-use Rattle.std.proofs.Common.{◌≡◌, ◌∙◌, ℕ, ◌+◌, sym, false}
+use Rattle.qrules.proofs.Common.{◌≡◌, ◌∙◌, ℕ, ◌+◌, sym, false, Call}
 use Rattle.std.proofs.Math.Nat.{add-zero}
 use Rattle.qrules.proofs.Words.Facts.{Facts}
 use Rattle.qrules.proofs.Words.Step.{Follows}
-use Rattle.qmodel.specs.declared.call.Call.{Call}
 use Rattle.qrules.proofs.Once.{one_facts}
 
 -- what follows a refused call is as it was

@@ -1,13 +1,4 @@
-use Rattle.std.proofs.Common.{◌≡◌, ◌<◌, length, sym, ap, subst, ◌∙◌, arith, eqb, true, false, refl, rules}
-use Rattle.std.specs.Prelude.{None, Some}
-use Rattle.std.proofs.lemmas.Grind.{common_steps}
-use Rattle.std.proofs.lemmas.Bool.{eqb-true}
-use Rattle.std.proofs.lemmas.Option.{same_Some}
-use Rattle.qrules.specs.Facts.{threads_of}
-use Rattle.qstate.specs.Kept.{members_of}
-use Rattle.qhandoff.specs.Words.{desk}
-use Rattle.qhandoff.specs.Rule.{line}
-use Rattle.qshared.specs.Due.{place}
+use Rattle.qshared.proofs.Common.{◌≡◌, ◌<◌, length, sym, ap, subst, ◌∙◌, arith, eqb, true, false, refl, rules, None, Some, common_steps, eqb-true, same_Some, threads_of, members_of, desk, line, place}
 use Rattle.qshared.proofs.Puts.{Handing, handing_start, handing_next, handing_more, handing_own}
 use Rattle.qshared.proofs.handing.hand_out.Goals as goal
 

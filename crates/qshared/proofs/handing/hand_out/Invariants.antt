@@ -1,7 +1,4 @@
-use Rattle.std.proofs.Common.{◌≡◌, length}
-use Rattle.qhandoff.specs.Words.{kernel_id, desk}
-use Rattle.qrules.specs.Facts.{threads_of}
-use Rattle.qstate.specs.Kept.{members_of}
+use Rattle.qshared.proofs.Common.{◌≡◌, length, kernel_id, desk, threads_of, members_of}
 use Rattle.qshared.proofs.Puts.{Handing}
 use Rattle.qshared.proofs.handing.hand_out.Given as goal
 

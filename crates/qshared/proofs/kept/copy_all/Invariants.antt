@@ -1,6 +1,4 @@
-use Rattle.std.proofs.Common.{◌≡◌, ◌-◌, ◌≤◌, length, drop}
-use Rattle.qrules.specs.Facts.{threads_of}
-use Rattle.qstate.specs.Kept.{members_of}
+use Rattle.qshared.proofs.Common.{◌≡◌, ◌-◌, ◌≤◌, length, drop, threads_of, members_of}
 use Rattle.qshared.proofs.Copying.{Copying}
 use Rattle.qshared.proofs.kept.copy_all.Given as goal
 

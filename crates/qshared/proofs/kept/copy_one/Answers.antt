@@ -1,8 +1,4 @@
-use Rattle.std.proofs.Common.{◌≡◌, sym, ◌∙◌}
-use Rattle.std.specs.Prelude.{Some}
-use Rattle.qrules.specs.Facts.{threads_of}
-use Rattle.qstate.specs.Kept.{members_of}
-use Rattle.qshared.specs.Due.{place}
+use Rattle.qshared.proofs.Common.{◌≡◌, sym, ◌∙◌, Some, threads_of, members_of, place}
 use Rattle.qshared.proofs.Copying.{one_copied}
 use Rattle.qshared.proofs.kept.copy_one.Goals as goal
 

@@ -1,5 +1,4 @@
-use Rattle.std.proofs.Common.{[], ap, set, sym, ◌∙◌}
-use Rattle.std.proofs.lemmas.List.{get_or-map, set-get_or}
+use Rattle.qshared.proofs.Common.{[], ap, set, sym, ◌∙◌, get_or-map, set-get_or}
 use Rattle.qshared.proofs.locked.agree.Goals as goal
 
 pub agree-requires : goal.agree-requires

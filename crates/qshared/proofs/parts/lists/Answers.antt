@@ -1,6 +1,4 @@
-use Rattle.std.proofs.Common.{◌≡◌, ◌+◌, ◌++◌, ◌∷◌, [], map, length, length-append, refl, sym, ap, ◌∙◌, arith}
-use lib.ListN.{get_elem?}
-use Rattle.qshared.specs.Asking.{asked_in, heard_in}
+use Rattle.qshared.proofs.Common.{◌≡◌, ◌+◌, ◌++◌, ◌∷◌, [], map, length, length-append, refl, sym, ap, ◌∙◌, arith, get_elem?, asked_in, heard_in}
 use Rattle.qshared.proofs.Lists.{each_more}
 use Rattle.qshared.proofs.Rows.{map_snoc}
 use Rattle.qshared.proofs.parts.lists.Goals as goal

@@ -1,6 +1,4 @@
-use Rattle.std.proofs.Common.{◌≡◌, ◌≤◌, ℕ, [], length, map, vec_capacity}
-use lib.ListN.{get_elem?}
-use Rattle.qshared.specs.Asking.{asked_in, heard_in}
+use Rattle.qshared.proofs.Common.{◌≡◌, ◌≤◌, ℕ, [], length, map, vec_capacity, get_elem?, asked_in, heard_in}
 use Rattle.qshared.proofs.parts.lists.Given as goal
 
 abbrev pub invariant-loop : goal.invariant-loop

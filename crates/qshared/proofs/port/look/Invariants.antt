@@ -1,5 +1,4 @@
-use Rattle.std.proofs.Common.{◌≡◌}
-use Rattle.qhandoff.specs.Words.{thread_id, thread_of, taken}
+use Rattle.qshared.proofs.Common.{◌≡◌, thread_id, thread_of, taken}
 use Rattle.qshared.proofs.port.look.Given as goal
 
 -- nothing was taken yet

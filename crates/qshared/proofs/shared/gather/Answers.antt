@@ -1,5 +1,4 @@
-use Rattle.std.proofs.Common.{◌≡◌, ◌+◌, ◌++◌, ◌∷◌, [], length, sum, length-append, ap, sym, subst, ◌∙◌, arith}
-use Rattle.qpast.specs.History.{Extends}
+use Rattle.qshared.proofs.Common.{◌≡◌, ◌+◌, ◌++◌, ◌∷◌, [], length, sum, length-append, ap, sym, subst, ◌∙◌, arith, Extends}
 use Rattle.qshared.proofs.Rows.{map_snoc}
 use Rattle.qshared.proofs.Seeing.{seen_more, sum_more}
 use Rattle.qshared.proofs.shared.gather.Goals as goal

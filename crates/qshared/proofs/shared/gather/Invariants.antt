@@ -1,5 +1,4 @@
-use Rattle.std.proofs.Common.{◌≡◌, ◌≤◌, length, map, sum, vec_capacity}
-use Rattle.qshared.specs.Past.{AreSeen}
+use Rattle.qshared.proofs.Common.{◌≡◌, ◌≤◌, length, map, sum, vec_capacity, AreSeen}
 use Rattle.qshared.proofs.shared.gather.Given as goal
 
 abbrev pub invariant-loop-port : goal.invariant-loop-port

@@ -1,19 +1,8 @@
-use Rattle.std.proofs.Common.{◌≡◌, refl, false, ◌+◌, ◌++◌, ◌∷◌, [], suc, arith, sym, ap, subst, ◌∙◌, map, reverse, length, length-append, append_assoc, get_or, ◌<◌}
-use Rattle.std.proofs.lemmas.Grind.{common_steps}
-use Rattle.std.proofs.lemmas.Iterator.Adapters.{YieldsList-from_vec}
+use Rattle.qshared.proofs.Common.{◌≡◌, refl, false, ◌+◌, ◌++◌, ◌∷◌, [], suc, arith, sym, ap, subst, ◌∙◌, map, reverse, length, length-append, append_assoc, get_or, ◌<◌, common_steps, YieldsList-from_vec, length-map, get_elem?, Some, same_Some, none-some, rises, at_index, taken, thread_of, took, asked_in, collected, place}
 use Rattle.std.proofs.lemmas.Iterator.Consumers.{YieldsList-turn, YieldsList-end}
-use Rattle.std.proofs.lemmas.List.{length-map}
-use lib.ListN.{get_elem?}
 use lib.Seq.{get_or-append_seam}
-use Rattle.std.specs.Prelude.{Some}
-use Rattle.std.proofs.lemmas.Option.{same_Some, none-some}
 use Rattle.qrules.proofs.Words.Facts.{threads_of}
-use Rattle.qrules.proofs.Traces.Rosters.{rises}
-use Rattle.atomic_table.proofs.Lists.{at_index}
-use Rattle.qhandoff.specs.Words.{taken, thread_of, took}
 use Rattle.qkernel.proofs.Running.{popped}
-use Rattle.qshared.specs.Asking.{asked_in}
-use Rattle.qshared.specs.Due.{collected, place}
 use Rattle.qshared.proofs.Places.{place_found, seated, unseated}
 use Rattle.qshared.proofs.Rows.{map_same, map_snoc, each_pushed, ports_fresh}
 use Rattle.qshared.proofs.shared.ports_for.Goals as goal

@@ -1,7 +1,4 @@
-use Rattle.std.proofs.Common.{◌≡◌, false, [], ◌+◌, ◌++◌, ◌≤◌, ℕ, length, map, reverse, vec_capacity}
-use mathlib.Core.Option.{some}
-use lib.ListN.{get_elem?}
-use Rattle.qshared.specs.Asking.{asked_in}
+use Rattle.qshared.proofs.Common.{◌≡◌, false, [], ◌+◌, ◌++◌, ◌≤◌, ℕ, length, map, reverse, vec_capacity, some, get_elem?, asked_in}
 use Rattle.qshared.proofs.shared.ports_for.Given as goal
 
 abbrev pub invariant-loop-seat : goal.invariant-loop-seat

@@ -1,5 +1,4 @@
-use Rattle.std.proofs.Common.{◌≡◌, ◌≤◌, length, drop}
-use Rattle.qstate.specs.Cancelling.{thread_after_cancelled}
+use Rattle.qstate.proofs.Common.{◌≡◌, ◌≤◌, length, drop, thread_after_cancelled}
 use Rattle.qstate.proofs.Cancels.Threads.{swept, Sweeps}
 use Rattle.qstate.proofs.cancelling.cancel_each.Given as goal
 

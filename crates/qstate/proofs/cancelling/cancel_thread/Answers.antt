@@ -1,5 +1,4 @@
-use Rattle.std.proofs.Common.{sym}
-use Rattle.qstate.specs.Cancelling.{is_cancelled_by}
+use Rattle.qstate.proofs.Common.{sym, is_cancelled_by}
 use Rattle.qstate.proofs.Cancels.Queues.{loses_nothing, untaken}
 use Rattle.qstate.proofs.cancelling.cancel_thread.Goals as goal
 

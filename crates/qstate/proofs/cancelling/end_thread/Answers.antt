@@ -1,5 +1,4 @@
-use Rattle.std.proofs.Common.{ap, sym}
-use Rattle.qstate.specs.Cancelling.{is_cancelled_by, is_taken_from}
+use Rattle.qstate.proofs.Common.{ap, sym, is_cancelled_by, is_taken_from}
 use Rattle.qstate.proofs.Cancels.Queues.{loses_nothing}
 use Rattle.qstate.proofs.cancelling.end_thread.Goals as goal
 

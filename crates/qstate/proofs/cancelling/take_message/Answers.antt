@@ -1,7 +1,4 @@
-use Rattle.std.proofs.Common.{ap, sym, ◌∙◌}
-use Rattle.std.proofs.lemmas.Bool.{and_right}
-use Rattle.qqueue.specs.Best.{without_item}
-use Rattle.qstate.specs.Kept.{items_waiting_on}
+use Rattle.qstate.proofs.Common.{ap, sym, ◌∙◌, and_right, without_item, items_waiting_on}
 use Rattle.qstate.proofs.ChannelWrites.{sets_queue}
 use Rattle.qstate.proofs.Cancels.Queues.{loses_nothing, loses_gone, loses_one, waits_so, unread_so}
 use Rattle.qstate.proofs.cancelling.take_message.Goals as goal

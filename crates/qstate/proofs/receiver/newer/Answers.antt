@@ -1,7 +1,5 @@
-use Rattle.std.proofs.Common.{◌≡◌, ap, sym, ◌∙◌, get_or}
+use Rattle.qstate.proofs.Common.{◌≡◌, ap, sym, ◌∙◌, get_or, wait_on, number_and_thread}
 use Rattle.std.specs.Prelude.{Some}
-use Rattle.qrules.specs.Records.{wait_on}
-use Rattle.qstate.specs.Threads.{number_and_thread}
 use Rattle.qstate.proofs.Indexing.{seat_here}
 use Rattle.qstate.proofs.Newest.{newer_alone, newer_first, newest_more}
 use Rattle.qstate.proofs.receiver.newer.Goals as goal

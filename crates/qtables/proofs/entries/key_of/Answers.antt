@@ -1,6 +1,4 @@
-use Rattle.std.proofs.Common.{sym, ap, ◌∙◌}
-use Rattle.std.specs.Option.{option_map}
-use Rattle.std.proofs.lemmas.Option.{slice_get-get_or}
+use Rattle.qtables.proofs.Common.{sym, ap, ◌∙◌, option_map, slice_get-get_or}
 use Rattle.qtables.proofs.Places.{entry_at_place, place_within}
 use Rattle.qtables.proofs.entries.key_of.Goals as goal
 

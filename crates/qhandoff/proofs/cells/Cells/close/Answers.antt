@@ -1,7 +1,4 @@
-use Rattle.std.proofs.Common.{ℕ, ◌<◌, ◌++◌, sym, subst, ap, ◌∙◌}
-use lib.ListN.{get_elem?}
-use Rattle.qhandoff.specs.Steps.{desk_in}
-use Rattle.qhandoff.specs.Words.{took}
+use Rattle.qhandoff.proofs.Common.{ℕ, ◌<◌, ◌++◌, sym, subst, ap, ◌∙◌, get_elem?, desk_in, took}
 use Rattle.qhandoff.proofs.Settling.{closed_cell}
 use Rattle.qhandoff.proofs.cells.Cells.close.Goals as goal
 

@@ -1,6 +1,4 @@
-use Rattle.std.proofs.Common.{◌<◌, rules, arith, None, sym, subst, ap, ◌∙◌, length, length-set, get_or-set_same, ℕ}
-use Rattle.qhandoff.specs.Rule.{idle_line}
-use Rattle.qhandoff.specs.Steps.{desk_in, put_desk}
+use Rattle.qhandoff.proofs.Common.{◌<◌, rules, arith, None, sym, subst, ap, ◌∙◌, length, length-set, get_or-set_same, ℕ, idle_line, desk_in, put_desk}
 use Rattle.qhandoff.proofs.Allowed.{begin_allowed, end_allowed}
 use Rattle.qhandoff.proofs.Rests.{carries, in_put, after_put, kernel_rests, none_putting}
 use Rattle.qhandoff.proofs.seats.KernelSeat.put.Goals as goal

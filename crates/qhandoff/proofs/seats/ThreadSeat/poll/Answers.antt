@@ -1,5 +1,4 @@
-use Rattle.std.proofs.Common.{rules, Some, refl}
-use Rattle.qhandoff.specs.Steps.{hand_in}
+use Rattle.qhandoff.proofs.Common.{rules, Some, refl, hand_in}
 use Rattle.qhandoff.proofs.Allowed.{take_allowed, give_allowed}
 use Rattle.qhandoff.proofs.Rests.{in_poll, after_poll, carries, thread_rests}
 use Rattle.qhandoff.proofs.seats.ThreadSeat.poll.Goals as goal

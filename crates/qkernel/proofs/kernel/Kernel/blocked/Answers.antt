@@ -1,7 +1,5 @@
-use Rattle.std.proofs.Common.{◌≡◌, ap, ◌∙◌, get_or, arith}
-use Rattle.std.proofs.lemmas.List.{take_all}
+use Rattle.qkernel.proofs.Common.{◌≡◌, ap, ◌∙◌, get_or, arith, take_all, IsRoster, members_of}
 use Rattle.qkernel.proofs.BlockedThreads.{blocked_more, blocked_now}
-use Rattle.qkernel.proofs.Common.{IsRoster, members_of}
 use Rattle.qkernel.proofs.kernel.Kernel.blocked.Goals as goal
 
 pub loop-thread-preserved : goal.loop-thread-preserved

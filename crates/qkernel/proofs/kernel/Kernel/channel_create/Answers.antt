@@ -1,6 +1,4 @@
-use Rattle.std.proofs.Common.{◌≡◌, refl, sym, ap, true, length, arith}
-use Rattle.std.specs.Prelude.{nat_lt}
-use Rattle.std.proofs.lemmas.Bool.{lt-ltb}
+use Rattle.qkernel.proofs.Common.{◌≡◌, refl, sym, ap, true, length, arith, nat_lt, lt-ltb}
 use Rattle.qkernel.proofs.Steps.Common.{sound_counted_alone, ids_below}
 use Rattle.qkernel.proofs.Steps.ChannelCreate.{step_created, sound_created, step_create_refused}
 use Rattle.qkernel.proofs.Callers.{caller_of}

@@ -1,9 +1,7 @@
-use Rattle.std.proofs.Common.{◌≡◌, refl, sym, true, length, arith}
-use Rattle.std.proofs.lemmas.Bool.{lt-ltb}
+use Rattle.qkernel.proofs.Common.{◌≡◌, refl, sym, true, length, arith, lt-ltb, is_some, nat_lt, channel_in}
 use Rattle.qkernel.proofs.Steps.Common.{sound_counted_alone, up_to_below}
 use Rattle.qkernel.proofs.Steps.ConnectAttach.{step_attach_refused, step_attached, sound_attached}
 use Rattle.qkernel.proofs.Callers.{caller_of}
-use Rattle.qkernel.proofs.Common.{is_some, nat_lt, channel_in}
 use Rattle.qkernel.proofs.kernel.Kernel.connect_attach.Goals as goal
 
 pub create-requires : goal.create-requires

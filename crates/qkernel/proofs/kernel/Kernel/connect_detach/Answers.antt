@@ -1,11 +1,8 @@
-use Rattle.std.proofs.Common.{◌+◌, ap, refl, sym, ◌∙◌, cond}
-use Rattle.qrules.specs.Records.{disconnect_item}
+use Rattle.qkernel.proofs.Common.{◌+◌, ap, refl, sym, ◌∙◌, cond, disconnect_item, ConnectDetach, err_from_is_err_and, None, Some, is_some, with_completion_if}
 use Rattle.qkernel.proofs.Steps.Common.{up_to_below}
-use Rattle.qmodel.specs.declared.call.Call.TheVariants.{ConnectDetach}
 use Rattle.qkernel.proofs.Steps.ConnectDetach.{detach_full, detach_memory, due_is, new_pulse, own_parts, room_for_one, sound_detached, step_detach_refused, step_detached}
 use Rattle.qkernel.proofs.Steps.Telling.{sound_due, sound_turned_away, step_turned_away}
 use Rattle.qkernel.proofs.Steps.Told.{is_told, made_for, newest_due}
-use Rattle.qkernel.proofs.Common.{err_from_is_err_and, None, Some, is_some, with_completion_if}
 use Rattle.qkernel.proofs.kernel.Kernel.connect_detach.Goals as goal
 
 pub put_if-requires : goal.put_if-requires

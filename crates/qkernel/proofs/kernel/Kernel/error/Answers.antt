@@ -1,11 +1,7 @@
-use Rattle.std.proofs.Common.{refl, w32}
-use Rattle.qmodel.specs.declared.call.Call.TheVariants.{Error}
-use Rattle.qrules.proofs.Traces.Parts.{error_finish}
-use Rattle.qstate.proofs.Senders.{answered_by}
+use Rattle.qkernel.proofs.Common.{refl, w32, Error, error_finish, answered_by, err_from_is_err_and, to_z-of_z, open_in}
 use Rattle.qkernel.proofs.Steps.Held.{step_unheld}
 use Rattle.qkernel.proofs.Steps.Error.{step_errored}
 use Rattle.qkernel.proofs.Steps.Delivering.{sound_threads}
-use Rattle.qkernel.proofs.Common.{err_from_is_err_and, to_z-of_z, open_in}
 use Rattle.qkernel.proofs.kernel.Kernel.error.Goals as goal
 
 pub returns-in_err-sent : goal.returns-in_err-sent

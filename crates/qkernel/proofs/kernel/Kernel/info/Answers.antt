@@ -1,6 +1,4 @@
-use Rattle.std.proofs.Common.{refl, sym, ◌∙◌}
-use Rattle.std.proofs.lemmas.Result.{err_from_is_err_and}
-use Rattle.qmodel.specs.declared.call.Call.TheVariants.{Info}
+use Rattle.qkernel.proofs.Common.{refl, sym, ◌∙◌, err_from_is_err_and, Info}
 use Rattle.qkernel.proofs.Steps.Held.{step_unheld}
 use Rattle.qkernel.proofs.Steps.Info.{info_there, step_info, told_there}
 use Rattle.qkernel.proofs.kernel.Kernel.info.Goals as goal

@@ -1,5 +1,4 @@
-use Rattle.qstate.proofs.Seats.{unknown_open}
-use Rattle.qkernel.proofs.Common.{ap, sym, is_some}
+use Rattle.qkernel.proofs.Common.{unknown_open, ap, sym, is_some}
 use Rattle.qkernel.proofs.kernel.Kernel.is_blocked.Goals as goal
 
 pub returns-in-None : goal.returns-in-None

@@ -1,5 +1,4 @@
-use Rattle.std.proofs.Common.{ap, sym, ◌∙◌}
-use Rattle.qkernel.proofs.Common.{is_some, true≢false}
+use Rattle.qkernel.proofs.Common.{ap, sym, ◌∙◌, is_some, true≢false}
 use Rattle.qkernel.proofs.kernel.Kernel.known_seat.Goals as goal
 
 pub unreachable-requires : goal.unreachable-requires

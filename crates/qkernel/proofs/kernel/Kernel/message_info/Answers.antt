@@ -1,5 +1,4 @@
-use Rattle.std.proofs.Common.{sym, ◌∙◌}
-use Rattle.qkernel.specs.Kernel.{State}
+use Rattle.qkernel.proofs.Common.{sym, ◌∙◌, State}
 use Rattle.qkernel.proofs.Steps.Info.{info_at_traces, info_nowhere, info_there}
 use Rattle.qkernel.proofs.kernel.Kernel.message_info.Goals as goal
 

@@ -1,10 +1,7 @@
-use Rattle.std.proofs.Common.{◌+◌, refl, sym, ◌∙◌, w8, w32}
-use Rattle.qrules.proofs.Words.Items.{pulse_item}
-use Rattle.qmodel.specs.declared.call.Call.TheVariants.{Pulse}
+use Rattle.qkernel.proofs.Common.{◌+◌, refl, sym, ◌∙◌, w8, w32, pulse_item, Pulse, err_from_is_err_and, to_z-of_z, Some, State}
 use Rattle.qkernel.proofs.Steps.Pulse.{natural, pulse_full, pulse_memory, tells_pulse}
 use Rattle.qkernel.proofs.Steps.Telling.{none_marked, sound_due, sound_turned_away, step_told, step_turned_away}
 use Rattle.qkernel.proofs.Steps.Told.{is_told, made_for}
-use Rattle.qkernel.proofs.Common.{err_from_is_err_and, to_z-of_z, Some, State}
 use Rattle.qkernel.proofs.kernel.Kernel.pulse.Goals as goal
 
 pub invariant_of-self : goal.invariant_of-self

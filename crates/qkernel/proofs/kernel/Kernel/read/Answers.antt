@@ -1,5 +1,4 @@
-use Rattle.std.proofs.Common.{refl}
-use Rattle.qmodel.specs.declared.call.Call.TheVariants.{Read}
+use Rattle.qkernel.proofs.Common.{refl, Read}
 use Rattle.qkernel.proofs.Steps.Held.{step_unheld}
 use Rattle.qkernel.proofs.Steps.Read.{step_read}
 use Rattle.qkernel.proofs.kernel.Kernel.read.Goals as goal

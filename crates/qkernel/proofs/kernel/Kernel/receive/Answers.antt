@@ -1,10 +1,5 @@
-use Rattle.std.proofs.Common.{sym, ap, ◌∙◌, cond}
-use Rattle.std.specs.Option.{option_copied_mut, option_map}
-use Rattle.std.proofs.lemmas.Bool.{not-false, not-true}
-use Rattle.qstate.proofs.ChannelWrites.{sets_queue}
-use Rattle.qqueue.specs.Best.{best_of, is_pulse, without_item}
+use Rattle.qkernel.proofs.Common.{sym, ap, ◌∙◌, cond, option_copied_mut, option_map, not-false, not-true, sets_queue, best_of, is_pulse, without_item, None, Some, seat_kept, is_fixed, is_of, items_waiting_on, open_channel_of}
 use Rattle.qkernel.proofs.Steps.Receiving.{hands_members, step_receive_refused, step_receive_waits, step_receive_takes, sound_taken}
-use Rattle.qkernel.proofs.Common.{None, Some, seat_kept, is_fixed, is_of, items_waiting_on, open_channel_of}
 use Rattle.qkernel.proofs.kernel.Kernel.receive.Goals as goal
 
 pub returns-in_default-take : goal.returns-in_default-take

@@ -1,11 +1,7 @@
-use Rattle.std.proofs.Common.{refl, w64}
-use Rattle.qmodel.specs.declared.call.Call.TheVariants.{Reply}
-use Rattle.qrules.proofs.Traces.Parts.{reply_finish}
-use Rattle.qstate.proofs.Senders.{answered_by}
+use Rattle.qkernel.proofs.Common.{refl, w64, Reply, reply_finish, answered_by, err_from_is_err_and, to_z-of_z, open_in}
 use Rattle.qkernel.proofs.Steps.Held.{step_unheld}
 use Rattle.qkernel.proofs.Steps.Reply.{step_replied}
 use Rattle.qkernel.proofs.Steps.Delivering.{sound_threads}
-use Rattle.qkernel.proofs.Common.{err_from_is_err_and, to_z-of_z, open_in}
 use Rattle.qkernel.proofs.kernel.Kernel.reply.Goals as goal
 
 pub returns-in_err-sent : goal.returns-in_err-sent

@@ -1,13 +1,9 @@
-use Rattle.std.proofs.Common.{cond, ◌++◌, ◌∷◌, [], refl, ap, sym, ◌∙◌}
-use Rattle.std.specs.Option.{option_copied_mut, option_map}
-use Rattle.qstate.proofs.ChannelWrites.{sets_items}
+use Rattle.qkernel.proofs.Common.{cond, ◌++◌, ◌∷◌, [], refl, ap, sym, ◌∙◌, option_copied_mut, option_map, sets_items, newest_receives, taken_by, waits_among, None, Some, seat_kept, items_waiting_on, open_channel_of, is_fixed}
 use Rattle.qstate.proofs.Routes.{routed, unowned, unrouted}
-use Rattle.qstate.proofs.Receivers.{newest_receives, taken_by, waits_among}
 use Rattle.qkernel.proofs.Steps.Delivering.{sound_with_item, sound_threads}
 use Rattle.qkernel.proofs.Steps.Receiving.{sound_kept}
 use Rattle.qkernel.proofs.Steps.Send.{step_send_no_memory, step_send_nowhere, step_send_waits, step_send_met}
 use Rattle.qkernel.proofs.kernel.Kernel.send.Goals.{in-None+in-Ok, in-Some-wake_newest}
-use Rattle.qkernel.proofs.Common.{None, Some, seat_kept, items_waiting_on, open_channel_of, is_fixed}
 use Rattle.qkernel.proofs.kernel.Kernel.send.Goals as goal
 
 pub block-requires-clause-seat : goal.block-requires-clause-seat

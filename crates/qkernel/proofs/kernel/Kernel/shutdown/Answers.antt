@@ -1,7 +1,6 @@
-use Rattle.qstate.specs.declared.cancelling.CancelSet.TheVariants.{All}
+use Rattle.qkernel.proofs.Common.{All, true, Srch}
 use Rattle.qkernel.proofs.Steps.Cancelling.{sound_cancelled}
 use Rattle.qkernel.proofs.Steps.Shutdown.{step_shut}
-use Rattle.qkernel.proofs.Common.{true, Srch}
 use Rattle.qkernel.proofs.kernel.Kernel.shutdown.Goals as goal
 
 pub invariant_of-self : goal.invariant_of-self

@@ -1,6 +1,5 @@
-use Rattle.std.proofs.Common.{◌≡◌, ap, refl, sym, ◌∙◌}
+use Rattle.qkernel.proofs.Common.{◌≡◌, ap, refl, sym, ◌∙◌, err_from_is_err_and, is_some, Srch}
 use Rattle.qkernel.proofs.Steps.State.{step_state, step_state_nobody}
-use Rattle.qkernel.proofs.Common.{err_from_is_err_and, is_some, Srch}
 use Rattle.qkernel.proofs.kernel.Kernel.state.Goals as goal
 
 pub returns-in_err-seat : goal.returns-in_err-seat

@@ -1,14 +1,10 @@
-use Rattle.std.proofs.Common.{◌+◌, refl, sym, ◌∙◌}
-use Rattle.qbase.specs.declared.errno.Errno.TheVariants.{Intr}
-use Rattle.qmodel.specs.declared.call.Call.TheVariants.{Unblock}
-use Rattle.qstate.specs.declared.cancelling.CancelSet.TheVariants.{Of}
+use Rattle.qkernel.proofs.Common.{◌+◌, refl, sym, ◌∙◌, Intr, Unblock, Of, err_from_is_err_and, Some, seat_kept}
 use Rattle.qkernel.proofs.Steps.Common.{up_to_below}
 use Rattle.qkernel.proofs.Steps.Cancelling.{sound_cancelled}
 use Rattle.qkernel.proofs.Steps.Delivering.{sound_kept}
 use Rattle.qkernel.proofs.Steps.Telling.{sound_due, sound_turned_away, step_told, step_turned_away}
 use Rattle.qkernel.proofs.Steps.Unblock.{are_marked, new_pulse, step_unblock_again, step_unblock_cancelled, tells_of_it, unblock_full, unblock_memory}
 use Rattle.qkernel.proofs.Steps.Told.{is_told, made_for, newest_due}
-use Rattle.qkernel.proofs.Common.{err_from_is_err_and, Some, seat_kept}
 use Rattle.qkernel.proofs.kernel.Kernel.unblock.Goals as goal
 
 -- ---- the thread's open call is cancelled

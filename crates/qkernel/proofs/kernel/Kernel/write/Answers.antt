@@ -1,11 +1,7 @@
-use Rattle.std.proofs.Common.{ap, refl, sym, ◌∙◌}
-use Rattle.qrules.specs.Records.{reply_buffer_in, written_call}
-use Rattle.qstate.proofs.Senders.{call_sent, changes_sender}
-use Rattle.qmodel.specs.declared.call.Call.TheVariants.{Write}
+use Rattle.qkernel.proofs.Common.{ap, refl, sym, ◌∙◌, reply_buffer_in, written_call, call_sent, changes_sender, Write, laid_count, err_from_is_err_and}
 use Rattle.qkernel.proofs.Steps.Held.{step_unheld}
 use Rattle.qkernel.proofs.Steps.Write.{step_written}
 use Rattle.qkernel.proofs.Steps.Delivering.{sound_threads}
-use Rattle.qkernel.proofs.Common.{laid_count, err_from_is_err_and}
 use Rattle.qkernel.proofs.kernel.Kernel.write.Goals as goal
 
 pub returns-in_err-holder : goal.returns-in_err-holder

@@ -1,43 +1,16 @@
 -- `add` moves the past on by an event. Assumes `Logic`.
-use Rattle.std.proofs.Common.{◌≡◌, List, [], ◌∷◌, refl, sym, subst}
-use seplogic.Ra.Ura.{Ura}
-use mir.Syntax.{Fn}
-use mir.Val.{Val, vunit, vptr}
-use base.Logic.{SProp, ent, via, fst∗, snd∗}
-use base.Fml.{Fml, ftrue, flft}
-use prog.Wp.{WpFn}
-use prog.Model.{Model}
-use types.Logic.{Logic, sem}
-use contract.Monad.{fact_use}
+use Rattle.qpast.proofs.Common.{◌≡◌, List, [], ◌∷◌, refl, sym, subst, Ura, Fn, Val, vunit, vptr, SProp, ent, via, fst∗, snd∗, Fml, ftrue, flft, WpFn, Model, Logic, sem, fact_use, WpFn-mono, ‵, raw, later, await, use1, ◌⊛◌, ◌$◌, ◌∵◌, !, qed, by, move, keep, drop, split, join, fsplit, fsplit3, fjoin, fjoin3, suffices, frame, feq_i, unit_lit, of_opd, returns, enter, alloc_all, pass_all, free_all, look_at, sets, yes, RattleType, owns, RefOf, Are, Ises, owns_show, showss, types_at, plain, nothing, opens, closes, Clauses, Ended, closing, on_entry, alive, Meets, triple_of, entered, Stays, stay_dropped, stay_ref, walk_of, ends_at, Goes-dropped, Goes-ref, walk_Meets, Event, history_owns, number}
 use contract.Running.{Running, MachineTables, tables, tables_of}
-use sound.WpLaws.{WpFn-mono}
-use types.Kit.{‵, raw, later, await, use1, ◌⊛◌, ◌$◌, ◌∵◌, !, qed, by, move, keep, drop, split, join, fsplit, fsplit3, fjoin, fjoin3, suffices, frame, feq_i}
-use types.Run.{unit_lit, of_opd, returns, enter}
-use types.ByLocal.{alloc_all, pass_all, free_all, look_at, sets}
-use denote.Exit.{yes}
-use denote.RattleType.{RattleType, owns}
-use denote.Builtin.{RefOf}
-use denote.Laws.{Are, Ises, owns_show, showss}
-use denote.Signature.{types_at, plain}
-use denote.Steps.{nothing, opens, closes}
-use denote.Triple.Clauses.{Clauses, Ended, closing}
-use denote.Triple.Entry.{on_entry, alive}
-use denote.Triple.Spec.{Meets, triple_of}
-use denote.Triple.Table.{entered}
-use denote.Triple.Walked.{Stays, stay_dropped, stay_ref, walk_of, ends_at, Goes-dropped, Goes-ref, walk_Meets}
 use contract.CodeStep
 use Rattle.qpast.proofs.Facts.{tells_all}
 use Rattle.std.specs.contracts.snapshot.Snapshot as Snapshot
 use Rattle.qmodel.specs.contracts.call.Call as Call
-use Rattle.qmodel.specs.Trace.{Event}
-use Rattle.qpast.specs.History.{history_owns}
 use Rattle.qpast.proofs.Pasts.{adds}
 use Rattle.qpast.specs.contracts.history.History as History
 use Rattle.qbase.specs.contracts.ids.ThreadNo as ThreadNo
 use Rattle.qmodel.specs.contracts.call.Completion as Completion
 use Rattle.arrayvec.specs.contracts.array_vec.ArrayVec as ArrayVec
 use Rattle.std.specs.contracts.alloc.Global as Global
-use denote.Param.{number}
 use Rattle.qpast.specs.contracts.history.History.add as F
 use Rattle.qpast.specs.contracts.history.History.add.Key.{name as #self}
 use Rattle.qpast.proofs.history.History.add.Statement as stated

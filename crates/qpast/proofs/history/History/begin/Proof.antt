@@ -1,32 +1,8 @@
 -- `begin` makes the name of a past, and sees it. Assumes `Logic`.
-use Rattle.std.proofs.Common.{◌≡◌, ℕ, List, [], ◌∷◌, ◌++◌, refl}
-use seplogic.Ra.Ura.{Ura}
-use mir.Syntax.{Fn}
-use mir.Val.{Val, vstruct, vcons, vnil, of_list}
-use base.Logic.{SProp, ent}
-use base.Fml.{feq, fsep}
-use prog.Memory.{Memory}
-use prog.Routine.{Routine}
-use prog.Wp.{Calls, Loops, WpFn, Tables}
-use contract.Monad.{Fun}
+use Rattle.qpast.proofs.Common.{◌≡◌, ℕ, List, [], ◌∷◌, ◌++◌, refl, Ura, Fn, Val, vstruct, vcons, vnil, of_list, SProp, ent, feq, fsep, Memory, Routine, Calls, Loops, WpFn, Tables, Fun, WpFn-mono, Logic, ‵, raw, some, later, await, pick, use0, use1, ◌⊛◌, ◌$◌, ◌∵◌, !, qed, by, move, keep, drop, split, join, fjoin, fjoin3, fpack, feq_i, suffices, frame, agg, enter, returns, no_more, and_then, alloc_all, pass_all, free_all, look_at, get, sets, RattleType, Valss, owns, types_at, nothing, Clauses, Ended, closing, alive, Meets, triple_of, entered, Stays, walk_of, ends_at, walk_Meets, history_owns, seen_owns}
 use contract.Running.{tables, tables_of}
-use sound.WpLaws.{WpFn-mono}
-use types.Logic.{Logic}
-use types.Kit.{‵, raw, some, later, await, pick, use0, use1, ◌⊛◌, ◌$◌, ◌∵◌, !, qed, by, move, keep, drop, split, join, fjoin, fjoin3, fpack, feq_i, suffices, frame}
-use types.Part.{agg}
-use types.Run.{enter, returns, no_more, and_then}
-use types.ByLocal.{alloc_all, pass_all, free_all, look_at, get, sets}
-use denote.RattleType.{RattleType, Valss, owns}
-use denote.Signature.{types_at}
-use denote.Steps.{nothing}
-use denote.Triple.Clauses.{Clauses, Ended, closing}
-use denote.Triple.Entry.{alive}
-use denote.Triple.Spec.{Meets, triple_of}
-use denote.Triple.Table.{entered}
-use denote.Triple.Walked.{Stays, walk_of, ends_at, walk_Meets}
 use Rattle.qpast.proofs.Walks.{none, none_made}
 use Rattle.qpast.proofs.Facts.{tells_all}
-use Rattle.qpast.specs.History.{history_owns, seen_owns}
 use Rattle.qpast.proofs.Pasts.{begins, shows}
 use Rattle.qpast.specs.contracts.history.History as History
 use Rattle.qpast.specs.contracts.history.Seen as Seen

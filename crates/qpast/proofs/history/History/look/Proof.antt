@@ -1,31 +1,8 @@
 -- `look` compares what was seen with the past, and sees it whole. Assumes `Logic`.
-use Rattle.std.proofs.Common.{◌≡◌, List, [], ◌∷◌, ℕ, refl, sym, subst}
-use seplogic.Ra.Ura.{Ura}
-use mir.Syntax.{Fn}
-use mir.Val.{Val, vunit, vptr}
-use base.Logic.{SProp, ent, via, fst∗, snd∗}
-use base.Fml.{Fml, ftrue, flft}
-use prog.Wp.{WpFn}
-use prog.Model.{Model}
-use types.Logic.{Logic, sem}
-use contract.Monad.{fact_use}
+use Rattle.qpast.proofs.Common.{◌≡◌, List, [], ◌∷◌, ℕ, refl, sym, subst, Ura, Fn, Val, vunit, vptr, SProp, ent, via, fst∗, snd∗, Fml, ftrue, flft, WpFn, Model, Logic, sem, fact_use, WpFn-mono, ‵, raw, given, learn, use2, ◌⊛◌, ◌$◌, ◌∵◌, !, qed, by, move, keep, drop, split, join, fsplit, fsplit3, fjoin, fjoin3, suffices, frame, feq_i, rewrite, unit_lit, of_opd, returns, enter, alloc_all, pass_all, free_all, look_at, sets, RattleType, owns, Are, Ises, owns_show, showss, types_at, plain, nothing, opens, closes, Clauses, Ended, closing, on_entry, alive, Meets, triple_of, entered, Stays, stay_ref, walk_of, ends_at, Goes-ref, walk_Meets, Extends, history_owns, seen_owns}
 use contract.Running.{Running, MachineTables, tables, tables_of}
-use sound.WpLaws.{WpFn-mono}
-use types.Kit.{‵, raw, given, learn, use2, ◌⊛◌, ◌$◌, ◌∵◌, !, qed, by, move, keep, drop, split, join, fsplit, fsplit3, fjoin, fjoin3, suffices, frame, feq_i, rewrite}
-use types.Run.{unit_lit, of_opd, returns, enter}
-use types.ByLocal.{alloc_all, pass_all, free_all, look_at, sets}
-use denote.RattleType.{RattleType, owns}
-use denote.Laws.{Are, Ises, owns_show, showss}
-use denote.Signature.{types_at, plain}
-use denote.Steps.{nothing, opens, closes}
-use denote.Triple.Clauses.{Clauses, Ended, closing}
-use denote.Triple.Entry.{on_entry, alive}
-use denote.Triple.Spec.{Meets, triple_of}
-use denote.Triple.Table.{entered}
-use denote.Triple.Walked.{Stays, stay_ref, walk_of, ends_at, Goes-ref, walk_Meets}
 use contract.CodeStep
 use Rattle.qpast.proofs.Facts.{hears_last, tells_all}
-use Rattle.qpast.specs.History.{Extends, history_owns, seen_owns}
 use Rattle.qpast.proofs.Pasts.{looks}
 use Rattle.qpast.specs.contracts.history.History as History
 use Rattle.qpast.specs.contracts.history.Seen as Seen

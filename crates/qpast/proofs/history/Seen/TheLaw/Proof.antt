@@ -1,9 +1,6 @@
 -- A `&` to a `Seen` holds what was seen, which can be had twice. Assumes `Logic`.
-use base.Logic.{snd∗}
+use Rattle.qpast.proofs.Common.{snd∗, sem, of_Lends, seen_owns}
 use base.Before.{before}
-use types.Logic.{sem}
-use denote.Struct.Lending.{of_Lends}
-use Rattle.qpast.specs.History.{seen_owns}
 use Rattle.qpast.specs.contracts.history.Seen as C
 use Rattle.qpast.proofs.Pasts.{twice, lends_twice}
 use Rattle.qpast.proofs.history.Seen.TheLaw.Statement.{statement}

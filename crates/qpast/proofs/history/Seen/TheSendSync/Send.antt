@@ -1,6 +1,5 @@
-use denote.Param.Send.{IsSend}
+use Rattle.qpast.proofs.Common.{IsSend, the_row}
 use base.Growing.{at_least}
-use Rattle.qpast.specs.contracts.history.Seen.{the_row}
 
 pub send : IsSend the_row
 unfolding at_least

@@ -1,8 +1,6 @@
 use base.Growing.{at_least}
-use denote.Param.Send.{IsSync, sendable}
+use Rattle.qpast.proofs.Common.{IsSync, sendable, Struct, the_row, the_type}
 use denote.Struct.Owning.{shape}
-use denote.Struct.Struct.{Struct}
-use Rattle.qpast.specs.contracts.history.Seen.{the_row, the_type}
 
 pub sync : IsSync the_row
 unfolding at_least

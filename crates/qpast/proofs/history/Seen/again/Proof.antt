@@ -1,24 +1,5 @@
 -- `again` copies what was seen.
-use Rattle.std.proofs.Common.{◌≡◌, [], ◌∷◌, refl}
-use Rattle.std.proofs.raw_atomic.Walks.{proved, leaves}
-use mir.Syntax.{named}
-use mir.Val.{Val, vptr}
-use base.Logic.{emp}
-use contract.Monad.{fact, fact_i}
-use contract.Running.{tables}
-use types.Kit.{‵, raw, ◌⊛◌, ◌$◌, ◌∵◌, !, qed, by, keep, drop, split, fsplit, fjoin, use0}
-use types.Part.{agg}
-use types.Run.{no_more, returns, enter}
-use types.ByLocal.{alloc_all, pass_all, free_all, look_at, sets}
-use denote.Builtin.{RefOf}
-use denote.Exit.{yes}
-use denote.Opens.{unhide}
-use denote.RattleType.{owns}
-use denote.Ref.{shr_vals, shr_Tells}
-use denote.Signature.{types_at, plain}
-use denote.Steps.{nothing}
-use denote.Triple.Entry.{alive}
-use denote.Triple.Walked.{Stays, stay_dropped, walk_of, Goes-dropped}
+use Rattle.qpast.proofs.Common.{◌≡◌, [], ◌∷◌, refl, proved, leaves, named, Val, vptr, emp, fact, fact_i, tables, ‵, raw, ◌⊛◌, ◌$◌, ◌∵◌, !, qed, by, keep, drop, split, fsplit, fjoin, use0, agg, no_more, returns, enter, alloc_all, pass_all, free_all, look_at, sets, RefOf, yes, unhide, owns, shr_vals, shr_Tells, types_at, plain, nothing, alive, Stays, stay_dropped, walk_of, Goes-dropped}
 use Rattle.qpast.proofs.Walks.{none, none_made}
 use Rattle.qpast.specs.contracts.history.Seen as Seen
 use Rattle.qpast.specs.contracts.history.Seen.again.{ended, clauses}

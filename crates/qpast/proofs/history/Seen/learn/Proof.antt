@@ -1,24 +1,7 @@
 -- `learn` keeps the longer of two beginnings of one past.
-use Rattle.std.proofs.Common.{◌≡◌, List, [], ◌∷◌, ℕ, refl, sym}
-use Rattle.std.proofs.raw_atomic.Walks.{proved, leaves}
-use mir.Syntax.{named}
-use mir.Val.{Val, vunit, vptr}
-use base.Fml.{Fml, ftrue, fsep, flft}
-use contract.Running.{tables}
-use types.Kit.{‵, raw, given, learn, ◌⊛◌, ◌$◌, ◌∵◌, !, qed, by, move, keep, drop, split, fsplit, fsplit3, fjoin, fjoin3, use0, use2, rewrite, feq_i}
-use types.Run.{unit_lit, of_opd, returns, enter}
-use types.ByLocal.{alloc_all, pass_all, free_all, look_at, sets}
-use denote.Builtin.{RefOf}
-use denote.Exit.{yes}
-use denote.Opens.{unhide}
-use denote.RattleType.{owns}
-use denote.Ref.{mut_vals, mut_Tells, shr_vals, shr_Tells}
-use denote.Signature.{types_at, plain}
-use denote.Steps.{nothing, opens, closes}
-use denote.Triple.Walked.{Stays, stay_dropped, stay_ref, walk_of, Goes-dropped, Goes-ref}
+use Rattle.qpast.proofs.Common.{◌≡◌, List, [], ◌∷◌, ℕ, refl, sym, proved, leaves, named, Val, vunit, vptr, Fml, ftrue, fsep, flft, tables, ‵, raw, given, learn, ◌⊛◌, ◌$◌, ◌∵◌, !, qed, by, move, keep, drop, split, fsplit, fsplit3, fjoin, fjoin3, use0, use2, rewrite, feq_i, unit_lit, of_opd, returns, enter, alloc_all, pass_all, free_all, look_at, sets, RefOf, yes, unhide, owns, mut_vals, mut_Tells, shr_vals, shr_Tells, types_at, plain, nothing, opens, closes, Stays, stay_dropped, stay_ref, walk_of, Goes-dropped, Goes-ref, Extends, longer, seen_owns}
 use Rattle.qpast.proofs.Facts.{facts, hears_last, tells_all}
 use Rattle.qpast.proofs.Pasts.{Learned, learns}
-use Rattle.qpast.specs.History.{Extends, longer, seen_owns}
 use Rattle.qpast.specs.contracts.history.Seen as Seen
 use Rattle.qpast.specs.contracts.history.Seen.learn.{ended, clauses}
 use Rattle.qpast.specs.contracts.history.Seen.learn.Key.{name as #self}

@@ -1,7 +1,5 @@
-use Rattle.std.proofs.Common.{◌≡◌, arith, refl}
+use Rattle.qqueue.proofs.Common.{◌≡◌, arith, refl, vec_len, first_in}
 use Rattle.std.specs.Prelude.{Some, slice_index}
-use Rattle.std.specs.Vec.{vec_len}
-use Rattle.qqueue.specs.Lanes.{first_in}
 use Rattle.qqueue.proofs.lane.Lane.foremost.Goals as goal
 
 pub index-requires : goal.index-requires

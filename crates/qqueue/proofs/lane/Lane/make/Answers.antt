@@ -1,6 +1,5 @@
-use Rattle.std.proofs.Common.{◌-◌, ◌≤◌, length, Some, None, cond, ap, arith}
+use Rattle.qqueue.proofs.Common.{◌-◌, ◌≤◌, length, Some, None, cond, ap, arith, vec_len}
 use Rattle.std.specs.Result.{is_ok}
-use Rattle.std.specs.Vec.{vec_len}
 use Rattle.qbase.specs.ByteSet.{has}
 use Rattle.qqueue.proofs.PadLaws.{resized}
 use Rattle.qqueue.proofs.lane.Lane.make.Goals as goal

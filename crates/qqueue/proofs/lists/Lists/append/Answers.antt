@@ -1,7 +1,4 @@
-use Rattle.std.proofs.Common.{ap, sym, ◌∙◌, ℕ, [], ◌∷◌}
-use Rattle.qqueue.specs.declared.item.Item.{Item}
-use Rattle.qqueue.specs.Best.{is_pulse}
-use Rattle.qqueue.specs.Rings.{places_of, items_at, keys_on, first_of}
+use Rattle.qqueue.proofs.Common.{ap, sym, ◌∙◌, ℕ, [], ◌∷◌, Item, is_pulse, places_of, items_at, keys_on, first_of}
 use Rattle.qqueue.proofs.PlaceLaws.{none_after, put_last, items_at-append}
 use Rattle.qqueue.proofs.lists.Lists.append.Goals as goal
 

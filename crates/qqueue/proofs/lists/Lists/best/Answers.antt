@@ -1,8 +1,5 @@
-use Rattle.std.proofs.Common.{true, arith, ap, sym, ◌∙◌}
+use Rattle.qqueue.proofs.Common.{true, arith, ap, sym, ◌∙◌, best_of, first_at, item_at, items_at, places_of}
 use Rattle.std.specs.Prelude.{is_some}
-use Rattle.qqueue.specs.Best.{best_of}
-use Rattle.qqueue.specs.Kept.{first_at}
-use Rattle.qqueue.specs.Rings.{item_at, items_at, places_of}
 use Rattle.qqueue.proofs.BestLaws.{top, best_pulse, no_pulse}
 use Rattle.qqueue.proofs.KeptLaws.{some_node}
 use Rattle.qqueue.proofs.lists.Lists.best.Goals as goal

@@ -1,6 +1,5 @@
-use Rattle.std.proofs.Common.{true, false, ap, arith}
+use Rattle.qqueue.proofs.Common.{true, false, ap, arith, first_at}
 use Rattle.std.specs.Prelude.{is_some}
-use Rattle.qqueue.specs.Kept.{first_at}
 use Rattle.qqueue.proofs.BestLaws.{top, best_of_two, best_message_alone, best_pulse_alone, best_none}
 use Rattle.qqueue.proofs.KeptLaws.{some_node}
 use Rattle.qqueue.proofs.lists.Lists.best_with.Goals as goal

@@ -1,8 +1,5 @@
-use Rattle.std.proofs.Common.{◌≡◌, ap, sym, ◌∙◌}
+use Rattle.qqueue.proofs.Common.{◌≡◌, ap, sym, ◌∙◌, is_pulse, first_at, first_in}
 use Rattle.std.specs.Prelude.{None}
-use Rattle.qqueue.specs.Best.{is_pulse}
-use Rattle.qqueue.specs.Kept.{first_at}
-use Rattle.qqueue.specs.Lanes.{first_in}
 use Rattle.qqueue.proofs.NextLaws.{none_greater}
 use Rattle.qqueue.proofs.lists.Lists.next_of.Goals as goal
 use Rattle.qqueue.proofs.lists.Lists.next_of.Goals.{then-is_pulse, else-is_pulse}

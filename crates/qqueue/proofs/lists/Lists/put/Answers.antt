@@ -1,9 +1,5 @@
-use Rattle.std.proofs.Common.{◌≡◌, ◌+◌, ◌<◌, true, false, sym, ◌∙◌, subst, arith}
+use Rattle.qqueue.proofs.Common.{◌≡◌, ◌+◌, ◌<◌, true, false, sym, ◌∙◌, subst, arith, slab_len, first_in, Joined, first_at}
 use Rattle.std.specs.Prelude.{Some}
-use Rattle.slab.specs.Slab.{slab_len}
-use Rattle.qqueue.specs.Lanes.{first_in}
-use Rattle.qqueue.specs.Joins.{Joined}
-use Rattle.qqueue.specs.Kept.{first_at}
 use Rattle.qqueue.proofs.LaneLaws.{pulse_others, message_others}
 use Rattle.qqueue.proofs.PutLaws.{Awaits, awaits, next_there, prior_there, IsPut, put_places, put_rises, put_rings}
 use Rattle.qqueue.proofs.lists.Lists.put.Goals as goal

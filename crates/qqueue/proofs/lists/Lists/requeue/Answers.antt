@@ -1,9 +1,5 @@
-use Rattle.std.proofs.Common.{◌≡◌, ◌≢◌, ℕ, ap, sym, ◌∙◌, subst}
+use Rattle.qqueue.proofs.Common.{◌≡◌, ◌≢◌, ℕ, ap, sym, ◌∙◌, subst, AllByRecursion, Item, with_item_priority, with_priority, places_of, items_at, pulses_of, item_of}
 use Rattle.std.specs.Prelude.{Some}
-use Rattle.std.specs.List.{AllByRecursion}
-use Rattle.qqueue.specs.declared.item.Item.{Item}
-use Rattle.qqueue.specs.Best.{with_item_priority, with_priority}
-use Rattle.qqueue.specs.Rings.{places_of, items_at, pulses_of, item_of}
 use Rattle.qqueue.proofs.KeptLaws.{held}
 use Rattle.qqueue.proofs.PlaceLaws.{all_but_put, all_of_items, without_other, requeued_put, pulses_requeued}
 use Rattle.qqueue.proofs.lists.Lists.requeue.Goals as goal

@@ -1,5 +1,4 @@
-use Rattle.std.proofs.Common.{ap, sym, subst, arith, count_by, is_some}
-use Rattle.qqueue.specs.Rings.{places_from, Rises}
+use Rattle.qqueue.proofs.Common.{ap, sym, subst, arith, count_by, is_some, places_from, Rises}
 use Rattle.qqueue.proofs.LaneLaws.{rings_same}
 use Rattle.qqueue.proofs.lists.Lists.reserve.Goals as goal
 

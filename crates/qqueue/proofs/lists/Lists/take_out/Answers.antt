@@ -1,10 +1,5 @@
-use Rattle.std.proofs.Common.{◌≡◌, ℕ, ◌+◌, ◌<◌, true, false, cond, sym, ◌∙◌, subst, arith}
-use Rattle.slab.specs.Slab.{slab_len}
-use Rattle.qqueue.specs.declared.item.Item.{Item}
+use Rattle.qqueue.proofs.Common.{◌≡◌, ℕ, ◌+◌, ◌<◌, true, false, cond, sym, ◌∙◌, subst, arith, slab_len, Item, is_pulse, without_item, first_at, IsKept, put_place, places_of, items_at, pulses_of}
 use Rattle.qqueue.specs.declared.lists.Lists.{Lists}
-use Rattle.qqueue.specs.Best.{is_pulse, without_item}
-use Rattle.qqueue.specs.Kept.{first_at, IsKept}
-use Rattle.qqueue.specs.Rings.{put_place, places_of, items_at, pulses_of}
 use Rattle.qqueue.proofs.LaneLaws.{pulse_others, message_others}
 use Rattle.qqueue.proofs.TakenLaws.{IsRemoved, neighbours_there, IsClosed, taken_rises, taken_places, taken_items, taken_pulses, taken_rings}
 use Rattle.qqueue.proofs.lists.Lists.take_out.Goals as goal

@@ -1,5 +1,4 @@
-use Rattle.std.proofs.Common.{length, eqb, ap, sym, ◌∙◌}
-use Rattle.qqueue.specs.Rings.{places_of}
+use Rattle.qqueue.proofs.Common.{length, eqb, ap, sym, ◌∙◌, places_of}
 use Rattle.qqueue.proofs.PlaceLaws.{length-items_at, length-places_from}
 use Rattle.qqueue.proofs.queue.Queue.is_empty.Goals as goal
 

@@ -1,5 +1,4 @@
-use Rattle.std.proofs.Common.{length, ap, sym, ◌∙◌}
-use Rattle.qqueue.specs.Rings.{places_of}
+use Rattle.qqueue.proofs.Common.{length, ap, sym, ◌∙◌, places_of}
 use Rattle.qqueue.proofs.PlaceLaws.{length-items_at, length-places_from, rising_items}
 use Rattle.qqueue.proofs.queue.Queue.len.Goals as goal
 

@@ -1,5 +1,4 @@
-use Rattle.std.proofs.Common.{◌<◌, arith}
-use Rattle.qqueue.specs.Rings.{places_of, items_at}
+use Rattle.qqueue.proofs.Common.{◌<◌, arith, places_of, items_at}
 use Rattle.qqueue.proofs.PlaceLaws.{all_of_items, length-items_at, length-places_from, pulses_within}
 use Rattle.qqueue.proofs.queue.Queue.push.Goals as goal
 

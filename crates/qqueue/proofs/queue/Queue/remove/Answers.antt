@@ -1,7 +1,4 @@
-use Rattle.std.proofs.Common.{◌≡◌, ◌≢◌, ap, sym, ◌∙◌}
-use Rattle.std.specs.List.{AllByRecursion}
-use Rattle.qqueue.specs.Best.{item_of_number, without_item}
-use Rattle.qqueue.specs.Rings.{places_of, items_at}
+use Rattle.qqueue.proofs.Common.{◌≡◌, ◌≢◌, ap, sym, ◌∙◌, AllByRecursion, item_of_number, without_item, places_of, items_at}
 use Rattle.qqueue.proofs.PlaceLaws.{all_places, numbered_in, numbered_nowhere}
 use Rattle.qqueue.proofs.KeptLaws.{placed}
 use Rattle.qqueue.proofs.queue.Queue.remove.Goals as goal

@@ -1,9 +1,5 @@
-use Rattle.std.proofs.Common.{◌≡◌, ◌≢◌, ap, sym, ◌∙◌}
+use Rattle.qqueue.proofs.Common.{◌≡◌, ◌≢◌, ap, sym, ◌∙◌, AllByRecursion, some_of, item_of_number, with_item_priority, places_of, items_at, item_of}
 use Rattle.std.specs.Prelude.{is_some}
-use Rattle.std.specs.List.{AllByRecursion}
-use Rattle.qbase.proofs.Lists.{some_of}
-use Rattle.qqueue.specs.Best.{item_of_number, with_item_priority}
-use Rattle.qqueue.specs.Rings.{places_of, items_at, item_of}
 use Rattle.qqueue.proofs.PlaceLaws.{all_places, numbered_in, numbered_nowhere, requeued_none}
 use Rattle.qqueue.proofs.KeptLaws.{placed}
 use Rattle.qqueue.proofs.queue.Queue.requeue.Goals as goal

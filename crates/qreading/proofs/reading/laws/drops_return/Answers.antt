@@ -1,5 +1,4 @@
-use Rattle.std.proofs.Common.{◌≤◌, ◌∷◌, ◌++◌, length, ap, ◌∙◌, sym, arith, length-append}
-use Rattle.qreading.specs.Reading.Meaning.{of_lines}
+use Rattle.qreading.proofs.Common.{◌≤◌, ◌∷◌, ◌++◌, length, ap, ◌∙◌, sym, arith, length-append, of_lines}
 use Rattle.qreading.proofs.Texts.Returns.{lines_return}
 use Rattle.qreading.proofs.Texts.Progress.{not_long}
 use Rattle.qreading.proofs.reading.laws.drops_return.Goals as goal

@@ -1,7 +1,4 @@
-use Rattle.std.proofs.Common.{◌≤◌, ◌∷◌, ◌++◌, length, ap, ◌∙◌, sym, arith, length-append}
-use Rattle.qreading.specs.Reading.Lines.{lines_of, without_return}
-use Rattle.qreading.specs.Reading.Meaning.{of_lines}
-use Rattle.qreading.specs.Reading.Laws.{meaning_one_line_later}
+use Rattle.qreading.proofs.Common.{◌≤◌, ◌∷◌, ◌++◌, length, ap, ◌∙◌, sym, arith, length-append, lines_of, without_return, of_lines, meaning_one_line_later}
 use Rattle.qreading.proofs.Texts.Joins.{lines_between, whole_lines}
 use Rattle.qreading.proofs.Texts.Passing.{lines_past}
 use Rattle.qreading.proofs.Texts.Progress.{not_long}

@@ -1,5 +1,4 @@
-use Rattle.std.proofs.Common.{◌≡◌, ◌<◌, length, arith}
-use Rattle.std.proofs.lemmas.Grind.{common_steps}
+use Rattle.qreading.proofs.Common.{◌≡◌, ◌<◌, length, arith, common_steps}
 use Rattle.qreading.proofs.Texts.Lines.{lines_none, lines_next}
 use Rattle.qreading.proofs.reading.lines.next_line.Goals as goal
 

@@ -1,7 +1,4 @@
-use Rattle.std.proofs.Common.{take, length-take, arith}
-use Rattle.std.proofs.lemmas.Grind.{common_steps}
-use Rattle.std.proofs.lemmas.Int.Digits.{digits_more}
-use Rattle.std.proofs.lemmas.List.{take_all}
+use Rattle.qreading.proofs.Common.{take, length-take, arith, common_steps, digits_more, take_all}
 use Rattle.qreading.specs.Reading.Number.{digits_of}
 use Rattle.qreading.proofs.Texts.Digits.{not_digits, small, in_twenty, value_more, all_digits}
 use Rattle.qreading.proofs.reading.number.digits.Goals as goal

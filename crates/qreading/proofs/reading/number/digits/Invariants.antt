@@ -1,5 +1,4 @@
-use Rattle.std.proofs.Common.{◌≡◌, take}
-use Rattle.std.specs.Str.Parse.{digits_value, AllDigits}
+use Rattle.qreading.proofs.Common.{◌≡◌, take, digits_value, AllDigits}
 use Rattle.qreading.proofs.reading.number.digits.Given as goal
 
 abbrev pub invariant-loop-digit : goal.invariant-loop-digit

@@ -1,6 +1,4 @@
-use Rattle.std.proofs.Common.{◌≡◌, ◌<◌, length, rules, sym, ap, ◌∙◌, arith}
-use Rattle.std.proofs.lemmas.Grind.{common_steps}
-use Rattle.qreading.specs.Reading.Words.{words_of}
+use Rattle.qreading.proofs.Common.{◌≡◌, ◌<◌, length, rules, sym, ap, ◌∙◌, arith, common_steps, words_of}
 use Rattle.qreading.proofs.Texts.Words.{words_skip, words_none, words_next}
 use Rattle.qreading.proofs.reading.words.next_word.Goals as goal
 

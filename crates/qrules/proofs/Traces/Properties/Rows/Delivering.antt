@@ -1,13 +1,11 @@
 -- A call that delivers an item meets a thread that waits on its channel, if it ends another's.
-use Rattle.std.proofs.Common.{◌≡◌, ◌∙◌, ℕ, List, refl, sym, subst, true}
+use Rattle.qrules.proofs.Common.{◌≡◌, ◌∙◌, ℕ, List, refl, sym, subst, true, Receive, none-some, same_Some, may_take, Item, receipt_completion, Completion, OpenCall, buffer_in}
 use Rattle.std.specs.Prelude.{Option, None, Some}
 use Rattle.qrules.proofs.Words.Items.{delivers, receiver}
 use Rattle.qrules.proofs.Words.Facts.{Facts, number_of}
-use Rattle.qmodel.specs.declared.open_call.OpenCall.TheVariants.{Receive}
 use Rattle.qrules.proofs.Traces.Properties.Receivers.{WaitsOn, newest_waits}
 use Rattle.qrules.proofs.Traces.Calls.Delivering.{met_by, takes_item}
 use Rattle.qmodel.specs.declared.open_call.OpenReceive.{OpenReceive}
-use Rattle.qrules.proofs.Common.{none-some, same_Some, may_take, Item, receipt_completion, Completion, OpenCall, buffer_in}
 
 -- thread u waits on the channel, is the newest that does and may take the item, and its call ends by taking it
 pub record Delivers (f : Facts) (o : Option ℕ) (item : Item) (message : List ℕ) (u : ℕ) (y : Completion) : Type 0 where

@@ -1,8 +1,7 @@
 -- A receive that ends in its own event takes the best item of its channel.
-use Rattle.std.proofs.Common.{◌≡◌, ℕ, List, refl}
+use Rattle.qrules.proofs.Common.{◌≡◌, ℕ, List, refl, None, Some, none-some, same_Some, best_of, Item, Kind, receipt_completion, Completion}
 use Rattle.qrules.proofs.Words.Items.{own_receipt}
 use Rattle.qrules.proofs.Words.Facts.{Facts, message}
-use Rattle.qrules.proofs.Common.{None, Some, none-some, same_Some, best_of, Item, Kind, receipt_completion, Completion}
 
 pub record ReceiveTakes (f : Facts) (t chid : ℕ) (kind : Kind) (buffer : List ℕ) (y : Completion) : Type 0 where
   pub item : Item

@@ -1,10 +1,5 @@
-use Rattle.std.proofs.Common.{◌≡◌, ◌≤◌, length, arith, false, refl, sym, ap, subst}
-use Rattle.std.specs.Prelude.{Some}
-use Rattle.qrules.specs.Trace.{AreApart}
-use Rattle.qrules.specs.Facts.{threads_of}
-use Rattle.qshared.specs.Due.{place}
+use Rattle.qshared.proofs.Common.{◌≡◌, ◌≤◌, length, arith, false, refl, sym, ap, subst, Some, AreApart, threads_of, place, IsKept}
 use Rattle.qshared.proofs.Places.{seated}
-use Rattle.qshared.specs.Private.Rooms.{IsKept}
 use Rattle.qshared.proofs.KeptLog.{finds, all_may_copy, apart, kept_after, next_log, past_is}
 use Rattle.qshared.proofs.kept.KeptLog.event.Goals as goal
 

@@ -1,5 +1,4 @@
-use Rattle.std.proofs.Common.{◌<◌, ◌^◌, length, ap, ◌∙◌, subst}
-use Rattle.qshared.specs.Past.{is_down}
+use Rattle.qshared.proofs.Common.{◌<◌, ◌^◌, length, ap, ◌∙◌, subst, is_down}
 use Rattle.qshared.proofs.KeptLog.{admitted_kept, few_noted, refused_kept}
 use Rattle.qshared.proofs.kept.KeptLog.note.Goals as goal
 

@@ -1,8 +1,4 @@
-use Rattle.std.specs.Prelude.{Some}
-use Rattle.std.proofs.Common.{◌≡◌, ◌<◌, List, [], map, length, length-set, ap, sym, subst, ◌∙◌, arith}
-use Rattle.std.proofs.lemmas.List.{length-map, map-set}
-use Rattle.qpast.specs.declared.asking.Heard.{Heard}
-use Rattle.qshared.specs.Asking.{AreCallsOf, WaitedBefore}
+use Rattle.qshared.proofs.Common.{Some, ◌≡◌, ◌<◌, List, [], map, length, length-set, ap, sym, subst, ◌∙◌, arith, length-map, map-set, Heard, AreCallsOf, WaitedBefore}
 use Rattle.qshared.proofs.Lists.{comes, kept_names, told_list, heard_event, heard_refused}
 use Rattle.qshared.proofs.locked.Locked.call.Goals as goal
 

@@ -1,5 +1,4 @@
-use Rattle.std.proofs.Common.{ap, sym, ◌∙◌}
-use Rattle.qshared.specs.Asking.{calls_of}
+use Rattle.qshared.proofs.Common.{ap, sym, ◌∙◌, calls_of}
 use Rattle.qshared.proofs.Lists.{nothing_heard}
 use Rattle.qshared.proofs.locked.Locked.new.Goals as goal
 

@@ -1,5 +1,4 @@
-use Rattle.std.proofs.Common.{refl, subst, sym}
-use Rattle.qshared.specs.Answered.{Answered}
+use Rattle.qshared.proofs.Common.{refl, subst, sym, Answered}
 use Rattle.qshared.proofs.port.Port.call_both.Goals as goal
 use Rattle.qshared.proofs.port.Port.call_both.Goals.{in-Done+then-is_ok, in-Done+else-is_ok, in-Blocked, in-Refused}
 

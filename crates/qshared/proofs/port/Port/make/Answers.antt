@@ -1,7 +1,4 @@
-use Rattle.std.proofs.Common.{[], refl, ap, sym, subst, ◌∙◌, arith}
-use Rattle.qhandoff.specs.Words.{taken}
-use Rattle.qshared.specs.Asking.{calls_of}
-use Rattle.qshared.specs.Due.{AreLater, at_once}
+use Rattle.qshared.proofs.Common.{[], refl, ap, sym, subst, ◌∙◌, arith, taken, calls_of, AreLater, at_once}
 use Rattle.qshared.proofs.Collecting.{calls_after, later_after}
 use Rattle.qshared.proofs.Turns.{extends_since, since_extends}
 use Rattle.qshared.proofs.port.Port.make.Goals as goal

@@ -1,6 +1,4 @@
-use Rattle.std.proofs.Common.{◌≡◌, true, rules}
-use Rattle.std.specs.Prelude.{is_none}
-use Rattle.qshared.specs.Due.{at_once}
+use Rattle.qshared.proofs.Common.{◌≡◌, true, rules, is_none, at_once}
 use Rattle.qshared.proofs.Turns.{takes, takes_again}
 use Rattle.qshared.proofs.port.Port.sleep.Goals as goal
 use Rattle.qshared.proofs.port.Port.sleep.Goals.{then-is_none, else-is_none}

@@ -1,6 +1,4 @@
-use Rattle.std.proofs.Common.{sym, ◌∙◌}
-use Rattle.std.proofs.lemmas.Option.{none-some}
-use Rattle.qshared.specs.Due.{at_once}
+use Rattle.qshared.proofs.Common.{sym, ◌∙◌, none-some, at_once}
 use Rattle.qshared.proofs.Turns.{takes, takes_some}
 use Rattle.qshared.proofs.port.Port.wait.Goals as goal
 use Rattle.qshared.proofs.port.Port.wait.Goals.{then-shared, else-shared}

@@ -1,6 +1,4 @@
-use Rattle.std.proofs.Common.{◌≡◌, true}
-use Rattle.qhandoff.specs.Words.{thread_of, taken}
-use Rattle.qshared.specs.Due.{collected}
+use Rattle.qshared.proofs.Common.{◌≡◌, true, thread_of, taken, collected}
 use Rattle.qshared.proofs.port.Port.wait.Given as goal
 
 -- nothing was taken yet

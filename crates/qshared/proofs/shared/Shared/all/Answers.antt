@@ -1,11 +1,6 @@
-use Rattle.std.proofs.Common.{rules, arith, sym, ap, ◌∙◌}
-use mathlib.Core.Option.{some-injective}
+use Rattle.qshared.proofs.Common.{rules, arith, sym, ap, ◌∙◌, some-injective, get_elem?, at_index, there, thread_of}
 use mathlib.Core.Logic.{dite}
 use native.Mathlib.Decide.{ℕ_discrete}
-use lib.ListN.{get_elem?}
-use Rattle.atomic_table.proofs.Lists.{at_index}
-use Rattle.qhandoff.proofs.Changes.{there}
-use Rattle.qhandoff.specs.Words.{thread_of}
 use Rattle.qshared.proofs.shared.Shared.all.Goals as goal
 
 pub returns-then-thread-k : goal.returns-then-thread-k

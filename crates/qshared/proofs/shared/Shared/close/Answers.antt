@@ -1,17 +1,8 @@
-use Rattle.std.proofs.Common.{◌≡◌, ℕ, [], refl, sym, subst, ap, ◌∙◌, map, length, get_or, ◌++◌, ◌<◌, arith}
-use Rattle.std.specs.Prelude.{Some}
-use Rattle.std.proofs.lemmas.List.{length-map}
-use lib.ListN.{get_elem?}
+use Rattle.qshared.proofs.Common.{◌≡◌, ℕ, [], refl, sym, subst, ap, ◌∙◌, map, length, get_or, ◌++◌, ◌<◌, arith, Some, length-map, get_elem?, rises, cells_id, count, taken, took, left_for, AreBelow, IsRow, calls_of, AreDue, AreKnown, collected, later_due, of_thread, place, AreSeen, RiseByThread, at_map}
 use Rattle.qrules.proofs.Words.Facts.{threads_of}
-use Rattle.qrules.proofs.Traces.Rosters.{rises}
-use Rattle.qhandoff.specs.Words.{cells_id, count, taken, took, left_for, AreBelow, IsRow}
-use Rattle.qshared.specs.Asking.{calls_of}
-use Rattle.qshared.specs.Due.{AreDue, AreKnown, collected, later_due, of_thread, place}
-use Rattle.qshared.specs.Past.{AreSeen, RiseByThread}
 use Rattle.qshared.proofs.Leftover.{all_due, at_port, few_left, left_by_thread, left_due, left_known, port_due}
 use Rattle.qshared.proofs.Lists.{map_both, names_of}
 use Rattle.qshared.proofs.Places.{place_below, place_same}
-use Rattle.atomic_table.proofs.Lists.{at_map}
 use Rattle.qshared.proofs.Rows.{seats_row}
 use Rattle.qshared.proofs.shared.Shared.close.Goals as goal
 

@@ -1,5 +1,4 @@
-use Rattle.std.proofs.Common.{arith, ◌∙◌}
-use Rattle.qkernel.proofs.Traces.{stands_made}
+use Rattle.qshared.proofs.Common.{arith, ◌∙◌, stands_made}
 use Rattle.qshared.proofs.traced.Traced.len.Goals as goal
 
 pub returns-clause-value : goal.returns-clause-value

@@ -1,17 +1,7 @@
-use Rattle.std.proofs.Common.{◌≡◌, length, sym, ◌∙◌, ap, refl, subst, inl, inr, arith}
-use Rattle.std.specs.Prelude.{Some}
-use Rattle.qrules.proofs.Words.Lawful.{with_event}
-use Rattle.qhandoff.specs.Words.{desk}
-use Rattle.qrules.specs.Facts.{threads_of}
-use Rattle.qstate.proofs.Seats.{seat_kept}
-use Rattle.qpast.specs.History.{Extends}
-use Rattle.qshared.specs.Asking.{WaitedBefore, calls_of}
-use Rattle.qshared.specs.Due.{place}
+use Rattle.qshared.proofs.Common.{◌≡◌, length, sym, ◌∙◌, ap, refl, subst, inl, inr, arith, Some, with_event, desk, threads_of, seat_kept, Extends, WaitedBefore, calls_of, place, AnswersAtTraces, stands_down, stands_made, stands_roster}
 use Rattle.qshared.proofs.Turns.{still_waited}
 use Rattle.qshared.proofs.Places.{seat_at_place}
 use Rattle.qshared.proofs.Keeps.{is_known, is_shut, is_busy, is_pending, free, same_desk, held_after, apart, may_put, performs}
-use Rattle.qkernel.specs.Stands.{AnswersAtTraces}
-use Rattle.qkernel.proofs.Traces.{stands_down, stands_made, stands_roster}
 use Rattle.qshared.proofs.traced.Traced.perform.Goals as goal
 
 pub returns-then-is_down-clause-performs : goal.returns-then-is_down-clause-performs

@@ -1,10 +1,5 @@
-use Rattle.std.proofs.Common.{◌≡◌, ◌∙◌, ap, sym, subst, true, inl, inr, arith}
-use Rattle.std.proofs.lemmas.Bool.{cases_Bool, true≢false}
-use Rattle.qrules.proofs.Words.Lawful.{with_event}
+use Rattle.qshared.proofs.Common.{◌≡◌, ◌∙◌, ap, sym, subst, true, inl, inr, arith, cases_Bool, true≢false, with_event, Answers, effect_of, is_down}
 use Rattle.qrules.specs.Lawful.{facts_of}
-use Rattle.qrules.specs.Outcome.{Answers}
-use Rattle.qrules.specs.Rules.{effect_of}
-use Rattle.qshared.specs.Past.{is_down}
 use Rattle.qshared.proofs.KeptLog.{is_shutdown, shutdown_down}
 use Rattle.qshared.proofs.unkept.UnkeptLog.event.Goals as goal
 

@@ -1,7 +1,4 @@
-use Rattle.std.proofs.Common.{◌≡◌, sym}
-use Rattle.std.proofs.lemmas.Result.{err_from_is_err_and}
-use Rattle.std.specs.Prelude.{None}
-use Rattle.qstate.specs.Thread.{sender_in}
+use Rattle.qstate.proofs.Common.{◌≡◌, sym, err_from_is_err_and, None, sender_in}
 use Rattle.qstate.proofs.Senders.{held_none}
 use Rattle.qstate.proofs.objects.Objects.holder.Goals as goal
 

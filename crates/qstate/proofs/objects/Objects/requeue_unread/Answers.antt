@@ -1,7 +1,4 @@
-use Rattle.std.proofs.Common.{ap, sym, ◌∙◌}
-use Rattle.qqueue.specs.Best.{with_item_priority}
-use Rattle.qstate.specs.Kept.{items_waiting_on}
-use Rattle.qstate.specs.Unread.{unread_in}
+use Rattle.qstate.proofs.Common.{ap, sym, ◌∙◌, with_item_priority, items_waiting_on, unread_in}
 use Rattle.qstate.proofs.ChannelWrites.{sets_queue}
 use Rattle.qstate.proofs.Moving.{moves_none, moves_nowhere, moves_one}
 use Rattle.qstate.proofs.objects.Objects.requeue_unread.Goals as goal

@@ -1,7 +1,4 @@
-use Rattle.std.proofs.Common.{ap, sym, ◌∙◌, ◌++◌, [], ◌∷◌, inr}
-use Rattle.std.proofs.lemmas.Bool.{lt-ltb}
-use Rattle.std.proofs.lemmas.Result.{err_from_is_err_and}
-use Rattle.qstate.specs.Kept.{items_waiting_on}
+use Rattle.qstate.proofs.Common.{ap, sym, ◌∙◌, ◌++◌, [], ◌∷◌, inr, lt-ltb, err_from_is_err_and, items_waiting_on}
 use Rattle.qstate.proofs.ChannelWrites.{sets_items}
 use Rattle.qstate.proofs.objects.Objects.send_pulse.Goals as goal
 

@@ -1,5 +1,4 @@
-use Rattle.std.proofs.Common.{ap, sym, ◌∙◌}
-use Rattle.std.specs.Option.{option_map_or}
+use Rattle.qstate.proofs.Common.{ap, sym, ◌∙◌, option_map_or}
 use Rattle.qbase.specs.declared.state.ThreadState.TheVariants.{Ready}
 use Rattle.qrules.specs.Rules.Threads.{state_in}
 use Rattle.qstate.proofs.objects.Objects.state.Goals as goal

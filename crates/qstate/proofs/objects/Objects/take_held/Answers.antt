@@ -1,7 +1,5 @@
-use Rattle.std.proofs.Common.{ap, ◌∙◌, option_and_then}
+use Rattle.qstate.proofs.Common.{ap, ◌∙◌, option_and_then, send_in, open_in}
 use Rattle.std.specs.Prelude.{is_some}
-use Rattle.qmodel.specs.OpenCalls.{send_in}
-use Rattle.qstate.specs.Thread.{open_in}
 use Rattle.qstate.proofs.Senders.{never_err, send_of_sender, send_taken}
 use Rattle.qstate.proofs.objects.Objects.take_held.Goals as goal
 

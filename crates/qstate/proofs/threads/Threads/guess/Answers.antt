@@ -1,6 +1,4 @@
-use Rattle.std.proofs.Common.{◌≡◌, ◌<◌, ap, length, subst, sym, ◌∙◌, get_or, Some}
-use Rattle.std.proofs.lemmas.Bool.{eqb-true}
-use Rattle.qstate.specs.Thread.{seat_in}
+use Rattle.qstate.proofs.Common.{◌≡◌, ◌<◌, ap, length, subst, sym, ◌∙◌, get_or, Some, eqb-true, seat_in}
 use Rattle.qstate.proofs.Indexing.{seat_here}
 use Rattle.qstate.proofs.threads.Threads.guess.Goals as goal
 

@@ -1,6 +1,5 @@
-use Rattle.std.proofs.Common.{◌≡◌, ◌<◌, ap, length, sym, ◌∙◌, get_or, true}
+use Rattle.qstate.proofs.Common.{◌≡◌, ◌<◌, ap, length, sym, ◌∙◌, get_or, true, is_send}
 use Rattle.std.specs.Prelude.{Some}
-use Rattle.qrules.proofs.Words.Facts.{is_send}
 use Rattle.qstate.proofs.Seats.{first_at, first_number}
 use Rattle.qstate.proofs.Senders.{sender_alone, sender_in-by}
 use Rattle.qstate.proofs.threads.Threads.guess_sender.Goals as goal

@@ -1,10 +1,4 @@
-use Rattle.std.proofs.Common.{◌≡◌, ap, get_or, sym, ◌∙◌, false}
-use Rattle.std.specs.Option.{option_map}
-use Rattle.qbase.specs.Laying.{laid_count, lay_over}
-use Rattle.qrules.specs.Records.{message_in}
-use Rattle.qrules.specs.Records.{held_call}
-use Rattle.qmodel.specs.declared.open_call.Receipt.{Receipt}
-use Rattle.qstate.specs.Thread.{is_sending, open_in}
+use Rattle.qstate.proofs.Common.{◌≡◌, ap, get_or, sym, ◌∙◌, false, option_map, laid_count, lay_over, message_in, held_call, Receipt, is_sending, open_in}
 use Rattle.qstate.proofs.Indexing.{indexed_changed, keeps_held}
 use Rattle.qstate.proofs.Seats.{changes_open, first_at, first_open}
 use Rattle.qstate.proofs.Senders.{changes_none, changes_sender, message_none, message_sent, sender_sends}

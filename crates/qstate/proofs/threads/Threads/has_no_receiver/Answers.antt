@@ -1,5 +1,4 @@
-use Rattle.std.proofs.Common.{sym}
-use Rattle.std.specs.Prelude.{None}
+use Rattle.qstate.proofs.Common.{sym, None}
 use Rattle.qstate.proofs.Newest.{search_begins, search_ends, seat_found}
 use Rattle.qstate.proofs.threads.Threads.has_no_receiver.Goals as goal
 

@@ -1,6 +1,5 @@
-use Rattle.std.proofs.Common.{◌≡◌, ◌<◌, ap, length, sym, ◌∙◌, get_or}
+use Rattle.qstate.proofs.Common.{◌≡◌, ◌<◌, ap, length, sym, ◌∙◌, get_or, wait_on}
 use Rattle.std.specs.Prelude.{Some}
-use Rattle.qrules.specs.Records.{wait_on}
 use Rattle.qstate.proofs.Newest.{newest_is_last}
 use Rattle.qstate.proofs.Seats.{first_at, first_number}
 use Rattle.qstate.proofs.threads.Threads.last_receiver.Goals as goal

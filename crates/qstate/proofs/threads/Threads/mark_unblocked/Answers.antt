@@ -1,6 +1,4 @@
-use Rattle.std.proofs.Common.{ap, ◌∙◌}
-use Rattle.std.specs.Option.{option_map}
-use Rattle.qrules.specs.Records.{unblocked_call}
+use Rattle.qstate.proofs.Common.{ap, ◌∙◌, option_map, unblocked_call}
 use Rattle.qstate.proofs.Indexing.{indexed_changed, keeps_unblocked}
 use Rattle.qstate.proofs.Seats.{changes_open, first_at}
 use Rattle.qstate.proofs.threads.Threads.mark_unblocked.Goals as goal

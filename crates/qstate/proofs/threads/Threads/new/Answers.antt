@@ -1,5 +1,4 @@
-use Rattle.std.proofs.Common.{arith}
-use Rattle.std.proofs.lemmas.List.{take_all}
+use Rattle.qstate.proofs.Common.{arith, take_all}
 use Rattle.qstate.proofs.Indexing.{indexed_new}
 use Rattle.qstate.proofs.threads.Threads.new.Goals as goal
 

@@ -1,5 +1,4 @@
-use Rattle.std.proofs.Common.{◌≡◌, take, map}
-use Rattle.qstate.specs.Thread.{ready_thread}
+use Rattle.qstate.proofs.Common.{◌≡◌, take, map, ready_thread}
 use Rattle.qstate.proofs.threads.Threads.new.Given as goal
 
 abbrev pub invariant-loop-member : goal.invariant-loop-member

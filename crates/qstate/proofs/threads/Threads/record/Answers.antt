@@ -1,5 +1,4 @@
-use Rattle.std.proofs.Common.{subst, sym}
-use Rattle.qstate.specs.Threads.{IsRecordOf}
+use Rattle.qstate.proofs.Common.{subst, sym, IsRecordOf}
 use Rattle.qstate.proofs.Seats.{record_there}
 use Rattle.qstate.proofs.threads.Threads.record.Goals as goal
 

@@ -1,5 +1,4 @@
-use Rattle.std.proofs.Common.{◌≡◌, Some, subst, sym}
-use Rattle.qstate.specs.Thread.{seat_in}
+use Rattle.qstate.proofs.Common.{◌≡◌, Some, subst, sym, seat_in}
 use Rattle.qstate.proofs.Indexing.{seat_here}
 use Rattle.qstate.proofs.threads.Threads.seat_at.Goals as goal
 

@@ -1,7 +1,5 @@
-use Rattle.std.proofs.Common.{◌≡◌, ap, sym, ◌∙◌}
+use Rattle.qstate.proofs.Common.{◌≡◌, ap, sym, ◌∙◌, option_map, is_send}
 use Rattle.std.specs.Prelude.{None, Some, position}
-use Rattle.std.specs.Option.{option_map}
-use Rattle.qrules.proofs.Words.Facts.{is_send}
 use Rattle.qstate.proofs.Senders.{no_sender, sender_in-by, sender_seated}
 use Rattle.qstate.proofs.threads.Threads.sender.Goals as goal
 

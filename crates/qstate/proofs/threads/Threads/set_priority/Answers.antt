@@ -1,5 +1,4 @@
-use Rattle.std.proofs.Common.{ap, ◌∙◌}
-use Rattle.std.specs.Prelude.{unwrap_or}
+use Rattle.qstate.proofs.Common.{ap, ◌∙◌, unwrap_or}
 use Rattle.qstate.proofs.Indexing.{indexed_same}
 use Rattle.qstate.proofs.Seats.{first_at, sets_level}
 use Rattle.qstate.proofs.threads.Threads.set_priority.Goals as goal

@@ -1,9 +1,4 @@
-use Rattle.std.proofs.Common.{ap, sym, ◌∙◌}
-use Rattle.std.specs.Option.{option_map}
-use Rattle.qbase.specs.Laying.{laid_count}
-use Rattle.qrules.specs.Records.{reply_buffer_in}
-use Rattle.qrules.specs.Records.{written_call}
-use Rattle.qstate.specs.Thread.{is_sending}
+use Rattle.qstate.proofs.Common.{ap, sym, ◌∙◌, option_map, laid_count, reply_buffer_in, written_call, is_sending}
 use Rattle.qstate.proofs.Indexing.{indexed_changed, keeps_written}
 use Rattle.qstate.proofs.Seats.{changes_open, first_at, first_open}
 use Rattle.qstate.proofs.threads.Threads.write_sent.Goals as goal

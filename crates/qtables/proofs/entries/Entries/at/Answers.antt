@@ -1,6 +1,4 @@
-use Rattle.std.proofs.Common.{◌<◌, length, refl, ap, ◌∙◌, arith}
-use Rattle.std.specs.Option.{option_map}
-use Rattle.std.proofs.lemmas.Option.{slice_get_read}
+use Rattle.qtables.proofs.Common.{◌<◌, length, refl, ap, ◌∙◌, arith, option_map, slice_get_read}
 use Rattle.qtables.proofs.Slots.{length-entries_at, slice_get-entries_at, held_at}
 use Rattle.qtables.proofs.entries.Entries.at.Goals as goal
 

@@ -1,5 +1,4 @@
-use Rattle.std.proofs.Common.{length, refl, ap, arith}
-use Rattle.std.proofs.lemmas.Bool.{le-ltb, lt-ltb}
+use Rattle.qtables.proofs.Common.{length, refl, ap, arith, le-ltb, lt-ltb}
 use Rattle.qtables.proofs.Slots.{length-entries_at, IsIndexed-same, entries_at-same, created}
 use Rattle.qtables.proofs.entries.Entries.create.Goals as goal
 

@@ -1,5 +1,4 @@
-use Rattle.std.proofs.Common.{rules}
-use Rattle.std.proofs.lemmas.List.Sorted.{answers_always}
+use Rattle.qtables.proofs.Common.{rules, answers_always}
 use Rattle.qtables.proofs.Rosters.{found, missed}
 use Rattle.qtables.proofs.roster.Roster.search.Goals as goal
 
