@@ -59,7 +59,7 @@ PLACES = {
 # Where the kernel lies in the value under the lock, and its parts there: the count of calls and the head of the
 # threads' records, the index, and the heads of the tables of channels and connections.
 KERNEL = 0
-PARTS = [(0, "kernel"), (40, "index"), (616, "tables"), (744, "log")]
+PARTS = [(0, "kernel"), (72, "index"), (584, "tables"), (736, "log")]
 
 # What a program only reads, and what only its own thread touches.
 STILL = {"constants", "stack"}

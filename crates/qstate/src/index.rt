@@ -12,19 +12,20 @@ use qtables::member::Member;
 /// Guesses of a thread's index in the roster: by thread number, by the number of its Send, and as the newest receiver.
 #[derive(Debug, Drop)]
 pub struct Index {
-    // For each thread number, the index of that thread, if it is in the roster.
-    threads: [u8; 256],
-    // For each last byte of a Send's number, the index of the thread that made the last Send with such a number.
-    senders: [u8; 256],
+    // What a call writes that blocks or wakes a thread stands first, beside the kernel's count of calls.
     // The indices of all threads that are RECEIVE-blocked, and possibly of others.
     pub(crate) receivers: ByteSet,
     // The number of the last call that blocked its thread.
     pub(crate) latest: u64,
     // The number of the last receive that blocked its thread, and the index of that thread.
     pub(crate) newest: u64,
-    pub(crate) last: usize,
+    pub(crate) last: u8,
     // Whether the numbers of the calls that blocked their threads have risen so far, as they do in a kernel.
     pub(crate) rising: bool,
+    // For each thread number, the index of that thread, if it is in the roster. Small numbers lie beside what is above.
+    threads: [u8; 256],
+    // For each last byte of a Send's number, the index of the thread that made the last Send with such a number.
+    senders: [u8; 256],
 }
 
 impl Index {
@@ -37,13 +38,13 @@ impl Index {
             place = place.wrapping_add(1);
         }
         Index {
-            threads,
-            senders: [0; 256],
             receivers: ByteSet::new(),
             latest: 0,
             newest: 0,
             last: 0,
             rising: true,
+            threads,
+            senders: [0; 256],
         }
     }
 
@@ -73,7 +74,7 @@ impl Index {
             OpenCall::Receive(_) => {
                 self.receivers.insert(place as u8);
                 self.newest = number;
-                self.last = place;
+                self.last = place as u8;
             }
         }
     }

@@ -60,7 +60,7 @@ impl Threads {
         ensures seat { IfSome result (λ seat. IsSeatIn self.now seat) }
         ensures newest { IfSome result (λ seat. newest_in channel item.now self.now ≡ Some seat.thread) }
     {
-        let last = self.index.last;
+        let last = self.index.last as usize;
         let number = self.records.get(last)?.receives(channel, item)?;
         if self.index.rising && number == self.index.newest {
             Some(self.seat_at(last))

@@ -25,9 +25,9 @@ use std::mem;
 /// beside the records. Each index is a guess: a wrong one costs a search and nothing else.
 #[derive(Drop)]
 pub struct Threads {
-    pub(crate) records: Vec<Thread>,
     // The index at which to look first for a thread.
     pub(crate) index: Index,
+    pub(crate) records: Vec<Thread>,
 }
 
 impl Model for Threads {
