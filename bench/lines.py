@@ -56,8 +56,8 @@ PLACES = {
     "qroundtrips::course::run_unkept": "bytes",
 }
 
-# Where the kernel lies in the value under the lock, and its parts there: the count of calls and the head of the
-# threads' records, the index, and the heads of the tables of channels and connections.
+# Where the kernel lies in the value under the lock, and its parts there: the words that each call writes, the tables of
+# the index, and the heads of the tables of threads, channels and connections.
 KERNEL = 0
 PARTS = [(0, "kernel"), (72, "index"), (584, "tables"), (736, "log")]
 
