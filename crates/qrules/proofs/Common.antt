@@ -44,4 +44,4 @@ pub use Rattle.std.proofs.lemmas.Option.{cond_some, none-some, option_and_then_s
 pub use Rattle.std.specs.List.{AllByRecursion, cons_option, filter_map, list_any}
 pub use Rattle.std.specs.Option.{option_map, option_map_or, option_or, option_to_list}
 pub use Rattle.std.specs.Ordering.{int_eq}
-pub use Rattle.std.specs.Prelude.{None, Some, not, pos, ℤ}
+pub use Rattle.std.specs.Prelude.{None, Some, count_by, filter, find, if◌then◌else◌, int_lt, nat_lt, not, pos, unwrap_or, ℤ, ◌&&◌, ◌==◌, ◌||◌}

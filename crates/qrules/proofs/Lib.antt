@@ -3,3 +3,4 @@ pub mod Words
 pub mod Traces
 pub mod Messages
 pub mod Once
+pub mod Basics

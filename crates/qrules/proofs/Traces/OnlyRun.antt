@@ -1,8 +1,6 @@
 -- Where memory doesn't run out, a run is a function of its calls.
 use Rattle.qrules.proofs.Common.{◌≡◌, ℕ, List, [], ◌∷◌, map, refl, ap, sym, subst, ◌∙◌, inl, inr, NoMemory, Answers, MayRefuse, refusal_of, event_call, HadMemory, IsOnlyRun, Some, AllByRecursion, none-some, Errno, Member, Call, Completion, Event, Trace}
-use Rattle.qrules.proofs.Words.Items.{refusal_completion}
-use Rattle.qrules.proofs.Words.Facts.{Facts}
-use Rattle.qrules.proofs.Words.Lawful.{IsLawful, facts_of, followed_by}
+use Rattle.qrules.proofs.Basics.{refusal_completion, Facts, IsLawful, facts_of, followed_by}
 use Rattle.qmodel.specs.declared.call.Mark.TheVariants as mark
 
 -- no completion says that there was no memory

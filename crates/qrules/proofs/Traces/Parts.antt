@@ -1,8 +1,7 @@
 -- Parts of the look-ups, each by what was found so far, which is what the proofs split on.
-use Rattle.std.specs.Prelude.{◌&&◌, ◌==◌, Bool, false, int_lt, is_some, List, ℕ, ℤ, pos, Option, None, Some, if◌then◌else◌}
+use Rattle.qrules.proofs.Common.{◌&&◌, ◌==◌, Bool, false, int_lt, is_some, List, ℕ, ℤ, pos, Option, None, Some, if◌then◌else◌, error_mark, tells_disconnect, disconnect_item, OpenChannel, ChannelId, ProcessNo, ThreadNo, SentItem, refusal_if_full, due_pulse_of, Errno, Badf, Inval, Connection, OpenCall, laid_count, lay_over}
 use Rattle.std.specs.Option.{option_and_then, option_map_or}
 use Rattle.qrules.proofs.Words.Items.{Finish}
-use Rattle.qrules.proofs.Common.{error_mark, tells_disconnect, disconnect_item, OpenChannel, ChannelId, ProcessNo, ThreadNo, SentItem, refusal_if_full, due_pulse_of, Errno, Badf, Inval, Connection, OpenCall, laid_count, lay_over}
 use Rattle.qrules.proofs.Words.Facts.{count_to, Facts, is_of_process, is_held_by}
 use Rattle.qmodel.specs.declared.call.Mark.TheVariants as mark
 

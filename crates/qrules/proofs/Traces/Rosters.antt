@@ -1,6 +1,5 @@
 -- The threads of a roster, in rising number, and what they give where one of them gets something.
-use Rattle.qrules.proofs.Common.{◌≡◌, ℕ, ◌<◌, List, [], ◌∷◌, refl, ap, sym, subst, ◌∙◌, cond, arith, true, false, eqb, filter_map, cons_option, AllByRecursion, option_to_list, member_at, IsRoster, Member, is_among}
-use Rattle.std.specs.Prelude.{Option, None, Some, is_some, ◌||◌}
+use Rattle.qrules.proofs.Common.{◌≡◌, ℕ, ◌<◌, List, [], ◌∷◌, refl, ap, sym, subst, ◌∙◌, cond, arith, true, false, eqb, filter_map, cons_option, AllByRecursion, option_to_list, member_at, IsRoster, Member, is_among, Option, None, Some, is_some, ◌||◌}
 use Rattle.std.proofs.lemmas.Bool.{eqb-true, ne_eqb, true≢false}
 use Rattle.qrules.proofs.Words.Facts.{threads_of}
 

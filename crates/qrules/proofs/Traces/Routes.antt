@@ -1,6 +1,5 @@
 -- Where a way leads: over a live connection to an open channel.
-use Rattle.qrules.proofs.Common.{◌≡◌, ℕ, refl, sym, subst, cond, true, none-some, cond_some, and_parts, Badf, Connection}
-use Rattle.std.specs.Prelude.{ℤ, Option, None, Some, is_some, ◌&&◌}
+use Rattle.qrules.proofs.Common.{◌≡◌, ℕ, refl, sym, subst, cond, true, none-some, cond_some, and_parts, Badf, Connection, ℤ, Option, None, Some, is_some, ◌&&◌}
 use Rattle.qrules.proofs.Traces.Parts.{refusal_on, leads_to}
 use Rattle.qrules.proofs.Words.Facts.{Facts, route, is_of_process}
 

@@ -1,7 +1,6 @@
 -- The blocked threads, with their states and channels.
 pub use Rattle.qrules.specs.Records.{blocked_thread}
-use Rattle.std.specs.Prelude.{List}
-use Rattle.std.specs.List.{filter_map}
+use Rattle.qrules.proofs.Common.{List, filter_map}
 use Rattle.qmodel.specs.declared.open_call.Blocked.{Blocked}
 use Rattle.qrules.proofs.Words.Facts.{Facts, threads_of}
 

@@ -1,7 +1,6 @@
 -- What each call does, by its rule; and the items that it makes.
-use Rattle.std.specs.Prelude.{Bool, Option, None, Some}
+use Rattle.qrules.proofs.Common.{Bool, Option, None, Some, ChannelId, ConnectionId, OpenChannel, SentItem, ThreadNo, Connection, Member, Call, PriorityChange, Transfer, effect_of}
 use Rattle.std.specs.Option.{option_and_then, option_map}
-use Rattle.qrules.proofs.Common.{ChannelId, ConnectionId, OpenChannel, SentItem, ThreadNo, Connection, Member, Call, PriorityChange, Transfer, effect_of}
 use Rattle.qrules.proofs.Words.Facts.{Facts}
 use Rattle.qmodel.specs.declared.call.Call.TheVariants as calls
 pub use Rattle.qrules.specs.Past.{asks}

@@ -2,9 +2,8 @@
 pub use Rattle.qrules.specs.Records.{is_in_process, is_fixed, tells_unblock, tells_disconnect}
 pub use Rattle.qrules.specs.Records.{is_for_receipt, sender_among, message_of, message_in, reply_buffer_of}
 pub use Rattle.qrules.specs.Records.{reply_buffer_in, info_of_open, buffer_of_open, held_call, with_buffer}
-use Rattle.std.specs.Prelude.{◌&&◌, is_some, Bool, false, Option}
+use Rattle.qrules.proofs.Common.{◌&&◌, is_some, Bool, false, Option, Send, Receive, OpenCall, ReceiveId, ThreadNo}
 use Rattle.std.specs.Option.{option_and_then}
-use Rattle.qrules.proofs.Common.{Send, Receive, OpenCall, ReceiveId, ThreadNo}
 pub use Rattle.qrules.specs.Facts.{count_to, has_flag, is_for_answer, is_of_process, is_of_same_process}
 pub use Rattle.qrules.specs.Facts.{is_send, message, owns, reply_buffer, route, sender, threads_of, Facts}
 pub use Rattle.qmodel.specs.OpenCalls.{buffer_in, number_of, receive_in, send_in}

@@ -1,6 +1,5 @@
 -- A past with one more event.
-use Rattle.std.specs.Prelude.{List, ◌∷◌}
-use Rattle.qrules.proofs.Common.{Call, Completion, ThreadNo, Trace}
+use Rattle.qrules.proofs.Common.{List, ◌∷◌, Call, Completion, ThreadNo, Trace}
 pub use Rattle.qrules.specs.Lawful.{facts_of, IsLawful}
 pub use Rattle.qrules.specs.Trace.{followed_by}
 

@@ -1,6 +1,5 @@
 -- Searches in the list of all past calls, which has the newest event first.
-use Rattle.std.specs.Prelude.{ℕ, ◌==◌, ◌&&◌, Bool, List, [], ◌∷◌, length, Option, None, Some, if◌then◌else◌, option_and_then, ◌+◌, is_some}
-use Rattle.qrules.proofs.Common.{CallNo, ChannelId, Priority, ThreadNo, Event, Trace, OpenChannel, SentItem, ReceiveId, number_of, facts_of, item_made_by, items_and_priorities, list_any, option_map_or, Item, Member, Completion, OpenCall, channel_of}
+use Rattle.qrules.proofs.Common.{ℕ, ◌==◌, ◌&&◌, Bool, List, [], ◌∷◌, length, Option, None, Some, if◌then◌else◌, option_and_then, ◌+◌, is_some, CallNo, ChannelId, Priority, ThreadNo, Event, Trace, OpenChannel, SentItem, ReceiveId, number_of, facts_of, item_made_by, items_and_priorities, list_any, option_map_or, Item, Member, Completion, OpenCall, channel_of}
 use Rattle.qrules.proofs.Words.Facts.{count_to, is_fixed, with_buffer, held_call}
 use Rattle.qrules.proofs.Words.Items.{item_in}
 pub use Rattle.qrules.specs.Past.{accepted_at, attached_connection, channel_at, connection_at}

@@ -1,6 +1,5 @@
 -- What the calls share that end others by force.
-use Rattle.qrules.proofs.Common.{◌≡◌, ◌∙◌, ℕ, ap, refl, sym, cond, true, false, none-some, same_Some, Errno, row_of, cancel_call, cancels, cancel_where, Call, Completion, OpenCall, Transfer}
-use Rattle.std.specs.Prelude.{Bool, Option, None, Some}
+use Rattle.qrules.proofs.Common.{◌≡◌, ◌∙◌, ℕ, ap, refl, sym, cond, true, false, none-some, same_Some, Errno, row_of, cancel_call, cancels, cancel_where, Call, Completion, OpenCall, Transfer, Bool, Option, None, Some}
 use Rattle.std.proofs.lemmas.Bool.{true≢false}
 use Rattle.qrules.proofs.Words.Items.{receipt_of, item_in}
 use Rattle.qrules.proofs.Words.Facts.{Facts, sender}

@@ -1,7 +1,6 @@
 -- The laws of ConnectDetach.
 use Rattle.qrules.proofs.Traces.Rows.{pulse_same}
-use Rattle.qrules.proofs.Common.{◌≡◌, ◌∙◌, ◌⊎◌, ℕ, [], ap, refl, sym, subst, cond, eqb, true, false, inl, inr, is_over, cancels, deliver, refusal_if_full_for, cancel_where, tells_disconnect, disconnect_item, none-some, same_Some, option_or, Badf, Inval, is_pulse, Connection, row_of, disconnect_pulse, OpenChannel, SentItem, ConnectDetach, Completion, ReceivedItem}
-use Rattle.std.specs.Prelude.{Option, None, Some, is_some, ◌&&◌}
+use Rattle.qrules.proofs.Common.{◌≡◌, ◌∙◌, ◌⊎◌, ℕ, [], ap, refl, sym, subst, cond, eqb, true, false, inl, inr, is_over, cancels, deliver, refusal_if_full_for, cancel_where, tells_disconnect, disconnect_item, none-some, same_Some, option_or, Badf, Inval, is_pulse, Connection, row_of, disconnect_pulse, OpenChannel, SentItem, ConnectDetach, Completion, ReceivedItem, Option, None, Some, is_some, ◌&&◌}
 use Rattle.std.proofs.lemmas.Bool.{true≢false, and_parts}
 use Rattle.qrules.proofs.Words.Items.{receipt_of, ends_receiver, pulse_receipt, Received, item_in}
 use Rattle.qrules.proofs.Traces.Parts.{connections_between, due_pulse_over, is_own}

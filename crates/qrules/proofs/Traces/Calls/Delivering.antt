@@ -1,6 +1,5 @@
 -- The laws of a call that delivers an item.
-use Rattle.qrules.proofs.Common.{◌≡◌, ◌∙◌, ℕ, List, ap, refl, sym, subst, inl, cond, eqb, true, false, option_map, Receive, Send, eqb-true, ne_eqb, none-some, same_Some, Item, Connection, completion_to, row_of, newest_receiver, receipt_completion, takes, SentItem, Call, Completion, OpenCall, eqb_same, ReceivedItem}
-use Rattle.std.specs.Prelude.{Option, None, Some, is_some}
+use Rattle.qrules.proofs.Common.{◌≡◌, ◌∙◌, ℕ, List, ap, refl, sym, subst, inl, cond, eqb, true, false, option_map, Receive, Send, eqb-true, ne_eqb, none-some, same_Some, Item, Connection, completion_to, row_of, newest_receiver, receipt_completion, takes, SentItem, Call, Completion, OpenCall, eqb_same, ReceivedItem, Option, None, Some, is_some}
 use Rattle.qrules.proofs.Words.Items.{receipt_of, delivers, receiver, receipt_by, receipt_when_sent, Received, item_in, receipt_in, item_sent_over}
 use Rattle.qrules.proofs.Words.Facts.{Facts, route}
 use Rattle.qrules.proofs.Traces.Parts.{leads_to}

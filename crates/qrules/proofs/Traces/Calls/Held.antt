@@ -1,6 +1,5 @@
 -- What the calls on held messages share: whose message is held, and how an answer ends its Send.
-use Rattle.qrules.proofs.Common.{◌≡◌, ◌∙◌, ℕ, List, ap, refl, sym, subst, cond, eqb, Bool, true, false, is_some, holds, Receive, Send, none-some, same_Some, Errno, refusal_unless_held, Completion, OpenCall, Receipt, some_of}
-use Rattle.std.specs.Prelude.{Option, None, Some}
+use Rattle.qrules.proofs.Common.{◌≡◌, ◌∙◌, ℕ, List, ap, refl, sym, subst, cond, eqb, Bool, true, false, is_some, holds, Receive, Send, none-some, same_Some, Errno, refusal_unless_held, Completion, OpenCall, Receipt, some_of, Option, None, Some}
 use Rattle.std.specs.Option.{option_and_then}
 use Rattle.std.proofs.lemmas.Bool.{eqb-true, true≢false, and_parts}
 use Rattle.qrules.proofs.Messages.{held_same}

@@ -1,6 +1,5 @@
 -- The laws of Info.
-use Rattle.qrules.proofs.Common.{◌≡◌, ℕ, refl, subst, option_map, Info, none-some, same_Some, info_of, Completion}
-use Rattle.std.specs.Prelude.{Option, None, Some}
+use Rattle.qrules.proofs.Common.{◌≡◌, ℕ, refl, subst, option_map, Info, none-some, same_Some, info_of, Completion, Option, None, Some}
 use Rattle.qrules.proofs.Words.Items.{info_completion}
 use Rattle.qrules.proofs.Words.Facts.{Facts, sender}
 use Rattle.qmodel.specs.declared.call.Info.{Info as Told}

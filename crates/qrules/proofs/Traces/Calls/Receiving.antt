@@ -1,6 +1,5 @@
 -- The laws of a call that receives.
-use Rattle.qrules.proofs.Common.{◌≡◌, ◌∙◌, ℕ, List, ap, refl, sym, subst, inr, true≢false, Receive, none-some, same_Some, best_of, Item, Kind, row_of, receipt_completion, Call, Completion, OpenCall, eqb_same, ReceivedItem}
-use Rattle.std.specs.Prelude.{Option, None, Some}
+use Rattle.qrules.proofs.Common.{◌≡◌, ◌∙◌, ℕ, List, ap, refl, sym, subst, inr, true≢false, Receive, none-some, same_Some, best_of, Item, Kind, row_of, receipt_completion, Call, Completion, OpenCall, eqb_same, ReceivedItem, Option, None, Some}
 use Rattle.qrules.proofs.Words.Items.{receipt_of, own_receipt, receipt_when_taken, sender_for, Received, item_in}
 use Rattle.qrules.proofs.Words.Facts.{Facts, message}
 use Rattle.qrules.proofs.Words.Effects.{asks, makes, writes}

@@ -1,6 +1,5 @@
 -- An open call that takes an item.
-use Rattle.qrules.proofs.Common.{◌≡◌, ℕ, List, cond, true, false, refl, subst, delivery_of, takes_into, takes, Receive, Send, number_of, none-some, same_Some, laid_count, lay_over, is_pulse, Item, Completion, Mark, OpenCall, ReceivedItem}
-use Rattle.std.specs.Prelude.{Option, None, Some}
+use Rattle.qrules.proofs.Common.{◌≡◌, ℕ, List, cond, true, false, refl, subst, delivery_of, takes_into, takes, Receive, Send, number_of, none-some, same_Some, laid_count, lay_over, is_pulse, Item, Completion, Mark, OpenCall, ReceivedItem, Option, None, Some}
 use Rattle.qrules.proofs.Words.Past.{is_failure}
 use Rattle.qrules.proofs.Words.Items.{item_in, Received, receipt_in}
 use Rattle.qrules.proofs.Traces.Past.Laws.{is_settled}

@@ -1,7 +1,6 @@
 -- The laws of Unblock.
 use Rattle.qrules.proofs.Traces.Rows.{unblocked_same}
-use Rattle.qrules.proofs.Common.{◌≡◌, ◌∙◌, ℕ, [], ap, refl, sym, subst, cond, eqb, Bool, true, false, option_and_then, unblock_pulse, guards, pulse_for, tells_unblock, Receive, Send, none-some, same_Some, Intr, Srch, is_pulse, row_of, OpenChannel, SentItem, refusal_if_full_for, Unblock, Completion, OpenCall, Receipt, ReceivedItem}
-use Rattle.std.specs.Prelude.{Option, None, Some, is_some, not, ◌&&◌}
+use Rattle.qrules.proofs.Common.{◌≡◌, ◌∙◌, ℕ, [], ap, refl, sym, subst, cond, eqb, Bool, true, false, option_and_then, unblock_pulse, guards, pulse_for, tells_unblock, Receive, Send, none-some, same_Some, Intr, Srch, is_pulse, row_of, OpenChannel, SentItem, refusal_if_full_for, Unblock, Completion, OpenCall, Receipt, ReceivedItem, Option, None, Some, is_some, not, ◌&&◌}
 use Rattle.std.proofs.lemmas.Bool.{true≢false, and_parts, not-true}
 use Rattle.qrules.proofs.Words.Items.{receipt_of, ends_unblocked, pulse_receipt, Received, item_in, unblock_item}
 use Rattle.qrules.proofs.Traces.Parts.{due_pulse_of_open}

@@ -1,10 +1,6 @@
 -- What an open call waits for after an event, and what it waited for before.
-use Rattle.qrules.proofs.Common.{◌≡◌, ℕ, List, refl, ap, sym, ◌∙◌, cond, Bool, true, false, eqb, option_map, none-some, same_Some, lay_over, with_buffer, held_call, is_thread, unblocked_call, written_call, SentItem, Call, OpenCall, Receipt, Transfer}
-use Rattle.std.specs.Prelude.{Option, None, Some, is_some, ◌&&◌}
-use Rattle.qrules.proofs.Words.Items.{receipt_of, Received}
-use Rattle.qrules.proofs.Words.Facts.{Facts, sender}
-use Rattle.qrules.proofs.Words.Effects.{makes, unblocks, writes}
-use Rattle.qrules.proofs.Words.Step.{after_receipt, after_unblock, after_write, unless}
+use Rattle.qrules.proofs.Common.{◌≡◌, ℕ, List, refl, ap, sym, ◌∙◌, cond, Bool, true, false, eqb, option_map, none-some, same_Some, lay_over, with_buffer, held_call, is_thread, unblocked_call, written_call, SentItem, Call, OpenCall, Receipt, Transfer, Option, None, Some, is_some, ◌&&◌}
+use Rattle.qrules.proofs.Basics.{receipt_of, Received, Facts, sender, makes, unblocks, writes, after_receipt, after_unblock, after_write, unless}
 
 -- what is so of a wait was so of it before
 pub record IsBefore {A : Type 0} (g : OpenCall → A) (before : Option OpenCall) (o : OpenCall) : Type 0 where

@@ -1,6 +1,5 @@
 -- The item that is received first among those that wait.
-use Rattle.qrules.proofs.Common.{◌≡◌, ℕ, ◌<◌, ◌≤◌, List, [], ◌∷◌, refl, sym, subst, ◌∙◌, cond, arith, true, false, option_map, best_of, first_of_two, may_take, AllByRecursion, none-some, same_Some, IsRising, Item, Kind, all_more}
-use Rattle.std.specs.Prelude.{Option, None, Some, nat_lt}
+use Rattle.qrules.proofs.Common.{◌≡◌, ℕ, ◌<◌, ◌≤◌, List, [], ◌∷◌, refl, sym, subst, ◌∙◌, cond, arith, true, false, option_map, best_of, first_of_two, may_take, AllByRecursion, none-some, same_Some, IsRising, Item, Kind, all_more, Option, None, Some, nat_lt}
 use Rattle.std.proofs.lemmas.Bool.{ltb-true, true≢false}
 
 -- of what may be taken with the priority of x, nothing was made before x

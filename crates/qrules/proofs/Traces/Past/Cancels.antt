@@ -1,19 +1,9 @@
 -- Which of the messages that are pending a call ends by force.
-use Rattle.qrules.proofs.Common.{◌≡◌, ℕ, List, refl, ap, sym, subst, ◌∙◌, true, false, eqb, is_for_receipt, is_unread_send, Receive, Send, any_never, any_only, filter_whole, none_of, none-some, and-false, is_pulse, Item, Member, Outcome, row_of, is_on, Trace, Call, Completion, OpenCall}
-use Rattle.std.specs.Prelude.{Option, None, Some, is_some, not, ◌&&◌, ◌||◌}
+use Rattle.qrules.proofs.Common.{◌≡◌, ℕ, List, refl, ap, sym, subst, ◌∙◌, true, false, eqb, is_for_receipt, is_unread_send, Receive, Send, any_never, any_only, filter_whole, none_of, none-some, and-false, is_pulse, Item, Member, Outcome, row_of, is_on, Trace, Call, Completion, OpenCall, Option, None, Some, is_some, not, ◌&&◌, ◌||◌}
 use Rattle.std.proofs.lemmas.Bool.{eqb-true, eqb-false, eq-eqb, ne_eqb, true≢false, and_parts, or_parts, false_from_ne_true}
-use Rattle.qrules.proofs.Words.Facts.{Facts, threads_of, number_of, is_for_answer}
-use Rattle.qrules.proofs.Words.Lawful.{facts_of, IsLawful, with_event}
-use Rattle.qrules.proofs.Words.Past.{has_completion_of, is_ended, is_received, open_call, priority_of_item, copied_count_of, sender_of, filled, with_receipt}
-use Rattle.qrules.proofs.Words.Step.{is_cancelled, uncancelled_items}
-use Rattle.qrules.proofs.Traces.Past.Ends.{ends_other, open_known, passes_of}
-use Rattle.qrules.proofs.Traces.Past.Items.{IsPending, item_at, item_message}
-use Rattle.qrules.proofs.Traces.Past.Laws.{IsSettled, is_settled}
-use Rattle.qrules.proofs.Traces.Past.Numbers.{block_fresh}
-use Rattle.qrules.proofs.Traces.Past.Open.{filled_answer, filled_settled, open_from, open_parts, open_thread, is_unblocked, buffer_on, buffer_number}
+use Rattle.qrules.proofs.Basics.{Facts, threads_of, number_of, is_for_answer, facts_of, IsLawful, with_event, has_completion_of, is_ended, is_received, open_call, priority_of_item, copied_count_of, sender_of, filled, with_receipt, is_cancelled, uncancelled_items, ends_other, open_known, passes_of, IsPending, item_at, item_message, IsSettled, is_settled, block_fresh, filled_answer, filled_settled, open_from, open_parts, open_thread, is_unblocked, buffer_on, buffer_number, known}
 use Rattle.qrules.proofs.Traces.Properties.Messages.{item_waits, pending_going}
 use Rattle.qrules.proofs.Traces.Properties.Sends.{block_sender, block_on}
-use Rattle.qrules.proofs.Traces.Rosters.{known}
 
 -- ---- a Send that isn't received
 

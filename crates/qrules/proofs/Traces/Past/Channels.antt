@@ -1,15 +1,7 @@
 -- Which channels are open after one more event.
-use Rattle.qrules.proofs.Common.{◌≡◌, ℕ, ◌+◌, List, ◌∷◌, length, refl, sym, subst, cond, true, false, ChannelCreate, ChannelDestroy, none-some, Inval, member_at, Member, Outcome, row_of, OpenChannel, Event, Trace, Call, Completion}
-use Rattle.std.specs.Prelude.{Option, None, Some, is_some, ◌||◌}
+use Rattle.qrules.proofs.Common.{◌≡◌, ℕ, ◌+◌, List, ◌∷◌, length, refl, sym, subst, cond, true, false, ChannelCreate, ChannelDestroy, none-some, Inval, member_at, Member, Outcome, row_of, OpenChannel, Event, Trace, Call, Completion, Option, None, Some, is_some, ◌||◌}
 use Rattle.std.proofs.lemmas.Bool.{eqb-true, true≢false}
-use Rattle.qrules.proofs.Words.Facts.{Facts, owns}
-use Rattle.qrules.proofs.Traces.Parts.{is_owned_by}
-use Rattle.qrules.proofs.Words.Lawful.{facts_of, IsLawful, with_event}
-use Rattle.qrules.proofs.Words.Effects.{closes, creates}
-use Rattle.qrules.proofs.Words.Past.{channel_at, is_destroyed, open_channels, refuses}
-use Rattle.qrules.proofs.Words.Items.{names}
-use Rattle.qrules.proofs.Words.Step.{channel_after, one_for}
-use Rattle.qrules.proofs.Traces.Past.Ends.{passes_of}
+use Rattle.qrules.proofs.Basics.{Facts, owns, is_owned_by, facts_of, IsLawful, with_event, closes, creates, channel_at, is_destroyed, open_channels, refuses, names, channel_after, one_for, passes_of}
 use Rattle.qrules.proofs.Traces.Past.Live.{IsLive, count_live_accepted, count_live_refused, gone_accepted, gone_refused, live_accepted, live_parts, live_refused}
 
 -- ---- by each call's row

@@ -1,15 +1,7 @@
 -- Which connections are live after one more event.
-use Rattle.qrules.proofs.Common.{◌≡◌, ℕ, ◌+◌, List, ◌∷◌, length, refl, ap, sym, subst, cond, true, false, ConnectAttach, ConnectDetach, none-some, Inval, member_at, Connection, Member, Outcome, row_of, disconnect_pulse, refusal_if_full_for, Event, Trace, Call, Completion}
-use Rattle.std.specs.Prelude.{Option, None, Some, is_some}
+use Rattle.qrules.proofs.Common.{◌≡◌, ℕ, ◌+◌, List, ◌∷◌, length, refl, ap, sym, subst, cond, true, false, ConnectAttach, ConnectDetach, none-some, Inval, member_at, Connection, Member, Outcome, row_of, disconnect_pulse, refusal_if_full_for, Event, Trace, Call, Completion, Option, None, Some, is_some}
 use Rattle.std.proofs.lemmas.Bool.{eqb-true, true≢false}
-use Rattle.qrules.proofs.Traces.Parts.{is_own}
-use Rattle.qrules.proofs.Words.Facts.{Facts}
-use Rattle.qrules.proofs.Words.Lawful.{facts_of, IsLawful, with_event}
-use Rattle.qrules.proofs.Words.Effects.{attaches, detaches}
-use Rattle.qrules.proofs.Words.Past.{attached_connection, connection_at, live_connections, refuses}
-use Rattle.qrules.proofs.Words.Items.{names}
-use Rattle.qrules.proofs.Words.Step.{connection_after, one_for}
-use Rattle.qrules.proofs.Traces.Past.Ends.{passes_of}
+use Rattle.qrules.proofs.Basics.{is_own, Facts, facts_of, IsLawful, with_event, attaches, detaches, attached_connection, connection_at, live_connections, refuses, names, connection_after, one_for, passes_of}
 use Rattle.qrules.proofs.Traces.Past.Live.{count_live_accepted, count_live_refused, live_accepted, live_parts, live_refused}
 
 -- ---- by each call's row

@@ -1,6 +1,5 @@
 -- What an item is worth by now, after one more event.
-use Rattle.qrules.proofs.Common.{◌≡◌, ℕ, ◌+◌, ◌<◌, ◌≤◌, List, [], ◌∷◌, map, length, refl, ap, sym, ◌∙◌, cond, arith, true, false, eqb, option_map, option_or, ne_eqb, is_pulse, with_priority, Item, SentItem, Event, Trace, eqb_same}
-use Rattle.std.specs.Prelude.{Option, None, Some, filter, not, ◌||◌, option_and_then, unwrap_or}
+use Rattle.qrules.proofs.Common.{◌≡◌, ℕ, ◌+◌, ◌<◌, ◌≤◌, List, [], ◌∷◌, map, length, refl, ap, sym, ◌∙◌, cond, arith, true, false, eqb, option_map, option_or, ne_eqb, is_pulse, with_priority, Item, SentItem, Event, Trace, eqb_same, Option, None, Some, filter, not, ◌||◌, option_and_then, unwrap_or}
 use Rattle.qrules.proofs.Words.Effects.{sets, thread_of_send}
 use Rattle.qrules.proofs.Words.Past.{items_by_now, is_accepted, is_gone, is_received, item_among, is_unblock_for, sender_of, priority_set_by, priority_set_since, unblocked_among, current_priority}
 use Rattle.qrules.proofs.Words.Items.{priority_set_for}

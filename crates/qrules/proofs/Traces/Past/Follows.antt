@@ -1,12 +1,8 @@
 -- The facts after one more event are those that its row says.
-use Rattle.qrules.proofs.Common.{◌≡◌, ℕ, ◌+◌, List, length, refl, arith, Bool, true, false, member_at, IsRoster, Member, Outcome, Event, Trace, Call, Completion}
-use Rattle.std.specs.Prelude.{is_some}
-use Rattle.qrules.proofs.Words.Lawful.{facts_of, IsLawful, with_event}
-use Rattle.qrules.proofs.Words.Past.{refuses}
-use Rattle.qrules.proofs.Words.Step.{Follows}
+use Rattle.qrules.proofs.Common.{◌≡◌, ℕ, ◌+◌, List, length, refl, arith, Bool, true, false, member_at, IsRoster, Member, Outcome, Event, Trace, Call, Completion, is_some}
+use Rattle.qrules.proofs.Basics.{facts_of, IsLawful, with_event, refuses, Follows, accepted, refused}
 use Rattle.qrules.proofs.Traces.Past.Channels.{channel_accepted, channel_refused, open_channels_accepted, open_channels_refused}
 use Rattle.qrules.proofs.Traces.Past.Connections.{connection_accepted, connection_refused, live_connections_accepted, live_connections_refused}
-use Rattle.qrules.proofs.Traces.Past.Ends.{accepted, refused}
 use Rattle.qrules.proofs.Traces.Past.OpenCalls.{open_refused, open_accepted}
 use Rattle.qrules.proofs.Traces.Past.Pending.{pending_refused, pending_accepted}
 use Rattle.qrules.proofs.Traces.Past.Priorities.{priority_accepted, priority_refused}

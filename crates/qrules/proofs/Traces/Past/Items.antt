@@ -1,6 +1,5 @@
 -- The items that were made: one of each number, with its channel and priority.
-use Rattle.qrules.proofs.Common.{◌≡◌, ◌≢◌, ℕ, ◌+◌, ◌≤◌, List, [], ◌∷◌, ◌++◌, map, length, refl, ap, sym, subst, ◌∙◌, cond, arith, true, false, eqb, append-nil, option_map, option_to_list, eqb_same, all_append, all_map, all_more, all_passing, number_of, AllByRecursion, same_Some, none-some, Item, is_pulse, Member, call_at, SentItem, Event, Trace, Call, OpenCall}
-use Rattle.std.specs.Prelude.{Option, None, Some, not, filter}
+use Rattle.qrules.proofs.Common.{◌≡◌, ◌≢◌, ℕ, ◌+◌, ◌≤◌, List, [], ◌∷◌, ◌++◌, map, length, refl, ap, sym, subst, ◌∙◌, cond, arith, true, false, eqb, append-nil, option_map, option_to_list, eqb_same, all_append, all_map, all_more, all_passing, number_of, AllByRecursion, same_Some, none-some, Item, is_pulse, Member, call_at, SentItem, Event, Trace, Call, OpenCall, Option, None, Some, not, filter}
 use Rattle.std.proofs.lemmas.Bool.{eqb-true, eq-eqb, ne_eqb, not-true}
 use Rattle.qrules.proofs.Words.Facts.{is_for_answer}
 use Rattle.qrules.proofs.Words.Lawful.{facts_of}

@@ -1,6 +1,5 @@
 -- What is owed of each call: the laws on which the lemmas about all calls stand.
-use Rattle.std.specs.Prelude.{◌≡◌, ◌⊎◌, ℕ, Bool, true, false, is_some, not, Option, None, Some}
-use Rattle.qrules.proofs.Common.{option_map, Receive, Send, thread_of, best_of, is_pulse, Item, Kind, completion_to, row_of, SentItem, Call, ChannelDestroy, Shutdown, Unblock, ConnectDetach, Completion, OpenCall, Transfer, ReceivedItem, is_on}
+use Rattle.qrules.proofs.Common.{◌≡◌, ◌⊎◌, ℕ, Bool, true, false, is_some, not, Option, None, Some, option_map, Receive, Send, thread_of, best_of, is_pulse, Item, Kind, completion_to, row_of, SentItem, Call, ChannelDestroy, Shutdown, Unblock, ConnectDetach, Completion, OpenCall, Transfer, ReceivedItem, is_on}
 use Rattle.qrules.proofs.Words.Items.{receipt_of, sender_for, Received, item_in}
 use Rattle.qrules.proofs.Words.Facts.{Facts, sender, number_of, is_for_answer}
 use Rattle.qrules.proofs.Words.Past.{is_failure, is_unblock_for}

@@ -1,14 +1,7 @@
 -- What was made under a number and isn't ended since: channels and connections alike.
-use Rattle.qrules.proofs.Common.{◌≡◌, ℕ, zero, suc, ◌+◌, ◌≤◌, List, [], ◌∷◌, length, refl, ap, sym, subst, ◌∙◌, cond, arith, Bool, true, false, eqb, inl, inr, Effect, none-some, member_at, Member, Outcome, Event, Trace, Call, Completion, cond_same, eqb_same, effect_of}
-use Rattle.std.specs.Prelude.{Option, None, Some, is_some, ◌||◌}
+use Rattle.qrules.proofs.Common.{◌≡◌, ℕ, zero, suc, ◌+◌, ◌≤◌, List, [], ◌∷◌, length, refl, ap, sym, subst, ◌∙◌, cond, arith, Bool, true, false, eqb, inl, inr, Effect, none-some, member_at, Member, Outcome, Event, Trace, Call, Completion, cond_same, eqb_same, effect_of, Option, None, Some, is_some, ◌||◌}
 use Rattle.std.proofs.lemmas.Bool.{eqb-true, eqb-false, ne_eqb, or_cases, true≢false}
-use Rattle.qrules.proofs.Words.Facts.{count_to}
-use Rattle.qrules.proofs.Words.Lawful.{facts_of, IsLawful, with_event}
-use Rattle.qrules.proofs.Words.Past.{is_accepted, accepted_at, refuses, was_done}
-use Rattle.qrules.proofs.Words.Items.{names}
-use Rattle.qrules.proofs.Words.Step.{put_at, one_for}
-use Rattle.qrules.proofs.Traces.Past.Ends.{accepted, refused}
-use Rattle.qrules.proofs.Traces.Past.Numbers.{made_beyond, made_below}
+use Rattle.qrules.proofs.Basics.{count_to, facts_of, IsLawful, with_event, is_accepted, accepted_at, refuses, was_done, names, put_at, one_for, accepted, refused, made_beyond, made_below}
 
 -- what is made has a number from 1 on
 pub made_above : {A : Type 0} (make : Event → Option A) (past : Trace) (i : ℕ) (x : A) → accepted_at make past i ≡ Some x → 1 ≤ i

@@ -1,18 +1,9 @@
 -- Each open Send goes over a live connection: a call that detaches one ends all Sends over it.
-use Rattle.qrules.proofs.Common.{◌≡◌, ℕ, List, [], ◌∷◌, refl, ap, sym, ◌∙◌, cond, Bool, true, false, eqb, inl, inr, Receive, Send, none-some, same_Some, member_at, Member, row_of, is_over, unblocked_call, Trace, Call, ConnectDetach, OpenCall, channel_of}
-use Rattle.std.specs.Prelude.{Option, None, Some, is_some}
+use Rattle.qrules.proofs.Common.{◌≡◌, ℕ, List, [], ◌∷◌, refl, ap, sym, ◌∙◌, cond, Bool, true, false, eqb, inl, inr, Receive, Send, none-some, same_Some, member_at, Member, row_of, is_over, unblocked_call, Trace, Call, ConnectDetach, OpenCall, channel_of, Option, None, Some, is_some}
 use Rattle.std.proofs.lemmas.Bool.{eqb-true, eq-eqb, true≢false}
-use Rattle.qrules.proofs.Words.Facts.{Facts, is_for_answer}
-use Rattle.qrules.proofs.Words.Effects.{asks, attaches, detaches, makes, unblocks, writes}
-use Rattle.qrules.proofs.Words.Lawful.{facts_of, IsLawful}
-use Rattle.qrules.proofs.Words.Past.{attached_connection, connection_at, open_call}
-use Rattle.qrules.proofs.Words.Items.{receipt_of, names}
-use Rattle.qrules.proofs.Words.Step.{after_receipt, after_unblock, after_write, connection_after, open_call_after, put_at, unless}
+use Rattle.qrules.proofs.Basics.{Facts, is_for_answer, asks, attaches, detaches, makes, unblocks, writes, facts_of, IsLawful, attached_connection, connection_at, open_call, receipt_of, names, after_receipt, after_unblock, after_write, connection_after, open_call_after, put_at, unless, passes_of, refused, Passes, buffer_answer, held_for_answer}
 use Rattle.qrules.proofs.Traces.Past.Before.{Lasts, before_other, before_receipt, unless_is}
 use Rattle.qrules.proofs.Traces.Past.Connections.{connection_accepted, connection_refused, live_attached}
-use Rattle.qrules.proofs.Traces.Past.Ends.{passes_of, refused}
-use Rattle.qrules.proofs.Traces.Past.Laws.{Passes}
-use Rattle.qrules.proofs.Traces.Past.Open.{buffer_answer, held_for_answer}
 use Rattle.qrules.proofs.Traces.Past.OpenCalls.{open_accepted, open_refused}
 use Rattle.qrules.proofs.Traces.Properties.Answers.{over, sends_over}
 use Rattle.qrules.proofs.Traces.Properties.Sends.{buffer_over, held_over}

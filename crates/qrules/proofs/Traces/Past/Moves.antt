@@ -1,18 +1,8 @@
 -- A pending message that moves as the priority of its sender is set.
-use Rattle.qrules.proofs.Common.{◌≡◌, ℕ, ◌≤◌, List, [], ◌∷◌, ◌++◌, map, length, refl, ap, sym, ◌∙◌, cond, Bool, true, false, eqb, inl, inr, AllByRecursion, map-append, is_pulse, with_priority, without_item, Item, Member, Outcome, is_unread_send, Event, Trace, Call, Completion, all_map, all_more, PriorityChange}
-use Rattle.std.specs.Prelude.{Option, None, Some, filter, not, unwrap_or}
+use Rattle.qrules.proofs.Common.{◌≡◌, ℕ, ◌≤◌, List, [], ◌∷◌, ◌++◌, map, length, refl, ap, sym, ◌∙◌, cond, Bool, true, false, eqb, inl, inr, AllByRecursion, map-append, is_pulse, with_priority, without_item, Item, Member, Outcome, is_unread_send, Event, Trace, Call, Completion, all_map, all_more, PriorityChange, Option, None, Some, filter, not, unwrap_or}
 use Rattle.std.proofs.lemmas.Bool.{eqb-true, eq-eqb, or_parts}
-use Rattle.qrules.proofs.Words.Facts.{Facts, number_of}
-use Rattle.qrules.proofs.Words.Effects.{makes, sets}
-use Rattle.qrules.proofs.Words.Lawful.{IsLawful, facts_of, with_event}
-use Rattle.qrules.proofs.Words.Past.{is_gone, is_received, made_on, priority_set_by, current_priority}
-use Rattle.qrules.proofs.Words.Items.{Received}
-use Rattle.qrules.proofs.Words.Step.{is_cancelled, uncancelled_items, items_with_priority_set, unreceived_items}
-use Rattle.qrules.proofs.Traces.Calls.PrioritySet.{sets_alone}
+use Rattle.qrules.proofs.Basics.{Facts, number_of, makes, sets, IsLawful, facts_of, with_event, is_gone, is_received, made_on, priority_set_by, current_priority, Received, is_cancelled, uncancelled_items, items_with_priority_set, unreceived_items, sets_alone, accepted, Stands, item_below, standing_is, now, sets_none, worth_set, worth_stays}
 use Rattle.qrules.proofs.Traces.Past.Cancels.{pulse_unread, sent_by, unread_elsewhere}
-use Rattle.qrules.proofs.Traces.Past.Ends.{accepted}
-use Rattle.qrules.proofs.Traces.Past.Items.{Stands, item_below, standing_is}
-use Rattle.qrules.proofs.Traces.Past.CurrentPriority.{now, sets_none, worth_set, worth_stays}
 
 -- ---- items that are changed in their priority alone
 

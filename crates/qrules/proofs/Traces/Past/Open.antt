@@ -1,6 +1,5 @@
 -- The open call of a thread: its newest blocking call, unless that is ended.
-use Rattle.qrules.proofs.Common.{◌≡◌, ℕ, ◌+◌, ◌≤◌, List, [], ◌∷◌, length, refl, ap, sym, subst, ◌∙◌, cond, arith, Bool, true, false, option_map, Receive, Send, thread_of, number_of, same_Some, none-some, Member, Trace, SentItem, OpenCall, Receipt, with_buffer, held_call, channel_of, item_among, none_of, is_on}
-use Rattle.std.specs.Prelude.{Option, None, Some, is_some, not}
+use Rattle.qrules.proofs.Common.{◌≡◌, ℕ, ◌+◌, ◌≤◌, List, [], ◌∷◌, length, refl, ap, sym, subst, ◌∙◌, cond, arith, Bool, true, false, option_map, Receive, Send, thread_of, number_of, same_Some, none-some, Member, Trace, SentItem, OpenCall, Receipt, with_buffer, held_call, channel_of, item_among, none_of, is_on, Option, None, Some, is_some, not}
 use Rattle.qrules.proofs.Traces.Past.Waits.{some_map}
 use Rattle.qmodel.specs.declared.open_call.OpenSend.{OpenSend}
 use Rattle.qrules.proofs.Words.Past.{is_received, items_by_now, call_by_now, is_ended, newest_block, unless_ended, open_call, copied_count_of, priority_of_item, unblocked_among, items, block, with_receipt, filled, with_writes, item_of}

@@ -1,26 +1,10 @@
 -- The open calls after one more event.
-use Rattle.qrules.proofs.Common.{◌≡◌, ◌≢◌, ℕ, ◌+◌, ◌≤◌, List, ◌∷◌, length, refl, ap, sym, subst, ◌∙◌, cond, arith, Bool, true, false, eqb, ◌⊎◌, inl, inr, option_map, option_to_list, option_or, and-false, or-true, or-false, none-some, same_Some, is_pulse, Item, member_at, Member, Outcome, row_of, SentItem, Event, Trace, held_call, is_thread, unblocked_call, written_call, Call, Completion, OpenCall, eqb_same, none_of, Transfer, channel_of}
-use Rattle.std.specs.Prelude.{Option, None, Some, is_some, not, ◌||◌, ◌&&◌}
+use Rattle.qrules.proofs.Common.{◌≡◌, ◌≢◌, ℕ, ◌+◌, ◌≤◌, List, ◌∷◌, length, refl, ap, sym, subst, ◌∙◌, cond, arith, Bool, true, false, eqb, ◌⊎◌, inl, inr, option_map, option_to_list, option_or, and-false, or-true, or-false, none-some, same_Some, is_pulse, Item, member_at, Member, Outcome, row_of, SentItem, Event, Trace, held_call, is_thread, unblocked_call, written_call, Call, Completion, OpenCall, eqb_same, none_of, Transfer, channel_of, Option, None, Some, is_some, not, ◌||◌, ◌&&◌}
 use Rattle.std.proofs.lemmas.Bool.{cases_Bool, eqb-true, eqb-false, eq-eqb, ne_eqb, or_parts, true≢false}
-use Rattle.qrules.proofs.Words.Items.{receipt_of, sender_for, Received, buffer_after_write}
-use Rattle.qrules.proofs.Words.Facts.{Facts, sender, threads_of, number_of}
-use Rattle.qrules.proofs.Words.Lawful.{facts_of, IsLawful, with_event}
-use Rattle.qrules.proofs.Words.Past.{refuses, has_completion_of, is_ended, is_received, item_of, copied_count_of, priority_of_item, unless_ended, open_call, unblocked_among, block, with_receipt, filled}
-use Rattle.qrules.proofs.Words.Effects.{asks, makes, unblocks, writes}
-use Rattle.qrules.proofs.Words.Step.{after_receipt, after_unblock, after_write, unless, open_call_after}
-use Rattle.qrules.proofs.Traces.Calls.PrioritySet.{sets_alone}
-use Rattle.qrules.proofs.Traces.Past.Laws.{IsReceived}
-use Rattle.qrules.proofs.Traces.Calls.{call_laws}
-use Rattle.qrules.proofs.Traces.Past.Numbers.{block_below}
-use Rattle.qrules.proofs.Traces.Past.Open.{filled_answer, open_from, open_thread, receipt_for_answer, is_unblocked, kept, kept_number, open_is}
-use Rattle.qrules.proofs.Traces.Past.Ends.{laws_of, passes_of, accepted, refused, refused_ends, ended_below, ends_other, ends_own, block_known}
-use Rattle.qrules.proofs.Traces.Past.Items.{item_at, item_answer, item_message, item_below, priority_earlier, priority_newest}
+use Rattle.qrules.proofs.Basics.{receipt_of, sender_for, Received, buffer_after_write, Facts, sender, threads_of, number_of, facts_of, IsLawful, with_event, refuses, has_completion_of, is_ended, is_received, item_of, copied_count_of, priority_of_item, unless_ended, open_call, unblocked_among, block, with_receipt, filled, asks, makes, unblocks, writes, after_receipt, after_unblock, after_write, unless, open_call_after, sets_alone, IsReceived, call_laws, block_below, filled_answer, open_from, open_thread, receipt_for_answer, is_unblocked, kept, kept_number, open_is, laws_of, passes_of, accepted, refused, refused_ends, ended_below, ends_other, ends_own, block_known, item_at, item_answer, item_message, item_below, priority_earlier, priority_newest, send_parts, send_from, sender_sends, sender_found, refused_sets_none, sets_none, taken_sets_none, known}
 use Rattle.qrules.proofs.Traces.Past.Receipts.{copied_by, accepted_receipts, refused_receipts, best_pending, best_priority, receipt_beyond}
-use Rattle.qrules.proofs.Traces.Past.Senders.{send_parts, send_from, sender_sends, sender_found}
 use Rattle.qrules.proofs.Traces.Past.Unblocked.{fresh_unblocked, marks, marks_it, none_unblocked, unblocked_after, unblocked_beyond, unblocked_by, unblocked_now}
-use Rattle.qrules.proofs.Traces.Past.CurrentPriority.{refused_sets_none, sets_none, taken_sets_none}
 use Rattle.qrules.proofs.Traces.Past.Writes.{changed, filled_accepted, filled_fresh, filled_refused, receipt_written, written_sender}
-use Rattle.qrules.proofs.Traces.Rosters.{known}
 use Rattle.qmodel.specs.declared.call.Call.TheVariants.{Send as CallSend}
 
 -- ---- a receipt, and the thread that waits for its answer

@@ -1,24 +1,12 @@
 -- What is pending after one more event.
-use Rattle.qrules.proofs.Common.{◌≡◌, ℕ, ◌+◌, ◌≤◌, List, [], ◌∷◌, ◌++◌, map, length, refl, ap, sym, subst, ◌∙◌, cond, arith, Bool, true, false, eqb, inl, inr, filter-append, filter_agree, cond_same, eqb_either, none_of, all_append, all_filter, all_more, filter_same, filter_twice, filter_all, filter_whole, any_never, AllByRecursion, option_to_list, option_or, same_Some, is_pulse, with_priority, without_item, Item, member_at, Member, Outcome, row_of, SentItem, Event, Trace, is_unread_send, Call, Completion}
-use Rattle.std.specs.Prelude.{Option, None, Some, is_some, not, ◌&&◌, ◌||◌, filter}
+use Rattle.qrules.proofs.Common.{◌≡◌, ℕ, ◌+◌, ◌≤◌, List, [], ◌∷◌, ◌++◌, map, length, refl, ap, sym, subst, ◌∙◌, cond, arith, Bool, true, false, eqb, inl, inr, filter-append, filter_agree, cond_same, eqb_either, none_of, all_append, all_filter, all_more, filter_same, filter_twice, filter_all, filter_whole, any_never, AllByRecursion, option_to_list, option_or, same_Some, is_pulse, with_priority, without_item, Item, member_at, Member, Outcome, row_of, SentItem, Event, Trace, is_unread_send, Call, Completion, Option, None, Some, is_some, not, ◌&&◌, ◌||◌, filter}
 use Rattle.std.proofs.lemmas.Bool.{eqb-true, eqb-false, ne_eqb, true≢false, or_parts, or_cases, or_left, or_right, and_parts, and_from}
 use Rattle.std.proofs.lemmas.List.{map-append, append-nil}
-use Rattle.qrules.proofs.Words.Items.{receipt_of, Received, names}
-use Rattle.qrules.proofs.Words.Lawful.{facts_of, IsLawful, with_event}
-use Rattle.qrules.proofs.Words.Past.{channel_at, has_completion_of, is_destroyed, is_ended, is_received, is_gone, items, item_of, pending_items, copied_count_among, copied_count_of, open_call, made_on}
-use Rattle.qrules.proofs.Words.Effects.{closes, makes, sets}
-use Rattle.qrules.proofs.Words.Step.{is_cancelled, uncancelled_items, items_with_priority_set, unreceived_items, pending_after}
-use Rattle.qrules.proofs.Traces.Past.Laws.{IsReceived}
+use Rattle.qrules.proofs.Basics.{receipt_of, Received, names, facts_of, IsLawful, with_event, channel_at, has_completion_of, is_destroyed, is_ended, is_received, is_gone, items, item_of, pending_items, copied_count_among, copied_count_of, open_call, made_on, closes, makes, sets, is_cancelled, uncancelled_items, items_with_priority_set, unreceived_items, pending_after, IsReceived, call_laws, laws_of, accepted, refused, refused_ends, ended_below, ends_own, IsPending, Stands, items_on, pending_is, stands_all, standing_is, staying, staying_all, item_at, item_below, now, refused_sets_none, worth_newest, worth_stays, open_below, threads_of, number_of}
 use Rattle.qrules.proofs.Traces.Past.Channels.{closed_accepted, closed_refused}
 use Rattle.qrules.proofs.Traces.Past.Cancels.{ended_is_cancelled}
-use Rattle.qrules.proofs.Traces.Calls.{call_laws}
-use Rattle.qrules.proofs.Traces.Past.Ends.{laws_of, accepted, refused, refused_ends, ended_below, ends_own}
-use Rattle.qrules.proofs.Traces.Past.Items.{IsPending, Stands, items_on, pending_is, stands_all, standing_is, staying, staying_all, item_at, item_below}
 use Rattle.qrules.proofs.Traces.Past.Moves.{left_map, moved_append, moved_left, moved_made, moved_nothing, moved_now, moved_out, out_map, same_now}
-use Rattle.qrules.proofs.Traces.Past.CurrentPriority.{now, refused_sets_none, worth_newest, worth_stays}
 use Rattle.qrules.proofs.Traces.Past.Receipts.{copied_by, accepted_receipts, refused_receipts, best_pending, receipt_beyond}
-use Rattle.qrules.proofs.Traces.Past.Open.{open_below}
-use Rattle.qrules.proofs.Words.Facts.{threads_of, number_of}
 
 -- ---- the items of a channel
 

@@ -1,19 +1,7 @@
 -- The priorities of the threads after one more event: what it sets, and what a receiver takes.
-use Rattle.qrules.proofs.Common.{◌≡◌, ℕ, ◌+◌, List, ◌∷◌, length, refl, ap, sym, subst, ◌∙◌, cond, arith, Bool, true, false, eqb, ◌⊎◌, inl, inr, option_map, option_or, filter_map, none-some, Item, member_at, Member, completion_to, Outcome, SentItem, Event, Trace, Call, Completion, ReceivedItem}
-use Rattle.std.specs.Prelude.{Option, None, Some, is_some, not, option_and_then, unwrap_or}
-use Rattle.qrules.proofs.Words.Items.{receipt_of, Received, item_in, priority_set_for}
-use Rattle.qrules.proofs.Words.Facts.{threads_of}
-use Rattle.qrules.proofs.Words.Lawful.{facts_of, IsLawful, with_event}
-use Rattle.qrules.proofs.Words.Past.{items_by_now, carried_priority, channel_at, first_among, priority_from_completion, item_of, items, item_among, priority_of_thread, refuses, current_priority}
-use Rattle.qrules.proofs.Words.Effects.{sets}
-use Rattle.qrules.proofs.Words.Step.{priority_taken, priority_after}
-use Rattle.qrules.proofs.Traces.Past.Ends.{accepted, completion_names, laws_of, refused}
-use Rattle.qrules.proofs.Traces.Past.Items.{item_at, item_below, item_earlier, item_found, item_newest, item_priority}
-use Rattle.qrules.proofs.Traces.Past.Laws.{RowLaws, IsReceipt, IsReceived}
+use Rattle.qrules.proofs.Common.{◌≡◌, ℕ, ◌+◌, List, ◌∷◌, length, refl, ap, sym, subst, ◌∙◌, cond, arith, Bool, true, false, eqb, ◌⊎◌, inl, inr, option_map, option_or, filter_map, none-some, Item, member_at, Member, completion_to, Outcome, SentItem, Event, Trace, Call, Completion, ReceivedItem, Option, None, Some, is_some, not, option_and_then, unwrap_or}
+use Rattle.qrules.proofs.Basics.{receipt_of, Received, item_in, priority_set_for, threads_of, facts_of, IsLawful, with_event, items_by_now, carried_priority, channel_at, first_among, priority_from_completion, item_of, items, item_among, priority_of_thread, refuses, current_priority, sets, priority_taken, priority_after, accepted, completion_names, laws_of, refused, item_at, item_below, item_earlier, item_found, item_newest, item_priority, RowLaws, IsReceipt, IsReceived, call_laws, among_now, now, worth_beyond, known}
 use Rattle.qrules.proofs.Traces.Past.Receipts.{among_none, among_one, best_pending, best_priority, completion_receives, given_known}
-use Rattle.qrules.proofs.Traces.Calls.{call_laws}
-use Rattle.qrules.proofs.Traces.Past.CurrentPriority.{among_now, now, worth_beyond}
-use Rattle.qrules.proofs.Traces.Rosters.{known}
 
 -- the item that is received is among those that were made, and what it is worth
 record IsReceivedAt (roster : List Member) (past : Trace) (e : Event) (r : Received) (item : Item) : Type 0 where

@@ -1,16 +1,7 @@
 -- What the endings of an event receive: just the receipt that its row says.
-use Rattle.qrules.proofs.Common.{◌≡◌, ℕ, ◌+◌, ◌<◌, ◌≤◌, List, [], ◌∷◌, length, refl, ap, sym, subst, ◌∙◌, cond, arith, true, false, eqb, ◌⊎◌, inl, inr, filter_map, cons_option, best_of, Item, Kind, best-at, member_at, Member, completion_to, Outcome, Answers, Trace, Call, Completion, is_among, ReceivedItem}
-use Rattle.std.specs.Prelude.{Option, None, Some, is_some}
+use Rattle.qrules.proofs.Common.{◌≡◌, ℕ, ◌+◌, ◌<◌, ◌≤◌, List, [], ◌∷◌, length, refl, ap, sym, subst, ◌∙◌, cond, arith, true, false, eqb, ◌⊎◌, inl, inr, filter_map, cons_option, best_of, Item, Kind, best-at, member_at, Member, completion_to, Outcome, Answers, Trace, Call, Completion, is_among, ReceivedItem, Option, None, Some, is_some}
 use Rattle.std.proofs.lemmas.Bool.{cases_Bool, eqb-true, ne_eqb, true≢false}
-use Rattle.qrules.proofs.Words.Items.{receipt_of, Received, item_in}
-use Rattle.qrules.proofs.Words.Facts.{Facts, threads_of}
-use Rattle.qrules.proofs.Words.Lawful.{facts_of, IsLawful}
-use Rattle.qrules.proofs.Words.Past.{copied_count_in, first_among, priority_of_item, copied_count_among, copied_count_of}
-use Rattle.qrules.proofs.Traces.Past.Laws.{RowLaws, IsReceipt, IsReceived}
-use Rattle.qrules.proofs.Traces.Calls.{call_laws}
-use Rattle.qrules.proofs.Traces.Past.Ends.{laws_of, completion_names, open_known}
-use Rattle.qrules.proofs.Traces.Past.Items.{IsPending, pending_all, pending_priorities, item_below}
-use Rattle.qrules.proofs.Traces.Rosters.{known}
+use Rattle.qrules.proofs.Basics.{receipt_of, Received, item_in, Facts, threads_of, facts_of, IsLawful, copied_count_in, first_among, priority_of_item, copied_count_among, copied_count_of, RowLaws, IsReceipt, IsReceived, call_laws, laws_of, completion_names, open_known, IsPending, pending_all, pending_priorities, item_below, known}
 
 -- ---- what is told of one among the endings that some threads get
 

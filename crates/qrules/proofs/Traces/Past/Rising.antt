@@ -1,11 +1,8 @@
 -- The items of a channel stand in rising number.
-use Rattle.qrules.proofs.Common.{◌≡◌, ℕ, ◌+◌, ◌<◌, ◌≤◌, List, [], ◌∷◌, ◌++◌, map, length, refl, sym, subst, cond, arith, true, false, eqb, AllByRecursion, IsRising, Item, Member, SentItem, Event, Trace, all_map, all_more}
-use Rattle.std.specs.Prelude.{Option, None, Some, not}
+use Rattle.qrules.proofs.Common.{◌≡◌, ℕ, ◌+◌, ◌<◌, ◌≤◌, List, [], ◌∷◌, ◌++◌, map, length, refl, sym, subst, cond, arith, true, false, eqb, AllByRecursion, IsRising, Item, Member, SentItem, Event, Trace, all_map, all_more, Option, None, Some, not}
 use Rattle.std.proofs.lemmas.List.{append-nil}
 use Rattle.qqueue.proofs.RisingLaws.{IsRising-push, IsRising-filter}
-use Rattle.qrules.proofs.Words.Past.{is_destroyed, is_gone, item_of, pending_items, made_on}
-use Rattle.qrules.proofs.Traces.Past.Items.{IsPending, Stands, items_on, stands_all, staying, pending_all, pending_is, item_below, made_by}
-use Rattle.qrules.proofs.Traces.Past.CurrentPriority.{now}
+use Rattle.qrules.proofs.Basics.{is_destroyed, is_gone, item_of, pending_items, made_on, IsPending, Stands, items_on, stands_all, staying, pending_all, pending_is, item_below, made_by, now}
 use Rattle.qrules.proofs.Traces.Past.Pending.{items_more}
 
 -- rising items, and one that is made after them

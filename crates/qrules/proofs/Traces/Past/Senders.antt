@@ -1,6 +1,5 @@
 -- The thread whose open call is the Send of a number.
-use Rattle.qrules.proofs.Common.{◌≡◌, ℕ, List, [], ◌∷◌, refl, ap, sym, subst, ◌∙◌, cond, true, false, eqb, sender_among, none-some, same_Some, OpenCall, is_among}
-use Rattle.std.specs.Prelude.{Option, None, Some}
+use Rattle.qrules.proofs.Common.{◌≡◌, ℕ, List, [], ◌∷◌, refl, ap, sym, subst, ◌∙◌, cond, true, false, eqb, sender_among, none-some, same_Some, OpenCall, is_among, Option, None, Some}
 use Rattle.std.proofs.lemmas.Bool.{eqb-true, eq-eqb, and_parts, and_from, true≢false, false_from_ne_true}
 use Rattle.qrules.proofs.Words.Facts.{is_send, number_of, is_for_answer}
 

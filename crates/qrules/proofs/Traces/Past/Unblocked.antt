@@ -1,16 +1,8 @@
 -- The messages for which an unblock pulse was made: each of them was received before.
-use Rattle.qrules.proofs.Common.{◌≡◌, ℕ, ◌+◌, ◌≤◌, List, [], ◌∷◌, length, refl, ap, sym, subst, ◌∙◌, cond, arith, Bool, true, false, eqb, inl, inr, option_map, option_to_list, option_or, and-false, or-true, or-false, Receive, Send, number_of, same_Some, Member, SentItem, Event, Trace, unblocked_call, held_call, Call, OpenCall, eqb_same}
-use Rattle.std.specs.Prelude.{Option, None, Some, is_some, ◌&&◌, ◌||◌}
+use Rattle.qrules.proofs.Common.{◌≡◌, ℕ, ◌+◌, ◌≤◌, List, [], ◌∷◌, length, refl, ap, sym, subst, ◌∙◌, cond, arith, Bool, true, false, eqb, inl, inr, option_map, option_to_list, option_or, and-false, or-true, or-false, Receive, Send, number_of, same_Some, Member, SentItem, Event, Trace, unblocked_call, held_call, Call, OpenCall, eqb_same, Option, None, Some, is_some, ◌&&◌, ◌||◌}
 use Rattle.std.proofs.lemmas.Bool.{cases_Bool, eqb-true, ne_eqb, true≢false, or_cases}
 use Rattle.std.proofs.lemmas.List.Folds.{list_any-append}
-use Rattle.qrules.proofs.Words.Effects.{makes, unblocks}
-use Rattle.qrules.proofs.Words.Lawful.{facts_of}
-use Rattle.qrules.proofs.Words.Past.{is_received, is_unblock_for, item_of, items, open_call, copied_count_among, copied_count_of, unblocked_among, with_receipt}
-use Rattle.qrules.proofs.Words.Step.{after_unblock}
-use Rattle.qrules.proofs.Traces.Calls.{call_laws}
-use Rattle.qrules.proofs.Traces.Past.Open.{open_receipt, open_below, open_thread, is_unblocked}
-use Rattle.qrules.proofs.Traces.Past.Items.{item_accepted}
-use Rattle.qrules.proofs.Traces.Past.CurrentPriority.{unblocked_among_now}
+use Rattle.qrules.proofs.Basics.{makes, unblocks, facts_of, is_received, is_unblock_for, item_of, items, open_call, copied_count_among, copied_count_of, unblocked_among, with_receipt, after_unblock, call_laws, open_receipt, open_below, open_thread, is_unblocked, item_accepted, unblocked_among_now}
 
 -- ---- what is unblocked
 

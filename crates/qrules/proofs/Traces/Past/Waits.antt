@@ -1,6 +1,5 @@
 -- A call that is accepted ends in its own event, or its thread waits.
-use Rattle.qrules.proofs.Common.{◌≡◌, ◌∙◌, ℕ, List, [], ◌∷◌, refl, ap, sym, cond, eqb, true, false, Bool, option_map, sender_among, none-some, same_Some, or-true, member_at, row_of, effect_of, info_of, Call, OpenCall, eqb_same, is_among, some_of}
-use Rattle.std.specs.Prelude.{Option, None, Some, is_some, ◌||◌}
+use Rattle.qrules.proofs.Common.{◌≡◌, ◌∙◌, ℕ, List, [], ◌∷◌, refl, ap, sym, cond, eqb, true, false, Bool, option_map, sender_among, none-some, same_Some, or-true, member_at, row_of, effect_of, info_of, Call, OpenCall, eqb_same, is_among, some_of, Option, None, Some, is_some, ◌||◌}
 use Rattle.std.proofs.lemmas.Bool.{true≢false}
 use Rattle.qrules.proofs.Words.Facts.{Facts, is_send, sender, threads_of}
 use Rattle.qmodel.specs.declared.call.Call.TheVariants.{Send, Receive, Info, ReceivePulse}

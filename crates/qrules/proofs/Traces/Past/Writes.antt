@@ -1,16 +1,6 @@
 -- What is written over the reply buffers of messages after one more event.
-use Rattle.qrules.proofs.Common.{◌≡◌, ℕ, ◌+◌, ◌<◌, ◌≤◌, List, [], ◌∷◌, length, refl, ap, sym, ◌∙◌, cond, arith, Bool, true, false, eqb, inl, inr, Receive, Send, cases_Bool, eqb-true, eqb-false, ne_eqb, same_Some, lay_over, Member, Outcome, with_buffer, is_thread, written_call, Event, Trace, Call, Completion, OpenCall, eqb_same, Transfer}
-use Rattle.std.specs.Prelude.{Option, None, Some}
-use Rattle.qrules.proofs.Words.Facts.{Facts, sender, threads_of, number_of}
-use Rattle.qrules.proofs.Words.Lawful.{facts_of, IsLawful, with_event}
-use Rattle.qrules.proofs.Words.Past.{is_accepted, open_call, refuses, with_writes, filled, with_receipt}
-use Rattle.qrules.proofs.Words.Effects.{asks, writes}
-use Rattle.qrules.proofs.Words.Items.{buffer_after_write}
-use Rattle.qrules.proofs.Words.Step.{after_write}
-use Rattle.qrules.proofs.Traces.Past.Ends.{accepted, laws_of, refused}
-use Rattle.qrules.proofs.Traces.Past.Open.{open_below, open_thread}
-use Rattle.qrules.proofs.Traces.Calls.{call_laws}
-use Rattle.qrules.proofs.Traces.Past.Senders.{sender_sends}
+use Rattle.qrules.proofs.Common.{◌≡◌, ℕ, ◌+◌, ◌<◌, ◌≤◌, List, [], ◌∷◌, length, refl, ap, sym, ◌∙◌, cond, arith, Bool, true, false, eqb, inl, inr, Receive, Send, cases_Bool, eqb-true, eqb-false, ne_eqb, same_Some, lay_over, Member, Outcome, with_buffer, is_thread, written_call, Event, Trace, Call, Completion, OpenCall, eqb_same, Transfer, Option, None, Some}
+use Rattle.qrules.proofs.Basics.{Facts, sender, threads_of, number_of, facts_of, IsLawful, with_event, is_accepted, open_call, refuses, with_writes, filled, with_receipt, asks, writes, buffer_after_write, after_write, accepted, laws_of, refused, open_below, open_thread, call_laws, sender_sends}
 
 -- ---- a reply buffer
 

@@ -1,7 +1,6 @@
 -- Every lawful trace has the properties.
-use Rattle.std.specs.Prelude.{List}
+use Rattle.qrules.proofs.Common.{List, HasProperties, IsRoster, Member, Trace}
 use Rattle.qrules.proofs.Words.Lawful.{IsLawful}
-use Rattle.qrules.proofs.Common.{HasProperties, IsRoster, Member, Trace}
 use Rattle.qrules.proofs.Traces.Properties.AnsweredToSender.{answered_to_sender}
 use Rattle.qrules.proofs.Traces.Properties.BestFirst.{best_first}
 use Rattle.qrules.proofs.Traces.Properties.CopiedExactly.{copied_exactly}

@@ -1,19 +1,12 @@
 -- A message is answered at most once, by a call that may answer it, and to the thread that sent it.
-use Rattle.qrules.proofs.Common.{◌≡◌, ◌≢◌, ◌∙◌, ℕ, ◌+◌, ◌<◌, List, [], ◌∷◌, refl, ap, sym, subst, arith, cond, eqb, Bool, true, false, inl, inr, is_some, is_answer, items, AnsweredToSender, AnswersIts, AnswersOnce, AllByRecursion, filter_map, cons_option, option_map_or, none-some, Member, IsRoster, completion_to, Outcome, Answers, item_among, Event, SentItem, Trace, Completion, all_filter_map, all_more, is_among, is_on}
-use Rattle.std.specs.Prelude.{Option, None, Some, not, ◌&&◌, count_by}
+use Rattle.qrules.proofs.Common.{◌≡◌, ◌≢◌, ◌∙◌, ℕ, ◌+◌, ◌<◌, List, [], ◌∷◌, refl, ap, sym, subst, arith, cond, eqb, Bool, true, false, inl, inr, is_some, is_answer, items, AnsweredToSender, AnswersIts, AnswersOnce, AllByRecursion, filter_map, cons_option, option_map_or, none-some, Member, IsRoster, completion_to, Outcome, Answers, item_among, Event, SentItem, Trace, Completion, all_filter_map, all_more, is_among, is_on, Option, None, Some, not, ◌&&◌, count_by}
 use Rattle.std.proofs.lemmas.Bool.{and_from, cases_Bool, ne_eqb, eq-eqb, eqb-true, eqb-false, true≢false}
 use Rattle.std.proofs.lemmas.List.Sums.{sum_by-cons}
-use Rattle.qrules.proofs.Words.Facts.{is_for_answer, owns, threads_of, number_of}
-use Rattle.qrules.proofs.Words.Lawful.{facts_of, IsLawful}
-use Rattle.qrules.proofs.Words.Past.{is_ended, is_received, sender_of}
-use Rattle.qrules.proofs.Traces.Past.Ends.{open_known, passes_of}
-use Rattle.qrules.proofs.Traces.Past.Items.{item_found}
+use Rattle.qrules.proofs.Basics.{is_for_answer, owns, threads_of, number_of, facts_of, IsLawful, is_ended, is_received, sender_of, open_known, passes_of, item_found, known, open_receipt, buffer_answer, held_for_answer, open_parts, held_on, buffer_on}
 use Rattle.qrules.proofs.Traces.Properties.Answers.{AnswersHeld, answers_held, answers_one}
 use Rattle.qrules.proofs.Traces.Properties.Events.{is_accepted_by, outcome_of}
 use Rattle.qrules.proofs.Traces.Properties.ReceivedOnce.{different_calls}
-use Rattle.qrules.proofs.Traces.Rosters.{known}
 use Rattle.qrules.proofs.Traces.Properties.Sends.{block_sender, open_keeps, open_over, block_on}
-use Rattle.qrules.proofs.Traces.Past.Open.{open_receipt, buffer_answer, held_for_answer, open_parts, held_on, buffer_on}
 use Rattle.qmodel.specs.declared.open_call.OpenCall.TheVariants.{Send as InSend}
 
 -- ---- each answer is one to the message that the call names

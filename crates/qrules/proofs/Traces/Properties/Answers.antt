@@ -1,25 +1,11 @@
 -- A completion that answers a message: whose it is, by each call's row.
-use Rattle.qrules.proofs.Traces.Rows.{answer_same, pulse_same, sent_same, unblocked_same}
-use Rattle.qrules.proofs.Common.{◌≡◌, ◌∙◌, ℕ, List, [], cond, ap, refl, sym, subst, true, false, inl, inr, option_map, is_on, delivery_of, is_answer, int_eq, none-some, same_Some, Srch, completion_to, row_of, effect_of, Item, Kind, Any, PulseOnly, Connection, error_mark, info_of, refusal_unless_held, SentItem, Call, Completion, OpenCall, eqb_same}
-use Rattle.std.specs.Prelude.{ℤ, pos, Option, None, Some}
+use Rattle.qrules.proofs.Basics.{answer_same, pulse_same, sent_same, unblocked_same, error_finish, reply_finish, info_completion, message_item, Finish, ends_sender, item_sent_over, Facts, is_for_answer, message, sender, threads_of, route, number_of, asks, makes, thread_of_send, cancel_parts, IsHeldFor, SenderEnds, answering, finished_held, has_sender, held_for, sender_ends, sender_sends, Passes, given_is, ReceiveTakes, receive_takes, Delivers, delivery_meets, has_way, leads_over, detach_ends}
+use Rattle.qrules.proofs.Common.{◌≡◌, ◌∙◌, ℕ, List, [], cond, ap, refl, sym, subst, true, false, inl, inr, option_map, is_on, delivery_of, is_answer, int_eq, none-some, same_Some, Srch, completion_to, row_of, effect_of, Item, Kind, Any, PulseOnly, Connection, error_mark, info_of, refusal_unless_held, SentItem, Call, Completion, OpenCall, eqb_same, ℤ, pos, Option, None, Some}
 use Rattle.std.proofs.lemmas.Bool.{true≢false}
-use Rattle.qrules.proofs.Traces.Parts.{error_finish, reply_finish}
-use Rattle.qrules.proofs.Words.Items.{info_completion, message_item, Finish, ends_sender, item_sent_over}
 use Rattle.qmodel.specs.declared.call.Info.{Info as Told}
-use Rattle.qrules.proofs.Words.Facts.{Facts, is_for_answer, message, sender, threads_of, route, number_of}
-use Rattle.qrules.proofs.Words.Effects.{asks, makes, thread_of_send}
 use Rattle.qmodel.specs.declared.call.Call.TheVariants.{Send, Receive, Reply, Error, Info, ReceivePulse, Pulse, ChannelDestroy, Shutdown, Unblock, ConnectDetach}
 use Rattle.qmodel.specs.declared.open_call.OpenCall.TheVariants.{Receive as InReceive, Send as InSend}
-use Rattle.qrules.proofs.Traces.Calls.Cancelling.{cancel_parts}
-use Rattle.qrules.proofs.Traces.Calls.Held.{IsHeldFor, SenderEnds, answering, finished_held, has_sender, held_for, sender_ends}
-use Rattle.qrules.proofs.Traces.Past.Senders.{sender_sends}
-use Rattle.qrules.proofs.Traces.Past.Laws.{Passes}
 use Rattle.qrules.proofs.Traces.Properties.Receipts.{completion_of}
-use Rattle.qrules.proofs.Traces.Calls.Taking.{given_is}
-use Rattle.qrules.proofs.Traces.Properties.Rows.Receiving.{ReceiveTakes, receive_takes}
-use Rattle.qrules.proofs.Traces.Properties.Rows.Delivering.{Delivers, delivery_meets}
-use Rattle.qrules.proofs.Traces.Routes.{has_way, leads_over}
-use Rattle.qrules.proofs.Traces.Calls.ConnectDetach.{detach_ends}
 use Rattle.qrules.proofs.Traces.Properties.Rows.Telling.{told_meets, unblock_ends}
 use Rattle.qmodel.specs.declared.call.Mark.TheVariants as mark
 use Rattle.qrules.specs.Rules.Connections as connect_detach

@@ -1,16 +1,12 @@
 -- A receipt takes the item of greatest priority, and among equals the one that was made first.
-use Rattle.qrules.proofs.Common.{◌≡◌, ◌∙◌, ℕ, List, [], ◌∷◌, ◌++◌, refl, ap, sym, true, false, inl, inr, request_of, takeable, BestFirst, TakesBest, number_of, AllByRecursion, none-some, same_Some, best_of, may_take, Item, Kind, IsRoster, Member, Outcome, ReceiveRequest, effect_of, call_at, Event, Trace, Call, Completion, eqb_same}
-use Rattle.std.specs.Prelude.{Option, None, Some}
+use Rattle.qrules.proofs.Common.{◌≡◌, ◌∙◌, ℕ, List, [], ◌∷◌, ◌++◌, refl, ap, sym, true, false, inl, inr, request_of, takeable, BestFirst, TakesBest, number_of, AllByRecursion, none-some, same_Some, best_of, may_take, Item, Kind, IsRoster, Member, Outcome, ReceiveRequest, effect_of, call_at, Event, Trace, Call, Completion, eqb_same, Option, None, Some}
 use Rattle.std.specs.Option.{option_and_then, option_map}
 use Rattle.std.proofs.lemmas.List.{append-nil}
-use Rattle.qrules.proofs.Words.Lawful.{facts_of, IsLawful}
-use Rattle.qrules.proofs.Words.Past.{pending_items, made_on}
-use Rattle.qrules.proofs.Traces.Past.Numbers.{block_asked, block_below, call_earlier, call_newest}
+use Rattle.qrules.proofs.Basics.{facts_of, IsLawful, pending_items, made_on, block_asked, block_below, call_earlier, call_newest, open_parts}
 use Rattle.qrules.proofs.Traces.Properties.Events.{each_received, made_now, none_made}
 use Rattle.qrules.proofs.Traces.Properties.Receipts.{TakesMade, TakesPending, waits_for}
 use Rattle.qrules.proofs.Traces.Properties.Sends.{open_keeps}
 use Rattle.qrules.proofs.Traces.Properties.Waiting.{buffer_waits_for, held_waits_for, nothing_for, place_of, waits_for_asked}
-use Rattle.qrules.proofs.Traces.Past.Open.{open_parts}
 
 -- ---- what a call asks to receive
 

@@ -1,16 +1,10 @@
 -- What could be taken from a channel: items of that channel, and so of the connections over which they were sent.
-use Rattle.qrules.proofs.Common.{◌≡◌, ◌∙◌, ℕ, ◌+◌, List, [], ◌∷◌, length, refl, ap, sym, subst, cond, eqb, true, false, connection_of, takeable, AllByRecursion, none-some, same_Some, Item, Connection, Member, call_at, effect_of, SentItem, Event, Trace, Call, all_append, all_more}
-use Rattle.std.specs.Prelude.{Option, None, Some, is_some}
+use Rattle.qrules.proofs.Common.{◌≡◌, ◌∙◌, ℕ, ◌+◌, List, [], ◌∷◌, length, refl, ap, sym, subst, cond, eqb, true, false, connection_of, takeable, AllByRecursion, none-some, same_Some, Item, Connection, Member, call_at, effect_of, SentItem, Event, Trace, Call, all_append, all_more, Option, None, Some, is_some}
 use Rattle.std.specs.Option.{option_and_then, option_map, option_or}
-use Rattle.qrules.proofs.Words.Effects.{makes}
-use Rattle.qrules.proofs.Words.Past.{item_of, pending_items, priority_before, attached_connection, made_on}
-use Rattle.qrules.proofs.Words.Items.{message_numbered, pulse_item, item_sent_over}
+use Rattle.qrules.proofs.Basics.{makes, item_of, pending_items, priority_before, attached_connection, made_on, message_numbered, pulse_item, item_sent_over, before_earlier, before_newest, item_accepted, IsPending, item_at, item_below, item_earlier, item_newest, item_priority, made_by, pending_all, pending_each, Facts, facts_of}
 use Rattle.qmodel.specs.declared.call.Call.TheVariants.{Send, Pulse}
-use Rattle.qrules.proofs.Traces.Past.Items.{before_earlier, before_newest, item_accepted, IsPending, item_at, item_below, item_earlier, item_newest, item_priority, made_by, pending_all, pending_each}
 use Rattle.qrules.proofs.Traces.Past.Pending.{made_all}
 use Rattle.qrules.proofs.Traces.Properties.Sends.{made_stays}
-use Rattle.qrules.proofs.Words.Facts.{Facts}
-use Rattle.qrules.proofs.Words.Lawful.{facts_of}
 use Rattle.qrules.proofs.Traces.Past.Connections.{live_attached}
 
 -- ---- each is an item of the channel

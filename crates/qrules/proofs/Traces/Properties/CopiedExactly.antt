@@ -1,37 +1,18 @@
 -- Every buffer and every count is what was to be copied.
-use Rattle.qrules.proofs.Traces.Rows.{answer_same, pulse_same, sent_same, unblocked_same}
-use Rattle.qrules.proofs.Common.{◌≡◌, ◌∙◌, ℕ, ◌+◌, ◌≤◌, List, [], ◌∷◌, length, refl, ap, sym, subst, cond, arith, Bool, true, false, inl, inr, message_in, reply_buffer_in, buffer_at, message_at, CopiedExactly, IsCopied, AllByRecursion, int_eq, none-some, same_Some, Errno, Srch, Intr, Badf, is_pulse, Item, Kind, Any, PulseOnly, laid_count, lay_over, Member, completion_to, Answers, row_of, effect_of, info_of, refusal_unless_held, cancel_call, is_on, is_over, receipt_completion, call_at, SentItem, Event, Trace, Call, Completion, Mark, OpenCall, all_filter_map, buffer_in}
-use Rattle.std.specs.Prelude.{ℤ, pos, Option, None, Some}
+use Rattle.qrules.proofs.Basics.{answer_same, pulse_same, sent_same, unblocked_same, writes, error_finish, reply_finish, info_completion, message_item, Finish, Facts, message, sender, threads_of, route, number_of, reply_buffer, message_same, reply_buffer_same, facts_of, IsLawful, open_call, refuses, passes_of, refused, item_below, Passes, call_earlier, call_newest, open_below, sender_sends, ReceiveTakes, receive_takes, IsCancelledCall, cancel_parts, IsHeldFor, SenderEnds, answering, has_sender, held_for, sender_ends, Delivers, delivery_meets, detach_ends}
+use Rattle.qrules.proofs.Common.{◌≡◌, ◌∙◌, ℕ, ◌+◌, ◌≤◌, List, [], ◌∷◌, length, refl, ap, sym, subst, cond, arith, Bool, true, false, inl, inr, message_in, reply_buffer_in, buffer_at, message_at, CopiedExactly, IsCopied, AllByRecursion, int_eq, none-some, same_Some, Errno, Srch, Intr, Badf, is_pulse, Item, Kind, Any, PulseOnly, laid_count, lay_over, Member, completion_to, Answers, row_of, effect_of, info_of, refusal_unless_held, cancel_call, is_on, is_over, receipt_completion, call_at, SentItem, Event, Trace, Call, Completion, Mark, OpenCall, all_filter_map, buffer_in, ℤ, pos, Option, None, Some}
 use Rattle.std.specs.Option.{option_and_then, option_map, option_map_or}
 use Rattle.std.proofs.lemmas.Bool.{true≢false}
 use Rattle.qmodel.specs.Buffers.{buffer_of}
-use Rattle.qrules.proofs.Words.Effects.{writes}
-use Rattle.qrules.proofs.Traces.Parts.{error_finish, reply_finish}
-use Rattle.qrules.proofs.Words.Items.{info_completion, message_item, Finish}
-use Rattle.qrules.proofs.Words.Facts.{Facts, message, sender, threads_of, route, number_of, reply_buffer}
-use Rattle.qrules.proofs.Messages.{message_same, reply_buffer_same}
-use Rattle.qrules.proofs.Words.Lawful.{facts_of, IsLawful}
-use Rattle.qrules.proofs.Words.Past.{open_call, refuses}
 use Rattle.qmodel.specs.declared.call.Call.TheVariants.{Send, Receive, Reply, Error, Read, Write, Info, ReceivePulse, Pulse, ChannelDestroy, Shutdown, Unblock, ConnectDetach}
 use Rattle.qmodel.specs.declared.call.Info.{Info as Told}
-use Rattle.qrules.proofs.Traces.Past.Ends.{passes_of, refused}
-use Rattle.qrules.proofs.Traces.Past.Items.{item_below}
-use Rattle.qrules.proofs.Traces.Past.Laws.{Passes}
-use Rattle.qrules.proofs.Traces.Past.Numbers.{call_earlier, call_newest}
-use Rattle.qrules.proofs.Traces.Past.Open.{open_below}
 use Rattle.qrules.proofs.Traces.Past.Receipts.{best_pending}
-use Rattle.qrules.proofs.Traces.Past.Senders.{sender_sends}
 use Rattle.qrules.proofs.Traces.Past.Writes.{writes_beyond, writes_nothing, writes_refused}
 use Rattle.qrules.proofs.Traces.Properties.Messages.{buffer_by, message_sent, open_buffer, open_message, pending_message}
 use Rattle.qrules.proofs.Traces.Properties.Receipts.{completion_of}
 use Rattle.qrules.proofs.Traces.Laying.{lay_nothing, count_nothing}
-use Rattle.qrules.proofs.Traces.Properties.Rows.Receiving.{ReceiveTakes, receive_takes}
-use Rattle.qrules.proofs.Traces.Calls.Cancelling.{IsCancelledCall, cancel_parts}
-use Rattle.qrules.proofs.Traces.Calls.Held.{IsHeldFor, SenderEnds, answering, has_sender, held_for, sender_ends}
-use Rattle.qrules.proofs.Traces.Properties.Rows.Delivering.{Delivers, delivery_meets}
 use Rattle.qrules.proofs.Traces.Properties.Rows.Telling.{Tells, told_meets, unblock_ends}
 use Rattle.qrules.proofs.Traces.Calls.Pulse.{sent_is_pulse}
-use Rattle.qrules.proofs.Traces.Calls.ConnectDetach.{detach_ends}
 use Rattle.qrules.proofs.Traces.Calls.Unblock.{is_cancelled}
 use Rattle.qmodel.specs.declared.open_call.OpenCall.TheVariants.{Receive as InReceive, Send as InSend}
 use Rattle.qmodel.specs.declared.call.Mark.TheVariants as mark

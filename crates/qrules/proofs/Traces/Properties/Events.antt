@@ -1,11 +1,7 @@
 -- The newest event of a lawful trace: what it made, where it was accepted, and what its endings receive.
 use Rattle.qrules.proofs.Common.{◌≡◌, ◌∙◌, ℕ, List, refl, ap, sym, subst, cond, true, false, inl, inr, None, Some, not, AllByRecursion, none-some, Member, completion_to, Outcome, Answers, number_received, SentItem, Event, Trace, Call, Completion, all_filter_map}
 use Rattle.std.proofs.lemmas.Bool.{true≢false}
-use Rattle.qrules.proofs.Words.Facts.{Facts, threads_of}
-use Rattle.qrules.proofs.Words.Lawful.{facts_of}
-use Rattle.qrules.proofs.Words.Past.{is_accepted, item_of}
-use Rattle.qrules.proofs.Words.Effects.{makes}
-use Rattle.qrules.proofs.Traces.Past.Ends.{accepted, passes_of, refused}
+use Rattle.qrules.proofs.Basics.{Facts, threads_of, facts_of, is_accepted, item_of, makes, accepted, passes_of, refused}
 use Rattle.qrules.proofs.Traces.Properties.Receipts.{TakesOne, receives_it, takes_one}
 
 pub is_accepted_by : (roster : List Member) (e : Event) (past : Trace) → Outcome true (facts_of roster past) e.thread e.call e.endings → is_accepted e past ≡ true

@@ -1,24 +1,12 @@
 -- A completion that receives an item: the caller's own of what was pending, or of a thread that waited for what the call makes.
-use Rattle.qrules.proofs.Traces.Rows.{answer_same, pulse_same, sent_same, unblocked_same}
-use Rattle.qrules.proofs.Common.{◌≡◌, ◌∙◌, ℕ, List, [], ap, refl, sym, cond, eqb, true, false, inl, inr, ◌⊎◌, option_map, eqb-true, none-some, same_Some, Srch, best_of, may_take, Item, Kind, Any, PulseOnly, completion_to, row_of, effect_of, info_of, is_on, ReceiveRequest, number_received, SentItem, Call, Completion, OpenCall, ReceivedItem}
-use Rattle.std.specs.Prelude.{Option, None, Some}
-use Rattle.qrules.proofs.Traces.Parts.{error_finish, reply_finish}
-use Rattle.qrules.proofs.Words.Items.{message_item, item_in}
-use Rattle.qrules.proofs.Words.Facts.{Facts, message, sender, route, number_of}
-use Rattle.qrules.proofs.Words.Effects.{makes}
+use Rattle.qrules.proofs.Basics.{answer_same, pulse_same, sent_same, unblocked_same, error_finish, reply_finish, message_item, item_in, Facts, message, sender, route, number_of, makes, given_received, Delivers, delivery_meets, ReceiveTakes, receive_takes, cancel_parts, sender_ends, detach_ends, sent_way}
+use Rattle.qrules.proofs.Common.{◌≡◌, ◌∙◌, ℕ, List, [], ap, refl, sym, cond, eqb, true, false, inl, inr, ◌⊎◌, option_map, eqb-true, none-some, same_Some, Srch, best_of, may_take, Item, Kind, Any, PulseOnly, completion_to, row_of, effect_of, info_of, is_on, ReceiveRequest, number_received, SentItem, Call, Completion, OpenCall, ReceivedItem, Option, None, Some}
 use Rattle.qmodel.specs.declared.call.Call.TheVariants.{Send, Receive, Reply, Error, Info, ReceivePulse, Pulse, ChannelDestroy, Shutdown, Unblock, ConnectDetach}
 use Rattle.qmodel.specs.declared.open_call.OpenCall.TheVariants.{Receive as InReceive, Send as InSend}
-use Rattle.qrules.proofs.Traces.Calls.Taking.{given_received}
-use Rattle.qrules.proofs.Traces.Properties.Rows.Delivering.{Delivers, delivery_meets}
-use Rattle.qrules.proofs.Traces.Properties.Rows.Receiving.{ReceiveTakes, receive_takes}
 use Rattle.qrules.proofs.Traces.Calls.Answering.{answer_receives}
-use Rattle.qrules.proofs.Traces.Calls.Cancelling.{cancel_parts}
 use Rattle.qrules.proofs.Traces.Calls.Error.{no_receipt}
-use Rattle.qrules.proofs.Traces.Calls.Held.{sender_ends}
 use Rattle.qrules.proofs.Traces.Calls.Info.{plain}
-use Rattle.qrules.proofs.Traces.Calls.ConnectDetach.{detach_ends}
 use Rattle.qrules.proofs.Traces.Properties.Rows.Telling.{Tells, told_meets, unblock_ends}
-use Rattle.qrules.proofs.Traces.Calls.Delivering.{sent_way}
 use Rattle.qrules.specs.Rules.Connections as connect_detach
 use Rattle.qrules.specs.Rules.Unblock as unblock
 use Rattle.qrules.specs.Rules.Pulse as pulse

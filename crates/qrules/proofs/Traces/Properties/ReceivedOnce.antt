@@ -1,15 +1,7 @@
 -- No item is received twice, none before it was made, and no call is ended twice.
-use Rattle.qrules.proofs.Common.{◌≡◌, ◌≢◌, ◌∙◌, ℕ, ◌+◌, ◌≤◌, List, [], ◌∷◌, ◌++◌, length, map, refl, ap, sym, subst, arith, cond, eqb, true, false, inl, inr, option_map, option_or, filter_map-append, same_Some, option_and_then_some, AllDifferent, ReceivedOnce, items, number_received, InEachEvent, endings_of, AllByRecursion, filter_map, cons_option, map-append, Member, IsRoster, completion_to, Answers, Outcome, item_among, SentItem, Event, Trace, Call, Completion, all_append, all_map, all_more}
-use Rattle.std.specs.Prelude.{Option, None, Some, is_some}
+use Rattle.qrules.proofs.Common.{◌≡◌, ◌≢◌, ◌∙◌, ℕ, ◌+◌, ◌≤◌, List, [], ◌∷◌, ◌++◌, length, map, refl, ap, sym, subst, arith, cond, eqb, true, false, inl, inr, option_map, option_or, filter_map-append, same_Some, option_and_then_some, AllDifferent, ReceivedOnce, items, number_received, InEachEvent, endings_of, AllByRecursion, filter_map, cons_option, map-append, Member, IsRoster, completion_to, Answers, Outcome, item_among, SentItem, Event, Trace, Call, Completion, all_append, all_map, all_more, Option, None, Some, is_some}
 use Rattle.std.proofs.lemmas.Bool.{or_parts, ne_eqb, eqb-false, true≢false}
-use Rattle.qrules.proofs.Words.Facts.{Facts, threads_of}
-use Rattle.qrules.proofs.Words.Lawful.{facts_of, IsLawful}
-use Rattle.qrules.proofs.Words.Past.{copied_count_in, has_completion_of, is_ended, is_received, copied_count_among, copied_count_of}
-use Rattle.qrules.proofs.Words.Items.{item_in}
-use Rattle.qrules.proofs.Traces.Past.Ends.{completion_names, laws_of, not_ended, other_below}
-use Rattle.qrules.proofs.Traces.Past.Items.{IsPending, item_at, item_below, item_earlier, item_found, item_newest}
-use Rattle.qrules.proofs.Traces.Calls.{call_laws}
-use Rattle.qrules.proofs.Traces.Past.Open.{open_thread}
+use Rattle.qrules.proofs.Basics.{Facts, threads_of, facts_of, IsLawful, copied_count_in, has_completion_of, is_ended, is_received, copied_count_among, copied_count_of, item_in, completion_names, laws_of, not_ended, other_below, IsPending, item_at, item_below, item_earlier, item_found, item_newest, call_laws, open_thread}
 use Rattle.qrules.proofs.Traces.Past.Receipts.{best_pending, completion_receives, receipt_beyond}
 use Rattle.qrules.proofs.Traces.Properties.Different.{IsNoneOf, different_append, different_kept, calls_as}
 use Rattle.qrules.proofs.Traces.Properties.Receipts.{TakesPending, TakesMade, receives_it}

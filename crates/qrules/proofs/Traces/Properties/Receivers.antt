@@ -1,6 +1,5 @@
 -- The receiver that began to wait last: it waits, no other that waits began later, and there is one where any waits.
-use Rattle.qrules.proofs.Common.{◌≡◌, ◌<◌, ◌≤◌, ◌∙◌, ℕ, List, [], ◌∷◌, refl, ap, sym, subst, arith, cond, eqb, true, false, inl, inr, Receive, Send, is_after, is_last_wait, is_newest, newest_receiver_among, wait_on, list_any, option_map_or, none-some, same_Some, or-true, may_take, Item, OpenCall, newest_receiver, eqb_same, is_among}
-use Rattle.std.specs.Prelude.{Option, None, Some, is_some, ◌&&◌, ◌⊎◌, nat_lt, Bool, find}
+use Rattle.qrules.proofs.Common.{◌≡◌, ◌<◌, ◌≤◌, ◌∙◌, ℕ, List, [], ◌∷◌, refl, ap, sym, subst, arith, cond, eqb, true, false, inl, inr, Receive, Send, is_after, is_last_wait, is_newest, newest_receiver_among, wait_on, list_any, option_map_or, none-some, same_Some, or-true, may_take, Item, OpenCall, newest_receiver, eqb_same, is_among, Option, None, Some, is_some, ◌&&◌, ◌⊎◌, nat_lt, Bool, find}
 use Rattle.std.proofs.lemmas.Bool.{and_parts, cases_Bool, eqb-true, le-ltb, lt-ltb, ltb-true, not-true, or_cases, or_parts, true≢false}
 use Rattle.qrules.proofs.Words.Facts.{Facts, threads_of}
 use Rattle.qmodel.specs.declared.open_call.OpenReceive.{OpenReceive}

@@ -1,18 +1,9 @@
 -- A Send that waits: its thread, and the connection and channel of its item.
-use Rattle.qrules.proofs.Common.{◌≡◌, ◌∙◌, ℕ, ◌+◌, ◌≤◌, List, [], ◌∷◌, length, refl, ap, sym, subst, arith, cond, true, false, inl, inr, ◌⊎◌, Receive, Send, ne_eqb, and_parts, none-some, Connection, Member, held_call, with_buffer, SentItem, Event, Trace, OpenCall, Receipt, eqb_same, channel_of, is_on}
-use Rattle.std.specs.Prelude.{Option, None, Some, is_some}
-use Rattle.qrules.proofs.Words.Facts.{is_for_answer, number_of}
-use Rattle.qrules.proofs.Words.Lawful.{facts_of, IsLawful}
-use Rattle.qrules.proofs.Words.Effects.{asks, thread_of_send}
-use Rattle.qrules.proofs.Words.Past.{is_accepted, accepted_at, priority_of_item, copied_count_of, sender_of, with_receipt, with_writes, attached_connection, block, filled, item_of, open_call}
-use Rattle.qrules.proofs.Traces.Past.Ends.{passes_of}
-use Rattle.qrules.proofs.Traces.Past.Items.{item_at, item_below, item_earlier, item_newest}
-use Rattle.qrules.proofs.Traces.Past.Numbers.{blocks, blocks_thread, made_below, block_below}
-use Rattle.qrules.proofs.Traces.Calls.{call_laws}
+use Rattle.qrules.proofs.Common.{◌≡◌, ◌∙◌, ℕ, ◌+◌, ◌≤◌, List, [], ◌∷◌, length, refl, ap, sym, subst, arith, cond, true, false, inl, inr, ◌⊎◌, Receive, Send, ne_eqb, and_parts, none-some, Connection, Member, held_call, with_buffer, SentItem, Event, Trace, OpenCall, Receipt, eqb_same, channel_of, is_on, Option, None, Some, is_some}
+use Rattle.qrules.proofs.Basics.{is_for_answer, number_of, facts_of, IsLawful, asks, thread_of_send, is_accepted, accepted_at, priority_of_item, copied_count_of, sender_of, with_receipt, with_writes, attached_connection, block, filled, item_of, open_call, passes_of, item_at, item_below, item_earlier, item_newest, blocks, blocks_thread, made_below, block_below, call_laws, IsOpen, buffer_answer, held_for_answer, is_unblocked, open_parts, held_on, buffer_on}
 use Rattle.qrules.proofs.Traces.Properties.Answers.{over, sends_by, sends_over}
 use Rattle.qrules.proofs.Traces.Properties.Events.{made_now, outcome_of}
 use Rattle.qrules.proofs.Traces.Past.Connections.{live_attached}
-use Rattle.qrules.proofs.Traces.Past.Open.{IsOpen, buffer_answer, held_for_answer, is_unblocked, open_parts, held_on, buffer_on}
 
 -- ---- what events made
 

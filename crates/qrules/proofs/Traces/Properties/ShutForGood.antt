@@ -1,29 +1,17 @@
 -- Nothing is received from a channel that is destroyed, and no thread is blocked on it.
-use Rattle.qrules.proofs.Common.{◌≡◌, ◌∙◌, ℕ, ◌+◌, List, [], ◌∷◌, length, refl, ap, sym, subst, cond, eqb, true, false, inl, inr, receive_in, send_in, OpenReceive, OpenSend, number_received, IsShut, ShutForGood, AllByRecursion, none-some, same_Some, Srch, best_of, IsRoster, Member, Outcome, row_of, effect_of, is_on, item_among, channel_of, unblocked_call, Event, Trace, Call, Completion, OpenCall}
-use Rattle.std.specs.Prelude.{Option, None, Some, is_some, ◌||◌}
+use Rattle.qrules.proofs.Common.{◌≡◌, ◌∙◌, ℕ, ◌+◌, List, [], ◌∷◌, length, refl, ap, sym, subst, cond, eqb, true, false, inl, inr, receive_in, send_in, OpenReceive, OpenSend, number_received, IsShut, ShutForGood, AllByRecursion, none-some, same_Some, Srch, best_of, IsRoster, Member, Outcome, row_of, effect_of, is_on, item_among, channel_of, unblocked_call, Event, Trace, Call, Completion, OpenCall, Option, None, Some, is_some, ◌||◌}
 use Rattle.std.specs.Option.{option_and_then, option_map}
 use Rattle.std.proofs.lemmas.Bool.{eq-eqb, eqb-true, or_cases, true≢false}
-use Rattle.qrules.proofs.Words.Items.{receipt_of, names, message_item}
-use Rattle.qrules.proofs.Words.Facts.{Facts, owns}
-use Rattle.qrules.proofs.Words.Effects.{asks, closes, makes, unblocks, writes}
-use Rattle.qrules.proofs.Words.Lawful.{facts_of, IsLawful}
-use Rattle.qrules.proofs.Words.Past.{attached_connection, is_destroyed, items, open_call}
-use Rattle.qrules.proofs.Words.Step.{after_receipt, after_write, channel_after, open_call_after, unless, after_unblock}
+use Rattle.qrules.proofs.Basics.{receipt_of, names, message_item, Facts, owns, asks, closes, makes, unblocks, writes, facts_of, IsLawful, attached_connection, is_destroyed, items, open_call, after_receipt, after_write, channel_after, open_call_after, unless, after_unblock, accepted, laws_of, passes_of, item_at, item_below, item_earlier, item_found, item_newest, made_by, Passes, has_way, sent_way, goes_to_open, held_on, buffer_on}
 use Rattle.qmodel.specs.declared.call.Call.TheVariants.{Send, Receive, ReceivePulse, ChannelDestroy}
 use Rattle.qrules.proofs.Traces.Past.Channels.{closed_accepted, open_at, owned_open}
-use Rattle.qrules.proofs.Traces.Past.Ends.{accepted, laws_of, passes_of}
 use Rattle.qrules.proofs.Traces.Past.Follows.{past_follows}
-use Rattle.qrules.proofs.Traces.Past.Items.{item_at, item_below, item_earlier, item_found, item_newest, made_by}
-use Rattle.qrules.proofs.Traces.Past.Laws.{Passes}
 use Rattle.qrules.proofs.Traces.Past.Receipts.{best_pending}
 use Rattle.qrules.proofs.Traces.Properties.Events.{each_received, made_now}
 use Rattle.qrules.proofs.Traces.Properties.Receipts.{TakesOne}
 use Rattle.qrules.proofs.Traces.Past.Before.{Lasts, before_other, before_receipt, unless_is}
-use Rattle.qrules.proofs.Traces.Routes.{has_way}
 use Rattle.qrules.proofs.Traces.Past.LiveSends.{stays_open}
 use Rattle.qmodel.specs.declared.open_call.OpenCall.TheVariants.{Receive as InReceive, Send as InSend}
-use Rattle.qrules.proofs.Traces.Calls.Delivering.{sent_way, goes_to_open}
-use Rattle.qrules.proofs.Traces.Past.Open.{held_on, buffer_on}
 use Rattle.qrules.proofs.Traces.Properties.Sends.{open_on}
 
 -- ---- by each call's row

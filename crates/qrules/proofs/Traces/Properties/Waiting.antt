@@ -1,25 +1,13 @@
 -- While a thread waits for an item of a channel, nothing that it may take is pending there.
-use Rattle.qrules.proofs.Common.{◌≡◌, ◌∙◌, ℕ, List, [], ◌∷◌, ◌++◌, refl, ap, sym, subst, cond, eqb, Bool, true, false, inl, inr, option_map, none-some, same_Some, some_pair_parts, none-may, all_append, all_filter, all_more, is_among, none_of, some_of, AllByRecursion, eqb-true, eqb-false, not-true, best_of, may_take, with_priority, without_item, Item, Kind, Any, PulseOnly, IsRoster, Member, row_of, effect_of, held_call, with_buffer, takes, unblocked_call, ReceiveRequest, newest_receiver, receipt_completion, SentItem, Trace, Call, OpenCall, Receipt, channel_of}
-use Rattle.std.specs.Prelude.{Option, None, Some, is_some, not, filter}
-use Rattle.qrules.proofs.Words.Items.{receipt_of, message_item, receiver, receipt_when_sent, own_receipt, Received, names, item_sent_over, pulse_receipt}
-use Rattle.qrules.proofs.Words.Facts.{Facts, sender, threads_of, route}
-use Rattle.qrules.proofs.Words.Effects.{asks, closes, makes, sets, unblocks, writes}
-use Rattle.qrules.proofs.Words.Lawful.{facts_of, IsLawful}
-use Rattle.qrules.proofs.Words.Past.{made_on}
-use Rattle.qrules.proofs.Words.Step.{after_receipt, after_write, is_cancelled, uncancelled_items, items_with_priority_set, open_call_after, pending_after, unreceived_items, unless, after_unblock}
+use Rattle.qrules.proofs.Common.{◌≡◌, ◌∙◌, ℕ, List, [], ◌∷◌, ◌++◌, refl, ap, sym, subst, cond, eqb, Bool, true, false, inl, inr, option_map, none-some, same_Some, some_pair_parts, none-may, all_append, all_filter, all_more, is_among, none_of, some_of, AllByRecursion, eqb-true, eqb-false, not-true, best_of, may_take, with_priority, without_item, Item, Kind, Any, PulseOnly, IsRoster, Member, row_of, effect_of, held_call, with_buffer, takes, unblocked_call, ReceiveRequest, newest_receiver, receipt_completion, SentItem, Trace, Call, OpenCall, Receipt, channel_of, Option, None, Some, is_some, not, filter}
+use Rattle.qrules.proofs.Basics.{receipt_of, message_item, receiver, receipt_when_sent, own_receipt, Received, names, item_sent_over, pulse_receipt, Facts, sender, threads_of, route, asks, closes, makes, sets, unblocks, writes, facts_of, IsLawful, made_on, after_receipt, after_write, is_cancelled, uncancelled_items, items_with_priority_set, open_call_after, pending_after, unreceived_items, unless, after_unblock, given_received, receipt_from, receipt_in_at, open_known, passes_of, Passes, has_way, known, sent_way}
 use Rattle.qmodel.specs.declared.call.Call.TheVariants.{Send, Receive, ReceivePulse, Pulse, Unblock, ConnectDetach}
 use Rattle.qmodel.specs.declared.open_call.OpenCall.TheVariants.{Receive as InReceive, Send as InSend}
-use Rattle.qrules.proofs.Traces.Calls.Taking.{given_received, receipt_from, receipt_in_at}
-use Rattle.qrules.proofs.Traces.Past.Ends.{open_known, passes_of}
 use Rattle.qrules.proofs.Traces.Past.Follows.{past_follows}
-use Rattle.qrules.proofs.Traces.Past.Laws.{Passes}
 use Rattle.qrules.proofs.Traces.Past.Moves.{all_moved}
 use Rattle.qrules.proofs.Traces.Properties.Receipts.{waits_for}
 use Rattle.qrules.proofs.Traces.Past.Before.{Lasts, before_other, before_receipt, unless_is}
 use Rattle.qrules.proofs.Traces.Properties.Receivers.{WaitsOn, newest_some, newest_waits}
-use Rattle.qrules.proofs.Traces.Routes.{has_way}
-use Rattle.qrules.proofs.Traces.Rosters.{known}
-use Rattle.qrules.proofs.Traces.Calls.Delivering.{sent_way}
 use Rattle.qmodel.specs.declared.open_call.OpenReceive.{OpenReceive}
 
 -- ---- what a thread waits for

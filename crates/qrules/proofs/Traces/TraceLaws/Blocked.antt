@@ -1,18 +1,8 @@
 -- Whose the endings of an event are, and who is blocked after it.
-use Rattle.qrules.proofs.Common.{◌≡◌, ◌∙◌, ℕ, ◌+◌, List, [], ◌∷◌, length, refl, ap, sym, subst, cond, Bool, true, false, eqb, inl, inr, option_map, gets, AreApart, is_among, eqb_same, any_filter_map, any_filter_map_at, all_filter_map, cond_same, filter_map, cons_option, AllByRecursion, none-some, or-true, member_at, IsRoster, Member, completion_to, row_of, SentItem, Event, Trace, held_call, is_thread, unblocked_call, written_call, Call, Completion, OpenCall, Transfer, channel_of}
-use Rattle.std.specs.Prelude.{Option, None, Some, is_some, ◌||◌, ◌&&◌}
+use Rattle.qrules.proofs.Common.{◌≡◌, ◌∙◌, ℕ, ◌+◌, List, [], ◌∷◌, length, refl, ap, sym, subst, cond, Bool, true, false, eqb, inl, inr, option_map, gets, AreApart, is_among, eqb_same, any_filter_map, any_filter_map_at, all_filter_map, cond_same, filter_map, cons_option, AllByRecursion, none-some, or-true, member_at, IsRoster, Member, completion_to, row_of, SentItem, Event, Trace, held_call, is_thread, unblocked_call, written_call, Call, Completion, OpenCall, Transfer, channel_of, Option, None, Some, is_some, ◌||◌, ◌&&◌}
 use Rattle.std.proofs.lemmas.Bool.{cases_Bool, eqb-true, eqb-false, ne_eqb, or_parts, true≢false}
-use Rattle.qrules.proofs.Words.Items.{receipt_of, Received}
-use Rattle.qrules.proofs.Words.Facts.{Facts, sender, threads_of}
-use Rattle.qrules.proofs.Words.Effects.{asks, makes, unblocks, writes}
-use Rattle.qrules.proofs.Words.Lawful.{facts_of, IsLawful}
-use Rattle.qrules.proofs.Words.Past.{has_completion_of, open_call}
-use Rattle.qrules.proofs.Words.Step.{after_receipt, after_unblock, after_write, open_call_after, unless}
-use Rattle.qrules.proofs.Traces.Past.Ends.{completion_names, ends_own, laws_of, open_known, passes_of}
-use Rattle.qrules.proofs.Traces.Past.Laws.{Passes}
+use Rattle.qrules.proofs.Basics.{receipt_of, Received, Facts, sender, threads_of, asks, makes, unblocks, writes, facts_of, IsLawful, has_completion_of, open_call, after_receipt, after_unblock, after_write, open_call_after, unless, completion_names, ends_own, laws_of, open_known, passes_of, Passes, some_map, waits_or_ends, Rises, rises, not_among, known}
 use Rattle.qrules.proofs.Traces.Past.OpenCalls.{open_accepted, open_refused}
-use Rattle.qrules.proofs.Traces.Past.Waits.{some_map, waits_or_ends}
-use Rattle.qrules.proofs.Traces.Rosters.{Rises, rises, not_among, known}
 use Rattle.qrules.proofs.Traces.TraceLaws.Ending.{completion_thread}
 use Rattle.qrules.proofs.Traces.TraceLaws.Unended.{asks_any}
 

@@ -1,13 +1,7 @@
 -- Whose calls end.
 use Rattle.qrules.proofs.Common.{◌≡◌, ◌∙◌, ℕ, ◌+◌, ◌≤◌, List, [], ◌∷◌, length, refl, ap, sym, subst, arith, eqb, false, inl, inr, thread_at, Some, AllByRecursion, ne_eqb, none-some, completion_to, IsRoster, Event, Trace, Call, Completion, OpenCall, all_filter_map, eqb_same, Member}
-use Rattle.qrules.proofs.Words.Facts.{Facts, threads_of, number_of}
-use Rattle.qrules.proofs.Words.Lawful.{IsLawful, facts_of}
-use Rattle.qrules.proofs.Traces.Past.Ends.{completion_names, laws_of}
-use Rattle.qrules.proofs.Traces.Past.Laws.{RowLaws}
-use Rattle.qrules.proofs.Traces.Past.Numbers.{block_below}
-use Rattle.qrules.proofs.Traces.Past.Open.{open_parts}
+use Rattle.qrules.proofs.Basics.{Facts, threads_of, number_of, IsLawful, facts_of, completion_names, laws_of, RowLaws, block_below, open_parts, block}
 use Rattle.qrules.proofs.Traces.Properties.Sends.{begins_now}
-use Rattle.qrules.proofs.Words.Past.{block}
 
 -- an accepted call's endings go to the threads that get them
 pub completion_thread : (f : Facts) (t : ℕ) (c : Call) → RowLaws f t c → (u : ℕ) (y : Completion) → completion_to f t c u ≡ Some y → y.thread ≡ u

@@ -1,21 +1,11 @@
 -- The sender of a message that is held waits in its Send.
-use Rattle.qrules.proofs.Common.{◌≡◌, ◌∙◌, ◌+◌, ℕ, List, [], ◌∷◌, length, refl, ap, sym, subst, cond, eqb, true, false, option_map, option_or, waiter, ReceivedItem, AllByRecursion, none-some, same_Some, IsRoster, Member, row_of, number_received, TakesBest, takeable, SentItem, Trace, Event, Completion, OpenCall, best_of, best-at}
-use Rattle.std.specs.Prelude.{Option, None, Some, is_some, not, ◌&&◌}
+use Rattle.qrules.proofs.Common.{◌≡◌, ◌∙◌, ◌+◌, ℕ, List, [], ◌∷◌, length, refl, ap, sym, subst, cond, eqb, true, false, option_map, option_or, waiter, ReceivedItem, AllByRecursion, none-some, same_Some, IsRoster, Member, row_of, number_received, TakesBest, takeable, SentItem, Trace, Event, Completion, OpenCall, best_of, best-at, Option, None, Some, is_some, not, ◌&&◌}
 use Rattle.std.proofs.lemmas.Bool.{and_parts, eqb-true, not-true, or_parts, true≢false}
-use Rattle.qrules.proofs.Words.Facts.{is_for_answer, is_send, sender, threads_of, number_of}
-use Rattle.qrules.proofs.Traces.Past.Waits.{may_wait, waits_or_ends}
-use Rattle.qrules.proofs.Words.Lawful.{IsLawful, facts_of}
-use Rattle.qrules.proofs.Words.Past.{copied_count_in, has_completion_of, is_ended, is_received, item_of, accepted_at, open_call, copied_count_among, copied_count_of, filled}
-use Rattle.qrules.proofs.Words.Items.{item_in}
-use Rattle.qrules.proofs.Traces.Past.Ends.{ends_own, open_known, passes_of}
-use Rattle.qrules.proofs.Traces.Past.Items.{item_accepted, item_answer, item_at, item_below, item_earlier, item_made}
-use Rattle.qrules.proofs.Traces.Past.Senders.{send_from, send_parts, sender_found}
+use Rattle.qrules.proofs.Basics.{is_for_answer, is_send, sender, threads_of, number_of, may_wait, waits_or_ends, IsLawful, facts_of, copied_count_in, has_completion_of, is_ended, is_received, item_of, accepted_at, open_call, copied_count_among, copied_count_of, filled, item_in, ends_own, open_known, passes_of, item_accepted, item_answer, item_at, item_below, item_earlier, item_made, send_from, send_parts, sender_found, known, open_from, filled_answer, open_thread, kept, kept_number, receipt_for_answer}
 use Rattle.qrules.proofs.Traces.Properties.BestFirst.{best_first}
 use Rattle.qrules.proofs.Traces.Properties.Events.{outcome_of}
 use Rattle.qrules.proofs.Traces.Properties.Sends.{made_newest, made_stays}
-use Rattle.qrules.proofs.Traces.Rosters.{known}
 use Rattle.qrules.proofs.Traces.TraceLaws.Unended.{unended_newest}
-use Rattle.qrules.proofs.Traces.Past.Open.{open_from, filled_answer, open_thread, kept, kept_number, receipt_for_answer}
 use Rattle.qrules.proofs.Traces.Properties.Connections.{IsMadeFor, takeable_made}
 
 -- ---- what is taken was made

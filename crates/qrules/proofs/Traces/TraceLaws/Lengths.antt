@@ -1,30 +1,13 @@
 -- How long the buffers are that endings give back.
-use Rattle.qrules.proofs.Traces.Rows.{answer_same, pulse_same, sent_same, unblocked_same}
-use Rattle.qrules.proofs.Common.{◌≡◌, ℕ, ◌≤◌, List, [], ◌∷◌, length, refl, ap, sym, subst, ◌∙◌, cond, Bool, true, false, eqb, arith, inl, inr, option_map, buffer_of_open, with_buffer, held_call, is_thread, unblocked_call, written_call, AllByRecursion, none-some, same_Some, laid_count, lay_over, Errno, Srch, is_pulse, Item, Any, PulseOnly, completion_to, row_of, info_of, refusal_unless_held, is_on, receipt_completion, SentItem, Event, Trace, Call, Completion, Mark, OpenCall, Receipt, IsRoster, Member, call_at, all_filter_map, all_more, eqb_same, Transfer, buffer_in, channel_of}
-use Rattle.std.specs.Prelude.{Option, None, Some, is_some, ◌&&◌}
+use Rattle.qrules.proofs.Basics.{answer_same, pulse_same, sent_same, unblocked_same, asks, makes, unblocks, writes, error_finish, reply_finish, message_item, receipt_of, info_completion, Finish, ends_sender, Received, buffer_after_write, Facts, message, sender, threads_of, route, number_of, after_receipt, after_unblock, after_write, open_call_after, unless, is_accepted, with_writes, open_call, filled, with_receipt, detach_ends, IsCancelledCall, cancel_parts, sender_ends, Passes, block_asked, open_parts, Delivers, delivery_meets, receive_takes, facts_of, IsLawful, completion_names, laws_of, passes_of}
+use Rattle.qrules.proofs.Common.{◌≡◌, ℕ, ◌≤◌, List, [], ◌∷◌, length, refl, ap, sym, subst, ◌∙◌, cond, Bool, true, false, eqb, arith, inl, inr, option_map, buffer_of_open, with_buffer, held_call, is_thread, unblocked_call, written_call, AllByRecursion, none-some, same_Some, laid_count, lay_over, Errno, Srch, is_pulse, Item, Any, PulseOnly, completion_to, row_of, info_of, refusal_unless_held, is_on, receipt_completion, SentItem, Event, Trace, Call, Completion, Mark, OpenCall, Receipt, IsRoster, Member, call_at, all_filter_map, all_more, eqb_same, Transfer, buffer_in, channel_of, Option, None, Some, is_some, ◌&&◌}
 use Rattle.std.proofs.lemmas.Bool.{ne_eqb, true≢false}
 use Rattle.qmodel.specs.Buffers.{buffer_of}
-use Rattle.qrules.proofs.Words.Effects.{asks, makes, unblocks, writes}
-use Rattle.qrules.proofs.Traces.Parts.{error_finish, reply_finish}
-use Rattle.qrules.proofs.Words.Items.{message_item, receipt_of, info_completion, Finish, ends_sender, Received, buffer_after_write}
-use Rattle.qrules.proofs.Words.Facts.{Facts, message, sender, threads_of, route, number_of}
-use Rattle.qrules.proofs.Words.Step.{after_receipt, after_unblock, after_write, open_call_after, unless}
-use Rattle.qrules.proofs.Words.Past.{is_accepted, with_writes, open_call, filled, with_receipt}
 use Rattle.qmodel.specs.declared.call.Call.TheVariants.{Send, Receive, Reply, Error, Read, Info, ReceivePulse, Pulse, ChannelDestroy, Shutdown, Unblock, ConnectDetach}
 use Rattle.qmodel.specs.declared.call.Info.{Info as Told}
 use Rattle.qmodel.specs.declared.open_call.OpenCall.TheVariants.{Receive as InReceive, Send as InSend}
-use Rattle.qrules.proofs.Traces.Calls.ConnectDetach.{detach_ends}
-use Rattle.qrules.proofs.Traces.Calls.Cancelling.{IsCancelledCall, cancel_parts}
-use Rattle.qrules.proofs.Traces.Calls.Held.{sender_ends}
-use Rattle.qrules.proofs.Traces.Past.Laws.{Passes}
-use Rattle.qrules.proofs.Traces.Past.Numbers.{block_asked}
-use Rattle.qrules.proofs.Traces.Past.Open.{open_parts}
-use Rattle.qrules.proofs.Traces.Properties.Rows.Delivering.{Delivers, delivery_meets}
-use Rattle.qrules.proofs.Traces.Properties.Rows.Receiving.{receive_takes}
 use Rattle.qrules.proofs.Traces.Properties.Rows.Telling.{told_meets, unblock_ends}
-use Rattle.qrules.proofs.Words.Lawful.{facts_of, IsLawful}
 use Rattle.qbase.proofs.Lengths.{lay_length}
-use Rattle.qrules.proofs.Traces.Past.Ends.{completion_names, laws_of, passes_of}
 use Rattle.qrules.proofs.Traces.TraceLaws.Blocked.{some_receipt}
 use Rattle.qrules.proofs.Traces.Past.OpenCalls.{open_accepted, open_refused}
 use Rattle.qrules.specs.Rules.Connections as connect_detach

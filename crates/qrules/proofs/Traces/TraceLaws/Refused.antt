@@ -1,8 +1,7 @@
 -- A refused call changes nothing but how many were made.
 use Rattle.qrules.proofs.Common.{◌≡◌, ◌∙◌, ℕ, ◌+◌, sym, false, Call}
 use Rattle.std.proofs.Math.Nat.{add-zero}
-use Rattle.qrules.proofs.Words.Facts.{Facts}
-use Rattle.qrules.proofs.Words.Step.{Follows}
+use Rattle.qrules.proofs.Basics.{Facts, Follows}
 use Rattle.qrules.proofs.Once.{one_facts}
 
 -- what follows a refused call is as it was

@@ -1,13 +1,7 @@
 -- A call that may wait and isn't ended is the newest blocking call of its thread.
-use Rattle.qrules.proofs.Common.{◌≡◌, ℕ, ◌+◌, List, [], ◌∷◌, length, refl, ap, sym, subst, ◌∙◌, cond, true, false, eqb, eq-eqb, waiter, channel_of, number_of, none-some, same_Some, Member, Event, Trace, Call, Shutdown, OpenCall}
-use Rattle.std.specs.Prelude.{Option, None, Some, is_some}
+use Rattle.qrules.proofs.Common.{◌≡◌, ℕ, ◌+◌, List, [], ◌∷◌, length, refl, ap, sym, subst, ◌∙◌, cond, true, false, eqb, eq-eqb, waiter, channel_of, number_of, none-some, same_Some, Member, Event, Trace, Call, Shutdown, OpenCall, Option, None, Some, is_some}
 use Rattle.std.proofs.lemmas.Bool.{eqb-true, or_parts, true≢false, and_from}
-use Rattle.qrules.proofs.Traces.Past.Waits.{may_wait}
-use Rattle.qrules.proofs.Words.Lawful.{IsLawful}
-use Rattle.qrules.proofs.Words.Past.{has_completion_of, is_accepted, is_ended, accepted_at, block, item_of}
-use Rattle.qrules.proofs.Words.Effects.{asks}
-use Rattle.qrules.proofs.Traces.Past.Numbers.{blocks}
-use Rattle.qrules.proofs.Traces.Calls.{call_laws}
+use Rattle.qrules.proofs.Basics.{may_wait, IsLawful, has_completion_of, is_accepted, is_ended, accepted_at, block, item_of, asks, blocks, call_laws}
 use Rattle.qrules.proofs.Traces.Properties.Messages.{block_stays}
 
 pub asks_any : (n t h : ℕ) (c : Call) → is_some (asks n t h c) ≡ may_wait c

@@ -1,6 +1,5 @@
 -- A call that delivers an item meets a thread that waits on its channel, if it ends another's.
-use Rattle.qrules.proofs.Common.{◌≡◌, ◌∙◌, ℕ, List, refl, sym, subst, true, Receive, none-some, same_Some, may_take, Item, receipt_completion, Completion, OpenCall, buffer_in}
-use Rattle.std.specs.Prelude.{Option, None, Some}
+use Rattle.qrules.proofs.Common.{◌≡◌, ◌∙◌, ℕ, List, refl, sym, subst, true, Receive, none-some, same_Some, may_take, Item, receipt_completion, Completion, OpenCall, buffer_in, Option, None, Some}
 use Rattle.qrules.proofs.Words.Items.{delivers, receiver}
 use Rattle.qrules.proofs.Words.Facts.{Facts, number_of}
 use Rattle.qrules.proofs.Traces.Properties.Receivers.{WaitsOn, newest_waits}

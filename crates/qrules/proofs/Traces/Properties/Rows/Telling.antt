@@ -1,11 +1,7 @@
 -- A call whose pulse is due may meet a thread that waits for it.
-use Rattle.qrules.proofs.Common.{◌≡◌, ℕ, [], refl, ◌⊎◌, inl, inr, none-some, Intr, SentItem, Completion}
-use Rattle.std.specs.Prelude.{Option, None, Some}
-use Rattle.qrules.proofs.Words.Items.{ends_unblocked, ends_receiver}
-use Rattle.qrules.proofs.Words.Facts.{Facts}
-use Rattle.qrules.proofs.Traces.Calls.Cancelling.{IsCancelledCall, cancel_parts}
+use Rattle.qrules.proofs.Common.{◌≡◌, ℕ, [], refl, ◌⊎◌, inl, inr, none-some, Intr, SentItem, Completion, Option, None, Some}
+use Rattle.qrules.proofs.Basics.{ends_unblocked, ends_receiver, Facts, IsCancelledCall, cancel_parts, Delivers, delivery_meets}
 use Rattle.qrules.proofs.Traces.Calls.Unblock.{is_cancelled}
-use Rattle.qrules.proofs.Traces.Properties.Rows.Delivering.{Delivers, delivery_meets}
 
 -- the pulse that is due is taken by thread u
 pub record Tells (f : Facts) (o : Option SentItem) (u : ℕ) (y : Completion) : Type 0 where
