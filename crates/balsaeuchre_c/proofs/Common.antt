@@ -19,7 +19,7 @@ pub use Rattle.qrules.specs.Rules.{effect_of, row_of}
 pub use Rattle.qrules.specs.Trace.{Event, Trace, call_at}
 pub use Rattle.qtables.specs.Members.{IsRoster, member_at}
 pub use Rattle.qtables.specs.declared.member.Member.{Member}
-pub use Rattle.std.proofs.Common.{List, ap, arith, length, sym, ℕ, ◌-◌, ◌∙◌, ◌≡◌}
+pub use Rattle.std.proofs.Common.{Bool, List, [], ap, arith, cond, eqb, false, inl, inr, length, refl, subst, sym, true, ℕ, ◌+◌, ◌-◌, ◌∙◌, ◌≡◌}
 pub use Rattle.std.proofs.Math.Seq.{drop-append_seam, take-append-add, take-append_seam, take-length}
 pub use Rattle.std.proofs.lemmas.Bool.{and_from, eq-eqb, ne_eqb, not_from_false, true≢false}
 pub use Rattle.std.proofs.lemmas.Bool.Decides.{leb_tells, nat_tests}

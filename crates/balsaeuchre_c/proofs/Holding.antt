@@ -1,7 +1,6 @@
 -- A message that an event receives is held after it, and `Info` tells of it.
-use Rattle.balsaeuchre_c.proofs.Common.{AllByRecursion, Answers, Call, ChannelDestroy, Completion, ConnectDetach, Error, Info, IsLawful, IsRoster, Mark, Member, None, Option, Outcome, Pulse, Receive, ReceivePulse, ReceivedItem, Reply, Send, Shutdown, Some, Unblock, all_filter_map, and_from, completion_to, eq-eqb, facts_of, is_some, laid_count, lay_over, member_at, ne_eqb, none-some, not, not_from_false, row_of, same_Some, some_of, true≢false, with_event}
+use Rattle.balsaeuchre_c.proofs.Common.{AllByRecursion, Answers, Call, ChannelDestroy, Completion, ConnectDetach, Error, Info, IsLawful, IsRoster, Mark, Member, None, Option, Outcome, Pulse, Receive, ReceivePulse, ReceivedItem, Reply, Send, Shutdown, Some, Unblock, all_filter_map, and_from, completion_to, eq-eqb, facts_of, is_some, laid_count, lay_over, member_at, ne_eqb, none-some, not, not_from_false, row_of, same_Some, some_of, true≢false, with_event, ◌≡◌, ◌∙◌, ℕ, ◌+◌, List, [], length, refl, ap, sym, subst, arith, Bool, true, false, cond, eqb, inl, inr}
 use Rattle.qrules.proofs.Traces.Rows.{answer_same, pulse_same, sent_same, unblocked_same}
-use Rattle.std.proofs.Common.{◌≡◌, ◌∙◌, ℕ, ◌+◌, List, [], length, refl, ap, sym, subst, arith, Bool, true, false, cond, eqb, inl, inr}
 use Rattle.std.specs.Option.{option_and_then}
 use Rattle.qbase.specs.declared.errno.Errno.TheVariants.{Srch}
 use Rattle.qqueue.specs.Best.{best_of, is_pulse}

@@ -68,4 +68,4 @@ pub use Rattle.std.proofs.lemmas.Option.{none-some, same_Some}
 pub use Rattle.std.proofs.lemmas.Result.{err_from_is_err_and}
 pub use Rattle.std.specs.List.{AllByRecursion, cons_option, filter_map, list_any}
 pub use Rattle.std.specs.Option.{option_copied_mut, option_map, option_map_or, option_or, option_to_list}
-pub use Rattle.std.specs.Prelude.{IfSome, None, Option, Some, filter, int_lt, is_some, nat_lt, not, pos, slice_range, unwrap_or, ℤ, ◌&&◌, ◌||◌}
+pub use Rattle.std.specs.Prelude.{IfSome, None, Option, Some, count_by, filter, int_lt, is_some, nat_lt, not, pos, slice_range, unwrap_or, ℤ, ◌&&◌, ◌||◌}

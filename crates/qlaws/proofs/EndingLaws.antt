@@ -1,6 +1,5 @@
 -- The laws of the endings of one event.
-use Rattle.qlaws.proofs.Common.{AllByRecursion, Completion, Event, Member, RiseByThread, SentItem, TakesBest, Trace, accepted, all_more, and_from, best_first, completion_to, connection_of, cons_option, ended_below, ends_own, eq-eqb, eqb_same, filter_map, has_completion_of, is_accepted, is_ended, item_at, item_of, item_over, items, keep_length, laws_of, list_any, made_newest, may_wait, none-some, none_of, number_received, option_map, option_to_list, or-true, or_parts, passes_of, past_follows, row_of, shut_for_good, taken_stands, threads_of, true≢false, waiter, waits_or_ends}
-use Rattle.std.proofs.Common.{◌<◌, inl, inr, ◌≡◌, ◌∙◌, ℕ, ◌+◌, List, [], ◌∷◌, length, refl, ap, sym, cond, eqb, subst, Bool, true, false, Option, arith, not}
+use Rattle.qlaws.proofs.Common.{AllByRecursion, Completion, Event, Member, RiseByThread, SentItem, TakesBest, Trace, accepted, all_more, and_from, best_first, completion_to, connection_of, cons_option, ended_below, ends_own, eq-eqb, eqb_same, filter_map, has_completion_of, is_accepted, is_ended, item_at, item_of, item_over, items, keep_length, laws_of, list_any, made_newest, may_wait, none-some, none_of, number_received, option_map, option_to_list, or-true, or_parts, passes_of, past_follows, row_of, shut_for_good, taken_stands, threads_of, true≢false, waiter, waits_or_ends, ◌<◌, inl, inr, ◌≡◌, ◌∙◌, ℕ, ◌+◌, List, [], ◌∷◌, length, refl, ap, sym, cond, eqb, subst, Bool, true, false, Option, arith, not}
 use Rattle.std.specs.Prelude.{None, Some, option_map, ◌&&◌, ◌||◌}
 use Rattle.qrules.proofs.Words.Lawful as old
 use Rattle.qrules.proofs.Traces.TraceLaws.Blocked as blocked

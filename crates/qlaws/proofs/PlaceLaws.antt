@@ -1,6 +1,5 @@
 -- An item's place falls with each item before it that is gone.
-use Rattle.qlaws.proofs.Common.{AllByRecursion, Bool, Event, Item, List, Member, SentItem, Stands, Trace, [], ap, arith, comes_before, cond, current_priority, eqb, eqb-true, false, false_from_ne_true, is_destroyed, is_gone, is_pulse, is_received, item_below, item_of, items_more, items_on, made_by, made_on, map, now, or_parts, pending_is, pending_items, priority_set_by, refl, sender_of, sent_by, standing_is, stands_all, staying, stays_gone, subst, sum_by-append, sum_by-cons, sym, true, true≢false, with_priority, worth_newest, worth_set, ℕ, ◌+◌, ◌∙◌, ◌∷◌, ◌≡◌, ◌≤◌}
-use Rattle.std.specs.Prelude.{None, Some, not, ◌&&◌, count_by, filter, option_and_then, unwrap_or}
+use Rattle.qlaws.proofs.Common.{AllByRecursion, Bool, Event, Item, List, Member, SentItem, Stands, Trace, [], ap, arith, comes_before, cond, current_priority, eqb, eqb-true, false, false_from_ne_true, is_destroyed, is_gone, is_pulse, is_received, item_below, item_of, items_more, items_on, made_by, made_on, map, now, or_parts, pending_is, pending_items, priority_set_by, refl, sender_of, sent_by, standing_is, stands_all, staying, stays_gone, subst, sum_by-append, sum_by-cons, sym, true, true≢false, with_priority, worth_newest, worth_set, ℕ, ◌+◌, ◌∙◌, ◌∷◌, ◌≡◌, ◌≤◌, None, Some, not, ◌&&◌, count_by, filter, option_and_then, unwrap_or}
 use Rattle.qrules.proofs.Words.Lawful as old
 use Rattle.qlaws.specs.Pending as laws
 use Rattle.qlaws.proofs.Lists.{all_two, all_unfilter, all_unmap, fewer_left}

@@ -1,15 +1,10 @@
 -- One line more.
-use Rattle.std.proofs.Common.{◌≡◌, ℕ, ◌+◌, ◌<◌, ◌≤◌, Bool, true, false, List, [], ◌∷◌, ◌++◌, length, get_or, drop, ap, ◌∙◌, arith, length-append, if◌then◌else◌}
-use Rattle.std.proofs.lemmas.Grind.{common_steps}
-use Rattle.std.proofs.lemmas.List.{append_assoc, at_drop_more}
-use Rattle.std.specs.List.{list_any}
-use Rattle.std.specs.Str.{bytes_eq}
+use Rattle.qnames.proofs.Common.{◌≡◌, ℕ, ◌+◌, ◌<◌, ◌≤◌, Bool, true, false, List, [], ◌∷◌, ◌++◌, length, get_or, drop, ap, ◌∙◌, arith, length-append, if◌then◌else◌, common_steps, append_assoc, at_drop_more, list_any, bytes_eq, Names, with_line, with_process}
 use Rattle.qnames.specs.declared.line.Process.{Process}
 use Rattle.qnames.specs.declared.line.Process.TheVariants as processes
 use Rattle.qnames.specs.declared.line.Line.{Line}
 use Rattle.qnames.specs.declared.line.Line.TheVariants as lines
 use Rattle.qnames.specs.declared.label.NameFault.{NameFault}
-use Rattle.qnames.specs.Names.{Names, with_line, with_process}
 use Rattle.qnames.specs.Plain.{line_text, plain_lines, plain_text, line_fault, listed, name_faults}
 
 -- the text of the lines that are left is that of the next one and of those after it

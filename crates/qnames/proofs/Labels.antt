@@ -1,11 +1,8 @@
 -- The last label with a name, by its place.
-use Rattle.std.proofs.Common.{◌≡◌, ◌⊎◌, ℕ, suc, Bool, true, false, List, [], ◌∷◌, ◌++◌, length, Option, Some, None, refl, ◌∙◌, inl, inr, slice_get, if◌then◌else◌}
+use Rattle.qnames.proofs.Common.{◌≡◌, ◌⊎◌, ℕ, suc, Bool, true, false, List, [], ◌∷◌, ◌++◌, length, Option, Some, None, refl, ◌∙◌, inl, inr, slice_get, if◌then◌else◌, bytes_eq, reverse_onto, Label}
 use Rattle.std.specs.Prelude.{reverse, find}
-use Rattle.std.specs.Str.{bytes_eq}
 use Rattle.std.specs.Option.{option_or, option_map}
 use Rattle.std.proofs.lemmas.List.Folds.{find-append}
-use Rattle.std.proofs.lemmas.Grind.{reverse_onto}
-use Rattle.qnames.specs.declared.label.Label.{Label}
 use Rattle.qnames.specs.Names.{latest}
 use Rattle.qnames.specs.Scope.{last_place}
 

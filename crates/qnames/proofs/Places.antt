@@ -1,7 +1,5 @@
 -- The first place that passes a test.
-use Rattle.std.proofs.Common.{◌≡◌, ℕ, Bool, true, false, not, cond, List, length, position, Some, None, nat_lt, arith}
-use Rattle.std.specs.List.{position_or_len}
-use Rattle.std.proofs.lemmas.Grind.{common_steps}
+use Rattle.qnames.proofs.Common.{◌≡◌, ℕ, Bool, true, false, not, cond, List, length, position, Some, None, nat_lt, arith, position_or_len, common_steps}
 use Rattle.std.proofs.lemmas.List.Sums.{prefix_len-le-length}
 
 chosen : (n l : ℕ) (b : Bool) → (i : ℕ) → cond b (Some n) None ≡ Some i → n ≡ i

@@ -1,13 +1,10 @@
 -- The lines of the plain script, read again.
-use Rattle.std.proofs.Common.{◌≡◌, ℕ, ◌<◌, List, [], ◌∷◌, ◌++◌, length, map, Option, Some, None, refl, sym, ap, ◌∙◌, nat_lt, Bool, true, false, if◌then◌else◌}
-use Rattle.std.specs.List.{AllByRecursion, flat_map}
-use Rattle.std.proofs.lemmas.List.{append_assoc}
+use Rattle.qnames.proofs.Common.{◌≡◌, ℕ, ◌<◌, List, [], ◌∷◌, ◌++◌, length, map, Option, Some, None, refl, sym, ap, ◌∙◌, nat_lt, Bool, true, false, if◌then◌else◌, AllByRecursion, flat_map, append_assoc, lines_of, without_return}
 use Rattle.qtables.specs.declared.member.Member.{Member}
 use Rattle.qmodel.specs.declared.call.Call.{Call}
 use Rattle.qreading.specs.declared.fault.LineFault.{LineFault}
 use Rattle.qreading.specs.TextLimit.{most_text}
 use Rattle.qreading.specs.Reading.Laws.{IsOneLine}
-use Rattle.qreading.specs.Reading.Lines.{lines_of, without_return}
 use Rattle.qreading.specs.Reading.Meaning.{Meaning, TooLong, Faulty, Says, meaning, of_lines, fault_or, first_fault, roster_of, calls_of}
 use Rattle.qreading.proofs.Texts.Lines.{lines_at, lines_none}
 

@@ -20,7 +20,7 @@ pub use Rattle.qrules.proofs.Traces.Parts.{connection_between, connections_betwe
 pub use Rattle.qrules.proofs.Traces.Past.Follows.{past_follows}
 pub use Rattle.qrules.proofs.Traces.Past.Waits.{some_map}
 pub use Rattle.qrules.proofs.Words.Effects.{asks, attaches, closes, creates, detaches, makes, sets, shuts_down, unblocks, writes}
-pub use Rattle.qrules.proofs.Words.Facts.{Facts, count_to, threads_of}
+pub use Rattle.qrules.proofs.Words.Facts.{Facts, count_to, is_fixed, owns, route, sender, threads_of}
 pub use Rattle.qrules.proofs.Words.Items.{Finish, Received, ends_with, info_completion, is_after, is_last_wait, is_newest, message_item, names, own_receipt, priority_set_for, pulse_receipt, pulses_among, receipt_by, receipt_in, receipt_of, receipt_of_best, receipt_when_sent, receipt_when_taken, receiver, sender_for, takes_into, wait_on}
 pub use Rattle.qrules.proofs.Words.Lawful.{IsLawful, facts_of}
 pub use Rattle.qrules.proofs.Words.Past.{channel_at, connection_at, made_on, open_call}

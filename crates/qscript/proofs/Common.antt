@@ -10,13 +10,14 @@ pub use Rattle.qmodel.specs.declared.call.Completion.{Completion}
 pub use Rattle.qmodel.specs.declared.open_call.Blocked.{Blocked}
 pub use Rattle.qreading.proofs.Texts.Digits.{own}
 pub use Rattle.qreading.proofs.Texts.Progress.{Stands, calls_more, not_long, not_too_long, roster_more, stands_first, stands_last, stands_more}
-pub use Rattle.qreading.specs.Reading.Line.{is_text}
+pub use Rattle.qreading.specs.Reading.Line.{is_text, line_of}
+pub use Rattle.qreading.specs.Reading.Words.{is_empty, words_of}
 pub use Rattle.qrules.specs.Lawful.{event_call, facts_of}
 pub use Rattle.qscript.specs.Enrolled.{AllJoin, roster_with}
 pub use Rattle.qscript.specs.Printing.Buffer.{buffer_word, buffer_words}
 pub use Rattle.qscript.specs.Printing.Laws.{GoesOn, HasLines, IsLines, IsOneLine, endings_in, with_more, with_newline}
 pub use Rattle.qscript.specs.Printing.OpenLine.{open_text}
-pub use Rattle.qscript.specs.Printing.Printed.{call_by, ended_text, event_text, is_shown, shows_buffer, texts_from}
+pub use Rattle.qscript.specs.Printing.Printed.{call_by, ended_text, event_text, is_shown, printed, shows_buffer, texts_from}
 pub use Rattle.qscript.specs.Printing.Printer.{HasPrinted, HasRun, shows_at, shows_own}
 pub use Rattle.qscript.specs.Printing.Words.{words_with_spaces}
 pub use Rattle.qscript.specs.Running.{HasMade}

@@ -1,6 +1,5 @@
 -- Calls that are made one after another, and printed at once.
-use Rattle.qscript.proofs.Common.{AllKnown, AnswersAtTraces, Call, Event, Events, HasMade, HasPrinted, List, Member, State, [], ap, arith, event_call, length, length-append, length-map, map-append, member_at, members_of, refl, runs_more, shows_buffer, sym, true, with_more, ℕ, ◌++◌, ◌+◌, ◌∙◌, ◌∷◌, ◌≡◌}
-use Rattle.std.specs.Prelude.{is_some}
+use Rattle.qscript.proofs.Common.{AllKnown, AnswersAtTraces, Call, Event, Events, HasMade, HasPrinted, List, Member, State, [], ap, arith, event_call, length, length-append, length-map, map-append, member_at, members_of, refl, runs_more, shows_buffer, sym, true, with_more, ℕ, ◌++◌, ◌+◌, ◌∙◌, ◌∷◌, ◌≡◌, is_some}
 use Rattle.qscript.specs.declared.run.Run.{Run}
 
 -- the number of the next event

@@ -1,8 +1,7 @@
 -- The text of a run on a new kernel.
-use Rattle.qscript.proofs.Common.{Blocked, Call, Event, HasPrinted, HasRun, IsRoster, IsTextOfRun, IsWellRun, List, Member, Printer, Run, StandsAt, State, Trace, [], ap, event_call, facts_of, headline_of, map, members_of, refl, roster_with, sym, ℕ, ◌+◌, ◌∙◌, ◌≡◌}
+use Rattle.qscript.proofs.Common.{Blocked, Call, Event, HasPrinted, HasRun, IsRoster, IsTextOfRun, IsWellRun, List, Member, Printer, Run, StandsAt, State, Trace, [], ap, event_call, facts_of, headline_of, map, members_of, refl, roster_with, sym, ℕ, ◌+◌, ◌∙◌, ◌≡◌, printed}
 use Rattle.qkernel.specs.Blocked.{blocked_threads}
 use Rattle.qrules.specs.Trace.{followed_by}
-use Rattle.qscript.specs.Printing.Printed.{printed}
 
 made_same : (n m : ℕ) (xs ys : List Event) → n ≡ m → xs ≡ ys → (let r : Run = record { first = n; events = xs } in r) ≡ record { first = m; events = ys }
 made_same n m xs ys first events = rw (first, events) refl

@@ -1,14 +1,12 @@
 -- What a text says can run: its threads join one roster, and its calls are of these threads.
-use Rattle.qscript.proofs.Common.{AllJoin, AllKnown, Bool, Call, CanRun, Err, IsTrue, List, Member, None, Ok, Option, Result, Some, [], add-one, ap, append-nil, arith, calls_more, cond, cons_option, count_by-le-length, false, get_or, is_some, join_refusal, leb-false, length, length-map, length-slice_split, length-take, lt-ltb, ltb-false, map, member_at, nat_le, nat_lt, option_or, or_right, refl, roster_more, roster_with, slice_index, slice_split, suc, sym, take, take_all, true, with_member, zero, ℕ, ◌++◌, ◌+◌, ◌-◌, ◌<◌, ◌==◌, ◌||◌, ◌∙◌, ◌∷◌, ◌≡◌, ◌≤◌}
+use Rattle.qscript.proofs.Common.{AllJoin, AllKnown, Bool, Call, CanRun, Err, IsTrue, List, Member, None, Ok, Option, Result, Some, [], add-one, ap, append-nil, arith, calls_more, cond, cons_option, count_by-le-length, false, get_or, is_some, join_refusal, leb-false, length, length-map, length-slice_split, length-take, lt-ltb, ltb-false, map, member_at, nat_le, nat_lt, option_or, or_right, refl, roster_more, roster_with, slice_index, slice_split, suc, sym, take, take_all, true, with_member, zero, ℕ, ◌++◌, ◌+◌, ◌-◌, ◌<◌, ◌==◌, ◌||◌, ◌∙◌, ◌∷◌, ◌≡◌, ◌≤◌, line_of, is_empty}
 use Rattle.std.proofs.Math.Bool.{or-false}
 use Rattle.qbase.proofs.Lists.{length-filter_map}
 use Rattle.qreading.specs.declared.reading.line.Line.{Line}
 use Rattle.qreading.specs.declared.reading.line.Line.TheVariants as lines
 use Rattle.qreading.specs.declared.fault.LineFault.{LineFault}
 use Rattle.qreading.specs.declared.fault.LineFault.TheVariants.{DoubleThread, TooManyThreads, UnknownThread}
-use Rattle.qreading.specs.Reading.Line.{line_of}
 use Rattle.qreading.specs.Reading.Lines.{lines_of, is_newline, without_return, without_last_end}
-use Rattle.qreading.specs.Reading.Words.{is_empty}
 use Rattle.qreading.specs.Reading.Meaning.{Meaning, TooLong, Says, meaning, is_in, line_after_roster, member_in, call_in, roster_of, calls_of, line_behind, line_with, line_after, fault_in, fault_at, first_fault, fault_or, of_lines}
 use Rattle.qreading.proofs.Texts.Early.{bind_ok, placed_keeps, alone}
 use Rattle.qscript.proofs.Joining.{enrolled_more}

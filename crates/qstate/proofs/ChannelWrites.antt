@@ -1,6 +1,5 @@
 -- What a write to one channel's record changes, and what its removal does.
-use Rattle.qstate.proofs.Common.{◌≡◌, ℕ, ◌+◌, ◌≤◌, List, [], ◌∷◌, length, map, not, refl, ap, sym, ◌∙◌, cond, true, false, eqb, AllByRecursion, option_map, eqb-true, true≢false, Item, with_item_priority, entry_at, with_record, without_entry, eqb_either, Channel, SetsItems, ClosesIn, open_channel_of, channel_in, pending_in, items_waiting_on}
-use Rattle.std.specs.Prelude.{Option, None, Some, is_some, OnSome}
+use Rattle.qstate.proofs.Common.{◌≡◌, ℕ, ◌+◌, ◌≤◌, List, [], ◌∷◌, length, map, not, refl, ap, sym, ◌∙◌, cond, true, false, eqb, AllByRecursion, option_map, eqb-true, true≢false, Item, with_item_priority, entry_at, with_record, without_entry, eqb_either, Channel, SetsItems, ClosesIn, open_channel_of, channel_in, pending_in, items_waiting_on, Option, None, Some, is_some, OnSome}
 use Rattle.qqueue.specs.Contents.{Contents}
 use Rattle.qtables.proofs.LookUps.{entry_at-with_record, entry_at-without_entry}
 

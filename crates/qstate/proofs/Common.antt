@@ -35,4 +35,4 @@ pub use Rattle.std.proofs.lemmas.Option.{none-some, same_Some}
 pub use Rattle.std.proofs.lemmas.Result.{err_from_is_err_and}
 pub use Rattle.std.specs.List.{AllByRecursion, cons_option, filter_map, list_any, position_from}
 pub use Rattle.std.specs.Option.{option_map, option_map_or, option_or}
-pub use Rattle.std.specs.Prelude.{None, unwrap_or}
+pub use Rattle.std.specs.Prelude.{None, OnSome, Option, Result, filter, find, insert, nat_lt, position, unwrap_or}

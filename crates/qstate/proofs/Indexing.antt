@@ -1,6 +1,5 @@
 -- What is kept of where the threads stand stays right as their records are written.
-use Rattle.qstate.proofs.Common.{◌≡◌, ◌≢◌, ◌<◌, ◌≤◌, ℕ, suc, zero, ◌+◌, List, [], ◌∷◌, length, map, set, get_or, Bool, ◌&&◌, refl, ap, sym, ◌∙◌, cond, arith, true, false, eqb, option_and_then, slice_get, IfSome, position_from, option_map, eqb-true, eq-eqb, true≢false, ltb-true, and_parts, position_from-zero, length-map, same_Some, none-some, has, IsRoster, OpenCall, Receipt, Receive, Send, held_call, unblocked_call, written_call, with_buffer, CancelSet, Index, Thread, is_cancelled_by, is_cancelled_open, thread_after_cancelled, members_of, ready_thread, seat_in, IsIndexed, number_at, open_at, receive_at, opener_at, lay_over}
-use Rattle.std.specs.Prelude.{Option, None, Some, nat_lt}
+use Rattle.qstate.proofs.Common.{◌≡◌, ◌≢◌, ◌<◌, ◌≤◌, ℕ, suc, zero, ◌+◌, List, [], ◌∷◌, length, map, set, get_or, Bool, ◌&&◌, refl, ap, sym, ◌∙◌, cond, arith, true, false, eqb, option_and_then, slice_get, IfSome, position_from, option_map, eqb-true, eq-eqb, true≢false, ltb-true, and_parts, position_from-zero, length-map, same_Some, none-some, has, IsRoster, OpenCall, Receipt, Receive, Send, held_call, unblocked_call, written_call, with_buffer, CancelSet, Index, Thread, is_cancelled_by, is_cancelled_open, thread_after_cancelled, members_of, ready_thread, seat_in, IsIndexed, number_at, open_at, receive_at, opener_at, lay_over, Option, None, Some, nat_lt}
 use Rattle.qtables.specs.declared.member.Member.{Member}
 use Rattle.qstate.specs.Index.{is_receive, Forgets, Notes}
 use Rattle.qmodel.specs.OpenCalls.{receive_in, thread_of, number_of}

@@ -1,6 +1,5 @@
 -- What becomes of a message that isn't received as its thread's priority is set.
-use Rattle.qstate.proofs.Common.{◌≡◌, ℕ, List, [], ◌∷◌, map, refl, ap, sym, ◌∙◌, cond, Bool, true, false, eqb, is_some, not, and-false, and-true, eqb-true, none-some, same_Some, with_item_priority, with_priority, Item, is_unread_send, OpenCall, Receive, Send, eqb_either, Channel, SetsItems, pending_in, MovesUnread, unread_in, OpenSend}
-use Rattle.std.specs.Prelude.{Option, None, Some, ◌&&◌}
+use Rattle.qstate.proofs.Common.{◌≡◌, ℕ, List, [], ◌∷◌, map, refl, ap, sym, ◌∙◌, cond, Bool, true, false, eqb, is_some, not, and-false, and-true, eqb-true, none-some, same_Some, with_item_priority, with_priority, Item, is_unread_send, OpenCall, Receive, Send, eqb_either, Channel, SetsItems, pending_in, MovesUnread, unread_in, OpenSend, Option, None, Some, ◌&&◌}
 use Rattle.qstate.specs.declared.unread.Unread.{Unread}
 
 -- ---- an open call and what waits on a channel

@@ -1,6 +1,5 @@
 -- The newest receiver, by a look at the receivers alone.
-use Rattle.qstate.proofs.Common.{◌≡◌, ◌≢◌, ◌<◌, ◌≤◌, ◌+◌, ℕ, suc, zero, List, [], ◌∷◌, drop, length, get_or, refl, ap, sym, ◌∙◌, arith, cond, ◌&&◌, ◌-◌, true, false, eqb, option_map, eqb-true, eq-eqb, ltb-false, ltb-true, true≢false, at_drop_more, drop_all, none-some, same_Some, has, HasNone, IsGreatest, may_take, Item, IsRoster, OpenCall, Receive, Send, wait_on, Index, Thread, members_of, later_of_two, newest_in, newer_of, newest_of, number_and_thread, open_at, receive_at, IsIndexed, IsSeatIn}
-use Rattle.std.specs.Prelude.{Option, None, Some, nat_lt, IfSome}
+use Rattle.qstate.proofs.Common.{◌≡◌, ◌≢◌, ◌<◌, ◌≤◌, ◌+◌, ℕ, suc, zero, List, [], ◌∷◌, drop, length, get_or, refl, ap, sym, ◌∙◌, arith, cond, ◌&&◌, ◌-◌, true, false, eqb, option_map, eqb-true, eq-eqb, ltb-false, ltb-true, true≢false, at_drop_more, drop_all, none-some, same_Some, has, HasNone, IsGreatest, may_take, Item, IsRoster, OpenCall, Receive, Send, wait_on, Index, Thread, members_of, later_of_two, newest_in, newer_of, newest_of, number_and_thread, open_at, receive_at, IsIndexed, IsSeatIn, Option, None, Some, nat_lt, IfSome}
 use Rattle.qbase.specs.declared.byte_set.ByteSet.{ByteSet}
 use Rattle.qstate.specs.declared.seat.Seat.{Seat}
 use Rattle.qstate.proofs.Indexing.{receive_number}

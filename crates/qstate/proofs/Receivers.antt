@@ -1,8 +1,6 @@
 -- The receivers of a channel, by the records of their threads.
-use Rattle.qstate.proofs.Common.{◌≡◌, ◌<◌, ℕ, List, [], ◌∷◌, refl, ap, sym, ◌∙◌, arith, cond, true, false, eqb, option_and_then, AllByRecursion, le-ltb, ltb-false, ltb-true, none-some, same_Some, Item, IsRoster, Completion, OpenCall, Receive, Send, Thread, threads_of, is_after, wait_on, receipt_completion, takes, receive_in, later_of_two, newest_in, open_in, members_of, is_among}
-use Rattle.std.specs.Prelude.{Option, None, Some, is_some, not, nat_lt, Bool, ◌||◌}
+use Rattle.qstate.proofs.Common.{◌≡◌, ◌<◌, ℕ, List, [], ◌∷◌, refl, ap, sym, ◌∙◌, arith, cond, true, false, eqb, option_and_then, AllByRecursion, le-ltb, ltb-false, ltb-true, none-some, same_Some, Item, IsRoster, Completion, OpenCall, Receive, Send, Thread, threads_of, is_after, wait_on, receipt_completion, takes, receive_in, later_of_two, newest_in, open_in, members_of, is_among, Option, None, Some, is_some, not, nat_lt, Bool, ◌||◌, find}
 use Rattle.std.specs.Option.{option_map, option_map_or, IfSome}
-use Rattle.std.specs.Prelude.{find}
 use Rattle.qmodel.specs.declared.open_call.OpenReceive.{OpenReceive}
 use Rattle.qrules.proofs.Traces.Properties.Receivers.{after_less, any_after, newest_parts}
 use Rattle.qstate.proofs.Senders.{own_open}

@@ -1,6 +1,5 @@
 -- Where a connection leads.
-use Rattle.qstate.proofs.Common.{◌≡◌, ℕ, List, refl, sym, cond, true, false, eqb, ◌&&◌, none-some, same_Some, entry_at, Channel, own_channel_in, route_in, channel_in}
-use Rattle.std.specs.Prelude.{Option, None, Some, is_some}
+use Rattle.qstate.proofs.Common.{◌≡◌, ℕ, List, refl, sym, cond, true, false, eqb, ◌&&◌, none-some, same_Some, entry_at, Channel, own_channel_in, route_in, channel_in, Option, None, Some, is_some}
 use Rattle.qtables.specs.declared.connection.Connection.{Connection}
 
 module _ (p : ℕ) (channels : List (ℕ × Channel)) where

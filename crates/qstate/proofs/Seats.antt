@@ -1,6 +1,5 @@
 -- Where a thread stands among the threads, and what a write there changes.
-use Rattle.qstate.proofs.Common.{◌≡◌, ℕ, suc, zero, ◌+◌, ◌<◌, List, [], ◌∷◌, length, set, get_or, refl, ap, sym, subst, ◌∙◌, cond, arith, true, false, eqb, position_from, eqb-true, eqb-false, eq-eqb, ne_eqb, true≢false, position_from-zero, same_Some, none-some, member_at, Thread, open_in, seat_in, ChangesOpen, SetsOpen, SetsPriority, Wakes, members_of, thread_priority, open_at, IsRecordOf, OpenCall, option_map}
-use Rattle.std.specs.Prelude.{None, Some, is_some, Option, unwrap_or}
+use Rattle.qstate.proofs.Common.{◌≡◌, ℕ, suc, zero, ◌+◌, ◌<◌, List, [], ◌∷◌, length, set, get_or, refl, ap, sym, subst, ◌∙◌, cond, arith, true, false, eqb, position_from, eqb-true, eqb-false, eq-eqb, ne_eqb, true≢false, position_from-zero, same_Some, none-some, member_at, Thread, open_in, seat_in, ChangesOpen, SetsOpen, SetsPriority, Wakes, members_of, thread_priority, open_at, IsRecordOf, OpenCall, option_map, None, Some, is_some, Option, unwrap_or}
 
 -- the thread stands at k, and nowhere before
 abbrev pub IsFirstAt : List Thread → ℕ → ℕ → Type 0

@@ -1,6 +1,5 @@
 -- The thread whose open call is a Send, by its place and by its number.
-use Rattle.qstate.proofs.Common.{◌≡◌, ℕ, suc, zero, ◌+◌, ◌<◌, List, [], ◌∷◌, length, get_or, refl, ap, sym, subst, ◌∙◌, cond, arith, true, false, eqb, option_and_then, position_from, AllByRecursion, eqb-true, eq-eqb, ne_eqb, true≢false, and_parts, position_from-zero, same_Some, none-some, IsRoster, Channel, OpenCall, Receive, Send, OpenSend, Thread, threads_of, is_send, sender_among, message_in, is_sending, open_in, seat_in, sender_in, sent_call, message_from, ChangesOpen, ChangesSender, members_of, channel_in, number_at, is_of}
-use Rattle.std.specs.Prelude.{Option, None, Some, Result, Bool, is_some, find, position, ◌&&◌}
+use Rattle.qstate.proofs.Common.{◌≡◌, ℕ, suc, zero, ◌+◌, ◌<◌, List, [], ◌∷◌, length, get_or, refl, ap, sym, subst, ◌∙◌, cond, arith, true, false, eqb, option_and_then, position_from, AllByRecursion, eqb-true, eq-eqb, ne_eqb, true≢false, and_parts, position_from-zero, same_Some, none-some, IsRoster, Channel, OpenCall, Receive, Send, OpenSend, Thread, threads_of, is_send, sender_among, message_in, is_sending, open_in, seat_in, sender_in, sent_call, message_from, ChangesOpen, ChangesSender, members_of, channel_in, number_at, is_of, Option, None, Some, Result, Bool, is_some, find, position, ◌&&◌}
 use Rattle.std.specs.Option.{ok_or, option_map, IfNone, IfSome, option_map_or}
 use Rattle.std.specs.Result.{IfErr, IfOk}
 use Rattle.qrules.proofs.Words.Items.{Finish}

@@ -1,6 +1,5 @@
 -- What the calls share that end others by force, by the kernel's content.
-use Rattle.qkernel.proofs.Common.{◌≡◌, ℕ, ◌+◌, ◌≤◌, List, [], refl, ap, ◌∙◌, cond, true, false, eqb, AreCancelled, LoseCancelled, completion_for, is_cancelled_among, is_cancelled_by, filter_map, eqb-true, Errno, Item, cancel_where, threads_of, Completion, pending_in, members_of, open_in, Channel, Thread, State, IsSound, all_filter}
-use Rattle.std.specs.Prelude.{Bool, None, is_some, not}
+use Rattle.qkernel.proofs.Common.{◌≡◌, ℕ, ◌+◌, ◌≤◌, List, [], refl, ap, ◌∙◌, cond, true, false, eqb, AreCancelled, LoseCancelled, completion_for, is_cancelled_among, is_cancelled_by, filter_map, eqb-true, Errno, Item, cancel_where, threads_of, Completion, pending_in, members_of, open_in, Channel, Thread, State, IsSound, all_filter, Bool, None, is_some, not}
 use Rattle.qstate.specs.declared.cancelling.CancelSet.{CancelSet}
 use Rattle.qkernel.proofs.Steps.Common.{counted, sound_counted_alone}
 use Rattle.qkernel.proofs.Steps.Delivering.{sound_kept}

@@ -1,6 +1,5 @@
 -- ConnectDetach as a step of the kernel.
-use Rattle.qkernel.proofs.Common.{pulse_same, ◌≡◌, ℕ, ◌+◌, ◌<◌, ◌≤◌, List, [], ◌∷◌, ◌++◌, length, refl, ap, sym, subst, ◌∙◌, cond, arith, true, false, eqb, inl, inr, add-zero, filter_map, list_any, and_comm, filter_agree, entry_at, without_entry, Connection, connection_between, connections_between, due_pulse_over, is_own, is_over, refusal_if_full_for, newest_receiver, cancel_where, tells_disconnect, disconnect_item, is_unread_send, is_cancelled, uncancelled_items, unreceived_items, unless, ConnectDetach, Over, own_channel_in, AreCancelled, LoseCancelled, completion_for, is_cancelled_among, all_filter, cond_same, filter_twice, or_none, row_of, eqb-true, ne_eqb, true≢false, length-map, none-some, same_Some, option_or, Again, Badf, Inval, NoMemory, without_item, Item, member_at, Member, MayRefuse, completion_to, refusal_completion, ends_receiver, pulse_receipt, Received, threads_of, SentItem, made_on, Completion, Channel, Thread, channel_in, pending_in, thread_priority, members_of, with_completion_if, has_room, newest_in, open_in, State, IsSound, Steps, facts_in, filter_map_same}
-use Rattle.std.specs.Prelude.{Bool, Option, None, Some, filter, count_by, is_some, not, ◌&&◌}
+use Rattle.qkernel.proofs.Common.{pulse_same, ◌≡◌, ℕ, ◌+◌, ◌<◌, ◌≤◌, List, [], ◌∷◌, ◌++◌, length, refl, ap, sym, subst, ◌∙◌, cond, arith, true, false, eqb, inl, inr, add-zero, filter_map, list_any, and_comm, filter_agree, entry_at, without_entry, Connection, connection_between, connections_between, due_pulse_over, is_own, is_over, refusal_if_full_for, newest_receiver, cancel_where, tells_disconnect, disconnect_item, is_unread_send, is_cancelled, uncancelled_items, unreceived_items, unless, ConnectDetach, Over, own_channel_in, AreCancelled, LoseCancelled, completion_for, is_cancelled_among, all_filter, cond_same, filter_twice, or_none, row_of, eqb-true, ne_eqb, true≢false, length-map, none-some, same_Some, option_or, Again, Badf, Inval, NoMemory, without_item, Item, member_at, Member, MayRefuse, completion_to, refusal_completion, ends_receiver, pulse_receipt, Received, threads_of, SentItem, made_on, Completion, Channel, Thread, channel_in, pending_in, thread_priority, members_of, with_completion_if, has_room, newest_in, open_in, State, IsSound, Steps, facts_in, filter_map_same, Bool, Option, None, Some, filter, count_by, is_some, not, ◌&&◌}
 use Rattle.std.proofs.lemmas.List.Sums.{length-filter}
 use Rattle.qrules.specs.Rules.Connections.{disconnect_pulse}
 use Rattle.qtables.proofs.LookUps.{entry_at-without_entry}

@@ -1,6 +1,5 @@
 -- Read as a step of the kernel.
-use Rattle.qkernel.proofs.Common.{message_same, ◌≡◌, ℕ, ◌+◌, List, [], ◌∷◌, refl, sym, ◌∙◌, arith, true, append-nil, false, laid_count, lay_over, Read, message_from, open_in, member_at, Member, Completion, is_held_in, State, IsSound, Steps, facts_in, members_of, among, only_own, rises}
-use Rattle.std.specs.Prelude.{drop, None, Some}
+use Rattle.qkernel.proofs.Common.{message_same, ◌≡◌, ℕ, ◌+◌, List, [], ◌∷◌, refl, sym, ◌∙◌, arith, true, append-nil, false, laid_count, lay_over, Read, message_from, open_in, member_at, Member, Completion, is_held_in, State, IsSound, Steps, facts_in, members_of, among, only_own, rises, drop, None, Some}
 use Rattle.qkernel.proofs.Steps.Common.{uncancelled, counted, stays_free}
 use Rattle.qkernel.proofs.Steps.Held.{is_held}
 use Rattle.qmodel.specs.declared.call.Mark.TheVariants as mark

@@ -1,6 +1,5 @@
 -- What the steps share that send a pulse.
-use Rattle.qkernel.proofs.Common.{◌≡◌, ℕ, ◌+◌, List, [], ◌∷◌, refl, ap, sym, subst, ◌∙◌, cond, arith, true, false, eqb, inl, inr, MayRefuse, completion_to, refusal_of, attaches, closes, creates, detaches, makes, sets, shuts_down, unblocks, writes, after_unblock, unless, IsSent, IsSentIfDue, IsTurnedAway, has_room, own_first, own_one, IsSettled, eqb-true, ne_eqb, option_or, Item, member_at, Member, Errno, Again, NoMemory, cond_same, refusal_completion, receipt_of, ends_receiver, pulse_receipt, row_of, Facts, threads_of, SentItem, Call, Completion, OpenCall, Channel, Thread, with_completion_if, newest_in, open_in, thread_priority, members_of, State, IsSound, Steps, facts_in, among, filter_map_same, only_own, rises}
-use Rattle.std.specs.Prelude.{Bool, Option, None, Some, is_some}
+use Rattle.qkernel.proofs.Common.{◌≡◌, ℕ, ◌+◌, List, [], ◌∷◌, refl, ap, sym, subst, ◌∙◌, cond, arith, true, false, eqb, inl, inr, MayRefuse, completion_to, refusal_of, attaches, closes, creates, detaches, makes, sets, shuts_down, unblocks, writes, after_unblock, unless, IsSent, IsSentIfDue, IsTurnedAway, has_room, own_first, own_one, IsSettled, eqb-true, ne_eqb, option_or, Item, member_at, Member, Errno, Again, NoMemory, cond_same, refusal_completion, receipt_of, ends_receiver, pulse_receipt, row_of, Facts, threads_of, SentItem, Call, Completion, OpenCall, Channel, Thread, with_completion_if, newest_in, open_in, thread_priority, members_of, State, IsSound, Steps, facts_in, among, filter_map_same, only_own, rises, Bool, Option, None, Some, is_some}
 use Rattle.qrules.proofs.Traces.Past.OpenCalls.{unblock_none}
 use Rattle.qkernel.proofs.Steps.Common.{Counted, counted_alone, sound_counted, sound_counted_alone, step_refused, uncancelled_by}
 use Rattle.qkernel.proofs.Steps.Cancelling.{mine}

@@ -1,5 +1,5 @@
 -- Lines that are written, read again.
-use Rattle.qscript.proofs.Common.{AllByRecursion, Bool, Call, IsSmall, IsTyped, IsTypedMember, IsTypedOperand, List, Member, Ok, Some, [], all_ascii_digits, ap, arith, bytes_eq, cases_Bool, codes, decimal, digits_decimal, false, inl, inr, le-ltb, length, length-append, length-decimal-le, list_all, map, own, refl, subst, true, words_with_spaces, ℕ, ◌<◌, ◌^◌, ◌∙◌, ◌∷◌, ◌≡◌, ◌≤◌}
+use Rattle.qscript.proofs.Common.{AllByRecursion, Bool, Call, IsSmall, IsTyped, IsTypedMember, IsTypedOperand, List, Member, Ok, Some, [], all_ascii_digits, ap, arith, bytes_eq, cases_Bool, codes, decimal, digits_decimal, false, inl, inr, le-ltb, length, length-append, length-decimal-le, list_all, map, own, refl, subst, true, words_with_spaces, ℕ, ◌<◌, ◌^◌, ◌∙◌, ◌∷◌, ◌≡◌, ◌≤◌, words_of}
 use Rattle.std.proofs.lemmas.Slice.Eq.{bytes_eq-Decides}
 use Rattle.qmodel.specs.declared.call.Call.TheVariants as calls
 use Rattle.qreading.specs.declared.reading.line.Line.TheVariants as lines
@@ -16,7 +16,6 @@ use Rattle.qreading.specs.Reading.Forms.{member_of, no_values, value_of, values_
 use Rattle.qreading.specs.Reading.Line.{is_text, call_line_of, roster_line_of, said_of, line_of}
 use Rattle.qreading.specs.Reading.Number.{number_of}
 use Rattle.qreading.specs.Reading.Steps.{◌>>=◌}
-use Rattle.qreading.specs.Reading.Words.{words_of}
 use Rattle.qscript.specs.Writing.Line.{call_words, call_line, member_line, operand_word}
 use Rattle.qscript.proofs.Written.Bytes.{bytes_word, bytes_back}
 use Rattle.qscript.proofs.Written.Numbers.{number_back, priority_back, signed_word, integer_back}

@@ -1,6 +1,5 @@
 -- What becomes of the queues as items leave them.
-use Rattle.qstate.proofs.Common.{◌≡◌, ℕ, List, [], Bool, not, ◌&&◌, ◌||◌, refl, ap, sym, subst, ◌∙◌, cond, true, false, eqb, is_some, eqb-true, and_left, and_right, not_from_false, none-some, filter_agree, and-true, Item, without_item, entry_at, OpenCall, Receive, Send, is_unread_send, Channel, SetsItems, pending_in, items_waiting_on, unread_on_by, call_if_cancelled, is_taken_from, Lose, eqb_either, filter_twice, filter_whole, number_of}
-use Rattle.std.specs.Prelude.{Option, None, Some, filter}
+use Rattle.qstate.proofs.Common.{◌≡◌, ℕ, List, [], Bool, not, ◌&&◌, ◌||◌, refl, ap, sym, subst, ◌∙◌, cond, true, false, eqb, is_some, eqb-true, and_left, and_right, not_from_false, none-some, filter_agree, and-true, Item, without_item, entry_at, OpenCall, Receive, Send, is_unread_send, Channel, SetsItems, pending_in, items_waiting_on, unread_on_by, call_if_cancelled, is_taken_from, Lose, eqb_either, filter_twice, filter_whole, number_of, Option, None, Some, filter}
 
 -- without those of which one thing is so, and then without those of which another is
 pub filter_after : {A : Type 0} (p q : A → Bool) (xs : List A) → filter (λ x. not (q x)) (filter (λ x. not (p x)) xs) ≡ filter (λ x. not (p x || q x)) xs

@@ -1,7 +1,4 @@
-use Rattle.std.proofs.Common.{map}
-use Rattle.qreading.specs.Reading.Lines.{without_return}
-use Rattle.qnames.specs.Names.{none}
-use Rattle.qnames.specs.Plain.{plain_lines, plain_text}
+use Rattle.qnames.proofs.Common.{map, without_return, none, plain_lines, plain_text}
 use Rattle.qnames.proofs.Replaced.{ended_lines, said}
 use Rattle.qnames.proofs.laws.calls_are_replaced.Goals as goal
 

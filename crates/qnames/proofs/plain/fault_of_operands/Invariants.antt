@@ -1,5 +1,4 @@
-use Rattle.std.proofs.Common.{◌≡◌, drop}
-use Rattle.qnames.specs.Plain.{operands_fault}
+use Rattle.qnames.proofs.Common.{◌≡◌, drop, operands_fault}
 use Rattle.qnames.proofs.plain.fault_of_operands.Given as goal
 
 abbrev pub invariant-operands : goal.invariant-operands

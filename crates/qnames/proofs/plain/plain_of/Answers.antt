@@ -1,6 +1,4 @@
-use Rattle.std.proofs.Common.{◌≡◌, ◌+◌, ◌≤◌, ◌++◌, [], length, ap, sym, ◌∙◌, arith}
-use Rattle.std.proofs.lemmas.Grind.{common_steps}
-use Rattle.qnames.specs.Names.{Names}
+use Rattle.qnames.proofs.Common.{◌≡◌, ◌+◌, ◌≤◌, ◌++◌, [], length, ap, sym, ◌∙◌, arith, common_steps, Names}
 use Rattle.qnames.specs.Plain.{plain_lines, name_faults}
 use Rattle.qnames.proofs.Going.{text_next, faults_next, few_threads, few_calls, few_processes}
 use Rattle.qnames.proofs.plain.plain_of.Goals as goal

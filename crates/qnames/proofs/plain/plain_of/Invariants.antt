@@ -1,6 +1,4 @@
-use Rattle.std.proofs.Common.{◌≡◌, ◌≤◌, ◌++◌, drop, length, string_bytes}
-use Rattle.qnames.specs.Names.{none}
-use Rattle.qnames.specs.Plain.{plain_text, name_faults}
+use Rattle.qnames.proofs.Common.{◌≡◌, ◌≤◌, ◌++◌, drop, length, string_bytes, none, plain_text, name_faults}
 use Rattle.qnames.proofs.plain.plain_of.Given as goal
 
 abbrev pub invariant-lines : goal.invariant-lines

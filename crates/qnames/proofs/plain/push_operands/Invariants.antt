@@ -1,5 +1,4 @@
-use Rattle.std.proofs.Common.{◌≡◌, ◌++◌, take, string_bytes}
-use Rattle.qnames.specs.Plain.{words_of}
+use Rattle.qnames.proofs.Common.{◌≡◌, ◌++◌, take, string_bytes, words_of}
 use Rattle.qnames.proofs.plain.push_operands.Given as goal
 
 abbrev pub invariant-operands : goal.invariant-operands

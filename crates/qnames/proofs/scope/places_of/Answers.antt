@@ -1,6 +1,4 @@
-use Rattle.std.proofs.Common.{◌≡◌, ◌+◌, ◌<◌, ◌++◌, ◌∷◌, [], Some, ap, length, length-take, take, string_bytes, sym, refl, ◌∙◌, arith}
-use Rattle.std.proofs.lemmas.Map.Text.{hash_map_updates_text}
-use Rattle.std.proofs.lemmas.List.{take_more}
+use Rattle.qnames.proofs.Common.{◌≡◌, ◌+◌, ◌<◌, ◌++◌, ◌∷◌, [], Some, ap, length, length-take, take, string_bytes, sym, refl, ◌∙◌, arith, hash_map_updates_text, take_more}
 use Rattle.qnames.specs.Scope.{last_place}
 use Rattle.qnames.proofs.Labels.{last_more}
 use Rattle.qnames.proofs.scope.places_of.Goals as goal

@@ -1,5 +1,4 @@
-use Rattle.std.proofs.Common.{take}
-use Rattle.std.specs.HashMap.{get_by_text}
+use Rattle.qnames.proofs.Common.{take, get_by_text}
 use Rattle.qnames.specs.Scope.{HasPlaces}
 use Rattle.qnames.proofs.scope.places_of.Given as goal
 

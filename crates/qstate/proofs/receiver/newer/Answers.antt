@@ -1,5 +1,4 @@
-use Rattle.qstate.proofs.Common.{◌≡◌, ap, sym, ◌∙◌, get_or, wait_on, number_and_thread}
-use Rattle.std.specs.Prelude.{Some}
+use Rattle.qstate.proofs.Common.{◌≡◌, ap, sym, ◌∙◌, get_or, wait_on, number_and_thread, Some}
 use Rattle.qstate.proofs.Indexing.{seat_here}
 use Rattle.qstate.proofs.Newest.{newer_alone, newer_first, newest_more}
 use Rattle.qstate.proofs.receiver.newer.Goals as goal

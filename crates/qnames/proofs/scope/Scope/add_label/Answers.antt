@@ -1,6 +1,4 @@
-use Rattle.std.proofs.Common.{◌≡◌, Some, length, string_bytes, refl, ◌∙◌, arith}
-use Rattle.std.proofs.lemmas.Map.Text.{hash_map_updates_text}
-use Rattle.qnames.specs.declared.label.Label.{Label}
+use Rattle.qnames.proofs.Common.{◌≡◌, Some, length, string_bytes, refl, ◌∙◌, arith, hash_map_updates_text, Label}
 use Rattle.qnames.proofs.Labels.{last_more}
 use Rattle.qnames.proofs.scope.Scope.add_label.Goals as goal
 

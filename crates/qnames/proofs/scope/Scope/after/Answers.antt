@@ -1,5 +1,4 @@
-use Rattle.std.proofs.Common.{length, ap, arith}
-use Rattle.qnames.specs.Names.{Names}
+use Rattle.qnames.proofs.Common.{length, ap, arith, Names}
 use Rattle.qnames.proofs.Going.{few_threads, few_calls, few_processes}
 use Rattle.qnames.proofs.scope.Scope.after.Goals as goal
 

@@ -1,5 +1,4 @@
-use Rattle.std.proofs.Common.{◌≡◌, ap, sym, ◌∙◌, slice_get}
-use Rattle.std.specs.HashMap.{get_by_text}
+use Rattle.qnames.proofs.Common.{◌≡◌, ap, sym, ◌∙◌, slice_get, get_by_text}
 use Rattle.qnames.proofs.Labels.{found_some, found_none}
 use Rattle.qnames.proofs.scope.Scope.latest.Goals as goal
 

@@ -1,5 +1,4 @@
-use Rattle.qstate.proofs.Common.{ap, ◌∙◌, option_and_then, send_in, open_in}
-use Rattle.std.specs.Prelude.{is_some}
+use Rattle.qstate.proofs.Common.{ap, ◌∙◌, option_and_then, send_in, open_in, is_some}
 use Rattle.qstate.proofs.Senders.{never_err, send_of_sender, send_taken}
 use Rattle.qstate.proofs.objects.Objects.take_held.Goals as goal
 

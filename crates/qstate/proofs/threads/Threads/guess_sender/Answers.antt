@@ -1,5 +1,4 @@
-use Rattle.qstate.proofs.Common.{◌≡◌, ◌<◌, ap, length, sym, ◌∙◌, get_or, true, is_send}
-use Rattle.std.specs.Prelude.{Some}
+use Rattle.qstate.proofs.Common.{◌≡◌, ◌<◌, ap, length, sym, ◌∙◌, get_or, true, is_send, Some}
 use Rattle.qstate.proofs.Seats.{first_at, first_number}
 use Rattle.qstate.proofs.Senders.{sender_alone, sender_in-by}
 use Rattle.qstate.proofs.threads.Threads.guess_sender.Goals as goal

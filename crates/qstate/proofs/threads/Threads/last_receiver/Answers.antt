@@ -1,5 +1,4 @@
-use Rattle.qstate.proofs.Common.{◌≡◌, ◌<◌, ap, length, sym, ◌∙◌, get_or, wait_on}
-use Rattle.std.specs.Prelude.{Some}
+use Rattle.qstate.proofs.Common.{◌≡◌, ◌<◌, ap, length, sym, ◌∙◌, get_or, wait_on, Some}
 use Rattle.qstate.proofs.Newest.{newest_is_last}
 use Rattle.qstate.proofs.Seats.{first_at, first_number}
 use Rattle.qstate.proofs.threads.Threads.last_receiver.Goals as goal

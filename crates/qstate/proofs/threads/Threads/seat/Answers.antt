@@ -1,5 +1,4 @@
-use Rattle.std.proofs.Common.{ap, sym, ◌∙◌}
-use Rattle.std.specs.Prelude.{is_some}
+use Rattle.qstate.proofs.Common.{ap, sym, ◌∙◌, is_some}
 use Rattle.qstate.proofs.Seats.{is_there}
 use Rattle.qstate.proofs.threads.Threads.seat.Goals as goal
 use Rattle.qstate.proofs.threads.Threads.seat.Goals.{in-Some, in-None+in_ok-index-in-None}

@@ -1,5 +1,4 @@
-use Rattle.qstate.proofs.Common.{◌≡◌, ap, sym, ◌∙◌, option_map, is_send}
-use Rattle.std.specs.Prelude.{None, Some, position}
+use Rattle.qstate.proofs.Common.{◌≡◌, ap, sym, ◌∙◌, option_map, is_send, None, Some, position}
 use Rattle.qstate.proofs.Senders.{no_sender, sender_in-by, sender_seated}
 use Rattle.qstate.proofs.threads.Threads.sender.Goals as goal
 

@@ -1,5 +1,4 @@
-use Rattle.qstate.proofs.Common.{ap, sym, ◌∙◌, option_and_then, receive_in, open_in}
-use Rattle.std.specs.Prelude.{is_some}
+use Rattle.qstate.proofs.Common.{ap, sym, ◌∙◌, option_and_then, receive_in, open_in, is_some}
 use Rattle.qstate.proofs.Receivers.{newest_receives, receive_own, waits_receive}
 use Rattle.qstate.proofs.Senders.{there_not_none}
 use Rattle.qstate.proofs.threads.Threads.wake_newest.Goals as goal
