@@ -1,34 +1,29 @@
 //! Reserving what is needed to keep a call, before it is made.
-ghost use Rattle.std.specs.Prelude.{◌≡◌, ◌<◌, ◌≤◌, ◌+◌, ◌⊎◌, length, IfOk, IfErr, ◌^◌};
-ghost use Rattle.qmodel.specs.Buffers.{buffer_of};
+ghost use Rattle.std.specs.Prelude.{◌≡◌, ◌<◌, ◌≤◌, ◌+◌, ◌⊎◌, length, IfOk, IfErr, IfSome, ◌^◌};
 ghost use Rattle.qmodel.specs.declared.call.Call.TheVariants.{Shutdown};
 ghost use Rattle.qshared.specs.Private.Rooms.{HasRoomFor};
 
+use crate::copies::Copies;
 use crate::room::Room;
 use qbase::errno::Errno;
 use qkernel::event_log::EventLog;
 use qmodel::call::Call;
-use std::alloc::{AllocError, Global};
+use std::alloc::Global;
 
 /// The most endings that an event can have.
 const ENDINGS: usize = 64;
 
-/// Returns a copy of the call, and room for a copy of its buffer.
-fn copies(alloc: Global, call: &Call) -> Result<(Call, Room), AllocError>
-    ensures { IfOk result (λ r. (r.0 ≡ call.now) × (length (buffer_of call.now) ≤ r.1)) }
-{
-    Ok((call.copied(alloc)?, Room::of(alloc, call.buffer_len())?))
-}
-
-/// Returns a copy of the call and room for a copy of its buffer, and makes room in the log for the call's event and one
-/// more. `TraceFull` if one event of the limit is left, and `NoMemory` if the allocator refuses. A Shutdown is always
-/// admitted, as the room for it was made before.
+/// Returns the copy of the call and room for a copy of its buffer, and makes room in the log for the call's event and
+/// one more. `TraceFull` if one event of the limit is left, and `NoMemory` if there is no copy or the allocator refuses.
+/// A Shutdown is always admitted, as the room for it was made before.
 pub(crate) fn admit(
     alloc: Global,
     log: &mut EventLog,
     limit: usize,
     call: &Call,
+    copies: Option<Copies>,
 ) -> Result<(Call, Room), Errno>
+    requires copies { IfSome copies (λ c. c ≡ call.now) }
     requires room { (length log.old.events < limit) × (limit ≤ 2 ^ 20) }
     ensures same { log.new ≡ record log.old { call_room = log.new.call_room; completion_room = log.new.completion_room } }
     ensures kept { (log.old.call_room ≤ log.new.call_room) × (log.old.completion_room ≤ log.new.completion_room) }
@@ -42,11 +37,11 @@ pub(crate) fn admit(
     if log.len() + 1 == limit {
         return Err(Errno::TraceFull);
     }
+    let Some(copies) = copies else {
+        return Err(Errno::NoMemory);
+    };
     if log.reserve(2, 2 * ENDINGS).is_err() {
         return Err(Errno::NoMemory);
     }
-    match copies(alloc, call) {
-        Ok(copies) => Ok(copies),
-        Err(_) => Err(Errno::NoMemory),
-    }
+    Ok(copies.into_parts())
 }

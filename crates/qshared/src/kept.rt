@@ -9,6 +9,7 @@ ghost use Rattle.qrules.specs.Trace.{followed_by};
 ghost use Rattle.qshared.specs.Private.Rooms.{MayCopy, Copied};
 
 use crate::admitting::admit;
+use crate::copies::Copies;
 use crate::handing::place_of;
 use crate::log::Log;
 use crate::room::Room;
@@ -159,8 +160,12 @@ impl<K: Tie> Log for Kept<K> {
 
     ghost admits = { admits_kept K.names.limit };
 
-    fn note(&mut self, _made: u64, call: &Call) -> Result<(), Errno> {
-        match admit(self.alloc, &mut self.log, self.limit, call) {
+    fn copies(alloc: Global, call: &Call) -> Option<Copies> {
+        Copies::of(alloc, call)
+    }
+
+    fn note(&mut self, _made: u64, call: &Call, copies: Option<Copies>) -> Result<(), Errno> {
+        match admit(self.alloc, &mut self.log, self.limit, call, copies) {
             Err(errno) => Err(errno),
             Ok(copies) => {
                 let (noted, room) = copies;

@@ -4,6 +4,7 @@ ghost use Rattle.std.specs.Prelude.{◌≡◌, ◌+◌, ◌<◌, ◌^◌, [], le
 ghost use Rattle.qrules.specs.Rules.{effect_of};
 ghost use Rattle.qshared.specs.Past.{is_down};
 
+use crate::copies::Copies;
 use crate::log::Log;
 use crate::tie::Tie;
 use qbase::errno::Errno;
@@ -12,6 +13,7 @@ use qkernel::kernel::{CALL_LIMIT, Kernel};
 use qkernel::seat::Seat;
 use qmodel::call::Call;
 use qpast::past::Past;
+use std::alloc::Global;
 use std::marker::PhantomData;
 use std::snapshot::Snapshot;
 
@@ -56,7 +58,11 @@ impl<K: Tie> Log for Unkept<K> {
 
     ghost admits = { admits_unkept };
 
-    fn note(&mut self, made: u64, call: &Call) -> Result<(), Errno> {
+    fn copies(_alloc: Global, _call: &Call) -> Option<Copies> {
+        None
+    }
+
+    fn note(&mut self, made: u64, call: &Call, _copies: Option<Copies>) -> Result<(), Errno> {
         if !matches!(call, Call::Shutdown) && made >= CALL_LIMIT - 1 {
             return Err(Errno::Exhausted);
         }

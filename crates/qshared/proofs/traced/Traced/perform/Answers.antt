@@ -115,11 +115,11 @@ returns-clause-performs g c =
     let past = c.event.ensures.event ∙ ap (λ x. with_event c.args.turn.now.seat.thread (g.L.Log.noted c.note.new.self) x.items (g.L.Log.past c.note.new.self)) c.deref.ensures ∙ ap (λ k. with_event c.args.turn.now.seat.thread k c.make_at.new.endings.items (g.L.Log.past c.note.new.self)) c.in_default.ensures.noted.0 ∙ ap (λ p. with_event c.args.turn.now.seat.thread c.args.call c.make_at.new.endings.items p) c.note.ensures.same.0 in
     rw (← c.self.view_is, c.ended_or_open.ensures, past) (performs _ _ _ _ _ _ c.self.invariant.2 c.args.turn.now.seat.thread c.index-place.result at up opened.1 wide c.in_default.ensures.few c.args.call c.make_at.new.endings.items c.make_at.new.kernel event g.L.Log.refuses g.L.Log.admits _ c.in_default.ensures.admitted c.hand_out-own.result c.hand_out-own.ensures.own)
 
-pub note-requires : goal.note-requires
-note-requires g c = record {
-  up = sym (stands_down _ _ _ c.self.invariant.2.told.stands) ∙ sym c.is_down.ensures ∙ c.if-is_down.false;
-  made = c.made-made.ensures.value ∙ stands_made _ _ _ c.self.invariant.2.told.stands;
-}
+pub note-requires-clause-up : goal.note-requires-clause-up
+note-requires-clause-up g c = sym (stands_down _ _ _ c.self.invariant.2.told.stands) ∙ sym c.is_down.ensures ∙ c.if-is_down.false
+
+pub note-requires-clause-made : goal.note-requires-clause-made
+note-requires-clause-made g c = c.made-made.ensures.value ∙ stands_made _ _ _ c.self.invariant.2.told.stands
 
 pub event-requires-clause-up : goal.event-requires-clause-up
 event-requires-clause-up g c = rw (c.note.ensures.same.0) (sym (stands_down _ _ _ c.self.invariant.2.told.stands) ∙ sym c.is_down.ensures ∙ c.if-is_down.false)
