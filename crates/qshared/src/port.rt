@@ -215,7 +215,6 @@ impl<K: Tie> Port<K> {
         };
         shared.wake(self.turn.woken);
         self.turn.lent = None;
-        self.turn.copies = None;
         called
     }
 
@@ -263,7 +262,6 @@ impl<K: Tie> Port<K> {
         };
         shared.wake(self.turn.woken);
         self.turn.lent = None;
-        self.turn.copies = None;
         called
     }
 

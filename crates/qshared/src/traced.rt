@@ -194,8 +194,7 @@ impl<K: Tie, L: Log> Traced<K, L> {
         }
         let asking = Snapshot::of(&call);
         let made = self.kernel.made();
-        let copies = turn.copies.take();
-        if let Err(errno) = self.log.note(made, &call, copies) {
+        if let Err(errno) = self.log.note(made, &call, &turn.copies) {
             self.seat.cancel(cells, place);
             return Called::Refused(errno, call);
         }
@@ -206,7 +205,8 @@ impl<K: Tie, L: Log> Traced<K, L> {
             &mut turn.lent,
             &mut *turn.endings,
         );
-        self.log.event(&self.kernel, &seat, &*turn.endings);
+        self.log
+            .event(&self.kernel, &seat, &*turn.endings, &mut turn.copies);
         let thread = seat.thread();
         let history = &mut self.history;
         history.add(&thread, &asking, &*turn.endings);
