@@ -1,14 +1,17 @@
 //! A past that is kept in memory.
-ghost use Rattle.std.specs.Prelude.{◌≡◌, ◌<◌, ◌≤◌, ◌-◌, ◌^◌, ◌++◌, [], ◌∷◌, length, IfOk};
+ghost use Rattle.std.specs.Prelude.{◌≡◌, ◌<◌, ◌≤◌, ◌-◌, ◌^◌, ◌++◌, [], ◌∷◌, length, IfOk, IfSome};
 ghost use Rattle.std.specs.List.{AllByRecursion};
 ghost use Rattle.qtables.specs.Members.{IsRoster};
 ghost use Rattle.qrules.specs.Trace.{AreApart};
 ghost use Rattle.qrules.specs.Facts.{threads_of};
 ghost use Rattle.qstate.specs.Kept.{members_of};
 ghost use Rattle.qrules.specs.Trace.{followed_by};
+ghost use Rattle.qmodel.specs.Buffers.{buffer_of};
 ghost use Rattle.qshared.specs.Private.Rooms.{MayCopy, Copied};
+ghost use Rattle.qshared.specs.Rooms.{enough_kept};
 
 use crate::admitting::admit;
+use crate::copies::Copies;
 use crate::handing::place_of;
 use crate::log::Log;
 use crate::room::Room;
@@ -23,6 +26,7 @@ use qmodel::call::{Call, Completion};
 use std::alloc::{AllocError, Global};
 use std::marker::{Model, PhantomData};
 use std::mem;
+use std::snapshot::Snapshot;
 
 /// A past in memory, with a copy of each call and of each ending. It has at most `limit` events.
 #[derive(Drop)]
@@ -32,9 +36,8 @@ pub struct Kept<K: Tie> {
     rooms: Vec<Room>,
     log: EventLog,
     limit: usize,
-    // The call that was noted last, room for a copy of its buffer, and whether the call isn't an event yet.
-    noted: Call,
-    room: Room,
+    // The call that was noted last, which only contracts read, and whether it isn't an event yet.
+    noted: Snapshot<Call>,
     ready: bool,
     of: PhantomData<K>,
 }
@@ -48,9 +51,9 @@ impl<K: Tie> Model for Kept<K> {
 
     ghost Value = { KeptPast };
 
-    ghost view = { λ k. record { past = followed_by [] k.log.events; noted = k.noted; ready = k.ready } };
+    ghost view = { λ k. record { past = followed_by [] k.log.events; noted = k.noted.value; ready = k.ready } };
 
-    ghost invariant = { λ k. (k.limit ≡ K.names.limit) × IsKept K.names.roster k.limit (threads_of K.names.roster) k.rooms.items k.log k.noted k.room k.ready };
+    ghost invariant = { λ k. (k.limit ≡ K.names.limit) × IsKept K.names.roster k.limit (threads_of K.names.roster) k.rooms.items k.log k.noted.value k.ready };
 }
 
 /// Returns `many` rooms, each with room for no bytes.
@@ -62,6 +65,19 @@ fn no_rooms(alloc: Global, many: usize) -> Result<Vec<Room>, AllocError>
         rooms.push_reserved(Room::none(alloc));
     }
     Ok(rooms)
+}
+
+/// Takes the copy of a call, and room for a copy of its buffer. A Shutdown needs no memory.
+fn take(alloc: Global, copies: &mut Option<Copies>, _noted: &Snapshot<Call>) -> (Call, Room)
+    requires copies { IfSome copies.old (λ c. c ≡ _noted.now.value) }
+    requires enough { enough_kept copies.old _noted.now.value }
+    ensures call { result.0 ≡ _noted.now.value }
+    ensures room { length (buffer_of _noted.now.value) ≤ result.1 }
+{
+    match copies.take() {
+        Some(copies) => copies.into_parts(),
+        None => (Call::Shutdown, Room::none(alloc)),
+    }
 }
 
 /// Copies an ending into its thread's room, and adds it to the endings of its event.
@@ -126,8 +142,7 @@ impl<K: Tie> Kept<K> {
             rooms,
             log,
             limit,
-            noted: Call::Shutdown,
-            room: Room::none(alloc),
+            noted: Snapshot::of(&Call::Shutdown),
             ready: false,
             of: PhantomData,
         })
@@ -145,7 +160,7 @@ impl<K: Tie> Kept<K> {
 }
 
 impl<K: Tie> Log for Kept<K> {
-    ghost use Rattle.qshared.specs.Rooms.{admits_kept, refuses_kept};
+    ghost use Rattle.qshared.specs.Rooms.{admits_kept, enough_kept, refuses_kept};
 
     ghost roster = { λ _. K.names.roster };
 
@@ -155,28 +170,38 @@ impl<K: Tie> Log for Kept<K> {
 
     ghost noted = { λ k. k.noted };
 
+    ghost enough = { enough_kept };
+
     ghost refuses = { refuses_kept K.names.limit };
 
     ghost admits = { admits_kept K.names.limit };
 
-    fn note(&mut self, _made: u64, call: &Call) -> Result<(), Errno> {
-        match admit(self.alloc, &mut self.log, self.limit, call) {
+    fn copies(alloc: Global, call: &Call) -> Option<Copies> {
+        Copies::of(alloc, call)
+    }
+
+    fn note(&mut self, _made: u64, call: &Call, copies: &Option<Copies>) -> Result<(), Errno> {
+        match admit(&mut self.log, self.limit, call, copies) {
             Err(errno) => Err(errno),
-            Ok(copies) => {
-                let (noted, room) = copies;
-                self.noted = noted;
-                self.room = room;
+            Ok(()) => {
+                self.noted = Snapshot::of(call);
                 self.ready = true;
                 Ok(())
             }
         }
     }
 
-    fn event(&mut self, kernel: &Kernel, seat: &Seat, endings: &Endings) {
+    fn event(
+        &mut self,
+        kernel: &Kernel,
+        seat: &Seat,
+        endings: &Endings,
+        copies: &mut Option<Copies>,
+    ) {
         let place = seat.index();
+        let (call, room) = take(self.alloc, copies, &self.noted);
         self.ready = false;
-        self.rooms[place] = mem::replace(&mut self.room, Room::none(self.alloc));
-        let call = mem::replace(&mut self.noted, Call::Shutdown);
+        self.rooms[place] = room;
         copy_all(
             self.alloc,
             kernel,

@@ -4,6 +4,7 @@
 
 mod admitting;
 mod closing_room;
+mod copies;
 mod handing;
 pub mod kept;
 pub mod laws;

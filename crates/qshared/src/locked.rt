@@ -1,5 +1,5 @@
 //! The value under the lock.
-ghost use Rattle.std.specs.Prelude.{◌≡◌, ◌+◌, ◌++◌, ◌<◌, ◌≤◌, ◌^◌, ℕ, [], ◌∷◌, length, map, slice_index_or, if◌then◌else◌, Some, true, false};
+ghost use Rattle.std.specs.Prelude.{◌≡◌, ◌+◌, ◌++◌, ◌<◌, ◌≤◌, ◌^◌, ℕ, [], ◌∷◌, length, map, slice_index_or, IfSome, if◌then◌else◌, Some, true, false};
 ghost use lib.ListN.{get_elem?};
 ghost use Rattle.qrules.specs.Facts.{threads_of};
 ghost use Rattle.qhandoff.specs.Words.{cells_id};
@@ -90,6 +90,7 @@ impl<K: Tie, L: Log> Locked<K, L> {
         requires pending { turn.old.pending ≡ true → WaitedBefore seen.old.trace asked.old.calls turn.old.seat.thread }
         requires asked { slice_index_or K.names.lists turn.old.seat.index 0 ≡ asked.old.name }
         requires seen { seen.old.name ≡ K.names.history }
+        requires copies { IfSome turn.old.copies (λ c. c ≡ call) }
         ensures met { IsMet K.names.roster turn.old.seat.thread asked.old.calls seen.old.trace self.old.traced.past }
         ensures idle { is_call result ≡ true → turn.old.pending ≡ false }
         ensures came { Answered K.names.roster L.refuses L.admits turn.old.seat.thread call result self.old.traced.past seen.new.trace }

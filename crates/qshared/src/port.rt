@@ -1,6 +1,6 @@
 //! The port by which one thread calls a shared kernel.
 
-ghost use Rattle.std.specs.Prelude.{◌≡◌, ◌≤◌, ◌+◌, ◌++◌, [], ◌∷◌, true, false, MatchOption, if◌then◌else◌, slice_index_or, Some};
+ghost use Rattle.std.specs.Prelude.{◌≡◌, ◌≤◌, ◌+◌, ◌++◌, [], ◌∷◌, true, false, IfSome, MatchOption, if◌then◌else◌, slice_index_or, Some};
 ghost use Rattle.qrules.specs.Facts.{threads_of};
 ghost use Rattle.qhandoff.specs.Words.{cells_id, thread_id, thread_of, taken, IsThreadOf};
 ghost use Rattle.qpast.specs.History.{Extends};
@@ -208,6 +208,7 @@ impl<K: Tie> Port<K> {
         ensures same { (self.new.thread ≡ self.old.thread) × (thread_of self.new.seat ≡ thread_of self.old.seat) }
     {
         self.turn.woken = 0;
+        self.turn.copies = L::copies(self.turn.alloc, &call);
         let called = {
             let mut guard = spinning::lock(&*shared.lock, shared.looks, rt);
             self.make(&shared.cells, &mut **guard, call)
@@ -236,6 +237,8 @@ impl<K: Tie> Port<K> {
         ensures same { (self.new.thread ≡ self.old.thread) × (thread_of self.new.seat ≡ thread_of self.old.seat) }
     {
         self.turn.woken = 0;
+        self.turn.copies = L::copies(self.turn.alloc, &first);
+        let mut copies = L::copies(self.turn.alloc, &second);
         let called = {
             let mut guard = spinning::lock(&*shared.lock, shared.looks, rt);
             let locked = &mut **guard;
@@ -243,6 +246,7 @@ impl<K: Tie> Port<K> {
             match first {
                 Called::Done(completion) => {
                     if is_ok(completion.mark) {
+                        self.turn.copies = copies.take();
                         let second = self.make(&shared.cells, locked, second);
                         CalledBoth::Both(completion, second)
                     } else {
@@ -269,6 +273,7 @@ impl<K: Tie> Port<K> {
         call: Call,
     ) -> Called
         requires cells { cells_id cells.now ≡ K.names.cells }
+        requires copies { IfSome self.old.turn.copies (λ c. c ≡ call) }
         ensures met { IsMet K.names.roster self.old.thread self.old.asked.calls self.old.seen.trace locked.old.traced.past }
         ensures came { Answered K.names.roster L.refuses L.admits self.old.thread call result locked.old.traced.past self.new.seen.trace }
         ensures past { locked.new.traced.past ≡ self.new.seen.trace }

@@ -171,6 +171,7 @@ impl<K: Tie, L: Log> Traced<K, L> {
         requires none { turn.old.endings.value.items ≡ [] }
         requires pending { turn.old.pending ≡ true → WaitedBefore seen.old.trace (calls_of self.old.past turn.old.seat.thread) turn.old.seat.thread }
         requires seen { seen.old.name ≡ K.names.history }
+        requires copies { IfSome turn.old.copies (λ c. c ≡ call) }
         ensures idle { is_call result ≡ true → turn.old.pending ≡ false }
         ensures performs { Performs K.names.roster L.refuses L.admits self.old turn.old.seat.thread call result self.new }
         ensures seat { (turn.new.seat ≡ turn.old.seat) × (turn.new.pending ≡ turn.old.pending) }
@@ -193,7 +194,7 @@ impl<K: Tie, L: Log> Traced<K, L> {
         }
         let asking = Snapshot::of(&call);
         let made = self.kernel.made();
-        if let Err(errno) = self.log.note(made, &call) {
+        if let Err(errno) = self.log.note(made, &call, &turn.copies) {
             self.seat.cancel(cells, place);
             return Called::Refused(errno, call);
         }
@@ -204,7 +205,8 @@ impl<K: Tie, L: Log> Traced<K, L> {
             &mut turn.lent,
             &mut *turn.endings,
         );
-        self.log.event(&self.kernel, &seat, &*turn.endings);
+        self.log
+            .event(&self.kernel, &seat, &*turn.endings, &mut turn.copies);
         let thread = seat.thread();
         let history = &mut self.history;
         history.add(&thread, &asking, &*turn.endings);

@@ -2,6 +2,7 @@
 
 ghost use Rattle.std.specs.Prelude.{◌≡◌, [], false, IfOk};
 
+use crate::copies::Copies;
 use arrayvec::ArrayVec;
 use qkernel::endings::Endings;
 use qkernel::seat::Seat;
@@ -12,6 +13,7 @@ use std::alloc::{AllocError, Global};
 /// port and not under the lock, so that its cache lines stay with the port's thread.
 #[derive(Drop)]
 pub struct Turn {
+    pub(crate) alloc: Global,
     pub(crate) seat: Seat,
     // The endings of one call; empty between two calls.
     pub(crate) endings: Box<Endings>,
@@ -21,6 +23,9 @@ pub struct Turn {
     pub(crate) pending: bool,
     // The last call, if its bytes were lent to the kernel. It is freed after the lock.
     pub(crate) lent: Option<Call>,
+    // Copies of the call that is made, for the log; made before the lock is taken. Those of a refused call stay here
+    // until the next.
+    pub(crate) copies: Option<Copies>,
 }
 
 impl Turn {
@@ -30,11 +35,13 @@ impl Turn {
         ensures none { IfOk result (λ turn. (turn.endings.value.items ≡ []) × (turn.pending ≡ false)) }
     {
         Ok(Turn {
+            alloc,
             seat,
             endings: Box::new(alloc, ArrayVec::new_in(alloc))?,
             woken: 0,
             pending: false,
             lent: None,
+            copies: None,
         })
     }
 }

@@ -4,6 +4,7 @@ ghost use Rattle.std.specs.Prelude.{◌≡◌, ◌+◌, ◌<◌, ◌^◌, [], le
 ghost use Rattle.qrules.specs.Rules.{effect_of};
 ghost use Rattle.qshared.specs.Past.{is_down};
 
+use crate::copies::Copies;
 use crate::log::Log;
 use crate::tie::Tie;
 use qbase::errno::Errno;
@@ -12,6 +13,7 @@ use qkernel::kernel::{CALL_LIMIT, Kernel};
 use qkernel::seat::Seat;
 use qmodel::call::Call;
 use qpast::past::Past;
+use std::alloc::Global;
 use std::marker::PhantomData;
 use std::snapshot::Snapshot;
 
@@ -41,7 +43,7 @@ impl<K: Tie> Unkept<K> {
 }
 
 impl<K: Tie> Log for Unkept<K> {
-    ghost use Rattle.std.specs.Prelude.{true};
+    ghost use Rattle.std.specs.Prelude.{true, ⊤};
     ghost use Rattle.qshared.specs.Unkept.{admits_unkept, refuses_unkept};
 
     ghost roster = { λ _. K.names.roster };
@@ -52,11 +54,17 @@ impl<K: Tie> Log for Unkept<K> {
 
     ghost noted = { λ l. l.call.value };
 
+    ghost enough = { λ _ _. ⊤ };
+
     ghost refuses = { refuses_unkept };
 
     ghost admits = { admits_unkept };
 
-    fn note(&mut self, made: u64, call: &Call) -> Result<(), Errno> {
+    fn copies(_alloc: Global, _call: &Call) -> Option<Copies> {
+        None
+    }
+
+    fn note(&mut self, made: u64, call: &Call, _copies: &Option<Copies>) -> Result<(), Errno> {
         if !matches!(call, Call::Shutdown) && made >= CALL_LIMIT - 1 {
             return Err(Errno::Exhausted);
         }
@@ -64,7 +72,13 @@ impl<K: Tie> Log for Unkept<K> {
         Ok(())
     }
 
-    fn event(&mut self, _kernel: &Kernel, seat: &Seat, endings: &Endings) {
+    fn event(
+        &mut self,
+        _kernel: &Kernel,
+        seat: &Seat,
+        endings: &Endings,
+        _copies: &mut Option<Copies>,
+    ) {
         let thread = seat.thread();
         self.past = self.past.with(&thread, &self.call, endings);
         self.call = Snapshot::of(&Call::Shutdown);

@@ -115,14 +115,20 @@ returns-clause-performs g c =
     let past = c.event.ensures.event ∙ ap (λ x. with_event c.args.turn.now.seat.thread (g.L.Log.noted c.note.new.self) x.items (g.L.Log.past c.note.new.self)) c.deref.ensures ∙ ap (λ k. with_event c.args.turn.now.seat.thread k c.make_at.new.endings.items (g.L.Log.past c.note.new.self)) c.in_default.ensures.noted.0 ∙ ap (λ p. with_event c.args.turn.now.seat.thread c.args.call c.make_at.new.endings.items p) c.note.ensures.same.0 in
     rw (← c.self.view_is, c.ended_or_open.ensures, past) (performs _ _ _ _ _ _ c.self.invariant.2 c.args.turn.now.seat.thread c.index-place.result at up opened.1 wide c.in_default.ensures.few c.args.call c.make_at.new.endings.items c.make_at.new.kernel event g.L.Log.refuses g.L.Log.admits _ c.in_default.ensures.admitted c.hand_out-own.result c.hand_out-own.ensures.own)
 
-pub note-requires : goal.note-requires
-note-requires g c = record {
-  up = sym (stands_down _ _ _ c.self.invariant.2.told.stands) ∙ sym c.is_down.ensures ∙ c.if-is_down.false;
-  made = c.made-made.ensures.value ∙ stands_made _ _ _ c.self.invariant.2.told.stands;
-}
+pub note-requires-clause-up : goal.note-requires-clause-up
+note-requires-clause-up g c = sym (stands_down _ _ _ c.self.invariant.2.told.stands) ∙ sym c.is_down.ensures ∙ c.if-is_down.false
+
+pub note-requires-clause-made : goal.note-requires-clause-made
+note-requires-clause-made g c = c.made-made.ensures.value ∙ stands_made _ _ _ c.self.invariant.2.told.stands
 
 pub event-requires-clause-up : goal.event-requires-clause-up
 event-requires-clause-up g c = rw (c.note.ensures.same.0) (sym (stands_down _ _ _ c.self.invariant.2.told.stands) ∙ sym c.is_down.ensures ∙ c.if-is_down.false)
 
 pub make_at-requires-clause-seat : goal.make_at-requires-clause-seat
 make_at-requires-clause-seat g c = seat_at_place _ c.args.turn.now.seat (ap (λ ts. place ts c.args.turn.now.seat.thread) c.self.invariant.2.threads_are ∙ c.requires.seat)
+
+pub event-requires-clause-copies : goal.event-requires-clause-copies
+event-requires-clause-copies g c = rw (c.in_default.ensures.noted.0) c.requires.copies
+
+pub event-requires-clause-enough : goal.event-requires-clause-enough
+event-requires-clause-enough g c = rw (c.in_default.ensures.noted.0) c.in_default.ensures.enough
