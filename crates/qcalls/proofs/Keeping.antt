@@ -55,19 +55,6 @@ none_from t (x ∷ endings) i e =
 pub none_at : (t : ℕ) (endings : List Completion) → position (is_of t) endings ≡ None → (ending_of t endings ≡ None) × (without t endings ≡ endings)
 none_at t endings e = none_from t endings 0 (sym (position_from-zero (is_of t) endings) ∙ e)
 
--- behind endings of other threads
-pub first_behind : (t : ℕ) (kept endings : List Completion) → ending_of t kept ≡ None
-    → (ending_of t (kept ++ endings) ≡ ending_of t endings) × (without t (kept ++ endings) ≡ kept ++ without t endings)
-first_behind t [] endings none = (refl, refl)
-first_behind t (x ∷ kept) endings none =
-    elim (eqb x.thread t)
-    as (λ b. eqb x.thread t ≡ b → cond b (Some x) (ending_of t kept) ≡ None → (ending_of t (x ∷ kept ++ endings) ≡ ending_of t endings) × (without t (x ∷ kept ++ endings) ≡ x ∷ kept ++ without t endings)) [
-      | true ↦ λ at none. absurd (none-some x (sym none))
-      | false ↦ λ other none.
-          let r = first_behind t kept endings none in
-          (rw other r.0, rw other (ap (λ rest. x ∷ rest) r.1))
-    ] refl none
-
 -- there is a place where there is an ending
 pub has_place : (t : ℕ) (endings : List Completion) → is_some (position (is_of t) endings) ≡ is_some (ending_of t endings)
 has_place t endings =

@@ -35,16 +35,6 @@ reads_unless_blocked {A} read {t} {call} {asked} {before} {after} {made} {outcom
     let same : result ≡ read_outcome read made = r ∙ sym (ap (read_outcome read) is) in
     record { comes = rw (← same_call, same) (comes-read (read_outcome read) (unless_blocked ending_in) (unless_blocked read) (unless_blocked-read read) (λ e. refl) t asked before after made (unmade before t) m.comes) }
 
--- why there is no ending of the caller's among those that are kept
-not_kept : (known few : Bool) (o : Option Completion) → cond known (cond few (cond (is_some o) (Some errno.Busy) None) (Some errno.Exhausted)) (Some errno.NoThread) ≡ None → o ≡ None
-not_kept true true None e = refl
-not_kept true true (Some x) e = absurd (none-some _ (sym e))
-not_kept true false o e = absurd (none-some _ (sym e))
-not_kept false few o e = absurd (none-some _ (sym e))
-
-pub none_kept : (s : Simulation) (t : ℕ) → unmade s t ≡ None → ending_of t s.kept ≡ None
-none_kept s t e = not_kept (is_some (member_at (members_of s.kernel.threads) t)) (nat_lt s.kernel.made (2 ^ 40)) (ending_of t s.kept) e
-
 -- a call that is an event
 pub event_made : {A : Type 0} (read : Option Completion → Result A CallError) (t : ℕ) (call : Call) (before after : Simulation) (endings : List Completion) (result : Result A CallError)
     → unmade before t ≡ None → IsEvent t call before after endings → result ≡ read (ending_of t endings) → Simulates read t call before after result

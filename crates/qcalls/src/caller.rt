@@ -9,6 +9,7 @@ use crate::calls::Calls;
 use crate::ending::Ending;
 use crate::endpoint::Endpoint;
 use crate::error::{CallError, refusal};
+use qbase::bytes::Bytes;
 use qbase::ids::ThreadNo;
 use qmodel::call::{Call, Completion};
 use qshared::port::{Called, CalledBoth};
@@ -134,6 +135,13 @@ impl<'a, E: Endpoint, R: Wait> Calls for Caller<'a, E, R> {
 
     fn alloc(&self) -> Global {
         self.alloc
+    }
+
+    fn spare(&mut self) -> Bytes {
+        match self.endpoint.spare() {
+            Some(bytes) => bytes,
+            None => Bytes::new(self.alloc),
+        }
     }
 
     fn complete(&mut self, call: Call) -> Result<Ending, CallError> {

@@ -1,6 +1,6 @@
 //! The calls that never block, under QNX Neutrino's names: each stands once, for all who make calls.
 
-ghost use Rattle.std.specs.Prelude.{replicate, Result};
+ghost use Rattle.std.specs.Prelude.{◌≡◌, replicate, Result};
 ghost use Rattle.qmodel.specs.declared.call.Call.{Call as Asking};
 ghost use Rattle.qcalls.specs.Making.{Reads, ReadsOfBytes};
 ghost use Rattle.qcalls.specs.Results.{bytes_in, channel_in, connection_in, count_in, done_in, info_in, state_in};
@@ -26,6 +26,13 @@ pub trait Calls {
 
     /// Returns the allocator that the buffers of calls come from.
     fn alloc(&self) -> Global;
+
+    /// Returns bytes whose memory serves for those of the next reply; they take none if there is none.
+    fn spare(&mut self) -> Bytes
+        ensures { self.new ≡ self.old }
+    {
+        Bytes::new(self.alloc())
+    }
 
     /// Makes a call, and returns its ending. If the call blocks, a `Caller` waits for it, and a simulator's thread
     /// returns `Unexpected` and stays blocked.
@@ -70,7 +77,7 @@ pub trait Calls {
     fn msg_reply(&mut self, rcvid: ReceiveId, status: i64, bytes: &[u8]) -> Result<(), CallError>
         ensures { ReadsOfBytes done_in (made self.old (Call.Reply rcvid status bytes.now) self.new) self.old self.new result }
     {
-        let reply = with_bytes::reply(self.alloc(), rcvid, status, bytes)?;
+        let reply = with_bytes::reply(self.spare(), rcvid, status, bytes)?;
         self.complete(reply)?.done()
     }
 
@@ -100,7 +107,7 @@ pub trait Calls {
     ) -> Result<usize, CallError>
         ensures { ReadsOfBytes count_in (made self.old (Call.Write rcvid offset bytes.now) self.new) self.old self.new result }
     {
-        let write = with_bytes::write(self.alloc(), rcvid, offset, bytes)?;
+        let write = with_bytes::write(self.spare(), rcvid, offset, bytes)?;
         self.complete(write)?.count()
     }
 

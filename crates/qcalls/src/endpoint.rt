@@ -11,6 +11,8 @@ ghost use Rattle.qshared.specs.declared.port.CalledBoth.{CalledBoth as Answers};
 ghost use Rattle.qrules.specs.Trace.{Trace};
 ghost use Rattle.qcalls.specs.History.{History, IsInTurn, told_by, told_by_both};
 
+use crate::spare::Spare;
+use qbase::bytes::Bytes;
 use qbase::errno::Errno;
 use qbase::ids::ThreadNo;
 use qmodel::call::{Call, Completion};
@@ -67,6 +69,13 @@ pub trait Endpoint {
         ensures turn { IsInTurn second result }
         ensures came { came_both self.old first second result (seen self.new) };
 
+    /// Returns bytes whose memory serves for those of the next reply, if it has some.
+    fn spare(&mut self) -> Option<Bytes>
+        ensures { self.new ≡ self.old }
+    {
+        None
+    }
+
     /// Takes the ending of the blocked call if it has arrived. It never waits.
     fn poll(&mut self) -> Option<Completion>
         ensures taken { MatchOption result ((history self.new).taken ≡ (history self.old).taken) (λ x. (history self.new).taken ≡ (history self.old).taken ++ x ∷ []) }
@@ -87,6 +96,7 @@ pub struct KernelPort<'a, K: Tie, L: Log> {
     port: Port<K>,
     shared: &'a Shared<K, L>,
     told: Told,
+    spare: Spare,
 }
 
 impl<'a, K: Tie, L: Log> KernelPort<'a, K, L> {
@@ -98,6 +108,7 @@ impl<'a, K: Tie, L: Log> KernelPort<'a, K, L> {
             port,
             shared,
             told: Told::Done,
+            spare: Spare::none(),
         }
     }
 
@@ -164,6 +175,7 @@ impl<'a, K: Tie, L: Log> Endpoint for KernelPort<'a, K, L> {
     fn call<R: Wait>(&mut self, rt: &R, call: Call) -> Called {
         let called = self.port.call(self.shared, rt, call);
         self.told = told_by(&called);
+        self.spare.keep(self.port.spare());
         called
     }
 
@@ -173,7 +185,12 @@ impl<'a, K: Tie, L: Log> Endpoint for KernelPort<'a, K, L> {
             CalledBoth::Both(_, called) => told_by(called),
             CalledBoth::First(called, _) => told_by(called),
         };
+        self.spare.keep(self.port.spare());
         both
+    }
+
+    fn spare(&mut self) -> Option<Bytes> {
+        self.spare.take()
     }
 
     fn poll(&mut self) -> Option<Completion> {

@@ -11,6 +11,7 @@ mod messages;
 pub mod opening;
 pub mod results;
 pub mod simulator;
+mod spare;
 mod timekeeper;
 mod with_bytes;
 mod within;

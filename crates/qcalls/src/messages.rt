@@ -7,6 +7,7 @@ ghost use Rattle.qcalls.specs.Polling.{Polls, StartsOfBytes, option_in};
 ghost use Rattle.qcalls.specs.Results.{answer_in, pulse_in, received_in};
 
 use crate::caller::Caller;
+use crate::calls::Calls;
 use crate::ending::Ending;
 use crate::endpoint::Endpoint;
 use crate::error::{CallError, refusal};
@@ -66,7 +67,7 @@ impl<'a, E: Endpoint, R: Wait> Caller<'a, E, R> {
         ensures makes { MakesBothOfBytes received_in (Call.Reply rcvid status bytes.now) (Call.Receive chid (replicate len 0)) (E.history self.old.endpoint) (E.history self.new.endpoint) result }
         ensures came { ComesOfBothBytes (λ e. E.history e) (λ e. E.seen e) E.came E.came_both self.old.endpoint (Call.Reply rcvid status bytes.now) (Call.Receive chid (replicate len 0)) (E.seen self.new.endpoint) (E.history self.new.endpoint) result }
     {
-        let reply = with_bytes::reply(self.alloc, rcvid, status, bytes)?;
+        let reply = with_bytes::reply(self.spare(), rcvid, status, bytes)?;
         let receive = with_bytes::receive(self.alloc, chid, len)?;
         self.make_both(reply, receive)?.received()
     }

@@ -13,7 +13,7 @@ pub mod thread;
 use crate::ending::Ending;
 use crate::error::{CallError, refusal};
 use arrayvec::ArrayVec;
-use kept::{append, take_of, take_oldest};
+use kept::{append, take_of, take_oldest, take_own};
 use qbase::errno::Errno;
 use qbase::ids::ThreadNo;
 use qkernel::kernel::{CALL_LIMIT, Kernel};
@@ -186,8 +186,9 @@ impl Simulator {
         }
         self.kept.reserve(THREAD_LIMIT + 1)?;
         self.kernel.step(thread, call, &mut self.endings);
+        let own = take_own(&mut self.endings, thread);
         append(&mut self.kept, &mut self.endings);
-        Ok(match take_of(&mut self.kept, thread) {
+        Ok(match own {
             Some(completion) => Outcome::Done(Ending {
                 waited: false,
                 mark: completion.mark,

@@ -33,16 +33,26 @@ pub(crate) fn receive(alloc: Global, chid: ChannelId, len: usize) -> Result<Call
     Ok(Call::Receive { chid, buffer })
 }
 
-/// Returns a reply of a status and these bytes.
+/// Returns a copy of these bytes, in the memory of others if that is enough.
+fn copied(others: Bytes, bytes: &[u8]) -> Result<Bytes, CallError>
+    ensures { MatchResult result (λ copy. copy ≡ bytes.now) (λ e. e ≡ error.NoMemory) }
+{
+    let mut items = others.into_vec();
+    items.clear();
+    items.extend_from_slice(bytes)?;
+    Ok(Bytes::from(items))
+}
+
+/// Returns a reply of a status and these bytes, in the memory of others if that is enough.
 pub(crate) fn reply(
-    alloc: Global,
+    others: Bytes,
     rcvid: ReceiveId,
     status: i64,
     bytes: &[u8],
 ) -> Result<Call, CallError>
     ensures { MatchResult result (λ call. call ≡ Call.Reply rcvid status bytes.now) (λ e. e ≡ error.NoMemory) }
 {
-    let bytes = Bytes::copied(alloc, bytes)?;
+    let bytes = copied(others, bytes)?;
     Ok(Call::Reply {
         rcvid,
         status,
@@ -67,16 +77,16 @@ pub(crate) fn read(
     })
 }
 
-/// Returns a write of these bytes, from the offset on.
+/// Returns a write of these bytes, from the offset on, in the memory of others if that is enough.
 pub(crate) fn write(
-    alloc: Global,
+    others: Bytes,
     rcvid: ReceiveId,
     offset: usize,
     bytes: &[u8],
 ) -> Result<Call, CallError>
     ensures { MatchResult result (λ call. call ≡ Call.Write rcvid offset bytes.now) (λ e. e ≡ error.NoMemory) }
 {
-    let bytes = Bytes::copied(alloc, bytes)?;
+    let bytes = copied(others, bytes)?;
     Ok(Call::Write {
         rcvid,
         offset,

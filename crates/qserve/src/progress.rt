@@ -1,5 +1,6 @@
 //! Shows the progress of a run on one line, which is rewritten twice a second.
 
+use qbase::bytes::Bytes;
 use qbase::ids::ThreadNo;
 use qcalls::endpoint::Endpoint;
 use qmodel::call::{Call, Completion};
@@ -122,6 +123,10 @@ impl<'p, E: Endpoint> Endpoint for Counted<'p, E> {
             self.progress.round();
         }
         both
+    }
+
+    fn spare(&mut self) -> Option<Bytes> {
+        self.inner.spare()
     }
 
     fn poll(&mut self) -> Option<Completion> {

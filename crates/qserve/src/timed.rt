@@ -2,6 +2,7 @@
 
 use crate::fault::WorkerFault;
 use crate::tally::Tally;
+use qbase::bytes::Bytes;
 use qbase::ids::ThreadNo;
 use qcalls::endpoint::Endpoint;
 use qcalls::error::CallError;
@@ -121,6 +122,10 @@ impl<'c, E: Endpoint, C: Clock> Endpoint for Timed<'c, E, C> {
             CalledBoth::First(_, _) => self.stopwatch.start = None,
         }
         both
+    }
+
+    fn spare(&mut self) -> Option<Bytes> {
+        self.inner.spare()
     }
 
     fn poll(&mut self) -> Option<Completion> {

@@ -20,6 +20,7 @@ use crate::tie::Tie;
 use crate::turn::Turn;
 use crossbeam_utils::Backoff;
 use crossbeam_utils::sync::Parker;
+use qbase::bytes::Bytes;
 use qbase::errno::Errno;
 use qbase::ids::ThreadNo;
 use qhandoff::cells::Cells;
@@ -112,6 +113,15 @@ fn is_ok(mark: Mark) -> bool
     ensures { result ≡ is_ok mark }
 {
     matches!(mark, Mark::Ok)
+}
+
+/// Returns the bytes of a Reply or a Write.
+fn bytes_of(call: Call) -> Option<Bytes> {
+    match call {
+        Call::Reply { bytes, .. } => Some(bytes),
+        Call::Write { bytes, .. } => Some(bytes),
+        _ => None,
+    }
 }
 
 /// Takes the ending that was put for a thread, if one is pending and there. It has only the thread's seat and the cells,
@@ -208,13 +218,13 @@ impl<K: Tie> Port<K> {
         ensures same { (self.new.thread ≡ self.old.thread) × (thread_of self.new.seat ≡ thread_of self.old.seat) }
     {
         self.turn.woken = 0;
+        self.turn.lent = None;
         self.turn.copies = L::copies(self.turn.alloc, &call);
         let called = {
             let mut guard = spinning::lock(&*shared.lock, shared.looks, rt);
             self.make(&shared.cells, &mut **guard, call)
         };
         shared.wake(self.turn.woken);
-        self.turn.lent = None;
         called
     }
 
@@ -237,6 +247,7 @@ impl<K: Tie> Port<K> {
         ensures same { (self.new.thread ≡ self.old.thread) × (thread_of self.new.seat ≡ thread_of self.old.seat) }
     {
         self.turn.woken = 0;
+        self.turn.lent = None;
         self.turn.copies = L::copies(self.turn.alloc, &first);
         let mut copies = L::copies(self.turn.alloc, &second);
         let called = {
@@ -261,7 +272,6 @@ impl<K: Tie> Port<K> {
             }
         };
         shared.wake(self.turn.woken);
-        self.turn.lent = None;
         called
     }
 
@@ -353,6 +363,18 @@ impl<K: Tie> Port<K> {
         }
         shared.set_asleep(cell, false);
         completion
+    }
+
+    /// Returns the bytes of the last call, if it was a Reply or a Write that wasn't refused: their memory serves for
+    /// those of the next. `None` if they were returned before.
+    /// `endpoint.rt` of `crates/qcalls` keeps them for its replies.
+    pub fn spare(&mut self) -> Option<Bytes>
+        ensures taken { collected self.new.last.trace self.new.thread (taken self.new.seat) ≡ collected self.old.last.trace self.old.thread (taken self.old.seat) }
+        ensures pending { self.new.turn.pending ≡ self.old.turn.pending }
+        ensures same { (self.new.thread ≡ self.old.thread) × (thread_of self.new.seat ≡ thread_of self.old.seat) × (self.new.calls ≡ self.old.calls) × (self.new.asked ≡ self.old.asked) × (self.new.seen ≡ self.old.seen) }
+    {
+        let lent = self.turn.lent.take()?;
+        bytes_of(lent)
     }
 
     /// Returns what the port saw of the past: all of it, as it was when its last call left the lock.

@@ -21,7 +21,7 @@ pub struct Turn {
     pub(crate) woken: u64,
     // Whether the ending of a blocked call isn't collected yet.
     pub(crate) pending: bool,
-    // The last call, if its bytes were lent to the kernel. It is freed after the lock.
+    // The last call, if its bytes were lent to the kernel. It is freed outside the lock.
     pub(crate) lent: Option<Call>,
     // Copies of the call that is made, for the log; made before the lock is taken. Those of a refused call stay here
     // until the next.

@@ -1,6 +1,6 @@
 //! Endings that are kept for their threads.
 
-ghost use Rattle.std.specs.Prelude.{◌≡◌, ◌+◌, ◌≤◌, ◌++◌, [], is_some, position, slice_get, vec_len, vec_capacity};
+ghost use Rattle.std.specs.Prelude.{◌≡◌, ◌+◌, ◌≤◌, ◌++◌, [], length, is_some, position, slice_get, vec_len, vec_capacity};
 ghost use Rattle.arrayvec.specs.ArrayVec.{array_vec_len};
 ghost use Rattle.qcalls.specs.Simulating.{ending_of, is_of, without, later};
 
@@ -32,6 +32,16 @@ pub(super) fn has(kept: &[Completion], thread: ThreadNo) -> bool
     ensures { result ≡ is_some (ending_of thread kept.now) }
 {
     place_of(kept, thread).is_some()
+}
+
+/// Takes a thread's ending out of those of one event, if there is one.
+pub(super) fn take_own(endings: &mut Endings, thread: ThreadNo) -> Option<Completion>
+    ensures ending { result ≡ ending_of thread endings.old.items }
+    ensures rest { endings.new.items ≡ without thread endings.old.items }
+    ensures few { length endings.new.items ≤ length endings.old.items }
+{
+    let place = place_of(endings.as_slice(), thread)?;
+    Some(endings.remove(place))
 }
 
 /// Takes the first ending of a thread, if there is one.
