@@ -1,7 +1,6 @@
 -- A kept past after an event: what an event requires is enough.
 use Rattle.qshared.proofs.Common.{◌≡◌, ◌≢◌, ℕ, ◌+◌, ◌-◌, ◌<◌, ◌≤◌, ◌^◌, List, [], ◌∷◌, ◌++◌, length, get_or, set, refl, ap, sym, subst, ◌∙◌, arith, Bool, true, false, eqb, inl, inr, ◌⊎◌, length-append, length-set, get_or-set_other, get_or-set_same, None, Some, is_some, AllByRecursion, cases_Bool, eqb-true, eqb-false, true≢false, none-some, same_Some, none_of, some_of, TraceFull, NoMemory, member_at, Member, Call, Completion, Answers, refusal_of, AreApart, gets, followed_by, Event, Trace, GoesToBlocked, blocked_unless_ended, endings_are_apart, endings_go_to_blocked, IsLawful, facts_of, with_event, open_call, is_blocked, effect_of, known, Logged, with_next, place, is_down, HasRoomFor, HasRooms, MayCopy, Copied, IsKept, blocked_same, followed_length, followed_push}
 use Rattle.qbase.specs.declared.errno.Errno.{Errno}
-use Rattle.qmodel.specs.Buffers.{buffer_of}
 use Rattle.qmodel.specs.declared.call.Call.TheVariants.{Shutdown}
 use Rattle.qrules.proofs.Traces.TraceLaws.Lengths.{buffer_brought, after_fits, completion_fits}
 use Rattle.qrules.proofs.Words.Facts.{threads_of}
@@ -24,16 +23,16 @@ refused_kept limit events c e other why = elim why [
 ]
 
 -- when a call is noted
-pub admitted_kept : (limit : ℕ) (log log' : Logged) (c : Call) → HasRoomFor limit log' c → log'.events ≡ log.events → admits_kept limit (followed_by [] log.events) c
-admitted_kept limit log log' c has same = elim has.event [
+pub admitted_kept : (limit : ℕ) (log log' : Logged) (c : Call) (room : ℕ) → HasRoomFor limit log' c room → log'.events ≡ log.events → admits_kept limit (followed_by [] log.events) c
+admitted_kept limit log log' c room has same = elim has.event [
   | inl shut ↦ inr shut
   | inr r ↦ inl (let len = past_length log.events in omega (arith, len, ap length same, r.0))
 ]
 
 -- a call that is noted finds room for its event, so there were few before
-pub few_noted : (roster : List Member) (limit : ℕ) (threads rooms : List ℕ) (log : Logged) (c : Call) (ready : Bool) → IsKept roster limit threads rooms log c ready
+pub few_noted : (roster : List Member) (limit : ℕ) (threads rooms : List ℕ) (log : Logged) (c : Call) (room : ℕ) (ready : Bool) → IsKept roster limit threads rooms log c room ready
     → is_down (followed_by [] log.events) ≡ false → length (followed_by [] log.events) < 2 ^ 40
-few_noted roster limit threads rooms log c ready h up = let len = past_length log.events in let spare = h.spare up in let bounded = h.bounded in omega (arith, len, spare.0, bounded)
+few_noted roster limit threads rooms log c room ready h up = let len = past_length log.events in let spare = h.spare up in let bounded = h.bounded in omega (arith, len, spare.0, bounded)
 
 -- ---- a Shutdown that isn't refused
 
@@ -61,8 +60,7 @@ shutdown_down roster past t X lawful up idle a =
 
 -- what an event of thread t finds, whose call was noted and had the endings X
 pub record Finds (roster : List Member) (limit : ℕ) (threads rooms : List ℕ) (log : Logged) (c : Call) (room : ℕ) (t : ℕ) (X : List Completion) : Type 0 where
-  pub kept : IsKept roster limit threads rooms log c true
-  pub buffer : length (buffer_of c) ≤ room
+  pub kept : IsKept roster limit threads rooms log c room true
   pub lawful : IsLawful roster (followed_by [] log.events)
   pub member : is_some (member_at roster t) ≡ true
   pub idle : is_some (open_call roster (followed_by [] log.events) t) ≡ false
@@ -70,18 +68,17 @@ pub record Finds (roster : List Member) (limit : ℕ) (threads rooms : List ℕ)
   pub answers : Answers (facts_of roster (followed_by [] log.events)) t c X
 
 pub finds : (roster : List Member) (limit : ℕ) (threads rooms : List ℕ) (log : Logged) (c : Call) (room : ℕ) (ready : Bool) (t : ℕ) (X : List Completion) (v : KeptPast)
-    → IsKept roster limit threads rooms log c ready → record { past = followed_by [] log.events; noted = c; ready = ready } ≡ v → v.ready ≡ true → is_down v.past ≡ false → rules.IsLawful roster v.past
-    → (is_some (member_at roster t) ≡ true) × (is_blocked (rules.facts_of roster v.past) t ≡ false) → outcome.Answers (rules.facts_of roster v.past) t v.noted X → length (buffer_of c) ≤ room → Finds roster limit threads rooms log c room t X
+    → IsKept roster limit threads rooms log c room ready → record { past = followed_by [] log.events; noted = c; ready = ready } ≡ v → v.ready ≡ true → is_down v.past ≡ false → rules.IsLawful roster v.past
+    → (is_some (member_at roster t) ≡ true) × (is_blocked (rules.facts_of roster v.past) t ≡ false) → outcome.Answers (rules.facts_of roster v.past) t v.noted X → Finds roster limit threads rooms log c room t X
 finds roster limit threads rooms log c room ready t X v h z =
-    subst (λ w. w.ready ≡ true → is_down w.past ≡ false → rules.IsLawful roster w.past → (is_some (member_at roster t) ≡ true) × (is_blocked (rules.facts_of roster w.past) t ≡ false) → outcome.Answers (rules.facts_of roster w.past) t w.noted X → length (buffer_of c) ≤ room → Finds roster limit threads rooms log c room t X) z
-    (λ is up lawful thread answers buffer. record {
-      kept = subst (λ b. IsKept roster limit threads rooms log c b) is h;
+    subst (λ w. w.ready ≡ true → is_down w.past ≡ false → rules.IsLawful roster w.past → (is_some (member_at roster t) ≡ true) × (is_blocked (rules.facts_of roster w.past) t ≡ false) → outcome.Answers (rules.facts_of roster w.past) t w.noted X → Finds roster limit threads rooms log c room t X) z
+    (λ is up lawful thread answers. record {
+      kept = subst (λ b. IsKept roster limit threads rooms log c room b) is h;
       lawful = lawful;
       member = thread.0;
       idle = sym (blocked_same roster (followed_by [] log.events) lawful t) ∙ thread.1;
       up = up;
       answers = answers;
-      buffer = buffer;
     })
 
 -- a log with one more event
@@ -125,7 +122,7 @@ module _ (roster : List Member) (limit : ℕ) (threads rooms : List ℕ) (log : 
     room_for u j is = elim (cases_Bool (eqb u t)) [
       | inl e ↦
           let same : j ≡ i = same_Some j i (sym is ∙ ap (place (threads_of roster)) (eqb-true u t e) ∙ at) in
-          rw (e, same, get_or-set_same rooms i room 0 long) f.buffer
+          rw (e, same, get_or-set_same rooms i room 0 long) (f.kept.noted_room refl).buffer
       | inr e ↦
           let other : j ≢ i = λ s. eqb-false u t e (place_same (threads_of roster) u t i (subst (λ k. place (threads_of roster) u ≡ Some k) s is) at) in
           rw (e, get_or-set_other rooms i j room 0 other) (f.kept.has_rooms u j is)
@@ -144,7 +141,7 @@ module _ (roster : List Member) (limit : ℕ) (threads rooms : List ℕ) (log : 
               let has : length (buffer_brought roster past t c x.thread) ≤ get_or (set rooms i room) s.0 0 = room_for x.thread s.0 s.1 in
               ((s.0, s.1, omega arith), both Y a.1 b.1)
 
-    module _ (few : length X ≤ 64) (rooms' : List ℕ) (copied : Copied threads X (set rooms i room) rooms') (next : Call) where
+    module _ (few : length X ≤ 64) (rooms' : List ℕ) (copied : Copied threads X (set rooms i room) rooms') (next : Call) (room' : ℕ) where
       rooms_after : HasRooms roster rooms' (e ∷ past)
       rooms_after u j is = elim (cases_Bool (gets X u)) [
         | inl got ↦ rw (none_of (open_call roster (e ∷ past) u) (blocked_unless_ended roster past e f.kept.rises lawful_next f.idle u ∙ rw got refl)) (omega arith)
@@ -156,7 +153,7 @@ module _ (roster : List Member) (limit : ℕ) (threads rooms : List ℕ) (log : 
       ]
 
       -- the log is again as it should be
-      pub kept_after : IsKept roster limit threads rooms' (with_event_of log e) next false
+      pub kept_after : IsKept roster limit threads rooms' (with_event_of log e) next room' false
       kept_after =
           let longer : length (log.events ++ e ∷ []) ≡ length log.events + 1 = length-append log.events (e ∷ []) in
           let before = f.kept.spare f.up in

@@ -1,5 +1,5 @@
 -- A past that is kept, and its limit.
-use Rattle.std.specs.Prelude.{◌≡◌, ℕ, ◌+◌, ◌<◌, ◌⊎◌, Bool, length, Option, IfNone}
+use Rattle.std.specs.Prelude.{◌≡◌, ℕ, ◌+◌, ◌<◌, ◌⊎◌, Bool, length}
 use Rattle.qbase.specs.declared.errno.Errno.{Errno}
 use Rattle.qbase.specs.declared.errno.Errno.TheVariants.{TraceFull, NoMemory}
 use Rattle.qmodel.specs.declared.call.Call.{Call}
@@ -19,10 +19,6 @@ abbrev pub refuses_kept : ℕ → Trace → Call → Errno → Type 0
 refuses_kept limit past c TraceFull = (length past + 1 ≡ limit) × ¬ (c ≡ Shutdown)
 refuses_kept limit past c NoMemory = (length past + 1 < limit) × ¬ (c ≡ Shutdown)
 refuses_kept limit past c e = ⊥
-
--- these copies are enough for an event of the call: only a Shutdown needs none
-abbrev pub enough_kept : Option Call → Call → Type 0
-enough_kept copies c = IfNone copies (c ≡ Shutdown)
 
 -- the condition under which a call is noted: two events of the limit are left, or it is a Shutdown
 abbrev pub admits_kept : ℕ → Trace → Call → Type 0

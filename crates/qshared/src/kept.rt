@@ -1,14 +1,12 @@
 //! A past that is kept in memory.
-ghost use Rattle.std.specs.Prelude.{◌≡◌, ◌<◌, ◌≤◌, ◌-◌, ◌^◌, ◌++◌, [], ◌∷◌, length, IfOk, IfSome};
+ghost use Rattle.std.specs.Prelude.{◌≡◌, ◌<◌, ◌≤◌, ◌-◌, ◌^◌, ◌++◌, [], ◌∷◌, length, IfOk};
 ghost use Rattle.std.specs.List.{AllByRecursion};
 ghost use Rattle.qtables.specs.Members.{IsRoster};
 ghost use Rattle.qrules.specs.Trace.{AreApart};
 ghost use Rattle.qrules.specs.Facts.{threads_of};
 ghost use Rattle.qstate.specs.Kept.{members_of};
 ghost use Rattle.qrules.specs.Trace.{followed_by};
-ghost use Rattle.qmodel.specs.Buffers.{buffer_of};
 ghost use Rattle.qshared.specs.Private.Rooms.{MayCopy, Copied};
-ghost use Rattle.qshared.specs.Rooms.{enough_kept};
 
 use crate::admitting::admit;
 use crate::copies::Copies;
@@ -26,7 +24,6 @@ use qmodel::call::{Call, Completion};
 use std::alloc::{AllocError, Global};
 use std::marker::{Model, PhantomData};
 use std::mem;
-use std::snapshot::Snapshot;
 
 /// A past in memory, with a copy of each call and of each ending. It has at most `limit` events.
 #[derive(Drop)]
@@ -36,8 +33,9 @@ pub struct Kept<K: Tie> {
     rooms: Vec<Room>,
     log: EventLog,
     limit: usize,
-    // The call that was noted last, which only contracts read, and whether it isn't an event yet.
-    noted: Snapshot<Call>,
+    // The call that was noted last, room for a copy of its buffer, and whether the call isn't an event yet.
+    noted: Call,
+    room: Room,
     ready: bool,
     of: PhantomData<K>,
 }
@@ -51,9 +49,9 @@ impl<K: Tie> Model for Kept<K> {
 
     ghost Value = { KeptPast };
 
-    ghost view = { λ k. record { past = followed_by [] k.log.events; noted = k.noted.value; ready = k.ready } };
+    ghost view = { λ k. record { past = followed_by [] k.log.events; noted = k.noted; ready = k.ready } };
 
-    ghost invariant = { λ k. (k.limit ≡ K.names.limit) × IsKept K.names.roster k.limit (threads_of K.names.roster) k.rooms.items k.log k.noted.value k.ready };
+    ghost invariant = { λ k. (k.limit ≡ K.names.limit) × IsKept K.names.roster k.limit (threads_of K.names.roster) k.rooms.items k.log k.noted k.room k.ready };
 }
 
 /// Returns `many` rooms, each with room for no bytes.
@@ -65,19 +63,6 @@ fn no_rooms(alloc: Global, many: usize) -> Result<Vec<Room>, AllocError>
         rooms.push_reserved(Room::none(alloc));
     }
     Ok(rooms)
-}
-
-/// Takes the copy of a call, and room for a copy of its buffer. A Shutdown needs no memory.
-fn take(alloc: Global, copies: &mut Option<Copies>, _noted: &Snapshot<Call>) -> (Call, Room)
-    requires copies { IfSome copies.old (λ c. c ≡ _noted.now.value) }
-    requires enough { enough_kept copies.old _noted.now.value }
-    ensures call { result.0 ≡ _noted.now.value }
-    ensures room { length (buffer_of _noted.now.value) ≤ result.1 }
-{
-    match copies.take() {
-        Some(copies) => copies.into_parts(),
-        None => (Call::Shutdown, Room::none(alloc)),
-    }
 }
 
 /// Copies an ending into its thread's room, and adds it to the endings of its event.
@@ -142,7 +127,8 @@ impl<K: Tie> Kept<K> {
             rooms,
             log,
             limit,
-            noted: Snapshot::of(&Call::Shutdown),
+            noted: Call::Shutdown,
+            room: Room::none(alloc),
             ready: false,
             of: PhantomData,
         })
@@ -160,7 +146,7 @@ impl<K: Tie> Kept<K> {
 }
 
 impl<K: Tie> Log for Kept<K> {
-    ghost use Rattle.qshared.specs.Rooms.{admits_kept, enough_kept, refuses_kept};
+    ghost use Rattle.qshared.specs.Rooms.{admits_kept, refuses_kept};
 
     ghost roster = { λ _. K.names.roster };
 
@@ -170,8 +156,6 @@ impl<K: Tie> Log for Kept<K> {
 
     ghost noted = { λ k. k.noted };
 
-    ghost enough = { enough_kept };
-
     ghost refuses = { refuses_kept K.names.limit };
 
     ghost admits = { admits_kept K.names.limit };
@@ -180,28 +164,24 @@ impl<K: Tie> Log for Kept<K> {
         Copies::of(alloc, call)
     }
 
-    fn note(&mut self, _made: u64, call: &Call, copies: &Option<Copies>) -> Result<(), Errno> {
-        match admit(&mut self.log, self.limit, call, copies) {
+    fn note(&mut self, _made: u64, call: &Call, copies: Option<Copies>) -> Result<(), Errno> {
+        match admit(self.alloc, &mut self.log, self.limit, call, copies) {
             Err(errno) => Err(errno),
-            Ok(()) => {
-                self.noted = Snapshot::of(call);
+            Ok(copies) => {
+                let (noted, room) = copies;
+                self.noted = noted;
+                self.room = room;
                 self.ready = true;
                 Ok(())
             }
         }
     }
 
-    fn event(
-        &mut self,
-        kernel: &Kernel,
-        seat: &Seat,
-        endings: &Endings,
-        copies: &mut Option<Copies>,
-    ) {
+    fn event(&mut self, kernel: &Kernel, seat: &Seat, endings: &Endings) {
         let place = seat.index();
-        let (call, room) = take(self.alloc, copies, &self.noted);
         self.ready = false;
-        self.rooms[place] = room;
+        self.rooms[place] = mem::replace(&mut self.room, Room::none(self.alloc));
+        let call = mem::replace(&mut self.noted, Call::Shutdown);
         copy_all(
             self.alloc,
             kernel,

@@ -1,5 +1,5 @@
 //! How a locked kernel keeps its past.
-ghost use Rattle.std.specs.Prelude.{◌≡◌, ◌∷◌, ◌<◌, ◌^◌, Bool, List, Option, length, IfErr, IfSome, OnOk, is_some, true, false};
+ghost use Rattle.std.specs.Prelude.{◌≡◌, ◌∷◌, ◌<◌, ◌^◌, Bool, List, length, IfErr, IfSome, OnOk, is_some, true, false};
 ghost use Rattle.qtables.specs.Members.{member_at};
 ghost use Rattle.qtables.specs.declared.member.Member.{Member};
 ghost use Rattle.qmodel.specs.declared.call.Call.{Call};
@@ -40,36 +40,24 @@ pub trait Log: Drop {
     /// The condition under which a call is noted.
     ghost admits: { Admits };
 
-    /// Whether these copies are enough for an event of the call.
-    ghost enough: { Option Call → Call → Type 0 };
-
-    /// Copies a call for its event, before the lock is taken. `None` if the log needs no copies, or the allocator
-    /// refuses.
+    /// Copies a call for `note`, before the lock is taken. `None` if the log needs no copy, or the allocator refuses.
     fn copies(alloc: Global, call: &Call) -> Option<Copies>
         ensures copied { IfSome result (λ copies. copies ≡ call.now) };
 
     /// Notes a call before it is made; `made` calls were made before it. A refusal changes nothing.
-    fn note(&mut self, made: u64, call: &Call, copies: &Option<Copies>) -> Result<(), Errno>
+    fn note(&mut self, made: u64, call: &Call, copies: Option<Copies>) -> Result<(), Errno>
+        requires copies { IfSome copies (λ c. c ≡ call.now) }
         requires up { is_down (past self.old) ≡ false }
         requires made { made ≡ length (past self.old) }
         ensures same { (past self.new ≡ past self.old) × (roster self.new ≡ roster self.old) }
         ensures noted { OnOk result ((noted self.new ≡ call.now) × (ready self.new ≡ true)) }
-        ensures enough { OnOk result (enough copies.now call.now) }
         ensures admitted { OnOk result (admits (past self.old) call.now) }
         ensures few { OnOk result (length (past self.old) < 2 ^ 40) }
         ensures refused { IfErr result (λ e. refuses (past self.old) call.now e) };
 
     /// Adds an event: the noted call, made by the thread at a seat of the kernel, which wasn't blocked, with these
-    /// endings. It takes the copies of the call.
-    fn event(
-        &mut self,
-        kernel: &Kernel,
-        seat: &Seat,
-        endings: &Endings,
-        copies: &mut Option<Copies>,
-    )
-        requires copies { IfSome copies.old (λ c. c ≡ noted self.old) }
-        requires enough { enough copies.old (noted self.old) }
+    /// endings.
+    fn event(&mut self, kernel: &Kernel, seat: &Seat, endings: &Endings)
         requires roster { members_of kernel.now.threads ≡ roster self.old }
         requires seat { IsSeatIn kernel.now.threads seat.now }
         requires ready { ready self.old ≡ true }

@@ -225,6 +225,7 @@ impl<K: Tie> Port<K> {
             self.make(&shared.cells, &mut **guard, call)
         };
         shared.wake(self.turn.woken);
+        self.turn.copies = None;
         called
     }
 
@@ -272,6 +273,7 @@ impl<K: Tie> Port<K> {
             }
         };
         shared.wake(self.turn.woken);
+        self.turn.copies = None;
         called
     }
 

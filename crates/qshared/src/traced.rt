@@ -194,7 +194,8 @@ impl<K: Tie, L: Log> Traced<K, L> {
         }
         let asking = Snapshot::of(&call);
         let made = self.kernel.made();
-        if let Err(errno) = self.log.note(made, &call, &turn.copies) {
+        let copies = turn.copies.take();
+        if let Err(errno) = self.log.note(made, &call, copies) {
             self.seat.cancel(cells, place);
             return Called::Refused(errno, call);
         }
@@ -205,8 +206,7 @@ impl<K: Tie, L: Log> Traced<K, L> {
             &mut turn.lent,
             &mut *turn.endings,
         );
-        self.log
-            .event(&self.kernel, &seat, &*turn.endings, &mut turn.copies);
+        self.log.event(&self.kernel, &seat, &*turn.endings);
         let thread = seat.thread();
         let history = &mut self.history;
         history.add(&thread, &asking, &*turn.endings);

@@ -23,8 +23,7 @@ pub struct Turn {
     pub(crate) pending: bool,
     // The last call, if its bytes were lent to the kernel. It is freed outside the lock.
     pub(crate) lent: Option<Call>,
-    // Copies of the call that is made, for the log; made before the lock is taken. Those of a refused call stay here
-    // until the next.
+    // Copies of the call that is made next, for the log. They are made before the lock is taken.
     pub(crate) copies: Option<Copies>,
 }
 

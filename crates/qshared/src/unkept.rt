@@ -43,7 +43,7 @@ impl<K: Tie> Unkept<K> {
 }
 
 impl<K: Tie> Log for Unkept<K> {
-    ghost use Rattle.std.specs.Prelude.{true, ⊤};
+    ghost use Rattle.std.specs.Prelude.{true};
     ghost use Rattle.qshared.specs.Unkept.{admits_unkept, refuses_unkept};
 
     ghost roster = { λ _. K.names.roster };
@@ -54,8 +54,6 @@ impl<K: Tie> Log for Unkept<K> {
 
     ghost noted = { λ l. l.call.value };
 
-    ghost enough = { λ _ _. ⊤ };
-
     ghost refuses = { refuses_unkept };
 
     ghost admits = { admits_unkept };
@@ -64,7 +62,7 @@ impl<K: Tie> Log for Unkept<K> {
         None
     }
 
-    fn note(&mut self, made: u64, call: &Call, _copies: &Option<Copies>) -> Result<(), Errno> {
+    fn note(&mut self, made: u64, call: &Call, _copies: Option<Copies>) -> Result<(), Errno> {
         if !matches!(call, Call::Shutdown) && made >= CALL_LIMIT - 1 {
             return Err(Errno::Exhausted);
         }
@@ -72,13 +70,7 @@ impl<K: Tie> Log for Unkept<K> {
         Ok(())
     }
 
-    fn event(
-        &mut self,
-        _kernel: &Kernel,
-        seat: &Seat,
-        endings: &Endings,
-        _copies: &mut Option<Copies>,
-    ) {
+    fn event(&mut self, _kernel: &Kernel, seat: &Seat, endings: &Endings) {
         let thread = seat.thread();
         self.past = self.past.with(&thread, &self.call, endings);
         self.call = Snapshot::of(&Call::Shutdown);

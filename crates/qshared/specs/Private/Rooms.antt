@@ -6,6 +6,7 @@ use Rattle.qtables.specs.Members.{IsRoster}
 use Rattle.qmodel.specs.declared.call.Call.{Call}
 use Rattle.qmodel.specs.declared.call.Call.TheVariants.{Shutdown}
 use Rattle.qmodel.specs.declared.call.Completion.{Completion}
+use Rattle.qmodel.specs.Buffers.{buffer_of}
 use Rattle.qrules.specs.Records.{buffer_of_open}
 use Rattle.qrules.specs.Facts.{threads_of}
 use Rattle.qrules.specs.Trace.{gets, followed_by, Trace}
@@ -31,16 +32,17 @@ pub record Copied (threads : List ℕ) (X : List Completion) (rooms rooms' : Lis
       → slice_index_or rooms' i 0 ≡ slice_index_or rooms i 0
   pub rooms_len : length rooms' ≡ length rooms
 
--- there is room for a call that was noted: for its event and its endings, and for one event more unless it
--- is a Shutdown
-pub record HasRoomFor (limit : ℕ) (log : Logged) (noted : Call) : Type 0 where
+-- there is room for a call that was noted: for its buffer, its event and its endings, and for one event
+-- more unless it is a Shutdown
+pub record HasRoomFor (limit : ℕ) (log : Logged) (noted : Call) (room : ℕ) : Type 0 where
+  pub buffer : length (buffer_of noted) ≤ room
   pub event : (noted ≡ Shutdown)
       ⊎ ((length log.events + 1 < limit) × (2 ≤ log.call_room) × (128 ≤ log.completion_room))
 
 -- the invariant of a kept past: it is within its limit, and until the kernel is shut down there is room for
 -- one more event, and one event of the limit is left
 pub record IsKept (roster : List Member) (limit : ℕ) (threads rooms : List ℕ) (log : Logged) (noted : Call)
-    (ready : Bool) : Type 0 where
+    (room : ℕ) (ready : Bool) : Type 0 where
   pub rises : IsRoster roster
   pub threads_are : threads ≡ threads_of roster
   pub sized : length rooms ≡ length threads
@@ -49,5 +51,5 @@ pub record IsKept (roster : List Member) (limit : ℕ) (threads rooms : List ℕ
   pub within : length log.events ≤ limit
   pub spare : is_down (followed_by [] log.events) ≡ false → (length log.events < limit)
       × (1 ≤ log.call_room) × (64 ≤ log.completion_room)
-  pub noted_room : ready ≡ true → HasRoomFor limit log noted
+  pub noted_room : ready ≡ true → HasRoomFor limit log noted room
   pub bounded : limit ≤ 2 ^ 20

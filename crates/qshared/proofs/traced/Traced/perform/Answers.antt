@@ -126,9 +126,3 @@ event-requires-clause-up g c = rw (c.note.ensures.same.0) (sym (stands_down _ _ 
 
 pub make_at-requires-clause-seat : goal.make_at-requires-clause-seat
 make_at-requires-clause-seat g c = seat_at_place _ c.args.turn.now.seat (ap (λ ts. place ts c.args.turn.now.seat.thread) c.self.invariant.2.threads_are ∙ c.requires.seat)
-
-pub event-requires-clause-copies : goal.event-requires-clause-copies
-event-requires-clause-copies g c = rw (c.in_default.ensures.noted.0) c.requires.copies
-
-pub event-requires-clause-enough : goal.event-requires-clause-enough
-event-requires-clause-enough g c = rw (c.in_default.ensures.noted.0) c.in_default.ensures.enough
