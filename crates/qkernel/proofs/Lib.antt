@@ -1,6 +1,7 @@
 pub mod Common
 pub mod Tables
 pub mod Contents
+pub mod Copying
 pub mod Traces
 pub mod Callers
 pub mod Steps

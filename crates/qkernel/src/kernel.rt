@@ -12,6 +12,7 @@ mod channel_create;
 mod channel_destroy;
 mod connect_attach;
 mod connect_detach;
+mod copy;
 mod info;
 mod lent;
 mod priority_set;

@@ -1,4 +1,5 @@
 pub mod Common
+pub mod Copying
 pub mod Seats
 pub mod Senders
 pub mod Indexing

@@ -3,6 +3,7 @@ pub mod Thread
 pub mod Index
 pub mod Threads
 pub mod Channel
+pub mod Copies
 pub mod Held
 pub mod Unread
 pub mod Pulses

@@ -10,7 +10,7 @@ use qmodel::open_call::OpenCall;
 use qtables::member::Member;
 
 /// Guesses of a thread's index in the roster: by thread number, by the number of its Send, and as the newest receiver.
-#[derive(Debug, Drop)]
+#[derive(Clone, Copy, Debug)]
 pub struct Index {
     // What a call writes that blocks or wakes a thread stands first, beside the kernel's count of calls.
     // The indices of all threads that are RECEIVE-blocked, and possibly of others.

@@ -4,6 +4,7 @@
 
 pub mod cancelling;
 pub mod channel;
+pub mod copies;
 pub mod endings;
 pub mod held;
 pub mod index;
