@@ -23,30 +23,23 @@ pub fn run_chart<R: Files + Input + Print + Eprint + AllocGlobal>(
         let why = format_args!("{output}: the drawing would be written over its script");
         return Err(end_with(rt, why, 2));
     }
-    if let Some(to) = run.to
-        && to < run.from
-    {
+    if run.to.is_some_and(|to| to < run.from) {
         return Err(end_with(rt, "--to is a call before that of --from", 2));
     }
     let text = text_of(rt, file)?;
     let text = text.as_slice();
     let view = view_of(run);
     let drawn = if run.names_in || file.is_some_and(is_named) {
-        let source = Source {
-            file,
-            text,
-            shows: false,
-            colours: run.colours.errors,
-        };
+        let source = Source::new(file, text, false, run.colours.errors);
         let Named { script, check, .. } = named_of(rt, source)?;
         drawing_of(check.context(), script, &view)
     } else {
         drawing(rt.alloc(), text, &view)
     };
-    match (drawn, run.output.as_deref()) {
-        (Err(fault), _) => return Err(end_with(rt, format_args!("{fault}"), fault.status())),
-        (Ok(drawn), None) => print_text(rt, drawn.as_str())?,
-        (Ok(drawn), Some(name)) => {
+    let drawn = drawn.map_err(|fault| end_with(rt, format_args!("{fault}"), fault.status()))?;
+    match run.output.as_deref() {
+        None => print_text(rt, drawn.as_str())?,
+        Some(name) => {
             let written = fs::write(rt, name, drawn.as_str());
             written.map_err(|error| end_unread(rt, name, error))?;
         }
@@ -64,13 +57,9 @@ fn is_same<R: Files + AllocGlobal>(rt: &R, one: &str, other: &str) -> bool {
 
 /// Returns the view to draw: as text if that is asked for, or if standard output is a terminal.
 fn view_of(run: &ChartRun) -> View {
-    let is_shown = run.terminal && run.output.is_none();
+    let is_text = run.text || (run.terminal && run.output.is_none());
     View {
-        style: if run.text || is_shown {
-            Style::Text
-        } else {
-            Style::Svg
-        },
+        style: if is_text { Style::Text } else { Style::Svg },
         bytes: run.bytes,
         from: run.from as usize,
         to: run.to.map_or(usize::MAX, |to| to as usize),

@@ -46,10 +46,9 @@ pub fn run_check<R: Files + Print + Eprint + AllocGlobal + Clone + Drop>(
         run,
         tally: Tally::default(),
     };
-    match check.check_all() {
-        Ok(()) => Ok(ExitCode::from(check.tally.status())),
-        Err(error) => Err(end_unwritten(rt, error)),
-    }
+    let checked = check.check_all();
+    checked.map_err(|error| end_unwritten(rt, error))?;
+    Ok(ExitCode::from(check.tally.status()))
 }
 
 /// The error of its methods is that of standard output, or of memory.
@@ -87,10 +86,8 @@ impl<R: Files + Print + Eprint + AllocGlobal + Clone + Drop> Check<'_, R> {
         let faults = faults_of(self.rt.alloc(), text)?;
         let name = example.name.as_str();
         if faults.is_empty() {
-            self.tally.same = self.tally.same.saturating_add(1);
             return self.tell(name, "same", "as it expects");
         }
-        self.tally.differ = self.tally.differ.saturating_add(1);
         self.tell(name, "differs", "not as it expects")?;
         self.tell_places(example, faults.as_slice())
     }
@@ -110,7 +107,6 @@ impl<R: Files + Print + Eprint + AllocGlobal + Clone + Drop> Check<'_, R> {
         // A verdict names the file alone, so it holds wherever the folder is.
         let file = Path::new(name).file_name().unwrap_or(name);
         let Some(words) = words_of(self.rt.alloc(), file, text)? else {
-            self.tally.faulty = self.tally.faulty.saturating_add(1);
             self.tell(name, "faulty", "faulty")?;
             let faults = faults_of_design(self.rt.alloc(), text)?;
             return self.tell_places(example, faults.as_slice());
@@ -158,13 +154,13 @@ impl<R: Files + Print + Eprint + AllocGlobal + Clone + Drop> Check<'_, R> {
 
     /// Tells that an example printed what it has to.
     fn tell_same(&mut self, example: &Example) -> io::Result<()> {
-        self.tally.same = self.tally.same.saturating_add(1);
         let Example { name, what, .. } = example;
         self.tell(name.as_str(), "same", format_args!("as its {what} says"))
     }
 
-    /// Prints the outcome of an example, in words or as an object of JSON with a word for it.
-    fn tell<D: Display + Drop>(&self, name: &str, outcome: &str, words: D) -> io::Result<()> {
+    /// Counts the outcome of an example, and prints it: in words, or as an object of JSON with a word for it.
+    fn tell<D: Display + Drop>(&mut self, name: &str, outcome: &str, words: D) -> io::Result<()> {
+        self.tally.add(outcome);
         if !self.run.json {
             let mood = match outcome {
                 "differs" | "faulty" => Mood::Bad,
@@ -199,42 +195,33 @@ impl<R: Files + Print + Eprint + AllocGlobal + Clone + Drop> Check<'_, R> {
         found: &[u8],
         wanted: Option<Vec<u8>>,
     ) -> io::Result<Option<Difference>> {
-        let Example { name, what, .. } = example;
+        let Example { what, .. } = example;
+        let (name, trace) = (example.name.as_str(), example.trace.as_str());
         if self.run.update {
-            self.update(example, found)?;
+            match fs::write(self.rt, trace, found) {
+                Ok(()) => self.tell(name, "written", format_args!("{what} written"))?,
+                Err(error) => self.count_unread(trace, error)?,
+            }
             return Ok(None);
         }
         let Some(wanted) = wanted else {
-            self.tally.without = self.tally.without.saturating_add(1);
-            self.tell(name.as_str(), "without", format_args!("no {what}"))?;
+            self.tell(name, "without", format_args!("no {what}"))?;
             return Ok(None);
         };
         let difference = difference_of(self.rt.alloc(), found, wanted.as_slice())?;
         let line = difference.line;
-        self.tally.differ = self.tally.differ.saturating_add(1);
         let words = format_args!("differs from its {what} at line {line}");
-        self.tell(name.as_str(), "differs", words)?;
+        self.tell(name, "differs", words)?;
         self.tell_more(format_args!("{difference}"))?;
         Ok(Some(difference))
-    }
-
-    /// Writes what an example printed in place of what was wanted.
-    fn update(&mut self, example: &Example, found: &[u8]) -> io::Result<()> {
-        if let Err(error) = fs::write(self.rt, example.trace.as_str(), found) {
-            return self.count_unread(example.trace.as_str(), error);
-        }
-        let Example { name, what, .. } = example;
-        self.tally.written = self.tally.written.saturating_add(1);
-        self.tell(name.as_str(), "written", format_args!("{what} written"))
     }
 
     /// Prints the line of a script from which a difference comes, if it is about a call.
     fn tell_origin(&self, script: &[u8], difference: &Difference) -> io::Result<()> {
         let lines = call_lines(self.rt.alloc(), script)?;
-        let Some(call) = difference.call() else {
-            return Ok(());
-        };
-        let Some(number) = lines.get(call.saturating_sub(1) as usize) else {
+        let call = difference.call();
+        let at = call.map(|call| call.saturating_sub(1) as usize);
+        let Some(number) = at.and_then(|at| lines.get(at)) else {
             return Ok(());
         };
         let line = Lines(script).nth(number.saturating_sub(1)).unwrap_or(&[]);
@@ -254,7 +241,6 @@ impl<R: Files + Print + Eprint + AllocGlobal + Clone + Drop> Check<'_, R> {
         if fault.status() == 3 {
             return Err(io::Error::from(io::ErrorKind::OutOfMemory));
         }
-        self.tally.faulty = self.tally.faulty.saturating_add(1);
         let Example { name, script, .. } = example;
         let ScriptFault::Line { .. } = fault else {
             return self.tell(name.as_str(), "faulty", format_args!("{fault}"));
@@ -279,7 +265,7 @@ impl<R: Files + Print + Eprint + AllocGlobal + Clone + Drop> Check<'_, R> {
             return Err(error);
         }
         tell_unread(self.rt, path, error);
-        self.tally.unread = self.tally.unread.saturating_add(1);
+        self.tally.add("unread");
         Ok(())
     }
 }

@@ -19,10 +19,8 @@ pub enum Mood {
 
 /// Returns what stands before and behind a text in its colour; nothing, if its output has none.
 pub fn marks(mood: Mood, has_colours: bool) -> (&'static str, &'static str) {
-    if !has_colours {
-        return ("", "");
-    }
     match mood {
+        _ if !has_colours => ("", ""),
         Mood::Good => ("\x1b[32m", "\x1b[0m"),
         Mood::Bad => ("\x1b[31m", "\x1b[0m"),
         Mood::Unsure => ("\x1b[33m", "\x1b[0m"),

@@ -54,7 +54,7 @@ pub struct PlayRun {
 }
 
 /// A script whose run is drawn.
-#[derive(Drop)]
+#[derive(Default, Drop)]
 pub struct ChartRun {
     /// Its file; `None` for standard input.
     pub file: Option<String>,
@@ -76,10 +76,12 @@ pub struct ChartRun {
 }
 
 /// A design to explore.
-#[derive(Drop)]
+#[derive(Default, Drop)]
 pub struct ExploreRun {
     /// Its file; `None` for standard input.
     pub file: Option<String>,
+    /// Whether the rows of the design are printed, and nothing is explored.
+    pub listing: bool,
     /// Whether only the run that shows a fault is printed, as a script.
     pub script: bool,
     /// Whether that script has names.
@@ -135,42 +137,27 @@ pub enum Action {
     Serve(ServeRun),
 }
 
-/// Returns the value of this argument, or `None` if it is missing.
-fn text_of(
-    alloc: Global,
-    matches: &ArgMatches<'_>,
-    name: &str,
-) -> Result<Option<String>, AllocError> {
-    match matches.get_str(name) {
-        Some(text) => Ok(Some(String::from_str(alloc, text)?)),
-        None => Ok(None),
-    }
+/// Returns the value of an argument, or `None` if it is missing.
+fn text_of(alloc: Global, value: Option<&str>) -> Result<Option<String>, AllocError> {
+    value.map(|text| String::from_str(alloc, text)).transpose()
 }
 
-/// Returns the file of this argument, or `None` if it is missing or `-`.
-fn file_of(
-    alloc: Global,
-    matches: &ArgMatches<'_>,
-    name: &str,
-) -> Result<Option<String>, AllocError> {
-    match matches.get_str(name) {
-        Some("-") => Ok(None),
-        _ => text_of(alloc, matches, name),
-    }
+/// Returns the file that is the value of an argument, or `None` if it is missing or `-`.
+fn file_of(alloc: Global, value: Option<&str>) -> Result<Option<String>, AllocError> {
+    text_of(alloc, value.filter(|file| *file != "-"))
 }
 
 /// Returns the script that the arguments ask for.
 fn script_of(alloc: Global, matches: &ArgMatches<'_>) -> Result<ScriptRun, AllocError> {
     Ok(ScriptRun {
-        file: file_of(alloc, matches, "file")?,
+        file: file_of(alloc, matches.get_str("file"))?,
         explain: matches.get_flag("explain"),
         names: matches.get_flag("names"),
         json: matches.get_flag("json"),
         names_in: matches.get_flag("names-in"),
         plain: matches.get_flag("plain"),
         strict: matches.get_flag("strict"),
-        terminal: false,
-        colours: Colours::default(),
+        ..ScriptRun::default()
     })
 }
 
@@ -192,30 +179,29 @@ fn check_of(alloc: Global, matches: &ArgMatches<'_>) -> Result<CheckRun, AllocEr
 /// Returns the drawing that the arguments ask for.
 fn chart_of(alloc: Global, matches: &ArgMatches<'_>) -> Result<ChartRun, AllocError> {
     Ok(ChartRun {
-        file: file_of(alloc, matches, "file")?,
-        output: file_of(alloc, matches, "output")?,
+        file: file_of(alloc, matches.get_str("file"))?,
+        output: file_of(alloc, matches.get_str("output"))?,
         text: matches.get_flag("text"),
         bytes: matches.get_flag("bytes"),
         names_in: matches.get_flag("names-in"),
         from: matches.get_one("from").unwrap_or(1),
         to: matches.get_one("to"),
-        terminal: false,
-        colours: Colours::default(),
+        ..ChartRun::default()
     })
 }
 
 /// Returns the design that the arguments ask for.
 fn explore_of(alloc: Global, matches: &ArgMatches<'_>) -> Result<ExploreRun, AllocError> {
     Ok(ExploreRun {
-        file: file_of(alloc, matches, "file")?,
+        file: file_of(alloc, matches.get_str("file"))?,
+        listing: matches.get_flag("listing"),
         script: matches.get_flag("script"),
         names: matches.get_flag("names"),
         json: matches.get_flag("json"),
         most: matches.get_one("most").unwrap_or(1_000_000),
         random: matches.get_one("random"),
         seed: matches.get_one("seed").unwrap_or(1),
-        terminal: false,
-        colours: Colours::default(),
+        ..ExploreRun::default()
     })
 }
 
@@ -229,7 +215,7 @@ fn serve_of(alloc: Global, matches: &ArgMatches<'_>) -> Result<ServeRun, AllocEr
         time: matches.get_flag("time"),
         json: matches.get_flag("json"),
         quiet: matches.get_flag("quiet"),
-        record: text_of(alloc, matches, "record")?,
+        record: text_of(alloc, matches.get_str("record"))?,
     })
 }
 
@@ -241,7 +227,7 @@ pub fn action_of(alloc: Global, words: &[String]) -> Result<Action, Error> {
         Some(("serve", serve)) => Action::Serve(serve_of(alloc, serve)?),
         Some(("check", check)) => Action::Check(check_of(alloc, check)?),
         Some(("play", play)) => Action::Play(PlayRun {
-            file: file_of(alloc, play, "file")?,
+            file: file_of(alloc, play.get_str("file"))?,
             names: play.get_flag("names"),
             colours: Colours::default(),
         }),

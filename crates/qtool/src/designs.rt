@@ -2,7 +2,7 @@
 
 use crate::colours::{Mood, marks};
 use crate::command::ExploreRun;
-use crate::ending::{end_failed, print_text, text_of};
+use crate::ending::{end_failed, end_unwritten, print_text, text_of};
 use crate::json::quoted;
 use crate::remarks;
 use qdesign::verdict::words::{Source, found_script};
@@ -10,13 +10,15 @@ use qdesign::{Reading, read};
 use qexplore::fault::Found;
 use qexplore::random::try_some;
 use qexplore::search::{Verdict, Watch, explore};
+use qlisting::listing::listing;
+use qprograms::design::Design;
 use qreading::place::Fault;
 use std::alloc::{AllocError, Global};
 use std::process::ExitCode;
 use std::rt::Files;
 
 /// The most moments of a search, if the command line doesn't say it.
-pub const MOST_MOMENTS: usize = 1_000_000;
+pub const MOST_MOMENTS: u32 = 1_000_000;
 
 /// The exit status if not every interleaving was made.
 const NOT_ALL: u8 = 4;
@@ -44,12 +46,11 @@ pub fn words_of(alloc: Global, file: &str, text: &[u8]) -> Result<Option<String>
         text,
         design: &design,
     };
-    let search = Search {
-        source,
-        script: false,
-        names: false,
+    let run = ExploreRun {
+        most: MOST_MOMENTS,
+        ..ExploreRun::default()
     };
-    let (words, _) = search.all(MOST_MOMENTS, &mut Nobody)?;
+    let (words, _) = search(&run, source, &mut Nobody)?;
     Ok(Some(words))
 }
 
@@ -86,6 +87,19 @@ impl<'a, R: Eprint> Watch for Progress<'a, R> {
     }
 }
 
+/// Prints a design's listing.
+fn print_listing<R: Print + Eprint + AllocGlobal>(
+    rt: &R,
+    design: &Design,
+) -> Result<ExitCode, ExitCode> {
+    let lines = listing(rt.alloc(), design).map_err(|_| end_failed(rt, "out of memory"))?;
+    for line in &lines {
+        let printed = println!(rt; "{line}");
+        printed.map_err(|error| end_unwritten(rt, error))?;
+    }
+    Ok(ExitCode::SUCCESS)
+}
+
 /// Explores a design, from a file or from standard input, and prints the words of the search.
 pub fn run_explore<R: Files + Input + Print + Eprint + AllocGlobal>(
     rt: &R,
@@ -94,32 +108,41 @@ pub fn run_explore<R: Files + Input + Print + Eprint + AllocGlobal>(
     let text = text_of(rt, run.file.as_deref())?;
     let text = text.as_slice();
     let file = run.file.as_deref().unwrap_or("-");
-    let source = remarks::Source {
-        file: Some(file),
-        text,
-        shows: run.terminal,
-        colours: run.colours.errors,
-    };
-    let told = match read(rt.alloc(), text) {
-        Ok(Reading::Good(design)) => {
-            let source = Source {
-                alloc: rt.alloc(),
-                file,
-                text,
-                design: &design,
-            };
-            if run.terminal {
-                let _ = remarks::tell_oddities(rt, run.file.as_deref(), text);
-            }
-            told_of(rt, run, source)
+    let design = match read(rt.alloc(), text) {
+        Ok(Reading::Good(design)) => design,
+        Ok(Reading::Faulty(faults)) => {
+            let source = remarks::Source::new(Some(file), text, run.terminal, run.colours.errors);
+            return Err(source.end_faulty(rt, faults.as_slice()));
         }
-        Ok(Reading::Faulty(faults)) => return Err(source.end_faulty(rt, faults.as_slice())),
-        Err(error) => Err(error),
+        Err(_) => return Err(end_failed(rt, "out of memory")),
     };
+    if run.listing {
+        return print_listing(rt, &design);
+    }
+    if run.terminal {
+        let _ = remarks::tell_oddities(rt, run.file.as_deref(), text);
+    }
+    let source = Source {
+        alloc: rt.alloc(),
+        file,
+        text,
+        design: &design,
+    };
+    let told = search_shown(rt, run, source);
     let (words, status) = told.map_err(|_| end_failed(rt, "out of memory"))?;
-    let words = words.as_str();
+    print_told(rt, run, file, words.as_str(), status)
+}
+
+/// Prints the words of a search, and returns its exit status. If a script is asked for and there is no run, the words go
+/// to standard error.
+fn print_told<R: Print + Eprint + AllocGlobal>(
+    rt: &R,
+    run: &ExploreRun,
+    file: &str,
+    words: &str,
+    status: u8,
+) -> Result<ExitCode, ExitCode> {
     if run.script && status != 1 && !run.json {
-        // there is no run to print
         let _ = eprint!(rt; "{words}");
         return Ok(ExitCode::from(status));
     }
@@ -162,20 +185,18 @@ fn object_of(alloc: Global, file: &str, output: &str, status: u8) -> Result<Stri
     let mut out = format!(in alloc;
         "{{\"design\": {file}, \"outcome\": \"{outcome}\", \"lines\": ["
     )?;
-    let mut is_first = true;
+    let mut comma = "";
     for line in output.lines() {
-        if !is_first {
-            out.push_str(", ")?;
-        }
-        out.push_str(quoted(alloc, line)?.as_str())?;
-        is_first = false;
+        let line = quoted(alloc, line)?;
+        write!(out, "{comma}{line}")?;
+        comma = ", ";
     }
     out.push_str("]}\n")?;
     Ok(out)
 }
 
-/// Returns the output of the search that is asked for, and the exit status.
-fn told_of<R: Eprint + AllocGlobal>(
+/// Makes the search that is asked for and shows its progress, and returns the output and the exit status.
+fn search_shown<R: Eprint + AllocGlobal>(
     rt: &R,
     run: &ExploreRun,
     source: Source<'_>,
@@ -186,65 +207,44 @@ fn told_of<R: Eprint + AllocGlobal>(
         steps: 0,
         shown: false,
     };
-    let search = Search {
-        source,
-        script: run.script,
-        names: run.names && !run.json,
-    };
-    let told = match run.random {
-        Some(count) => search.some(u64::from(count), u64::from(run.seed), &mut progress),
-        None => search.all(run.most as usize, &mut progress),
-    };
+    let told = search(run, source, &mut progress);
     if progress.shown {
         let _ = eprint!(rt; "\r{:40}\r", "");
     }
     told
 }
 
-/// A search for faults of a design.
-#[derive(Clone, Copy)]
-struct Search<'a> {
-    source: Source<'a>,
-    /// Whether only the run that shows a fault is printed, as a script.
-    script: bool,
-    /// Whether that script has names.
-    names: bool,
+/// Explores all interleavings or makes random ones, and returns the output and the exit status.
+fn search<W: Watch>(
+    run: &ExploreRun,
+    source: Source<'_>,
+    progress: &mut W,
+) -> Result<(String, u8), AllocError> {
+    let Source { alloc, design, .. } = source;
+    if let Some(count) = run.random {
+        let (count, seed) = (u64::from(count), u64::from(run.seed));
+        return Ok(match try_some(alloc, design, seed, count, progress)? {
+            Some(found) => (fault_of(run, source, &found, "a run")?, 1),
+            None => (source.chance_words(count, seed)?, NOT_ALL),
+        });
+    }
+    Ok(match explore(alloc, design, run.most as usize, progress)? {
+        Verdict::Found(found) => (fault_of(run, source, &found, "a shortest run")?, 1),
+        Verdict::Nothing(summary) => (source.nothing_words(&summary)?, 0),
+        Verdict::GaveUp(tally) => (source.gave_up_words(tally)?, NOT_ALL),
+    })
 }
 
-impl Search<'_> {
-    /// Explores all interleavings, and returns the output and the exit status.
-    fn all<W: Watch>(self, most: usize, progress: &mut W) -> Result<(String, u8), AllocError> {
-        let source = self.source;
-        let verdict = explore(source.alloc, source.design, most, progress)?;
-        Ok(match verdict {
-            Verdict::Found(found) => (self.fault(&found, "a shortest run")?, 1),
-            Verdict::Nothing(summary) => (source.nothing_words(&summary)?, 0),
-            Verdict::GaveUp(tally) => (source.gave_up_words(tally)?, NOT_ALL),
-        })
-    }
-
-    /// Makes random interleavings, and returns the output and the exit status.
-    fn some<W: Watch>(
-        self,
-        count: u64,
-        seed: u64,
-        progress: &mut W,
-    ) -> Result<(String, u8), AllocError> {
-        let source = self.source;
-        let found = try_some(source.alloc, source.design, seed, count, progress)?;
-        Ok(match found {
-            Some(found) => (self.fault(&found, "a run")?, 1),
-            None => (source.chance_words(count, seed)?, NOT_ALL),
-        })
-    }
-
-    /// Returns the output for a fault; `which` says what kind of run shows it.
-    fn fault(self, found: &Found, which: &str) -> Result<String, AllocError> {
-        let source = self.source;
-        match (self.script, self.names) {
-            (true, true) => source.found_script_with_names(found),
-            (true, false) => found_script(source.alloc, source.design, found),
-            (false, names) => source.found_words(found, which, names),
-        }
+/// Returns the output for a fault; `which` says what kind of run shows it.
+fn fault_of(
+    run: &ExploreRun,
+    source: Source<'_>,
+    found: &Found,
+    which: &str,
+) -> Result<String, AllocError> {
+    match (run.script, run.names && !run.json) {
+        (true, true) => source.found_script_with_names(found),
+        (true, false) => found_script(source.alloc, source.design, found),
+        (false, names) => source.found_words(found, which, names),
     }
 }

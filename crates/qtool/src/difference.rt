@@ -15,10 +15,7 @@ pub struct Difference {
 impl Difference {
     /// Returns the number of the call that the line is about, in the text that was found, or else in the wanted one.
     pub fn call(&self) -> Option<u64> {
-        match call_of(self.found.as_str()) {
-            Some(number) => Some(number),
-            None => call_of(self.wanted.as_str()),
-        }
+        call_of(self.found.as_str()).or(call_of(self.wanted.as_str()))
     }
 }
 

@@ -7,12 +7,10 @@ use std::process::ExitCode;
 use std::rt::Files;
 use std::{fs, io};
 
-/// The exit status if nobody reads the output any more: that of a program killed by SIGPIPE.
-const CLOSED: u8 = 141;
-
-/// Ends the program without a message, since nobody reads the output any more.
+/// Ends the program without a message, since nobody reads the output any more. The status, 141, is that of a program
+/// killed by SIGPIPE.
 pub fn end_quietly() -> ExitCode {
-    ExitCode::from(CLOSED)
+    ExitCode::from(141)
 }
 
 /// Prints a line with the reason on standard error.
@@ -65,10 +63,9 @@ pub fn text_of<R: Files + Input + Eprint + AllocGlobal>(
         return fs::read(rt, name).map_err(|error| end_unread(rt, name, error));
     }
     let mut text = Vec::new(rt.alloc());
-    match rt.reader().read_to_end(&mut text) {
-        Ok(_) => Ok(text),
-        Err(_) => Err(end_failed(rt, "read failed")),
-    }
+    let read = rt.reader().read_to_end(&mut text);
+    read.map_err(|_| end_failed(rt, "read failed"))?;
+    Ok(text)
 }
 
 /// Prints a text; the program ends if it can't be written.

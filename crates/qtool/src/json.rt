@@ -7,14 +7,8 @@ pub fn quoted(alloc: Global, text: &str) -> Result<String, AllocError> {
     let mut out = String::from_str(alloc, "\"")?;
     for letter in text.chars() {
         match letter {
-            '"' | '\\' => {
-                out.push('\\')?;
-                out.push(letter)?;
-            }
-            '\0'..='\x1f' => {
-                let code = letter as u32;
-                write!(out, "\\u{code:04x}")?;
-            }
+            '"' | '\\' => write!(out, "\\{letter}")?,
+            '\0'..='\x1f' => write!(out, "\\u{:04x}", letter as u32)?,
             _ => out.push(letter)?,
         }
     }

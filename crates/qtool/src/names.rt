@@ -30,15 +30,11 @@ pub fn named_of<R: Eprint + AllocGlobal>(rt: &R, source: Source<'_>) -> Result<N
 pub fn run_named<R: Files + Input + Print + Eprint + AllocGlobal>(
     rt: &R,
     run: &ScriptRun,
-    file: Option<&str>,
 ) -> Result<ExitCode, ExitCode> {
+    let file = run.file.as_deref();
     let text = text_of(rt, file)?;
-    let source = Source {
-        file,
-        text: text.as_slice(),
-        shows: run.explain || run.terminal,
-        colours: run.colours.errors,
-    };
+    let shows = run.explain || run.terminal;
+    let source = Source::new(file, text.as_slice(), shows, run.colours.errors);
     let named = named_of(rt, source)?;
     if run.plain {
         print_text(rt, named.text.as_str())?;

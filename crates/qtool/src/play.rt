@@ -20,9 +20,6 @@ use std::process::ExitCode;
 use std::rt::Files;
 use std::{fs, io, str};
 
-/// The prompt on a terminal.
-const PROMPT: &str = "> ";
-
 /// The text of `help`.
 const HELP: &str = "\
 thread THREAD PROCESS PRIORITY         a thread of the roster
@@ -67,18 +64,14 @@ pub fn run_play<R: Files + Input + Print + Eprint + AllocGlobal>(
         faulty: false,
         colours: run.colours.errors,
     };
-    let played = match run.file.as_deref() {
-        None => play.go_on(),
-        Some(name) => {
-            let text = text_of(rt, Some(name))?;
-            match play.take_file(text.as_slice(), name) {
-                Ok(true) => play.go_on(),
-                Ok(false) => Ok(ExitCode::FAILURE),
-                Err(error) => Err(error),
-            }
+    if let Some(name) = run.file.as_deref() {
+        let text = text_of(rt, Some(name))?;
+        let taken = play.take_file(text.as_slice(), name);
+        if !taken.map_err(|error| end_unwritten(rt, error))? {
+            return Ok(ExitCode::FAILURE);
         }
-    };
-    played.map_err(|error| end_unwritten(rt, error))
+    }
+    play.go_on().map_err(|error| end_unwritten(rt, error))
 }
 
 /// The error of its methods is that of standard output, or of memory.
@@ -117,13 +110,7 @@ impl<R: Files + Input + Print + Eprint + AllocGlobal> Play<'_, R> {
     /// Reports faults of a script with names by their places in its text, which is that of a file or the lines read.
     fn tell_faults(&mut self, faults: &[Fault], file: Option<&str>, text: &[u8]) {
         self.faulty = self.faulty || !faults.is_empty();
-        let shows = self.terminal;
-        let source = Source {
-            file,
-            text,
-            shows,
-            colours: self.colours,
-        };
+        let source = Source::new(file, text, self.terminal, self.colours);
         source.tell_faults(self.rt, faults);
     }
 
@@ -132,7 +119,7 @@ impl<R: Files + Input + Print + Eprint + AllocGlobal> Play<'_, R> {
         let mut input = BufReader::new(self.rt.alloc(), self.rt.reader())?;
         for _ in 0..u64::MAX {
             if self.terminal {
-                self.print(PROMPT.as_bytes())?;
+                self.print(b"> ")?;
             }
             let mut line = Vec::new(self.rt.alloc());
             match input.read_until(b'\n', &mut line) {
@@ -146,10 +133,7 @@ impl<R: Files + Input + Print + Eprint + AllocGlobal> Play<'_, R> {
             }
         }
         self.finish()?;
-        if self.faulty && !self.terminal {
-            return Ok(ExitCode::FAILURE);
-        }
-        Ok(ExitCode::SUCCESS)
+        Ok(ExitCode::from(u8::from(self.faulty && !self.terminal)))
     }
 
     /// Carries out the order of a line, and returns whether the play goes on.
@@ -215,8 +199,7 @@ impl<R: Files + Input + Print + Eprint + AllocGlobal> Play<'_, R> {
                 self.tell_typed(faults.as_slice(), &[])?;
                 if self.terminal {
                     for remark in &oddities(self.rt.alloc(), line)? {
-                        let explanation = &remark.explanation;
-                        eprintln!(self.rt; "{explanation}")?;
+                        eprintln!(self.rt; "{}", remark.explanation)?;
                     }
                     self.tell_more()?;
                 }
@@ -265,14 +248,13 @@ impl<R: Files + Input + Print + Eprint + AllocGlobal> Play<'_, R> {
     /// Prints why calls failed, who is blocked now, and which threads wait in a circle.
     fn tell_more(&self) -> io::Result<()> {
         let names = self.sheet.shown();
-        let Some(run) = self.sheet.session().run() else {
-            return Ok(());
-        };
-        for failure in &run.refusals(names)? {
-            println!(self.rt; "  {failure}")?;
-        }
-        for wait in &run.wait_words(names)? {
-            println!(self.rt; "  {wait}")?;
+        if let Some(run) = self.sheet.session().run() {
+            for failure in &run.refusals(names)? {
+                println!(self.rt; "  {failure}")?;
+            }
+            for wait in &run.wait_words(names)? {
+                println!(self.rt; "  {wait}")?;
+            }
         }
         Ok(())
     }

@@ -21,7 +21,17 @@ pub struct Source<'a> {
     pub colours: bool,
 }
 
-impl Source<'_> {
+impl<'a> Source<'a> {
+    /// Returns the source with these parts.
+    pub fn new(file: Option<&'a str>, text: &'a [u8], shows: bool, colours: bool) -> Source<'a> {
+        Source {
+            file,
+            text,
+            shows,
+            colours,
+        }
+    }
+
     /// Prints faults, a line for each, and below it the faulty line with a mark, if it is to be shown.
     pub fn tell_faults<R: Eprint + AllocGlobal>(self, rt: &R, faults: &[Fault]) {
         for fault in faults {
@@ -68,8 +78,7 @@ pub fn tell_faults<R: Eprint + AllocGlobal>(rt: &R, source: Source<'_>) -> bool 
         if !source.shows {
             break;
         }
-        let explanation = &remark.explanation;
-        let _ = eprintln!(rt; "{explanation}");
+        let _ = eprintln!(rt; "{}", remark.explanation);
     }
     !remarks.is_empty()
 }
@@ -100,8 +109,7 @@ pub fn tell_oddities<R: Eprint + AllocGlobal>(
 ) -> io::Result<()> {
     for remark in &oddities(rt.alloc(), text)? {
         tell_place(rt, file, remark)?;
-        let explanation = &remark.explanation;
-        eprintln!(rt; "{explanation}")?;
+        eprintln!(rt; "{}", remark.explanation)?;
     }
     Ok(())
 }

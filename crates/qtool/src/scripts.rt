@@ -23,9 +23,9 @@ pub fn run_script<R: Files + Input + Print + Eprint + AllocGlobal>(
     rt: &R,
     run: &ScriptRun,
 ) -> Result<ExitCode, ExitCode> {
-    match run.file.as_deref() {
-        Some(name) if run.names_in || is_named(name) => run_named(rt, run, Some(name)),
-        None if run.names_in => run_named(rt, run, None),
+    let file = run.file.as_deref();
+    match file {
+        _ if run.names_in || file.is_some_and(is_named) => run_named(rt, run),
         _ if run.plain => Err(end_with(
             rt,
             "--plain wants a script with names: a file NAME.names, or --names-in",
@@ -75,10 +75,8 @@ fn explain_from<R: Print + Eprint + AllocGlobal, S: Read + Drop>(
         let text = source.text().unwrap_or(&[]);
         let _ = tell_report(rt, run.file.as_deref(), text, &report);
     }
-    if run.strict && report.failures > 0 {
-        return Ok(ExitCode::FAILURE);
-    }
-    Ok(ExitCode::SUCCESS)
+    let is_refused = run.strict && report.failures > 0;
+    Ok(ExitCode::from(u8::from(is_refused)))
 }
 
 /// Prints a trace, or its objects of JSON if these are asked for.
@@ -90,10 +88,8 @@ pub fn print_trace<R: Print + Eprint + AllocGlobal>(
     if !run.json {
         return print_text(rt, trace);
     }
-    match trace_json(rt.alloc(), trace) {
-        Ok(text) => print_text(rt, text.as_str()),
-        Err(_) => Err(end_failed(rt, "out of memory")),
-    }
+    let objects = trace_json(rt.alloc(), trace).map_err(|_| end_failed(rt, "out of memory"))?;
+    print_text(rt, objects.as_str())
 }
 
 /// Ends the program for a script that has no run, and prints why: its faults with explanations if these are asked for,
@@ -109,12 +105,8 @@ fn end_faulty<R: Eprint + AllocGlobal, S>(
         return end_unread(rt, name, error);
     }
     if let (ScriptFault::Line { .. }, Some(text)) = (&fault, source.text()) {
-        let faulty = remarks::Source {
-            file,
-            text,
-            shows: run.explain || run.terminal,
-            colours: run.colours.errors,
-        };
+        let shows = run.explain || run.terminal;
+        let faulty = remarks::Source::new(file, text, shows, run.colours.errors);
         if tell_faults(rt, faulty) {
             return ExitCode::from(fault.status());
         }

@@ -349,8 +349,9 @@ What is wrong is told with the fewest calls that lead to it:
 
 With --script only the run that shows it is printed, as a script; with --names, and
 on a terminal, that is a script with names. If nothing is wrong, the words go to
-standard error. docs/EXPLORE.md shows it by examples. 'qdemo help script' describes
-calls.",
+standard error. With --listing all that the design has is printed, a row of JSON a
+line, and nothing is explored: designs with the same rows are the same.
+docs/EXPLORE.md shows it by examples. 'qdemo help script' describes calls.",
     "Example:
   $ qdemo explore designs/two-servers-mended.design
   designs/two-servers-mended.design: nothing found in all 2,218 interleavings: \

@@ -22,17 +22,16 @@ pub struct Example {
 }
 
 impl Example {
-    /// Returns the example in a file.
-    fn new(alloc: Global, name: String, script: String) -> Result<Example, AllocError> {
-        let path = script.as_str();
-        let (front, what) = match path.strip_suffix(".design") {
+    /// Returns the example in a file, which is shown under this name without its `.txt`.
+    fn new(alloc: Global, name: &str, script: &str) -> Result<Example, AllocError> {
+        let (front, what) = match script.strip_suffix(".design") {
             Some(front) => (front, "verdict"),
-            None => (path.strip_suffix(".txt").unwrap_or(path), "trace"),
+            None => (script.strip_suffix(".txt").unwrap_or(script), "trace"),
         };
         Ok(Example {
-            name,
+            name: String::from_str(alloc, name.strip_suffix(".txt").unwrap_or(name))?,
+            script: String::from_str(alloc, script)?,
             trace: format!(in alloc; "{front}.{what}")?,
-            script,
             what,
         })
     }
@@ -49,12 +48,7 @@ impl<R: Files + Print + Eprint + AllocGlobal + Clone + Drop> Check<'_, R> {
             let path = path.as_str();
             match fs::metadata(self.rt, path) {
                 Ok(metadata) if metadata.is_dir() => self.push_folder(path, &mut examples)?,
-                Ok(_) => {
-                    let name = path.strip_suffix(".txt").unwrap_or(path);
-                    let name = String::from_str(alloc, name)?;
-                    let script = String::from_str(alloc, path)?;
-                    examples.push(Example::new(alloc, name, script)?)?;
-                }
+                Ok(_) => examples.push(Example::new(alloc, path, path)?)?,
                 Err(error) => self.count_unread(path, error)?,
             }
         }
@@ -71,19 +65,16 @@ impl<R: Files + Print + Eprint + AllocGlobal + Clone + Drop> Check<'_, R> {
         if names.is_empty() {
             let why = format_args!("{folder}: no file NAME.txt, NAME.names or NAME.design");
             tell_failed(self.rt, why);
-            self.tally.unread = self.tally.unread.saturating_add(1);
+            self.tally.add("unread");
         }
         let is_alone = self.run.paths.len() == 1 || folder == ".";
         for name in names {
             let is_whole = is_named(name.as_str()) || is_design(name.as_str());
             let ending = if is_whole { "" } else { ".txt" };
-            let script = format!(in alloc; "{folder}/{name}{ending}")?;
-            let shown = if is_alone {
-                name
-            } else {
-                format!(in alloc; "{folder}/{name}")?
-            };
-            examples.push(Example::new(alloc, shown, script)?)?;
+            let file = format!(in alloc; "{name}{ending}")?;
+            let script = format!(in alloc; "{folder}/{file}")?;
+            let shown = if is_alone { &file } else { &script };
+            examples.push(Example::new(alloc, shown.as_str(), script.as_str())?)?;
         }
         Ok(())
     }

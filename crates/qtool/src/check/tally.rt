@@ -22,38 +22,39 @@ pub struct Tally {
 /// `11 same, 1 differs, 3 without a trace`; zeros are left out.
 impl fmt::Display for Tally {
     fn fmt<W: fmt::Write>(&self, f: &mut fmt::Formatter<W>) -> fmt::Result {
-        let first = put(f, true, self.same, "same")?;
-        let first = put(f, first, self.differ, differ_word(self.differ))?;
-        let first = put(f, first, self.without, "without a trace")?;
-        let first = put(f, first, self.written, "written")?;
-        let first = put(f, first, self.faulty, "faulty")?;
-        put(f, first, self.unread, "unread")?;
+        let is_one = self.differ == 1;
+        let counts = [
+            (self.same, "same"),
+            (self.differ, if is_one { "differs" } else { "differ" }),
+            (self.without, "without a trace"),
+            (self.written, "written"),
+            (self.faulty, "faulty"),
+            (self.unread, "unread"),
+        ];
+        let mut comma = "";
+        for (count, word) in &counts {
+            if *count > 0 {
+                write!(f, "{comma}{count} {word}")?;
+                comma = ", ";
+            }
+        }
         Ok(())
     }
 }
 
-/// Writes a count that isn't 0, behind a comma if it isn't the first; returns whether none is written so far.
-fn put<W: fmt::Write>(
-    f: &mut fmt::Formatter<W>,
-    first: bool,
-    count: usize,
-    name: &str,
-) -> Result<bool, fmt::Error> {
-    if count == 0 {
-        return Ok(first);
-    }
-    if !first {
-        write!(f, ", ")?;
-    }
-    write!(f, "{count} {name}")?;
-    Ok(false)
-}
-
-fn differ_word(count: usize) -> &'static str {
-    if count == 1 { "differs" } else { "differ" }
-}
-
 impl Tally {
+    /// Counts a script by its outcome, or a file or folder as unread.
+    pub fn add(&mut self, outcome: &str) {
+        match outcome {
+            "same" => self.same = self.same.saturating_add(1),
+            "differs" => self.differ = self.differ.saturating_add(1),
+            "without" => self.without = self.without.saturating_add(1),
+            "written" => self.written = self.written.saturating_add(1),
+            "faulty" => self.faulty = self.faulty.saturating_add(1),
+            _ => self.unread = self.unread.saturating_add(1),
+        }
+    }
+
     /// Returns whether any script was checked.
     pub fn has_some(&self) -> bool {
         self.same > 0 || self.differ > 0 || self.without > 0 || self.written > 0 || self.faulty > 0

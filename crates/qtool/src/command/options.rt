@@ -6,25 +6,17 @@ use clap::{Arg, ArgAction, Command, value_parser};
 use std::alloc::{AllocError, Global};
 
 /// The option that explains faults: its name and its help.
-const EXPLAIN: (&str, &str) = (
-    "explain",
-    "Explain faulty lines, and of script also calls that fail and threads that wait",
-);
+const EXPLAIN: &str =
+    "explain: Explain faulty lines, and of script also calls that fail and threads that wait";
 
 /// The option that prints JSON: its name and its help.
-const JSON: (&str, &str) = ("json", "Print an object of JSON in place of each line");
+const JSON: &str = "json: Print an object of JSON in place of each line";
 
 /// The option that reads names: its name and its help.
-const NAMES_IN: (&str, &str) = (
-    "names-in",
-    "Read a script with names, whatever its file is called",
-);
+const NAMES_IN: &str = "names-in: Read a script with names, whatever its file is called";
 
 /// The option that prints names: its name and its help.
-const NAMES: (&str, &str) = (
-    "names",
-    "Print names in place of numbers, as is done on a terminal",
-);
+const NAMES: &str = "names: Print names in place of numbers, as is done on a terminal";
 
 /// Returns a subcommand with these texts, without arguments.
 fn subcommand<'a>(alloc: Global, name: &'a str, texts: &'static Texts) -> Command<'a> {
@@ -34,13 +26,13 @@ fn subcommand<'a>(alloc: Global, name: &'a str, texts: &'static Texts) -> Comman
         .after_help(texts.example)
 }
 
-/// Adds options without a value: the name and the help of each.
+/// Adds options without a value, each `NAME: HELP`.
 fn with_flags<'a>(
     alloc: Global,
     mut command: Command<'a>,
-    flags: &[(&'a str, &'a str)],
+    flags: &[&'a str],
 ) -> Result<Command<'a>, AllocError> {
-    for (name, help) in flags {
+    for (name, help) in flags.iter().filter_map(|flag| flag.split_once(": ")) {
         let flag = Arg::new(alloc, name).long(name).help(help);
         command = command.arg(flag.action(ArgAction::SetTrue))?;
     }
@@ -81,10 +73,10 @@ fn serve_command<'a>(alloc: Global) -> Result<Command<'a>, AllocError> {
         .value_name("NAME")
         .help("Write NAME.txt, a script of the kernel's calls, and NAME.trace");
     let flags = [
-        ("hold", "Keep the first message until there is a second"),
-        ("time", "Print how long the run and its round trips took"),
-        ("json", "Print an object of JSON in place of lines"),
-        ("quiet", "Show no progress"),
+        "hold: Keep the first message until there is a second",
+        "time: Print how long the run and its round trips took",
+        "json: Print an object of JSON in place of lines",
+        "quiet: Show no progress",
     ];
     let command = subcommand(alloc, "serve", &SERVE)
         .arg(clients.default_value("2"))?
@@ -100,16 +92,11 @@ fn script_command<'a>(alloc: Global) -> Result<Command<'a>, AllocError> {
         JSON,
         NAMES,
         NAMES_IN,
-        (
-            "plain",
-            "Print the plain script of one with names, and don't run it",
-        ),
-        ("strict", "End with status 1 if a call failed"),
+        "plain: Print the plain script of one with names, and don't run it",
+        "strict: End with status 1 if a call failed",
     ];
-    let command = subcommand(alloc, "script", &SCRIPT).arg(file(
-        alloc,
-        "The script's file; none or - is standard input",
-    ))?;
+    let help = "The script's file; none or - is standard input";
+    let command = subcommand(alloc, "script", &SCRIPT).arg(file(alloc, help))?;
     with_flags(alloc, command, &flags)
 }
 
@@ -120,7 +107,7 @@ fn check_command<'a>(alloc: Global) -> Result<Command<'a>, AllocError> {
         .num_args(0..)
         .action(ArgAction::Append)
         .help("Scripts, and folders of scripts; none is the current folder");
-    let update = ("update", "Write the traces that are missing or differ");
+    let update = "update: Write the traces that are missing or differ";
     let command = subcommand(alloc, "check", &CHECK).arg(paths)?;
     with_flags(alloc, command, &[update, EXPLAIN, JSON])
 }
@@ -133,11 +120,8 @@ fn chart_command<'a>(alloc: Global) -> Result<Command<'a>, AllocError> {
         .value_name("FILE")
         .help("Write the drawing into this file; none or - is standard output");
     let flags = [
-        (
-            "text",
-            "Draw in columns of text, as is done on a terminal, and not as SVG",
-        ),
-        ("bytes", "Show the bytes of messages and answers, 8 at most"),
+        "text: Draw in columns of text, as is done on a terminal, and not as SVG",
+        "bytes: Show the bytes of messages and answers, 8 at most",
         NAMES_IN,
     ];
     let call = value_parser!(u32).range(1..4294967295);
@@ -153,18 +137,17 @@ fn chart_command<'a>(alloc: Global) -> Result<Command<'a>, AllocError> {
 
 /// Returns the subcommand `explore`.
 fn explore_command<'a>(alloc: Global) -> Result<Command<'a>, AllocError> {
-    let script = "Print the run that shows a fault alone, as a script";
+    let help = "The design's file; none or - is standard input";
+    let script = "script: Print the run that shows a fault alone, as a script";
+    let json = "json: Print an object of JSON in place of lines";
+    let listing = "listing: Print all that the design has, in rows of JSON, and explore nothing";
     let count = value_parser!(u32).range(1..4294967295);
     let any = value_parser!(u32).range(0..4294967295);
     let most = "Give up once more than N moments are known";
     let random = "Make N interleavings by chance, and not all";
     let seed = "What chance begins with; the same seed makes the same interleavings";
-    let command = subcommand(alloc, "explore", &EXPLORE).arg(file(
-        alloc,
-        "The design's file; none or - is standard input",
-    ))?;
-    let json = ("json", "Print an object of JSON in place of lines");
-    with_flags(alloc, command, &[("script", script), NAMES, json])?
+    let command = subcommand(alloc, "explore", &EXPLORE).arg(file(alloc, help))?;
+    with_flags(alloc, command, &[script, NAMES, json, listing])?
         .arg(number(alloc, "most", "N", count, most).default_value("1000000"))?
         .arg(number(alloc, "random", "N", count, random))?
         .arg(number(alloc, "seed", "S", any, seed).default_value("1"))

@@ -26,23 +26,17 @@ pub enum Order<'a> {
 /// Returns the word of a line that has just one.
 fn only_word(line: &[u8]) -> Option<&[u8]> {
     let (word, rest) = next_word(line)?;
-    match next_word(rest) {
-        Some(_) => None,
-        None => Some(word),
-    }
+    next_word(rest).is_none().then_some(word)
 }
 
 /// Returns whether a line is a command and a word that no line of a script has behind its first.
 fn has_words(line: &[u8]) -> bool {
-    let Some((first, rest)) = next_word(line) else {
-        return false;
-    };
-    let Some((second, _)) = next_word(rest) else {
-        return false;
-    };
-    matches!(first, b"state" | b"undo" | b"help" | b"quit")
-        && !matches!(second, b"=" | b"is")
-        && call_form(second).is_none()
+    if let Some((b"state" | b"undo" | b"help" | b"quit", rest)) = next_word(line)
+        && let Some((second, _)) = next_word(rest)
+    {
+        return !matches!(second, b"=" | b"is") && call_form(second).is_none();
+    }
+    false
 }
 
 /// Returns the order of a line without its end.

@@ -8,7 +8,7 @@ use qmodel::call::Call;
 use qnames::growing::{Growing, Step};
 use qnames::scope::Scope;
 use qnames::wording::Context;
-use qnames::{Named, Reading, read_so_far};
+use qnames::{Reading, read_so_far};
 use qreading::MOST_TEXT;
 use qreading::parts::{Lines, last_line};
 use qreading::place::Fault;
@@ -75,48 +75,9 @@ fn kernel_of(session: &Session) -> Option<&Kernel> {
     Some(session.run()?.run().kernel())
 }
 
-/// Runs a script with names from its first line on.
-fn run(alloc: Global, text: Vec<u8>, named: Named) -> Result<(Session, Names), AllocError> {
-    let (growing, calls) = Growing::of(alloc, named)?;
-    let mut session = Session::new(alloc);
-    for member in growing.roster() {
-        session.add_member(*member)?;
-    }
-    let mut names = Names {
-        text,
-        growing,
-        trace: String::new(alloc),
-    };
-    names.growing.check.compare_states(None)?;
-    for (thread, call) in calls {
-        names.make(&mut session, thread, call)?;
-    }
-    Ok((session, names))
-}
-
 /// Returns the number of lines of a text, each with its end.
 fn line_count(text: &[u8]) -> usize {
     text.iter().filter(|byte| **byte == b'\n').count()
-}
-
-/// Returns the lines of a text behind the first `count` ones.
-fn lines_behind(text: &[u8], count: usize) -> &[u8] {
-    let mut lines = Lines(text);
-    for _ in 0..count {
-        lines.next();
-    }
-    lines.0
-}
-
-/// Returns the last line of a text that is neither empty nor a comment, and the text in front of it.
-fn without_last(alloc: Global, text: &[u8]) -> Result<Option<(Vec<u8>, Vec<u8>)>, AllocError> {
-    let Some((start, line)) = last_line(text) else {
-        return Ok(None);
-    };
-    let line = Vec::from_slice(alloc, line)?;
-    let mut front = Vec::from_slice(alloc, text)?;
-    front.truncate(start);
-    Ok(Some((line, front)))
 }
 
 impl Names {
@@ -238,8 +199,11 @@ impl Sheet {
 
     /// Returns the outcome of lines that were added when so many lines of the trace were shown.
     fn added(&self, shown: usize, faults: Vec<Fault>) -> Result<Taken, AllocError> {
-        let new = lines_behind(self.trace(), shown);
-        Ok(Taken::Added(Vec::from_slice(self.alloc, new)?, faults))
+        let mut lines = Lines(self.trace());
+        for _ in 0..shown {
+            lines.next();
+        }
+        Ok(Taken::Added(Vec::from_slice(self.alloc, lines.0)?, faults))
     }
 
     /// Adds lines of a script with names, which is run from its first line on.
@@ -249,14 +213,27 @@ impl Sheet {
         self.run_again(text)
     }
 
-    /// Runs a script with names in place of the lines so far. If it is faulty, nothing changes.
+    /// Runs a script with names from its first line on, in place of the lines so far. If it is faulty, nothing changes.
     fn run_again(&mut self, text: Vec<u8>) -> Result<Taken, AllocError> {
         let shown = line_count(self.trace());
         let named = match read_so_far(self.alloc, text.as_slice())? {
             Reading::Good(named) => named,
             Reading::Faulty(faults) => return Ok(Taken::Named(faults)),
         };
-        let (session, mut names) = run(self.alloc, text, named)?;
+        let (growing, calls) = Growing::of(self.alloc, named)?;
+        let mut session = Session::new(self.alloc);
+        for member in growing.roster() {
+            session.add_member(*member)?;
+        }
+        let mut names = Names {
+            text,
+            growing,
+            trace: String::new(self.alloc),
+        };
+        names.growing.check.compare_states(None)?;
+        for (thread, call) in calls {
+            names.make(&mut session, thread, call)?;
+        }
         let faults = names.growing.check.take_faults()?;
         self.session = session;
         self.names = Some(names);
@@ -268,9 +245,12 @@ impl Sheet {
         if self.names.is_none() {
             return self.session.undo().map_err(|_| AllocError);
         }
-        let Some((line, front)) = without_last(self.alloc, self.text())? else {
+        let Some((start, line)) = last_line(self.text()) else {
             return Ok(None);
         };
+        let line = Vec::from_slice(self.alloc, line)?;
+        let mut front = Vec::from_slice(self.alloc, self.text())?;
+        front.truncate(start);
         self.run_again(front)?;
         Ok(Some(line))
     }
