@@ -126,7 +126,7 @@ def build_c():
     names = ["-include", f"{foreign}/qnx/include/sys/layer_names.h"]
     folders = [f"-I{foreign}/qnx/include", *folders]
     subprocess.run([*words, *folders, "-c", "-o", front, f"{foreign}/qnx/qnx.c"], check=True)
-    subprocess.run([*words, *names, *folders[1:], "-c", "-o", layer, f"{foreign}/threads/neutrino.c"], check=True)
+    subprocess.run([*words, *names, *folders[1:], "-c", "-o", layer, f"{foreign}/daemon/layer.c"], check=True)
     program = f"{foreign}/qnx/bench.c"
     subprocess.run([*words, *folders, "-o", QNX, program, front, layer, LIBRARY, heap], check=True)
 
