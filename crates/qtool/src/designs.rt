@@ -185,11 +185,13 @@ fn object_of(alloc: Global, file: &str, output: &str, status: u8) -> Result<Stri
     let mut out = format!(in alloc;
         "{{\"design\": {file}, \"outcome\": \"{outcome}\", \"lines\": ["
     )?;
-    let mut comma = "";
+    let mut is_first = true;
     for line in output.lines() {
-        let line = quoted(alloc, line)?;
-        write!(out, "{comma}{line}")?;
-        comma = ", ";
+        if !is_first {
+            out.push_str(", ")?;
+        }
+        out.push_str(quoted(alloc, line)?.as_str())?;
+        is_first = false;
     }
     out.push_str("]}\n")?;
     Ok(out)

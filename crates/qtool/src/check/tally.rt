@@ -22,24 +22,36 @@ pub struct Tally {
 /// `11 same, 1 differs, 3 without a trace`; zeros are left out.
 impl fmt::Display for Tally {
     fn fmt<W: fmt::Write>(&self, f: &mut fmt::Formatter<W>) -> fmt::Result {
-        let is_one = self.differ == 1;
-        let counts = [
-            (self.same, "same"),
-            (self.differ, if is_one { "differs" } else { "differ" }),
-            (self.without, "without a trace"),
-            (self.written, "written"),
-            (self.faulty, "faulty"),
-            (self.unread, "unread"),
-        ];
-        let mut comma = "";
-        for (count, word) in &counts {
-            if *count > 0 {
-                write!(f, "{comma}{count} {word}")?;
-                comma = ", ";
-            }
-        }
+        let differs = if self.differ == 1 {
+            "differs"
+        } else {
+            "differ"
+        };
+        let first = put(f, true, self.same, "same")?;
+        let first = put(f, first, self.differ, differs)?;
+        let first = put(f, first, self.without, "without a trace")?;
+        let first = put(f, first, self.written, "written")?;
+        let first = put(f, first, self.faulty, "faulty")?;
+        put(f, first, self.unread, "unread")?;
         Ok(())
     }
+}
+
+/// Writes a count that isn't 0, behind a comma if it isn't the first; returns whether none is written so far.
+fn put<W: fmt::Write>(
+    f: &mut fmt::Formatter<W>,
+    first: bool,
+    count: usize,
+    name: &str,
+) -> Result<bool, fmt::Error> {
+    if count == 0 {
+        return Ok(first);
+    }
+    if !first {
+        write!(f, ", ")?;
+    }
+    write!(f, "{count} {name}")?;
+    Ok(false)
 }
 
 impl Tally {
