@@ -38,6 +38,7 @@ complete -c qdemo -n 'not __fish_seen_subcommand_from help; and __fish_seen_subc
 complete -c qdemo -n 'not __fish_seen_subcommand_from help; and __fish_seen_subcommand_from explore' -l names -d 'Print names in place of numbers, as is done on a terminal'
 complete -c qdemo -n 'not __fish_seen_subcommand_from help; and __fish_seen_subcommand_from explore' -l json -d 'Print an object of JSON in place of lines'
 complete -c qdemo -n 'not __fish_seen_subcommand_from help; and __fish_seen_subcommand_from explore' -l listing -d 'Print all that the design has, in rows of JSON, and explore nothing'
+complete -c qdemo -n 'not __fish_seen_subcommand_from help; and __fish_seen_subcommand_from explore' -l no-symmetry -d 'Tell equal copies apart'
 complete -c qdemo -n 'not __fish_seen_subcommand_from help; and __fish_seen_subcommand_from explore' -l most -x -d 'Give up once more than N moments are known [default: 1000000]'
 complete -c qdemo -n 'not __fish_seen_subcommand_from help; and __fish_seen_subcommand_from explore' -l random -x -d 'Make N interleavings by chance, and not all'
 complete -c qdemo -n 'not __fish_seen_subcommand_from help; and __fish_seen_subcommand_from explore' -l seed -x -d 'What chance begins with; the same seed makes the same interleavings [default: 1]'

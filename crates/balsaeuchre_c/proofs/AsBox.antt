@@ -1,19 +1,29 @@
--- The seal and its parts own what a box at the same types owns.
-use Rattle.balsaeuchre_c.proofs.Common.{Bx, Slot, dnil, impl, plain, tnil}
-use mathlib.Core.List.{[]}
+-- The handle owns what a box at the same types owns.
+use Rattle.balsaeuchre_c.proofs.Common.{Bx, RattleType, bare, dnil, impl, no, tnil}
+use mathlib.Core.List.{[], ◌∷◌}
+use mathlib.Core.Path.{refl}
+use denote.Param.{arg, layout}
+use denote.Param.Laws.{arg_laws}
+use mir.Syntax.{tcons}
 use Rattle.std_heap.specs.contracts.Global as Heap
 use Rattle.std_heap.specs.contracts.GlobalAllocator.TheImpl.{ghosts, dict}
 use Rattle.std_heap.proofs.Global.TheLaws as heap
 use Rattle.balsaeuchre_c.specs.contracts.session.Session as Home
 use Rattle.balsaeuchre_c.proofs.session.Session.TheLaws as home
-use Rattle.balsaeuchre_c.specs.contracts.handle.parts.Parts as Parts
-use Rattle.balsaeuchre_c.specs.contracts.handle.Handle as Sealed
+
+-- the type as a call passes it
+abbrev passed : RattleType → RattleType
+passed R = arg (bare (layout R)) no R
 
 abbrev pub E : Bx
-E = record { row = Home.the_row; laws = home.the_row_laws; al = record { row = Heap.the_row; laws = heap.the_row_laws; g = ghosts; d = dict; drops = impl [] tnil dnil } }
-
-abbrev pub FromParts : Slot 0
-FromParts = plain (λ _. Parts.the_row Home.the_row Heap.the_row ghosts)
-
-abbrev pub FromSeal : Slot 0
-FromSeal = plain (λ _. Sealed.the_row)
+E = record {
+  row = passed Home.the_row;
+  laws = arg_laws (bare (layout Home.the_row)) no Home.the_row home.the_row_laws refl;
+  al = record {
+    row = passed Heap.the_row;
+    laws = arg_laws (bare (layout Heap.the_row)) no Heap.the_row heap.the_row_laws refl;
+    g = ghosts;
+    d = dict;
+    drops = impl ("balsaeuchre_c::Destruct++none::drop" ∷ []) (tcons (bare (layout Heap.the_row)) tnil) dnil;
+  };
+}

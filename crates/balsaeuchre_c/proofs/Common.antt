@@ -4,7 +4,7 @@ pub use Rattle.balsaeuchre_c.specs.Rows.{Fills, Tells, info_in, told_bytes, told
 pub use Rattle.balsaeuchre_c.specs.Telling.{IsTold, TellsAt, buffers, start_of}
 pub use Rattle.balsaeuchre_c.specs.declared.row.Row.{Row}
 pub use Rattle.balsaeuchre_c.specs.declared.telling.Done.{Done}
-pub use Rattle.core.proofs.alloc.Calls.{Goes-blank, handle_tells, token}
+pub use Rattle.core.proofs.alloc.Calls.{token}
 pub use Rattle.qbase.proofs.Lists.{all_filter_map, some_of}
 pub use Rattle.qbase.specs.Laying.{laid_count, lay_over}
 pub use Rattle.qkernel.specs.Kernel.{IsSound, State}
@@ -31,31 +31,29 @@ pub use Rattle.std_alloc.proofs.BoxSteps.Form.{B, Bx, D, P, R, args, box_ty, box
 pub use Rattle.std_alloc.proofs.BoxSteps.Steps.{box_in, box_out}
 pub use Rattle.std_alloc.specs.Box.Ownership.{box_owns}
 pub use base.Fml.{Fml, GName, Lft, Share, flft, fsep, ftrue}
-pub use base.Logic.{SProp, emp, ent, fst∗, id⊢, never, sep, via}
+pub use base.Logic.{SProp, emp, ent, fst∗, id⊢, sep, via}
 pub use contract.BorrowLft.{◌⊑◌}
 pub use contract.Monad.{Fun, fact}
 pub use denote.Exit.{no, yes}
 pub use denote.RattleType.{RattleType, owns}
-pub use denote.RawPtr.{Ptr, RawPtr, block_ptr, in_a_block, null_ptr, ptr_val}
-pub use denote.Signature.{Slot, mut_ref_to, plain, type_at}
+pub use denote.RawPtr.{block_ptr}
+pub use denote.Signature.{mut_ref_to, plain}
 pub use denote.Steps.{heard, nothing, only, opens}
-pub use denote.Triple.Call.{calls_at, calls_at_last}
-pub use denote.Triple.Clauses.{Clauses, Ended}
+pub use denote.Triple.Call.{calls_at_last}
 pub use denote.Triple.Spec.{triple_of}
 pub use denote.Triple.Statement.{Contract, Triple}
 pub use denote.Triple.Table.{entered}
 pub use denote.Triple.Walked.{Goes-dropped, Goes-spent_ref, Stays, ends_at, says, stay_dropped, walk_Meets, walk_of, walked}
-pub use mir.MapTy.{inst_fn}
 pub use mir.Raw.{raw as bare}
-pub use mir.Syntax.{Args, Body, Dict, Fn, a_type, assign, copy, dcons, dnil, impl, named, place, return, rv_opd, seq, tnil}
-pub use mir.Val.{Val, WT, has_ty, of_list, vptr, vstruct}
+pub use mir.Syntax.{Body, assign, copy, dnil, impl, named, place, return, rv_opd, seq, tnil}
+pub use mir.Val.{Val, WT, has_ty, vptr}
 pub use prog.Memory.{Memory}
 pub use prog.Routine.{Routine}
 pub use prog.Wp.{Calls, Env, Loops, Tables, WpFn}
 pub use seplogic.Ra.Ura.{Ura}
 pub use sound.WpLaws.{WpFn-mono, fm_of}
-pub use types.ByLocal.{alloc_all, env, free_all, get, get_in, lands_as, lands_last, look_at, pass_all, sets, sets_last, through}
-pub use types.Kit.{ !, Item, at_ret, await, by, done, drop, feq_i, feq_l, fjoin, fpack, fpick, frame, fsplit, fsplit3, group, join, keep, later, move, pick, qed, raw, rewrite, some, split, split3, suffices, use1, ‵, ◌$◌, ◌∵◌, ◌⊛◌}
+pub use types.ByLocal.{alloc_all, env, free_all, get, get_in, lands_last, look_at, pass_all, sets, sets_last, through}
+pub use types.Kit.{ !, Item, at_ret, await, by, done, drop, feq_i, fjoin, fpack, frame, fsplit, fsplit3, group, join, keep, later, move, pick, qed, raw, rewrite, some, split, split3, suffices, use1, ‵, ◌$◌, ◌∵◌, ◌⊛◌}
 pub use types.Logic.{Logic, sem}
-pub use types.Part.{agg, look_in, sub, whole}
+pub use types.Part.{look_in, sub, whole}
 pub use types.Run.{addr, and_then, blocks, enter, exec, first, fld, load, no_more, of_opd, returns, stop}

@@ -8,21 +8,17 @@ use Rattle.qqueue.specs.declared.item.Item.{Item}
 use Rattle.qqueue.specs.declared.item.Kind.{Kind}
 use Rattle.qqueue.specs.declared.item.Kind.TheVariants.{Any, PulseOnly}
 use Rattle.qrules.specs.Rules.Connections as connect_detach
-use Rattle.qrules.proofs.Traces.Parts.{error_finish}
+use Rattle.qrules.proofs.Traces.Parts.{error_finish, reply_finish}
 use Rattle.qrules.specs.Rules.Held.{info_of}
 use Rattle.qrules.specs.Records.{info_of_open}
 use Rattle.qrules.specs.Rules.Pulse as pulse
-use Rattle.qrules.proofs.Traces.Parts.{reply_finish}
-use Rattle.qrules.proofs.Words.Items.{message_item}
+use Rattle.qrules.proofs.Words.Items.{message_item, item_in}
 use Rattle.qrules.specs.Rules.Unblock as unblock
-use Rattle.qrules.specs.Delivery.{is_on}
+use Rattle.qrules.specs.Delivery.{is_on, receipt_completion}
 use Rattle.qrules.proofs.Words.Effects.{makes}
 use Rattle.qrules.proofs.Words.Facts.{Facts, is_for_answer, message, sender, threads_of, route}
 use Rattle.qrules.proofs.Words.Past.{copied_count_among, copied_count_of, filled, has_completion_of, is_ended, open_call, priority_of_item, with_receipt}
-use Rattle.qrules.proofs.Words.Items.{item_in}
-use Rattle.qrules.specs.Delivery.{receipt_completion}
-use Rattle.qmodel.specs.Trace.{SentItem}
-use Rattle.qmodel.specs.Trace.{Trace}
+use Rattle.qmodel.specs.Trace.{SentItem, Trace}
 use Rattle.qmodel.specs.declared.call.Info.{Info as Told}
 use Rattle.qmodel.specs.declared.call.Mark.TheVariants as mark
 use Rattle.qmodel.specs.OpenCalls.{number_of}

@@ -1,20 +1,14 @@
 -- The rows of an event say what `Info` would of the messages that it received, and restore all buffers.
-use Rattle.balsaeuchre_c.proofs.Common.{Call, Completion, Done, Fills, Informs, IsRoster, IsSound, IsTold, OfEachRow, Restores, Row, Some, State, Tells, Trace, brought_at, drop-append_seam, info_in, is_some, laid_count, member_at, slice_get, start_of, take-append-le, told_bytes, with_event}
-use Rattle.std.proofs.Common.{◌≡◌, ◌∙◌, ℕ, ◌<◌, ◌≤◌, List, [], ◌∷◌, length, take, drop, ap, sym, subst, arith, zero, suc, true}
+use Rattle.balsaeuchre_c.proofs.Common.{Call, Completion, Done, Fills, Informs, IsRoster, IsSound, IsTold, OfEachRow, Restores, Row, Some, State, Tells, Trace, brought_at, drop-append_seam, info_in, is_some, laid_count, member_at, same_Some, slice_get, start_of, take-append-le, told_bytes, with_event}
+use Rattle.std.proofs.Common.{◌≡◌, ◌∙◌, ℕ, ◌≤◌, List, length, take, drop, ap, sym, subst, arith, true}
+use Rattle.std.proofs.lemmas.Option.{slice_get_within}
 use Rattle.qmodel.specs.declared.call.Info.{Info}
 use Rattle.qstate.specs.Kept.{members_of}
 use Rattle.qkernel.specs.Stands.{AnswersAtTraces}
-use Rattle.qrules.specs.Lawful.{IsLawful}
 use Rattle.qkernel.proofs.Traces.{properties_of, stands_roster}
 use Rattle.balsaeuchre_c.proofs.Holding.{received_told}
 use Rattle.balsaeuchre_c.proofs.Restoring.{all_at, restored}
-use Rattle.balsaeuchre_c.proofs.Tellings.{some_same, told_in_room}
-
--- where something stands there is room
-get-below : {A : Type 0} (xs : List A) (i : ℕ) (x : A) → slice_get xs i ≡ Some x → i < length xs
-get-below [] i x at = cc
-get-below (y ∷ xs) zero x at = omega arith
-get-below (y ∷ xs) (suc i) x at = let below : i < length xs = get-below xs i x at in omega arith
+use Rattle.balsaeuchre_c.proofs.Tellings.{told_in_room}
 
 -- what is filled in is what is told, with the count of the row
 filled_same : (r : Row) (info : Info) → info.msglen ≡ r.count → Fills r (Some info) → info ≡ info_in r
@@ -24,8 +18,8 @@ filled_same r info count filled = ap (λ (n : ℕ). record { process = info.proc
 row_at : (s : State) (X : List Completion) (orows rows : List Row) (ob bytes : List ℕ) (done : Done) → IsTold s X orows rows ob bytes done → (place : ℕ) (e : Completion) (row : Row)
     → slice_get X place ≡ Some e → slice_get rows place ≡ Some row → Tells row s e (start_of X ob place) (laid_count ob (start_of X ob place) (told_bytes e))
 row_at s X orows rows ob bytes done told place e row so at =
-    let r = told.told place (get-below X place e so) e so in
-    subst (λ (x : Row). Tells x s e (start_of X ob place) (laid_count ob (start_of X ob place) (told_bytes e))) (some_same r.0 row (sym r.1 ∙ at)) r.2
+    let r = told.told place (slice_get_within X place e so) e so in
+    subst (λ (x : Row). Tells x s e (start_of X ob place) (laid_count ob (start_of X ob place) (told_bytes e))) (same_Some r.0 row (sym r.1 ∙ at)) r.2
 
 pub informs : (old : State) (t : ℕ) (c : Call) (X : List Completion) (new : State) (orows rows : List Row) (ob bytes : List ℕ) (done : Done) → IsSound old → is_some (member_at (members_of old.threads) t) ≡ true
     → AnswersAtTraces old t c X new → IsTold new X orows rows ob bytes done → OfEachRow Informs old t c X rows

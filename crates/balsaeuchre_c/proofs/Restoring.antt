@@ -1,6 +1,6 @@
 -- What is written of an ending's buffer, and behind it the buffer that its call brought, is all of the buffer.
-use Rattle.balsaeuchre_c.proofs.Common.{AllByRecursion, Answers, Call, Completion, Event, Mark, Member, None, Option, Read, Send, Some, Trace, Write, all_filter_map, append-nil, brought_at, call_at, completion_to, drop_all, effect_of, eq-eqb, filter_map, find, fold, is_some, item_in, laid_count, lay_over, length-take-le, none-some, option_and_then, option_map, reverse, row_of, same_Some, slice_get, take-append_seam, told_bytes, told_of, with_writes}
-use Rattle.std.proofs.Common.{◌≡◌, ◌∙◌, ℕ, ◌+◌, List, [], ◌∷◌, ◌++◌, length, take, drop, refl, ap, sym, subst, arith, zero-add, cond, Bool, true, false, eqb, inl, inr, zero, suc}
+use Rattle.balsaeuchre_c.proofs.Common.{AllByRecursion, Answers, Call, Completion, Event, Mark, Member, None, Option, Read, Send, Some, Trace, Write, all_filter_map, append-nil, brought_at, call_at, completion_to, drop_all, effect_of, eq-eqb, is_some, item_in, laid_count, lay_over, length-take-le, none-some, option_and_then, option_map, row_of, same_Some, slice_get, take-append_seam, told_bytes, told_of, with_writes}
+use Rattle.std.proofs.Common.{◌≡◌, ◌∙◌, ℕ, ◌+◌, List, [], ◌∷◌, ◌++◌, length, take, drop, refl, ap, sym, subst, arith, zero-add, cond, true, false, eqb, inl, inr, zero, suc}
 use Rattle.std.specs.Option.{option_map_or}
 use Rattle.qbase.proofs.Lengths.{lay_length}
 use Rattle.qmodel.specs.declared.call.Mark.TheVariants as mark
@@ -8,7 +8,7 @@ use Rattle.qrules.specs.Facts.{Facts, threads_of}
 use Rattle.qrules.specs.Lawful.{facts_of}
 use Rattle.qrules.proofs.Traces.TraceLaws.Lengths.{writes_length}
 use Rattle.qrules.specs.Properties.{buffer_at, message_at, request_of, HasProperties, IsCopied, IsCounted, IsLaid, TakesBest}
-use Rattle.qrules.specs.Rule.{buffer_of, ReceiveRequest, Transfer}
+use Rattle.qrules.specs.Rule.{buffer_of, ReceiveRequest}
 
 -- what is so of all is so of the one at a place
 pub all_at : {A : Type 0} (P : A → Type 0) (xs : List A) (i : ℕ) (x : A) → AllByRecursion P xs → slice_get xs i ≡ Some x → P x

@@ -8,7 +8,6 @@ use Rattle.qkernel.specs.Kernel.{IsSound, State}
 use Rattle.qkernel.specs.Stands.{AnswersAtTraces, DispatchError, StandsAt}
 use Rattle.qrules.specs.Lawful.{IsLawful, facts_of}
 use Rattle.qrules.specs.Rule.{buffer_of}
-use Rattle.qrules.specs.Rules.{effect_of}
 use Rattle.qrules.specs.Facts.{sender}
 use Rattle.qrules.specs.Rules.Held.{info_of}
 use Rattle.qrules.specs.Trace.{call_at, Trace}

@@ -4,11 +4,7 @@ ghost use Rattle.std.specs.Prelude.{◌≡◌};
 ghost use Rattle.balsaeuchre_c.specs.declared.session.Session.{Session};
 ghost use Rattle.balsaeuchre_c.specs.Owning.{session_coded, handle_owns};
 
-mod lent;
-mod parts;
-
 use crate::session::Session;
-use parts::Parts;
 use std::alloc::Global;
 use std::marker::Model;
 
@@ -26,37 +22,22 @@ impl Model for Handle {
 }
 
 impl Handle {
-    /// Returns the handle of a box.
-    pub fn of(session: Box<Session, Global>) -> Handle
-        ensures { result.session ≡ session.value }
+    ghost use Rattle.std.specs.Borrow.{sem};
+    ghost use Rattle.balsaeuchre_c.specs.Lending.{LendsSession};
+
+    /// Returns the session behind the handle.
+    pub fn get_mut(&mut self) -> &mut Session
+        ensures* writes_back { sem 𝓛 (LendsSession self.entry result) }
+        ensures value { result.now ≡ self.old.session }
     {
-        Handle::of_parts(Parts::of(session))
+        unsafe { &mut *(self.ptr as *mut Session) }
     }
 
     /// Returns the box.
     pub fn into_box(self) -> Box<Session, Global>
         ensures { result.value ≡ self.session }
     {
-        self.into_parts().into_box()
-    }
-
-    fn of_parts(parts: Parts<Session, Global>) -> Handle
-        ensures { result.session ≡ parts.value }
-    {
-        let Parts { ptr, alloc } = parts;
-        Handle {
-            ptr: ptr as *mut u8,
-            alloc,
-        }
-    }
-
-    fn into_parts(self) -> Parts<Session, Global>
-        ensures { result.value ≡ self.session }
-    {
         let Handle { ptr, alloc } = self;
-        Parts {
-            ptr: ptr as *mut Session,
-            alloc,
-        }
+        unsafe { Box::from_raw(alloc, ptr as *mut Session) }
     }
 }

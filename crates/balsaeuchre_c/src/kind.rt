@@ -9,9 +9,14 @@ use qmodel::kind::{CallKind, KINDS};
 pub fn kind_of(number: u8) -> Option<CallKind>
     ensures { result ≡ numbered KINDS number }
 {
+    numbered(&KINDS, number)
+}
+
+fn numbered(kinds: &[CallKind], number: u8) -> Option<CallKind>
+    ensures { result ≡ numbered kinds.now number }
+{
     if number == 0 {
-        None
-    } else {
-        KINDS.get(usize::from(number) - 1).copied()
+        return None;
     }
+    kinds.get(usize::from(number) - 1).copied()
 }

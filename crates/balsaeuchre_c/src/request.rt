@@ -2,7 +2,7 @@
 
 ghost use Rattle.std.specs.Prelude.{◌≡◌, ℕ, List, Some, IfNone, IfSome, MatchResult, false};
 ghost use Rattle.qkernel.specs.LentCall.{call_lent};
-ghost use Rattle.balsaeuchre_c.specs.Requests.{borrows, call_as, is_priority, IsRefusedAs, operands_as, priority_as};
+ghost use Rattle.balsaeuchre_c.specs.Requests.{borrows, call_as, IsRefusedAs, operands_as, priority_as};
 
 use qbase::bytes::Bytes;
 use qbase::errno::Errno;
@@ -43,28 +43,17 @@ pub struct Request {
     pub offset: usize,
 }
 
-fn copy_bytes(alloc: Global, bytes: &[u8]) -> Result<Bytes, Errno>
-    ensures { MatchResult result (λ copy. copy ≡ bytes.now) (λ errno. errno ≡ Errno.NoMemory) }
-{
-    let Ok(copy) = Bytes::copied(alloc, bytes) else {
-        return Err(Errno::NoMemory);
-    };
-    Ok(copy)
-}
-
-/// Returns whether a sort of operands is that of a priority.
-fn is_priority(sort: &Operand) -> bool
-    ensures { result ≡ is_priority sort.now }
-{
-    matches!(sort, Operand::Priority)
-}
-
 impl Request {
     /// Returns the priority of a call of this kind: the lowest one if it has none, or `None` if it has one and this is 0.
     fn priority(&self, kind: CallKind) -> Option<Priority>
         ensures { result ≡ priority_as kind self.now }
     {
-        if kind.form().operands.iter().any(|sort| is_priority(sort)) {
+        if kind
+            .form()
+            .operands
+            .iter()
+            .any(|sort| matches!(sort, Operand::Priority))
+        {
             Priority::new(self.priority)
         } else {
             Some(Priority::lowest())
@@ -123,11 +112,9 @@ impl Request {
             (λ call. call_as kind self.now sent.now room.now ≡ Some call)
             (IsRefusedAs (call_as kind self.now sent.now room.now)) }
     {
-        let Some(operands) = self.operands(kind) else {
-            return Err(Errno::Inval);
-        };
-        let bytes = copy_bytes(alloc, sent)?;
-        let buffer = copy_bytes(alloc, room)?;
+        let operands = self.operands(kind).ok_or(Errno::Inval)?;
+        let bytes = Bytes::copied(alloc, sent)?;
+        let buffer = Bytes::copied(alloc, room)?;
         Ok(Call::of(kind, operands, bytes, buffer))
     }
 }

@@ -27,10 +27,8 @@ fn add(roster: &mut Roster, thread: &Thread) -> Result<(), Errno>
         (λ _. (thread_refusal roster.old thread.now ≡ None) × (roster.new ≡ with_member (member_of thread.now) roster.old))
         (λ errno. thread_refusal roster.old thread.now ≡ Some errno) }
 {
-    match Priority::new(thread.priority) {
-        Some(priority) => roster.add(ThreadNo(thread.thread), ProcessNo(thread.process), priority),
-        None => Err(Errno::Inval),
-    }
+    let priority = Priority::new(thread.priority).ok_or(Errno::Inval)?;
+    roster.add(ThreadNo(thread.thread), ProcessNo(thread.process), priority)
 }
 
 /// Returns the roster of these threads; takes no memory. Fails with `Inval` if a thread has the priority 0 or its

@@ -26,7 +26,7 @@ fn info_beside(kernel: &Kernel, mark: Mark) -> Option<Info>
 
 /// The ending of a call. `mark` says which fields are used; the others are 0.
 #[repr(C)]
-#[derive(Clone, Copy)]
+#[derive(Clone, Copy, Default)]
 pub struct Row {
     /// The number of the ended call; the first call of a kernel is 1.
     pub call: u64,
@@ -80,24 +80,10 @@ impl Row {
         Row {
             call: ending.call,
             thread: ending.thread.0,
-            mark: 0,
-            errno: 0,
-            priority: 0,
-            state: 0,
-            what: 0,
-            pulse_code: 0,
-            process: 0,
-            value: 0,
-            sender: 0,
-            id: 0,
-            rcvid: 0,
-            status: 0,
-            count: 0,
-            srcmsglen: 0,
-            dstmsglen: 0,
             start,
             length: told_len,
             written,
+            ..Row::default()
         }
     }
 

@@ -24,11 +24,7 @@ pub struct Done {
 fn front(bytes: &[u8], count: usize) -> &[u8]
     ensures { result.now ≡ take count bytes.now }
 {
-    if count < bytes.len() {
-        &bytes[..count]
-    } else {
-        bytes
-    }
+    &bytes[..count.min(bytes.len())]
 }
 
 /// Returns the bytes of an ending's buffer that are written for it.

@@ -8,6 +8,9 @@ use qnames::wording::Context;
 use qtables::member::Member;
 use std::alloc::AllocError;
 
+/// The outcome of adding words or lines to a drawing.
+pub type Added = Result<(), AllocError>;
+
 /// The chart of a run: a line for each thread, and a row for each call.
 #[derive(Drop)]
 pub struct Chart {

@@ -2,9 +2,8 @@
 
 use crate::arrow::{Arrow, arrow_of};
 use crate::row::Cut;
-use qbase::bytes::Bytes;
 use qbase::errno::word;
-use qbase::ids::{ChannelId, ConnectionId, ProcessNo, ReceiveId, ThreadNo};
+use qbase::ids::ThreadNo;
 use qbase::priority::Priority;
 use qexplain::why::operand_shown;
 use qkernel::call::{Call, Completion, Mark};
@@ -14,13 +13,11 @@ use qqueue::item::What;
 use qreading::states::state_name;
 use std::alloc::{AllocError, Global};
 
+/// Words, unless memory runs out.
+pub type Words = Result<String, AllocError>;
+
 /// Returns the call of a thread, as it stands beside the thread's line; with the bytes that it sends if `bytes` is set.
-pub fn call_words(
-    names: Context<'_>,
-    number: u64,
-    call: &Call,
-    bytes: bool,
-) -> Result<String, AllocError> {
+pub fn call_words(names: Context<'_>, number: u64, call: &Call, bytes: bool) -> Words {
     let mut words = plain_words(names, number, call)?;
     match call {
         Call::Send { message, .. } if bytes => push_bytes(&mut words, message.as_slice())?,
@@ -32,7 +29,7 @@ pub fn call_words(
 }
 
 /// Returns a call without its bytes. The message or pulse of a Send or a Pulse has the number of the call, or its name.
-fn plain_words(names: Context<'_>, number: u64, call: &Call) -> Result<String, AllocError> {
+fn plain_words(names: Context<'_>, number: u64, call: &Call) -> Words {
     let name = call.kind().word();
     match call {
         Call::ChannelCreate(_) => String::from_str(names.alloc, name),
@@ -41,18 +38,13 @@ fn plain_words(names: Context<'_>, number: u64, call: &Call) -> Result<String, A
         Call::Reply { rcvid, status, .. } => answer_label(names, name, rcvid.0, "status", *status),
         Call::Error { rcvid, code } => answer_label(names, name, rcvid.0, "code", i64::from(*code)),
         Call::PrioritySet { thread, priority } => {
-            let (thread, level) = (names.thread(*thread), priority.get());
-            format!(in names.alloc; "{name} of {thread} to {level}")
+            format!(in names.alloc; "{name} of {} to {}", names.thread(*thread), priority.get())
         }
         _ => named_label(names, call.kind(), call.operand()),
     }
 }
 
-fn named_label(
-    names: Context<'_>,
-    kind: CallKind,
-    operand: Option<u64>,
-) -> Result<String, AllocError> {
+fn named_label(names: Context<'_>, kind: CallKind, operand: Option<u64>) -> Words {
     let name = kind.word();
     let Some(operand) = operand else {
         return String::from_str(names.alloc, name);
@@ -67,26 +59,17 @@ fn named_label(
     format!(in names.alloc; "{name}{link} {shown}")
 }
 
-fn id_label(names: Context<'_>, name: &str, number: u64) -> Result<String, AllocError> {
-    let id = names.id(number);
-    format!(in names.alloc; "{name} {id}")
+fn id_label(names: Context<'_>, name: &str, number: u64) -> Words {
+    format!(in names.alloc; "{name} {}", names.id(number))
 }
 
-fn answer_label(
-    names: Context<'_>,
-    name: &str,
-    number: u64,
-    kind: &str,
-    value: i64,
-) -> Result<String, AllocError> {
-    let id = names.id(number);
-    format!(in names.alloc; "{name} {id} {kind} {value}")
+fn answer_label(names: Context<'_>, name: &str, number: u64, kind: &str, value: i64) -> Words {
+    format!(in names.alloc; "{name} {} {kind} {value}", names.id(number))
 }
 
 /// Returns `priority PRIORITY`.
-pub fn priority_words(alloc: Global, priority: Priority) -> Result<String, AllocError> {
-    let level = priority.get();
-    format!(in alloc; "priority {level}")
+pub fn priority_words(alloc: Global, priority: Priority) -> Words {
+    format!(in alloc; "priority {}", priority.get())
 }
 
 /// Adds what the caller of the latest call, which has this number, got at once; nothing if an arrow shows it, or if
@@ -101,22 +84,12 @@ pub fn push_result(
         return Ok(());
     };
     match own.mark {
-        Mark::Failed(errno) => {
-            let error = word(errno);
-            write!(words, ": fail {error}")
-        }
-        Mark::Channel(ChannelId(channel)) => {
-            let channel = names.id(channel);
-            write!(words, ": channel {channel}")
-        }
-        Mark::Connection(ConnectionId(connection)) => {
-            let connection = names.id(connection);
-            write!(words, ": connection {connection}")
-        }
+        Mark::Failed(errno) => write!(words, ": fail {}", word(errno)),
+        Mark::Channel(channel) => write!(words, ": channel {}", names.id(channel.0)),
+        Mark::Connection(coid) => write!(words, ": connection {}", names.id(coid.0)),
         Mark::Count(copied) => write!(words, ": {copied} bytes"),
         Mark::State { state, priority } => {
-            let (name, level) = (state_name(state), priority.get());
-            write!(words, ": {name} {level}")
+            write!(words, ": {} {}", state_name(state), priority.get())
         }
         _ => Ok(()),
     }
@@ -134,9 +107,8 @@ fn push_bytes(words: &mut String, bytes: &[u8]) -> Result<(), AllocError> {
     for byte in bytes.iter().take(MOST_SHOWN) {
         write!(words, "{byte:02x}")?;
     }
-    let count = bytes.len();
-    if count > MOST_SHOWN {
-        write!(words, ".. ({count} bytes)")?;
+    if bytes.len() > MOST_SHOWN {
+        write!(words, ".. ({} bytes)", bytes.len())?;
     }
     Ok(())
 }
@@ -154,8 +126,12 @@ pub fn arrow_labels(
     for ending in endings {
         if let Some(arrow) = arrow_of(callers, caller, ending) {
             let mut words = arrow_words(names, &arrow, ending.mark)?;
-            if bytes {
-                push_copied(&mut words, ending.mark, &ending.buffer)?;
+            match ending.mark {
+                Mark::Message { copied, .. } | Mark::Replied { copied, .. } if bytes => {
+                    let copied = ending.buffer.as_slice().get(..copied);
+                    push_bytes(&mut words, copied.unwrap_or(&[]))?;
+                }
+                _ => {}
             }
             labels.push(words)?;
         }
@@ -163,17 +139,8 @@ pub fn arrow_labels(
     Ok(labels)
 }
 
-/// Adds the bytes that were copied into the buffer of a receiver or of a sender.
-fn push_copied(words: &mut String, mark: Mark, buffer: &Bytes) -> Result<(), AllocError> {
-    let copied = match mark {
-        Mark::Message { copied, .. } | Mark::Replied { copied, .. } => copied,
-        _ => return Ok(()),
-    };
-    push_bytes(words, buffer.as_slice().get(..copied).unwrap_or(&[]))
-}
-
 /// Returns the words of an arrow that an ending with this mark gave. A message has the number of its send, or its name.
-fn arrow_words(names: Context<'_>, arrow: &Arrow, mark: Mark) -> Result<String, AllocError> {
+fn arrow_words(names: Context<'_>, arrow: &Arrow, mark: Mark) -> Words {
     let number = arrow.number;
     match mark {
         Mark::Pulse { what, .. } => pulse_words(names, number, what),
@@ -184,31 +151,27 @@ fn arrow_words(names: Context<'_>, arrow: &Arrow, mark: Mark) -> Result<String, 
 }
 
 /// Returns the words of a pulse: the number of the call that made it, or its name, and its content.
-fn pulse_words(names: Context<'_>, number: u64, what: What) -> Result<String, AllocError> {
+fn pulse_words(names: Context<'_>, number: u64, what: What) -> Words {
     let id = names.id(number);
     match what {
         What::Message => id_label(names, "pulse", number),
         What::User { code, value } => user_words(names, number, code, value),
-        What::Unblock(ReceiveId(message)) => {
-            let message = names.id(message);
-            format!(in names.alloc; "pulse {id} unblock of send {message}")
+        What::Unblock(rcvid) => {
+            format!(in names.alloc; "pulse {id} unblock of send {}", names.id(rcvid.0))
         }
-        What::Disconnect(ProcessNo(number)) => {
-            let process = names.process(ProcessNo(number));
+        What::Disconnect(process) => {
+            let process = names.process(process);
             format!(in names.alloc; "pulse {id} disconnect of process {process}")
         }
     }
 }
 
 /// Returns the words of a pulse that a thread sent.
-fn user_words(names: Context<'_>, number: u64, code: i8, value: i32) -> Result<String, AllocError> {
-    let id = names.id(number);
-    format!(in names.alloc; "pulse {id} code {code} value {value}")
+fn user_words(names: Context<'_>, number: u64, code: i8, value: i32) -> Words {
+    format!(in names.alloc; "pulse {} code {code} value {value}", names.id(number))
 }
 
 /// Returns the words of a call that was ended by force: its number or its name, and the error.
-pub fn cut_words(names: Context<'_>, cut: &Cut) -> Result<String, AllocError> {
-    let call = names.id(cut.number);
-    let error = word(cut.errno);
-    format!(in names.alloc; "call {call}: fail {error}")
+pub fn cut_words(names: Context<'_>, cut: &Cut) -> Words {
+    format!(in names.alloc; "call {}: fail {}", names.id(cut.number), word(cut.errno))
 }

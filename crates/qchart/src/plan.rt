@@ -24,16 +24,14 @@ pub fn leaves_at(chart: &Chart, from: ThreadNo, to: ThreadNo) -> Side {
 /// Returns the side of the caller's line on which a row's words are: beside the arrow that the call sends, and away
 /// from the one that it receives.
 pub fn words_side(chart: &Chart, row: &Row) -> Side {
-    let Some(arrow) = row.arrows.first() else {
-        return Side::Right;
-    };
-    if is_sent(row, arrow) {
-        return leaves_at(chart, arrow.from, arrow.to);
+    match row.arrows.first() {
+        Some(arrow) if is_sent(row, arrow) => leaves_at(chart, arrow.from, arrow.to),
+        Some(arrow)
+            if arrow.to == row.thread && chart.column(arrow.from) >= chart.column(arrow.to) => {
+            Side::Left
+        }
+        _ => Side::Right,
     }
-    if arrow.to == row.thread && chart.column(arrow.from) >= chart.column(arrow.to) {
-        return Side::Left;
-    }
-    Side::Right
 }
 
 /// Returns whether an arrow is what the row's own call sends to another thread; then the row's words are the arrow's.

@@ -4,7 +4,7 @@ mod fixed;
 mod sheet;
 
 use crate::arrow::{Arrow, What};
-use crate::chart::{Chart, head};
+use crate::chart::{Added, Chart, head};
 use crate::label::{cut_words, priority_words};
 use crate::plan::{Side, is_sent, leaves_at, words_side};
 use crate::row::Row;
@@ -40,9 +40,8 @@ pub fn svg_of(names: Context<'_>, chart: &Chart) -> Result<String, AllocError> {
 }
 
 impl Sheet<'_> {
-    fn push_start(&self, out: &mut String) -> Result<(), AllocError> {
-        let width = self.width();
-        let height = self.height();
+    fn push_start(&self, out: &mut String) -> Added {
+        let (width, height) = (self.width(), self.height());
         write!(out, "<svg xmlns=\"http://www.w3.org/2000/svg\"")?;
         write!(out, " width=\"{width}\" height=\"{height}\"")?;
         write!(out, " viewBox=\"0 0 {width} {height}\" role=\"img\">\n")?;
@@ -50,7 +49,7 @@ impl Sheet<'_> {
     }
 
     /// Adds a background for the threads of each process.
-    fn push_processes(&self, out: &mut String) -> Result<(), AllocError> {
+    fn push_processes(&self, out: &mut String) -> Added {
         let lifelines = self.chart.lifelines.as_slice();
         let mut first = 0usize;
         for (column, member) in lifelines.iter().enumerate() {
@@ -64,7 +63,7 @@ impl Sheet<'_> {
         Ok(())
     }
 
-    fn push_process(&self, out: &mut String, first: usize, last: usize) -> Result<(), AllocError> {
+    fn push_process(&self, out: &mut String, first: usize, last: usize) -> Added {
         let room = self.head_half.saturating_add(6);
         let x = self.x(first).saturating_sub(room);
         let width = self.x(last).saturating_add(room).saturating_sub(x);
@@ -74,20 +73,19 @@ impl Sheet<'_> {
     }
 
     /// Adds the number of each call, and a faint horizontal line for it.
-    fn push_guides(&self, out: &mut String) -> Result<(), AllocError> {
+    fn push_guides(&self, out: &mut String) -> Added {
         let right = self.width().saturating_sub(12);
         for row in &self.chart.rows {
             let y = self.y(row.number);
             push_line(out, "guide", (40, y), right)?;
-            let call = row.number;
-            let words = format!(in self.names.alloc; "{call}")?;
+            let words = format!(in self.names.alloc; "{}", row.number)?;
             push_text(out, "number", (32, y.saturating_add(4)), words.as_str())?;
         }
         Ok(())
     }
 
     /// Adds the head and the bars of each thread.
-    fn push_lifelines(&self, out: &mut String) -> Result<(), AllocError> {
+    fn push_lifelines(&self, out: &mut String) -> Added {
         for member in &self.chart.lifelines {
             self.push_head(out, member)?;
             self.push_bars(out, member.thread)?;
@@ -95,7 +93,7 @@ impl Sheet<'_> {
         Ok(())
     }
 
-    fn push_head(&self, out: &mut String, member: &Member) -> Result<(), AllocError> {
+    fn push_head(&self, out: &mut String, member: &Member) -> Added {
         let x = self.x_of(member.thread);
         let left = x.saturating_sub(self.head_half);
         let width = self.head_half.saturating_mul(2);
@@ -108,7 +106,7 @@ impl Sheet<'_> {
     }
 
     /// Adds the bars of a thread, one for each stay in a state, from the one before the first row on.
-    fn push_bars(&self, out: &mut String, thread: ThreadNo) -> Result<(), AllocError> {
+    fn push_bars(&self, out: &mut String, thread: ThreadNo) -> Added {
         let x = self.x_of(thread).saturating_sub(BAR_HALF);
         let mut state = state_among(self.chart.blocked.as_slice(), thread);
         let mut top = self.y(self.chart.before);
@@ -125,7 +123,7 @@ impl Sheet<'_> {
     }
 
     /// Adds a call: its words, its arrows, the calls that it ended by force and the priorities that it changed.
-    fn push_row(&self, out: &mut String, row: &Row) -> Result<(), AllocError> {
+    fn push_row(&self, out: &mut String, row: &Row) -> Added {
         let y = self.y(row.number);
         let base = y.saturating_add(15);
         self.push_arrows(out, y, row)?;
@@ -145,7 +143,7 @@ impl Sheet<'_> {
     }
 
     /// Adds the arrows of a row, with their words, except the one whose words are the row's own.
-    fn push_arrows(&self, out: &mut String, y: usize, row: &Row) -> Result<(), AllocError> {
+    fn push_arrows(&self, out: &mut String, y: usize, row: &Row) -> Added {
         for (arrow, words) in row.arrows.iter().zip(row.labels.iter()) {
             self.push_arrow(out, y, row, arrow)?;
             if !is_sent(row, arrow) {
@@ -159,7 +157,7 @@ impl Sheet<'_> {
     }
 
     /// Adds a short arrow for each message that nobody has received, in the row of its send.
-    fn push_pending(&self, out: &mut String) -> Result<(), AllocError> {
+    fn push_pending(&self, out: &mut String) -> Added {
         for wait in &self.chart.waits {
             let is_drawn = self.chart.rows.iter().any(|row| row.number == wait.message);
             if !wait.is_held && is_drawn && wait.thread != wait.on {
@@ -170,7 +168,7 @@ impl Sheet<'_> {
     }
 
     /// Adds an arrow from a thread's line half the distance to the next one, below the words.
-    fn push_short_arrow(&self, out: &mut String, wait: &Wait) -> Result<(), AllocError> {
+    fn push_short_arrow(&self, out: &mut String, wait: &Wait) -> Added {
         let x = self.x_of(wait.thread);
         let side = leaves_at(self.chart, wait.thread, wait.on);
         let end = beside(x, side, self.gap.saturating_div(2));
@@ -180,7 +178,7 @@ impl Sheet<'_> {
     }
 
     /// Adds a line for each circle in which threads wait, below the rows.
-    fn push_deadlocks(&self, out: &mut String) -> Result<(), AllocError> {
+    fn push_deadlocks(&self, out: &mut String) -> Added {
         let mut y = self.foot().saturating_add(20);
         for deadlock in &self.chart.deadlocks {
             let words = deadlock.words(self.names)?;
@@ -191,7 +189,7 @@ impl Sheet<'_> {
     }
 
     /// Adds the caller's dot and words: above the arrow that the call sends, or else level with the dot.
-    fn push_call(&self, out: &mut String, y: usize, row: &Row) -> Result<(), AllocError> {
+    fn push_call(&self, out: &mut String, y: usize, row: &Row) -> Added {
         let x = self.x_of(row.thread);
         push_circle(out, "dot", x, y)?;
         let base = if row.arrows.iter().any(|arrow| is_sent(row, arrow)) {
@@ -205,13 +203,7 @@ impl Sheet<'_> {
 
     /// Adds an arrow between two lines, or back to its own; with a ring at its tail if what it stands for was sent in an
     /// earlier row.
-    fn push_arrow(
-        &self,
-        out: &mut String,
-        y: usize,
-        row: &Row,
-        arrow: &Arrow,
-    ) -> Result<(), AllocError> {
+    fn push_arrow(&self, out: &mut String, y: usize, row: &Row, arrow: &Arrow) -> Added {
         let class = match arrow.what {
             What::Message => "message",
             What::Pulse => "pulse",
@@ -233,11 +225,9 @@ impl Sheet<'_> {
         push_circle(out, "ring", from, y)
     }
 
-    fn push_legend(&self, out: &mut String) -> Result<(), AllocError> {
+    fn push_legend(&self, out: &mut String) -> Added {
         let y = self.legend();
-        write!(out, "<g transform=\"translate(40,{y})\">\n")?;
-        out.push_str(LEGEND)?;
-        out.push_str("</g>\n")
+        write!(out, "<g transform=\"translate(40,{y})\">\n{LEGEND}</g>\n")
     }
 }
 
@@ -250,57 +240,46 @@ fn beside(x: usize, side: Side, room: usize) -> usize {
 }
 
 /// Adds words on a side of a line: on the right they begin at the place, on the left they end there.
-fn push_words(out: &mut String, side: Side, at: Place, words: &str) -> Result<(), AllocError> {
+fn push_words(out: &mut String, side: Side, at: Place, words: &str) -> Added {
     match side {
         Side::Right => push_text(out, "words", at, words),
         Side::Left => push_text(out, "words left", at, words),
     }
 }
 
-fn push_text(out: &mut String, class: &str, at: Place, words: &str) -> Result<(), AllocError> {
-    let (x, y) = at;
+fn push_text(out: &mut String, class: &str, (x, y): Place, words: &str) -> Added {
     write!(out, "<text class=\"{class}\" x=\"{x}\" y=\"{y}\">")?;
-    out.push_str(words)?;
-    out.push_str("</text>\n")
+    write!(out, "{words}</text>\n")
 }
 
 /// Adds a horizontal line.
-fn push_line(out: &mut String, class: &str, start: Place, end: usize) -> Result<(), AllocError> {
-    let (x, y) = start;
+fn push_line(out: &mut String, class: &str, (x, y): Place, end: usize) -> Added {
     write!(out, "<line class=\"{class}\" x1=\"{x}\" y1=\"{y}\"")?;
     write!(out, " x2=\"{end}\" y2=\"{y}\"/>")
 }
 
-fn push_circle(out: &mut String, class: &str, x: usize, y: usize) -> Result<(), AllocError> {
+fn push_circle(out: &mut String, class: &str, x: usize, y: usize) -> Added {
     write!(out, "<circle class=\"{class}\" cx=\"{x}\" cy=\"{y}\"")?;
     out.push_str(" r=\"4\"/>")
 }
 
-fn push_bar(
-    out: &mut String,
-    state: ThreadState,
-    start: Place,
-    bottom: usize,
-) -> Result<(), AllocError> {
+fn push_bar(out: &mut String, state: ThreadState, (x, y): Place, bottom: usize) -> Added {
     let class = state_word(state);
-    let (x, y) = start;
     let width = BAR_HALF.saturating_mul(2);
     let height = bottom.saturating_sub(y);
     write!(out, "<rect class=\"{class}\" x=\"{x}\" y=\"{y}\"")?;
     write!(out, " width=\"{width}\" height=\"{height}\"/>\n")
 }
 
-fn push_cross(out: &mut String, x: usize, y: usize) -> Result<(), AllocError> {
+fn push_cross(out: &mut String, x: usize, y: usize) -> Added {
     let (left, right) = (x.saturating_sub(5), x.saturating_add(5));
     let (top, bottom) = (y.saturating_sub(5), y.saturating_add(5));
     write!(out, "<path class=\"cross\" d=\"M{left},{top}")?;
-    write!(
-        out,
-        " L{right},{bottom} M{right},{top} L{left},{bottom}\"/>"
-    )
+    write!(out, " L{right},{bottom} M{right},{top}")?;
+    write!(out, " L{left},{bottom}\"/>")
 }
 
-fn push_loop(out: &mut String, class: &str, x: usize, y: usize) -> Result<(), AllocError> {
+fn push_loop(out: &mut String, class: &str, x: usize, y: usize) -> Added {
     let (start, end) = (x.saturating_add(8), x.saturating_add(9));
     let far = x.saturating_add(26);
     let top = y.saturating_sub(8);

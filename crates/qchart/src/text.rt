@@ -3,7 +3,7 @@
 mod line;
 
 use crate::arrow::{Arrow, What};
-use crate::chart::{Chart, head};
+use crate::chart::{Added, Chart, head};
 use crate::label::{cut_words, priority_words};
 use crate::plan::is_sent;
 use crate::row::Row;
@@ -63,30 +63,27 @@ impl Page<'_> {
     }
 
     /// Writes words beside a thread's line.
-    fn put_beside(&self, line: &mut Line, thread: ThreadNo, words: &str) -> Result<(), AllocError> {
+    fn put_beside(&self, line: &mut Line, thread: ThreadNo, words: &str) -> Added {
         line.put(self.place_of(thread).saturating_add(2), words)
     }
 
     /// Adds two lines for the heads of the threads.
-    fn push_heads(&self, out: &mut String) -> Result<(), AllocError> {
+    fn push_heads(&self, out: &mut String) -> Added {
         let mut names = Line::new(self.names.alloc);
         let mut levels = Line::new(self.names.alloc);
         names.put(0, "call")?;
         for member in &self.chart.lifelines {
             let place = self.place_of(member.thread);
             names.put(place, head(self.names, member)?.as_str())?;
-            levels.put(
-                place,
-                priority_words(self.names.alloc, member.priority)?.as_str(),
-            )?;
+            let level = priority_words(self.names.alloc, member.priority)?;
+            levels.put(place, level.as_str())?;
         }
         names.end(out)?;
         levels.end(out)
     }
 
     /// Writes the states of the threads after a row, over any arrow that crosses them, and ends the line.
-    fn end_line(&self, out: &mut String, line: Line, row: &Row) -> Result<(), AllocError> {
-        let mut line = line;
+    fn end_line(&self, out: &mut String, mut line: Line, row: &Row) -> Added {
         for member in &self.chart.lifelines {
             let state = state_among(row.blocked.as_slice(), member.thread);
             line.put(self.place_of(member.thread), state_sign(state))?;
@@ -95,7 +92,7 @@ impl Page<'_> {
     }
 
     /// Adds the lines of a row: its call, the arrows that aren't the call's own, and the priorities that changed.
-    fn push_row(&self, out: &mut String, row: &Row) -> Result<(), AllocError> {
+    fn push_row(&self, out: &mut String, row: &Row) -> Added {
         let mut first = Line::new(self.names.alloc);
         let number = row.number;
         first.put(0, format!(in self.names.alloc; "{number:>4}")?.as_str())?;
@@ -115,7 +112,7 @@ impl Page<'_> {
 
     /// Writes a call that no arrow shows: its words beside the caller's line, or at a short arrow if nobody has
     /// received what it sent.
-    fn put_call(&self, line: &mut Line, row: &Row) -> Result<(), AllocError> {
+    fn put_call(&self, line: &mut Line, row: &Row) -> Added {
         let mut waits = self.chart.waits.iter();
         match waits.find(|wait| wait.message == row.number && !wait.is_held) {
             Some(wait) if wait.on != wait.thread => {
@@ -126,7 +123,7 @@ impl Page<'_> {
     }
 
     /// Writes a short arrow that ends behind its words.
-    fn put_short_arrow(&self, line: &mut Line, wait: &Wait, words: &str) -> Result<(), AllocError> {
+    fn put_short_arrow(&self, line: &mut Line, wait: &Wait, words: &str) -> Added {
         let from = self.place_of(wait.thread);
         let len = words.len().saturating_add(5);
         if from < self.place_of(wait.on) {
@@ -143,7 +140,7 @@ impl Page<'_> {
         }
     }
 
-    fn push_arrows(&self, out: &mut String, row: &Row) -> Result<(), AllocError> {
+    fn push_arrows(&self, out: &mut String, row: &Row) -> Added {
         for (arrow, words) in row.arrows.iter().zip(row.labels.iter()) {
             if !is_sent(row, arrow) {
                 let mut line = Line::new(self.names.alloc);
@@ -154,7 +151,7 @@ impl Page<'_> {
         Ok(())
     }
 
-    fn push_changes(&self, out: &mut String, row: &Row) -> Result<(), AllocError> {
+    fn push_changes(&self, out: &mut String, row: &Row) -> Added {
         if row.changes.is_empty() {
             return Ok(());
         }
@@ -167,13 +164,7 @@ impl Page<'_> {
     }
 
     /// Writes an arrow with its words at its tail, and a sign there if what it stands for was sent in an earlier row.
-    fn put_arrow(
-        &self,
-        line: &mut Line,
-        arrow: &Arrow,
-        words: &str,
-        before: bool,
-    ) -> Result<(), AllocError> {
+    fn put_arrow(&self, line: &mut Line, arrow: &Arrow, words: &str, before: bool) -> Added {
         let from = self.place_of(arrow.from);
         let to = self.place_of(arrow.to);
         let shaft = shaft(arrow.what);

@@ -8,8 +8,8 @@ use clap::Error;
 use clap::error::ErrorKind;
 use qtool::charts::run_chart;
 use qtool::check::run_check;
-use qtool::colours::Colours;
-use qtool::command::{Action, ChartRun, CheckRun, ExploreRun, PlayRun, ScriptRun, action_of};
+use qtool::colours::{Colours, Screen};
+use qtool::command::{Action, action_of};
 use qtool::designs::run_explore;
 use qtool::ending::{end_failed, end_unwritten, end_with};
 use qtool::play::run_play;
@@ -29,14 +29,15 @@ fn main(rt: HostRuntime) -> ExitCode {
     let Ok(words) = words else {
         return end_failed(&rt, "out of memory");
     };
-    let done = match action_of(rt.alloc(), words.as_slice()) {
-        Ok(action) => match for_terminal(&rt, action) {
+    let screen = screen(&rt);
+    let done = match action_of(rt.alloc(), words.as_slice(), screen) {
+        Ok(action) => match action {
             Action::Script(run) => run_script(&rt, &run),
             Action::Check(run) => run_check(&rt, &run),
             Action::Play(run) => run_play(&rt, &run, rt.stdin().is_terminal()),
             Action::Chart(run) => run_chart(&rt, &run),
             Action::Explore(run) => run_explore(&rt, &run),
-            Action::Serve(run) => Ok(run_serve(&rt, run, rt.stderr().is_terminal())),
+            Action::Serve(run) => Ok(run_serve(&rt, run, screen.errors)),
         },
         Err(error) => Err(end_without_action(&rt, &error)),
     };
@@ -45,47 +46,21 @@ fn main(rt: HostRuntime) -> ExitCode {
     }
 }
 
-/// Returns an action as it is done on a terminal, or elsewhere.
-fn for_terminal(rt: &HostRuntime, action: Action) -> Action {
-    let colours = colours(rt);
+/// Returns which outputs are terminals: these have colours, unless `NO_COLOR` is set.
+fn screen(rt: &HostRuntime) -> Screen {
     let (output, errors) = (rt.stdout().is_terminal(), rt.stderr().is_terminal());
-    match action {
-        Action::Script(run) => Action::Script(ScriptRun {
-            terminal: errors,
-            names: run.names || output,
-            colours,
-            ..run
-        }),
-        Action::Check(run) => Action::Check(CheckRun { colours, ..run }),
-        Action::Play(run) => Action::Play(PlayRun {
-            names: run.names || output,
-            colours,
-            ..run
-        }),
-        Action::Chart(run) => Action::Chart(ChartRun {
-            terminal: output,
-            colours,
-            ..run
-        }),
-        Action::Explore(run) => Action::Explore(ExploreRun {
-            terminal: errors,
-            names: run.names || output,
-            colours,
-            ..run
-        }),
-        Action::Serve(run) => Action::Serve(run),
-    }
-}
-
-/// Returns which outputs have colours: those that are terminals, unless `NO_COLOR` is set.
-fn colours(rt: &HostRuntime) -> Colours {
     let are_wanted = match env::var(rt, "NO_COLOR") {
         Ok(value) => value.is_empty(),
         Err(error) => error == VarError::NotPresent,
     };
-    Colours {
-        output: are_wanted && rt.stdout().is_terminal(),
-        errors: are_wanted && rt.stderr().is_terminal(),
+    let colours = Colours {
+        output: are_wanted && output,
+        errors: are_wanted && errors,
+    };
+    Screen {
+        output,
+        errors,
+        colours,
     }
 }
 

@@ -2,7 +2,7 @@
 
 ghost use Rattle.qserve.specs.Fit.{Fit};
 
-use crate::files::{RecordFiles, Why};
+use crate::files::RecordFiles;
 use qscript::watched::Watched;
 use qserve::fault::ServeFault;
 use qserve::recording::{Forget, Store};
@@ -46,12 +46,13 @@ pub fn run_serve<R: Files + Print + Eprint + AllocGlobal + Threads + Wait + Cloc
     let Some(name) = run.record else {
         return serve_with(rt, settings, json, &mut Forget);
     };
-    let mut files = RecordFiles::new(rt, name.as_str());
+    let name = name.as_str();
+    let mut files = RecordFiles { rt, name };
     serve_with(rt, settings, json, &mut files)
 }
 
 /// Runs a server and its clients, stores their recording, and prints the results in the wanted form.
-fn serve_with<R: Print + Eprint + AllocGlobal + Threads + Wait + Clock + Sync, S: Store + Why>(
+fn serve_with<R: Print + Eprint + AllocGlobal + Threads + Wait + Clock + Sync, S: Store>(
     rt: &R,
     settings: Settings,
     json: bool,
@@ -66,22 +67,21 @@ fn serve_with<R: Print + Eprint + AllocGlobal + Threads + Wait + Clock + Sync, S
     match serve(rt, rt.alloc(), settings, store, &mut writer) {
         Ok(()) => ExitCode::SUCCESS,
         Err(ServeFault::Write) if writer.into_inner().is_closed() => end_quietly(),
-        Err(fault) => end_served(rt, store, fault),
+        Err(fault) => end_served(rt, fault),
     }
 }
 
-/// Ends a run that failed.
-fn end_served<R: Eprint, S: Why>(rt: &R, store: &S, fault: ServeFault) -> ExitCode {
-    let status = fault.status();
-    if fault == ServeFault::Record && store.tell(rt) {
-        return ExitCode::from(status);
+/// Ends a run that failed. A recording that can't be stored is reported already.
+fn end_served(rt: &impl Eprint, fault: ServeFault) -> ExitCode {
+    match fault {
+        ServeFault::Record => ExitCode::from(fault.status()),
+        fault => end_with(rt, fault, fault.status()),
     }
-    end_with(rt, fault, status)
 }
 
 /// Runs a server and its clients, stores their recording, and prints the results with the units of the times, or as
 /// JSON.
-fn serve_in_words<R: Print + Eprint + AllocGlobal + Threads + Wait + Clock + Sync, S: Store + Why>(
+fn serve_in_words<R: Print + Eprint + AllocGlobal + Threads + Wait + Clock + Sync, S: Store>(
     rt: &R,
     settings: Settings,
     json: bool,
@@ -93,7 +93,7 @@ fn serve_in_words<R: Print + Eprint + AllocGlobal + Threads + Wait + Clock + Syn
     match serve(rt, rt.alloc(), settings, store, &mut writer) {
         Ok(()) => print_lines(rt, writer.into_inner().as_slice(), json),
         Err(ServeFault::Write) => end_failed(rt, "out of memory"),
-        Err(fault) => end_served(rt, store, fault),
+        Err(fault) => end_served(rt, fault),
     }
 }
 

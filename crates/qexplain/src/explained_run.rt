@@ -1,8 +1,8 @@
 //! Unproved: words and layout. A run whose failures and waits are explained.
 
 use crate::history::{History, Past};
-use crate::waiting::wait_words;
-use crate::why::{Refusal, refusals};
+use crate::waiting::{deadlocks, waits};
+use crate::why::refusals;
 use qbase::errno::Errno;
 use qbase::ids::ThreadNo;
 use qmodel::call::Call;
@@ -50,18 +50,22 @@ impl ExplainedRun {
         self.run
     }
 
-    /// Returns the past calls.
-    pub fn history(&self) -> &History {
-        &self.history
-    }
-
-    /// Returns the failures in the event of the latest call, with their reasons.
-    pub fn refusals(&self, names: Context<'_>) -> Result<Vec<Refusal>, AllocError> {
+    /// Returns the failures in the event of the latest call, each with the number of its call, with their reasons.
+    pub fn refusals(&self, names: Context<'_>) -> Result<Vec<(u64, String)>, AllocError> {
         refusals(names, self.run.kernel(), &self.history, self.run.endings())
     }
 
     /// Returns who waits for whom now, a line for each thread, and then the circles in words.
     pub fn wait_words(&self, names: Context<'_>) -> Result<Vec<String>, AllocError> {
-        wait_words(names, self.run.kernel(), &self.history)
+        let kernel = self.run.kernel();
+        let waits = waits(names.alloc, kernel, &self.history)?;
+        let mut words = Vec::new(names.alloc);
+        for wait in &waits {
+            words.push(wait.words(names)?)?;
+        }
+        for deadlock in &deadlocks(names.alloc, kernel, waits.as_slice())? {
+            words.push(deadlock.words(names)?)?;
+        }
+        Ok(words)
     }
 }

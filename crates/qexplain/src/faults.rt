@@ -43,12 +43,10 @@ pub fn faults(alloc: Global, text: &[u8]) -> Result<Vec<Remark>, AllocError> {
     };
     let most = if is_utf_16(text) { 1 } else { MOST_FAULTS };
     let mut remarks = Vec::new(alloc);
-    let mut number = 0usize;
-    for line in Lines(text) {
-        number = number.saturating_add(1);
+    for (at, line) in Lines(text).enumerate() {
         if let Some(fault) = reader.fault_of(alloc, line)? {
             remarks.push(Remark {
-                line: number,
+                line: at.saturating_add(1),
                 fault: Some(fault),
                 explanation: explain_line(alloc, text, line, fault)?,
             })?;
@@ -102,15 +100,13 @@ impl Reader {
 /// buffers that look like lengths. The text is a script, plain or with names, or a design.
 pub fn oddities(alloc: Global, text: &[u8]) -> Result<Vec<Remark>, AllocError> {
     let mut remarks = Vec::new(alloc);
-    let mut number = 0usize;
-    for line in Lines(text) {
-        number = number.saturating_add(1);
+    for (at, line) in Lines(text).enumerate() {
         if remarks.len() >= MOST_FAULTS {
             break;
         }
         if let Some(explanation) = oddity(alloc, line)? {
             remarks.push(Remark {
-                line: number,
+                line: at.saturating_add(1),
                 fault: None,
                 explanation,
             })?;

@@ -109,10 +109,7 @@ impl History {
 
     /// Returns the call with this number, or `None` if it isn't made yet.
     pub fn call(&self, number: u64) -> Option<Past> {
-        if number == 0 {
-            return None;
-        }
-        self.calls.get((number - 1) as usize).copied()
+        self.calls.get(number.checked_sub(1)? as usize).copied()
     }
 
     /// Returns the number of the call of this kind that did what it says to what this operand names.

@@ -1,7 +1,6 @@
 //! Unproved: words and layout. Reports what the trace of a run doesn't say.
 
 use crate::explained_run::ExplainedRun;
-use crate::why::Refusal;
 use qbase::ids::ThreadNo;
 use qmodel::call::{Call, Mark};
 use qnames::scope::Scope;
@@ -19,7 +18,7 @@ pub const MOST_REFUSALS: usize = 100;
 #[derive(Drop)]
 pub struct Report {
     /// The first failures, at most `MOST_REFUSALS`, each with the number of its line, counted from 1.
-    pub refusals: Vec<(usize, Refusal)>,
+    pub refusals: Vec<(usize, String)>,
     /// The number of calls that failed.
     pub failures: usize,
     /// Who waits for whom at the end, and in which circles.
@@ -42,7 +41,6 @@ pub fn explained(alloc: Global, text: &[u8]) -> Result<(String, Report), ScriptF
 /// A run that goes on call by call, and its report so far.
 #[derive(Drop)]
 pub struct ReportedRun {
-    alloc: Global,
     run: ExplainedRun,
     /// The numbers of the lines of its calls.
     lines: Vec<usize>,
@@ -57,7 +55,6 @@ impl ReportedRun {
         lines: Vec<usize>,
     ) -> Result<ReportedRun, AllocError> {
         Ok(ReportedRun {
-            alloc,
             run: ExplainedRun::new(alloc, script.roster.as_slice(), script.calls.len())?,
             lines,
             report: Report {
@@ -80,9 +77,7 @@ impl ReportedRun {
         thread: ThreadNo,
         call: Call,
     ) -> Result<(), AllocError> {
-        if self.run.make(thread, call).is_err() {
-            return Err(AllocError);
-        }
+        self.run.make(thread, call).map_err(|_| AllocError)?;
         let endings = self.run().endings().iter();
         let failed = endings.filter(|ending| matches!(ending.mark, Mark::Failed(_)));
         let count = failed.count();
@@ -90,8 +85,8 @@ impl ReportedRun {
         if count == 0 || self.report.refusals.len() >= MOST_REFUSALS {
             return Ok(());
         }
-        for refusal in self.run.refusals(names)? {
-            let place = refusal.number.saturating_sub(1) as usize;
+        for (number, refusal) in self.run.refusals(names)? {
+            let place = number.saturating_sub(1) as usize;
             let line = self.lines.get(place).copied().unwrap_or(0);
             if self.report.refusals.len() < MOST_REFUSALS {
                 self.report.refusals.push((line, refusal))?;
@@ -101,14 +96,8 @@ impl ReportedRun {
     }
 
     /// Returns what the run prints, and its report with who is blocked on whom at its end.
-    pub fn finish(self, names: Context<'_>) -> Result<(String, Report), AllocError> {
-        let ReportedRun {
-            alloc,
-            run,
-            mut report,
-            ..
-        } = self;
-        report.waits = run.wait_words(names)?;
-        Ok((run.into_run().finish(alloc)?, report))
+    pub fn finish(mut self, names: Context<'_>) -> Result<(String, Report), AllocError> {
+        self.report.waits = self.run.wait_words(names)?;
+        Ok((self.run.into_run().finish(names.alloc)?, self.report))
     }
 }

@@ -99,9 +99,7 @@ impl Session {
         let calls = self.read(lines)?;
         let shown = self.trace().len();
         for (thread, call) in calls {
-            if self.make(thread, call).is_err() {
-                return Err(ScriptFault::NoMemory);
-            }
+            self.make(thread, call).map_err(|_| ScriptFault::NoMemory)?;
         }
         let new = self.trace().as_bytes().get(shown..).unwrap_or(&[]);
         Ok(Vec::from_slice(self.alloc, new)?)

@@ -26,7 +26,7 @@ pub struct Wait {
 
 impl Wait {
     /// Returns `THREAD waits for THREAD: message MESSAGE isn't received`.
-    fn words(&self, names: Context<'_>) -> Result<String, AllocError> {
+    pub fn words(&self, names: Context<'_>) -> Result<String, AllocError> {
         let thread = names.thread(self.thread);
         let on = names.thread(self.on);
         let message = names.id(self.message);
@@ -66,24 +66,6 @@ impl Deadlock {
     }
 }
 
-/// Returns who waits for whom, a line for each thread, and then the circles in words. The kernel and the history are those
-/// after the same calls.
-pub fn wait_words(
-    names: Context<'_>,
-    kernel: &Kernel,
-    history: &History,
-) -> Result<Vec<String>, AllocError> {
-    let waits = waits(names.alloc, kernel, history)?;
-    let mut words = Vec::new(names.alloc);
-    for wait in &waits {
-        words.push(wait.words(names)?)?;
-    }
-    for deadlock in &deadlocks(names.alloc, kernel, waits.as_slice())? {
-        words.push(deadlock.words(names)?)?;
-    }
-    Ok(words)
-}
-
 /// Returns the threads whose messages aren't answered, in rising number. The kernel and the history are those after the
 /// same calls.
 pub fn waits(alloc: Global, kernel: &Kernel, history: &History) -> Result<Vec<Wait>, AllocError> {
@@ -119,10 +101,8 @@ fn wait_of(kernel: &Kernel, history: &History, blocked: &Blocked) -> Option<Wait
 
 /// Returns whether each thread of a process is among these waits.
 fn is_blocked(kernel: &Kernel, waits: &[Wait], process: ProcessNo) -> bool {
-    let mut of = kernel
-        .threads()
-        .iter()
-        .filter(|thread| thread.member.process == process);
+    let threads = kernel.threads().iter();
+    let mut of = threads.filter(|thread| thread.member.process == process);
     of.all(|thread| waits.iter().any(|wait| wait.thread == thread.member.thread))
 }
 

@@ -11,38 +11,21 @@ use qmodel::kind::CallKind;
 use qmodel::operands::Operand;
 use qnames::shown::Shown;
 use qnames::wording::Context;
-use rules::rule_words;
+use rules::Refused;
 use std::alloc::AllocError;
-use std::fmt;
 
-/// A call that failed, with its error and the reason in words.
-#[derive(Drop)]
-pub struct Refusal {
-    /// The number of the call.
-    pub number: u64,
-    text: String,
-}
-
-/// `NUMBER CALL OPERAND: fail ERROR: WHY`
-impl fmt::Display for Refusal {
-    fn fmt<W: fmt::Write>(&self, f: &mut fmt::Formatter<W>) -> fmt::Result {
-        let text = &self.text;
-        write!(f, "{text}")
-    }
-}
-
-/// Returns the failures among the endings of the latest call, each with its reason, in the order of the endings. The
-/// kernel and the history are those after the call.
+/// Returns the failures among the endings of the latest call, in the order of the endings: the number of each call, and
+/// `NUMBER CALL OPERAND: fail ERROR: WHY`. The kernel and the history are those after the call.
 pub fn refusals(
     names: Context<'_>,
     kernel: &Kernel,
     history: &History,
     endings: &[Completion],
-) -> Result<Vec<Refusal>, AllocError> {
+) -> Result<Vec<(u64, String)>, AllocError> {
     let alloc = names.alloc;
     let mut refusals = Vec::new(alloc);
     let made = history.made();
-    let Some(latest) = history.call(made) else {
+    let Some(call) = history.call(made) else {
         return Ok(refusals);
     };
     for ending in endings {
@@ -52,12 +35,19 @@ pub fn refusals(
         {
             let head = head_words(names, number, &past, errno)?;
             let why = if number == made {
-                rule_words(names, kernel, history, latest, errno)?
+                let blocked = kernel.blocked(alloc)?;
+                let refused = Refused {
+                    names,
+                    kernel,
+                    blocked,
+                    history,
+                    call,
+                };
+                refused.rule(errno)?
             } else {
-                cut_words(names, made, &latest)?
+                cut_words(names, made, &call)?
             };
-            let text = format!(in alloc; "{head}: {why}")?;
-            refusals.push(Refusal { number, text })?;
+            refusals.push((number, format!(in alloc; "{head}: {why}")?))?;
         }
     }
     Ok(refusals)

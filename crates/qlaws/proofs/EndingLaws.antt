@@ -1,6 +1,6 @@
 -- The laws of the endings of one event.
-use Rattle.qlaws.proofs.Common.{AllByRecursion, Completion, Event, Member, RiseByThread, SentItem, TakesBest, Trace, accepted, all_more, and_from, best_first, completion_to, connection_of, cons_option, ended_below, ends_own, eq-eqb, eqb_same, filter_map, has_completion_of, is_accepted, is_ended, item_at, item_of, item_over, items, keep_length, laws_of, list_any, made_newest, may_wait, none-some, none_of, number_received, option_map, option_to_list, or-true, or_parts, passes_of, past_follows, row_of, shut_for_good, taken_stands, threads_of, true≢false, waiter, waits_or_ends, ◌<◌, inl, inr, ◌≡◌, ◌∙◌, ℕ, ◌+◌, List, [], ◌∷◌, length, refl, ap, sym, cond, eqb, subst, Bool, true, false, Option, arith, not}
-use Rattle.std.specs.Prelude.{None, Some, option_map, ◌&&◌, ◌||◌}
+use Rattle.qlaws.proofs.Common.{AllByRecursion, Completion, Event, Member, RiseByThread, SentItem, TakesBest, Trace, accepted, all_more, and_from, best_first, completion_to, connection_of, cons_option, ended_below, ends_own, eq-eqb, eqb_same, filter_map, has_completion_of, is_accepted, is_ended, item_at, item_over, items, keep_length, laws_of, list_any, made_newest, may_wait, none-some, none_of, number_received, option_map, or_parts, passes_of, past_follows, row_of, shut_for_good, taken_stands, threads_of, true≢false, waiter, waits_or_ends, ◌<◌, inl, inr, ◌≡◌, ◌∙◌, ℕ, ◌+◌, List, [], ◌∷◌, length, refl, ap, sym, eqb, subst, Bool, true, false, Option, arith, not}
+use Rattle.std.specs.Prelude.{None, Some, option_map, ◌&&◌}
 use Rattle.qrules.proofs.Words.Lawful as old
 use Rattle.qrules.proofs.Traces.TraceLaws.Blocked as blocked
 use Rattle.qrules.proofs.Traces.TraceLaws.Ending.{completion_thread, endings_name_own_calls as names}
@@ -12,17 +12,10 @@ use Rattle.qlaws.specs.Endings
 
 -- ---- whose they are
 
-pub endings_name_own_calls : Endings.EndingsNameOwnCalls
-endings_name_own_calls roster past e r l = names roster past e r l
-
 -- what is given to threads above n is of threads above n
 given_above : (g : ℕ → Option Completion) (n : ℕ) (ts : List ℕ) → ((u : ℕ) (y : Completion) → g u ≡ Some y → y.thread ≡ u) → AllByRecursion (λ u. n < u) ts → AllByRecursion (λ y. n < y.thread) (filter_map g ts)
 given_above g n [] names above = tt
-given_above g n (u ∷ ts) names above =
-    elim (g u) as (λ o. g u ≡ o → AllByRecursion (λ y. n < y.thread) (cons_option o (filter_map g ts))) [
-      | None ↦ λ is. given_above g n ts names above.1
-      | Some y ↦ λ is. (subst (λ k. n < k) (sym (names u y is)) above.0, given_above g n ts names above.1)
-    ] refl
+given_above g n (u ∷ ts) names above = grind (arith, names u, given_above g n ts names)
 
 given_rise : (g : ℕ → Option Completion) (ts : List ℕ) → ((u : ℕ) (y : Completion) → g u ≡ Some y → y.thread ≡ u) → Rises ts → RiseByThread (filter_map g ts)
 given_rise g [] names r = tt
@@ -41,18 +34,11 @@ endings_rise_by_thread roster past e r lawful =
       | inr a ↦ subst RiseByThread (sym a.2) (tt, tt)
     ]
 
-pub endings_are_apart : Endings.EndingsAreApart
-endings_are_apart roster past e r l = blocked.endings_are_apart roster past e r l
-
 pub endings_go_to_blocked : Endings.EndingsGoToBlocked
 endings_go_to_blocked roster past e r l =
     all_more _ _ e.endings (blocked.endings_go_to_blocked roster past e r l) (λ x to. (to.known, to.may))
 
 -- ---- who waits afterwards
-
-pub blocked_unless_ended : Endings.BlockedUnlessEnded
-blocked_unless_ended roster past e r l idle u =
-    blocked.blocked_unless_ended roster past e r l idle u
 
 -- a call that doesn't end in its own event is accepted, and may wait
 record Waits (e : Event) (past : Trace) : Type 0 where
@@ -83,9 +69,6 @@ ends_or_waits roster past e r lawful = let l = lawful in (
       (or_parts (has_completion_of e.endings (length past + 1)) (is_ended past (length past + 1)) u.going).0,
 )
 
-pub caller_gets_its_own : Endings.CallerGetsItsOwn
-caller_gets_its_own roster past e r l = blocked.caller_gets_its_own roster past e r l
-
 -- ---- their buffers
 
 pub endings_keep_length : Endings.EndingsKeepLength
@@ -100,12 +83,7 @@ sent_to roster past i m is k over = let w = item_over roster past i k m is over 
 -- it is among the items
 among_items : (p : SentItem → Bool) (roster : List Member) (past : Trace) (i : ℕ) (m : SentItem) → item_at roster past i ≡ Some m → p m ≡ true → list_any p (items roster past) ≡ true
 among_items p roster [] i m is passes = absurd (none-some m is)
-among_items p roster (e ∷ past) i m is passes =
-    list_any-append p (items roster past) (option_to_list (item_of roster e past)) ∙ (
-    elim (eqb i (length past + 1)) as (λ b. cond b (item_of roster e past) (item_at roster past i) ≡ Some m → (list_any p (items roster past) || list_any p (option_to_list (item_of roster e past))) ≡ true) [
-      | true ↦ λ at. rw (at, passes) (or-true (list_any p (items roster past)))
-      | false ↦ λ at. rw (among_items p roster past i m at passes) refl
-    ] is)
+among_items p roster (e ∷ past) i m is passes = grind (arith, list_any-append p, among_items p roster past i m)
 
 was_sent : (roster : List Member) (past : Trace) (e : Event) (x : Completion) (i : ℕ) → TakesBest roster past e x i → Endings.WasSent roster (e ∷ past) x i
 was_sent roster past e x i k =

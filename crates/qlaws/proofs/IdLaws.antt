@@ -1,5 +1,5 @@
 -- The laws of ids: of the channels that are open, and of the connections that are live.
-use Rattle.qlaws.proofs.Common.{Again, AllByRecursion, Answers, Any, Bool, Call, Completion, Effect, Event, Facts, Inval, IsRoster, Item, Kind, List, Member, Passes, PulseOnly, Srch, Trace, [], all_append, all_filter_map, all_more, ap, arith, attached_connection, attaches, channel_at, completion_of, completion_to, cond, connection_at, count_to, created_channel, creates, detaches, endings_of, eqb, eqb-true, error_finish, false, info_completion, inl, inr, is_number, is_of_process, is_on, length, length-append, ltb-true, member_at, message, message_item, names, none-some, one_for, option_map_or, or-true, passes_of, past_follows, refl, refusal_if_full_for, reply_finish, route, row_of, same_Some, sender, subst, sym, threads_of, true, true≢false, was_done, ℕ, ◌++◌, ◌+◌, ◌<◌, ◌∙◌, ◌∷◌, ◌≡◌, ◌≤◌}
+use Rattle.qlaws.proofs.Common.{Again, AllByRecursion, Answers, Any, Bool, Call, Completion, Effect, Event, Facts, IsRoster, Item, Kind, List, Member, Passes, PulseOnly, Srch, Trace, [], all_append, all_filter_map, all_more, ap, arith, attached_connection, attaches, channel_at, completion_of, completion_to, cond, connection_at, count_to, created_channel, creates, detaches, endings_of, eqb, error_finish, false, info_completion, inl, inr, is_number, is_on, length, length-append, ltb-true, member_at, nat_tests, message, message_item, names, none-some, one_for, or-true, passes_of, past_follows, refl, reply_finish, route, row_of, same_Some, sender, subst, sym, threads_of, true, was_done, ℕ, ◌++◌, ◌+◌, ◌<◌, ◌∙◌, ◌∷◌, ◌≡◌, ◌≤◌}
 use Rattle.qrules.proofs.Traces.Rows.{answer_same, pulse_same, sent_same, unblocked_same}
 use Rattle.std.specs.Prelude.{pos, Option, None, Some, is_some, nat_lt, option_map}
 use Rattle.std.specs.Ordering.{int_eq}
@@ -28,30 +28,12 @@ use Rattle.qlaws.specs.Ids as laws
 
 -- ---- how many there are
 
-passed : (n most : ℕ) → cond (nat_lt n most) None (Some Again) ≡ None → n < most
-passed n most r = ltb-true _ _ (elim (nat_lt n most) as (λ b. cond b None (Some Again) ≡ None → b ≡ true) [ true ↦ λ _. refl | false ↦ λ s. absurd (none-some Again (sym s)) ] r)
-
 -- neither count is over its limit
 abbrev AreFew : ℕ → ℕ → Type 0
 AreFew channels connections = (channels ≤ 64) × (connections ≤ 1024)
 
 room : (f : Facts) (t : ℕ) (m : Option Member) (c : Call) → (row_of f t c).refusal ≡ None → AreFew f.open_channels f.live_connections → AreFew (f.open_channels + one_for (creates m c)) (f.live_connections + one_for (attaches m c))
-room f t None c r few = (omega (arith, few.0), omega (arith, few.1))
-room f t (Some m) (calls.ChannelCreate flags) r few =
-    elim (nat_lt flags.0 8) as (λ b. cond b (cond (nat_lt f.open_channels 64) None (Some Again)) (Some Inval) ≡ None → AreFew (f.open_channels + 1) (f.live_connections + 0)) [
-      | true ↦ λ s. (omega (arith, passed f.open_channels 64 s), omega (arith, few.1))
-      | false ↦ λ s. absurd (none-some Inval (sym s))
-    ] r
-room f t (Some m) (calls.ConnectAttach chid) r few =
-    elim (is_some (f.channel chid)) as (λ b. cond b (cond (nat_lt f.live_connections 1024) None (Some Again)) (Some Srch) ≡ None → AreFew (f.open_channels + 0) (f.live_connections + 1)) [
-      | true ↦ λ s. (omega (arith, few.0), omega (arith, passed f.live_connections 1024 s))
-      | false ↦ λ s. absurd (none-some Srch (sym s))
-    ] r
-room f t (Some m) c r few = (omega (arith, few.0), omega (arith, few.1))
-
--- the count after an event, by what it ends and makes
-stays_few : (after ended before made most : ℕ) → after + ended ≡ before + made → before + made ≤ most → after ≤ most
-stays_few after ended before made most same few = omega (arith, same, few)
+room f t m c r few = grind (arith, nat_tests)
 
 are_few : (roster : List Member) (past : Trace) → IsRoster roster → old.IsLawful roster past → AreFew (past_of.open_channels roster past) (past_of.live_connections roster past)
 are_few roster [] r l = (omega arith, omega arith)
@@ -62,10 +44,10 @@ are_few roster (e ∷ past) r l =
       | inl a ↦
           let k = past_follows true roster past e.thread e.call e.endings r l.0 l.1.0 a in
           let left = room f e.thread (member_at roster e.thread) e.call (passes_of f e.thread e.call e.endings a).row few in
-          (stays_few _ _ _ _ 64 k.open_channels left.0, stays_few _ _ _ _ 1024 k.live_connections left.1)
+          (omega (arith, k.open_channels, left.0), omega (arith, k.live_connections, left.1))
       | inr a ↦
           let k = past_follows false roster past e.thread e.call e.endings r l.0 l.1.0 a in
-          (stays_few _ 0 _ 0 64 k.open_channels (omega (arith, few.0)), stays_few _ 0 _ 0 1024 k.live_connections (omega (arith, few.1)))
+          (omega (arith, k.open_channels, few.0), omega (arith, k.live_connections, few.1))
     ]
 
 -- ---- each is counted
@@ -75,16 +57,13 @@ module _ {A : Type 0} where
   still_there at h [] other there = tt
   still_there at h (i ∷ ids) other there = (ap (λ b. is_some (cond b None (at i))) other.0 ∙ there.0, still_there at h ids other.1 there.1)
 
-  was_there : (at : ℕ → Option A) (h i : ℕ) → is_some (cond (eqb h i) None (at i)) ≡ true → is_some (at i) ≡ true
-  was_there at h i = elim (eqb h i) as (λ b. is_some (cond b None (at i)) ≡ true → is_some (at i) ≡ true) [ true ↦ λ s. absurd (true≢false (sym s)) | false ↦ λ s. s ]
-
   counted : (at : ℕ → Option A) (n : ℕ) → ((i : ℕ) → is_some (at i) ≡ true → (1 ≤ i) × (i ≤ n)) → laws.AtMost (count_to at n) at
   counted at n within [] different there = omega arith
   counted at n within (h ∷ ids) different there =
       let range = within h there.0 in
       let less : count_to (λ i. cond (eqb h i) None (at i)) n + 1 ≡ count_to at n = count_less (λ i. cond (eqb h i) None (at i)) at n h range.0 range.1 there.0 (λ i _. refl) in
       let rest : length ids ≤ count_to (λ i. cond (eqb h i) None (at i)) n =
-      counted (λ i. cond (eqb h i) None (at i)) n (λ i is. within i (was_there at h i is)) ids different.1 (still_there at h ids different.0 there.1) in
+      counted (λ i. cond (eqb h i) None (at i)) n (λ i is. within i (grind arith)) ids different.1 (still_there at h ids different.0 there.1) in
       omega (arith, less, rest)
 
   at_most : (roster : List Member) (make : Option Member → Call → Option A) (ends : Effect → Option ℕ) (past : Trace) (n : ℕ) → count_to (live roster make ends past) (length past) ≤ n → laws.AtMost n (live roster make ends past)
@@ -176,18 +155,10 @@ still_done is past (e ∷ later) done =
 
 -- an accepted call detaches a connection that is live, and attaches none
 detaches_live : (f : Facts) (t : ℕ) (c : Call) (k : ℕ) → (row_of f t c).refusal ≡ None → names (detaches c) k ≡ true → is_some (f.connection k) ≡ true
-detaches_live f t (calls.ConnectDetach coid) k r e =
-    subst (λ j. is_some (f.connection j) ≡ true) (eqb-true coid k e)
-    (elim (f.connection coid) as (λ o. cond (option_map_or (λ c. is_of_process f t c.process) o false) (refusal_if_full_for f (connect_detach.disconnect_pulse f t coid)) (Some Inval) ≡ None → is_some o ≡ true) [
-      | None ↦ λ s. absurd (none-some Inval (sym s))
-      | Some c ↦ λ s. refl
-    ] r)
-detaches_live f t c k r e = absurd (true≢false (sym e))
+detaches_live f t c k r e = grind (arith, nat_tests)
 
 detaches_alone : (m : Option Member) (c : Call) (k : ℕ) → detaches c ≡ Some k → attaches m c ≡ None
-detaches_alone None c k e = refl
-detaches_alone (Some m) (calls.ConnectAttach chid) k e = absurd (none-some k e)
-detaches_alone (Some m) c k e = refl
+detaches_alone m c k e = grind arith
 
 lawful_before : (roster : List Member) (past later : Trace) → old.IsLawful roster (later ++ past) → old.IsLawful roster past
 lawful_before roster past [] l = l

@@ -1,5 +1,5 @@
 -- What is so of each element of a list, and how many there are.
-use Rattle.qlaws.proofs.Common.{AllByRecursion, Bool, List, [], arith, cond, count_by, false, filter, map, refl, sum_by-cons, sym, true, true≢false, ◌+◌, ◌∙◌, ◌∷◌, ◌≡◌, ◌≤◌}
+use Rattle.qlaws.proofs.Common.{AllByRecursion, Bool, List, [], arith, cond, count_by, filter, map, sum_by-cons, true, ◌+◌, ◌∷◌, ◌≡◌, ◌≤◌}
 
 pub all_two : {X : Type 0} (P Q R : X → Type 0) (xs : List X) → AllByRecursion P xs → AllByRecursion Q xs → ((x : X) → P x → Q x → R x) → AllByRecursion R xs
 all_two P Q R [] p q f = tt
@@ -11,17 +11,12 @@ all_unmap P g (x ∷ xs) all = (all.0, all_unmap P g xs all.1)
 
 pub all_unfilter : {X : Type 0} (P : X → Type 0) (p : X → Bool) (xs : List X) → AllByRecursion P (filter p xs) → AllByRecursion (λ x. p x ≡ true → P x) xs
 all_unfilter P p [] all = tt
-all_unfilter P p (x ∷ xs) all =
-    elim (p x) as (λ b. p x ≡ b → AllByRecursion P (cond b (x ∷ filter p xs) (filter p xs)) → AllByRecursion (λ x. p x ≡ true → P x) (x ∷ xs)) [
-      | true ↦ λ passes all. (λ _. all.0, all_unfilter P p xs all.1)
-      | false ↦ λ fails all. (λ passes. absurd (true≢false (sym passes ∙ fails)), all_unfilter P p xs all)
-    ] refl all
+all_unfilter P p (x ∷ xs) all = grind (arith, all_unfilter P p xs)
+
+pub count_cons : {X : Type 0} (q : X → Bool) (x : X) (xs : List X) → count_by q (x ∷ xs) ≡ cond (q x) 1 0 + count_by q xs
+count_cons q x xs = sum_by-cons (λ y. cond (q y) 1 0) x xs
 
 -- of what is left there are no more
 pub fewer_left : {X : Type 0} (q p : X → Bool) (xs : List X) → count_by q (filter p xs) ≤ count_by q xs
 fewer_left q p [] = omega arith
-fewer_left q p (x ∷ xs) =
-    let rest : count_by q (filter p xs) ≤ count_by q xs = fewer_left q p xs in
-    let all : count_by q (x ∷ xs) ≡ cond (q x) 1 0 + count_by q xs = sum_by-cons (λ y. cond (q y) 1 0) x xs in
-    let kept : count_by q (x ∷ filter p xs) ≡ cond (q x) 1 0 + count_by q (filter p xs) = sum_by-cons (λ y. cond (q y) 1 0) x (filter p xs) in
-    elim (p x) as (λ b. count_by q (cond b (x ∷ filter p xs) (filter p xs)) ≤ count_by q (x ∷ xs)) [ true ↦ omega arith | false ↦ omega arith ]
+fewer_left q p (x ∷ xs) = grind (arith, count_cons q x, fewer_left q p xs)

@@ -1,7 +1,7 @@
 -- The receive that takes an item: the newest of those that may.
-use Rattle.qlaws.proofs.Common.{AllByRecursion, Bool, List, OpenCall, Receive, Send, SentItem, [], ap, arith, cond, cons_option, eqb, eqb-true, eqb_same, false, inl, inr, is_among, is_last_wait, le-ltb, list_any, ltb-false, ltb-true, newest_receiver, none-some, not-true, option_map_or, or_parts, refl, same_Some, subst, sym, true, true≢false, wait_for, ℕ, ◌<◌, ◌∙◌, ◌∷◌, ◌≡◌, ◌≤◌, ◌⊎◌}
-use Rattle.std.specs.Prelude.{Option, None, Some, find, filter_map, nat_lt, option_and_then, ◌||◌}
-use Rattle.qrules.specs.Facts.{open_receives, receive_in, receive_of, threads_of, Facts, OpenReceive}
+use Rattle.qlaws.proofs.Common.{AllByRecursion, Bool, List, OpenCall, Receive, Send, SentItem, [], arith, cond, false, inl, inr, is_among, is_last_wait, list_any, nat_tests, newest_receiver, not-true, option_map_or, refl, sym, true, true≢false, wait_for, ℕ, ◌∙◌, ◌∷◌, ◌≡◌, ◌≤◌, ◌⊎◌}
+use Rattle.std.specs.Prelude.{Option, None, Some, find, filter_map, nat_lt, option_and_then}
+use Rattle.qrules.specs.Facts.{open_receives, receive_of, threads_of, Facts, OpenReceive}
 use Rattle.qlaws.specs.OpenCalls as laws
 
 -- ---- the greatest of some numbers
@@ -24,55 +24,33 @@ none_later w n (t ∷ ts) h = rw (h.0) (none_later w n ts h.1)
 
 later_less : (w : ℕ → Option ℕ) (k n : ℕ) (ts : List ℕ) → k ≤ n → list_any (is_later w k) ts ≡ false → list_any (is_later w n) ts ≡ false
 later_less w k n [] le h = refl
-later_less w k n (t ∷ ts) le h =
-    let parts = or_parts (is_later w k t) (list_any (is_later w k) ts) h in
-    let here : is_later w n t ≡ false = elim (w t) as (λ o. option_map_or (λ m. nat_lt k m) o false ≡ false → option_map_or (λ m. nat_lt n m) o false ≡ false) [
-      | None ↦ λ e. refl
-      | Some m ↦ λ e. let most : m ≤ k = ltb-false _ _ e in le-ltb _ _ (omega (arith, le, most))
-    ] parts.0 in
-    rw here (later_less w k n ts le parts.1)
+later_less w k n (t ∷ ts) le h = grind (arith, nat_tests, later_less w k n ts)
 
 latest : (w : ℕ → Option ℕ) (ts : List ℕ) → AllByRecursion (λ v. w v ≡ None) ts ⊎ Latest w ts
 latest w [] = inl tt
 latest w (t ∷ ts) = elim (w t) as (λ o. w t ≡ o → AllByRecursion (λ v. w v ≡ None) (t ∷ ts) ⊎ Latest w (t ∷ ts)) [
   | None ↦ λ e. elim (latest w ts) [
     | inl none ↦ inl (e, none)
-    | inr l ↦ inr (record { u = l.u; k = l.k; among = rw (l.among) (or_true (eqb t l.u)); is = l.is; last = rw e l.last })
+    | inr l ↦ inr (record { u = l.u; k = l.k; among = grind (arith, l.among); is = l.is; last = grind (arith, l.last) })
   ]
   | Some n ↦ λ e. elim (latest w ts) [
-    | inl none ↦ inr (record { u = t; k = n; among = rw (eqb_same t) refl; is = e; last = rw (e, not_less n) (none_later w n ts none) })
+    | inl none ↦ inr (record { u = t; k = n; among = grind (arith, nat_tests); is = e; last = grind (arith, nat_tests, none_later w n ts none) })
     | inr l ↦ elim (nat_lt l.k n) as (λ b. nat_lt l.k n ≡ b → AllByRecursion (λ v. w v ≡ None) (t ∷ ts) ⊎ Latest w (t ∷ ts)) [
-      | true ↦ λ less. let more : l.k < n = ltb-true _ _ less in inr (record { u = t; k = n; among = rw (eqb_same t) refl; is = e; last = rw (e, not_less n) (later_less w l.k n ts (omega (arith, more)) l.last) })
-      | false ↦ λ less. inr (record { u = l.u; k = l.k; among = rw (l.among) (or_true (eqb t l.u)); is = l.is; last = rw (e, less) l.last })
+      | true ↦ λ less. inr (record { u = t; k = n; among = grind (arith, nat_tests); is = e; last = grind (arith, nat_tests, later_less w l.k n ts, l.last) })
+      | false ↦ λ less. inr (record { u = l.u; k = l.k; among = grind (arith, l.among); is = l.is; last = grind (arith, l.last) })
     ] refl
   ]
 ] refl
-  where
-    or_true : (b : Bool) → (b || true) ≡ true
-    or_true true = refl
-    or_true false = refl
-
-    not_less : (n : ℕ) → nat_lt n n ≡ false
-    not_less n = le-ltb _ _ (omega arith)
 
 -- ---- what is found
 
 found_is : (p : ℕ → Bool) (ts : List ℕ) (u : ℕ) → find p ts ≡ Some u → p u ≡ true
-found_is p [] u e = absurd (none-some u e)
-found_is p (t ∷ ts) u e = elim (p t) as (λ b. p t ≡ b → cond b (Some t) (find p ts) ≡ Some u → p u ≡ true) [
-  | true ↦ λ is e. ap p (sym (same_Some t u e)) ∙ is
-  | false ↦ λ is e. found_is p ts u e
-] refl e
+found_is p [] u e = grind arith
+found_is p (t ∷ ts) u e = grind (arith, found_is p ts u)
 
 none_found : (p : ℕ → Bool) (ts : List ℕ) (u : ℕ) → find p ts ≡ None → is_among ts u ≡ true → p u ≡ false
-none_found p [] u e among = absurd (true≢false (sym among))
-none_found p (t ∷ ts) u e among = elim (p t) as (λ b. p t ≡ b → cond b (Some t) (find p ts) ≡ None → p u ≡ false) [
-  | true ↦ λ is e. absurd (none-some t (sym e))
-  | false ↦ λ is e. elim (eqb t u) as (λ b. eqb t u ≡ b → (b || is_among ts u) ≡ true → p u ≡ false) [
-    | true ↦ λ same among. ap p (sym (eqb-true t u same)) ∙ is
-    | false ↦ λ other among. none_found p ts u e among
-  ] refl among
-] refl e
+none_found p [] u e among = grind arith
+none_found p (t ∷ ts) u e among = grind (arith, nat_tests, none_found p ts u)
 
 -- ---- receives
 
@@ -83,36 +61,15 @@ module _ (f : Facts) (m : SentItem) where
 
   -- what the threads' open calls wait for, and what their receives may take
   may_by : (r : OpenReceive) → wait_for m.channel m.item (Receive r) ≡ None → laws.may_receive m r ≡ false
-  may_by r e = elim (laws.may_receive m r) as (λ b. cond b (Some r.number) None ≡ None → b ≡ false) [
-    | true ↦ λ e. absurd (none-some r.number (sym e))
-    | false ↦ λ e. refl
-  ] e
+  may_by r e = grind arith
 
   none_may : (ts : List ℕ) → AllByRecursion (λ v. waits v ≡ None) ts → AllByRecursion (λ r. laws.may_receive m r ≡ false) (filter_map (receive_of f) ts)
   none_may [] h = tt
-  none_may (t ∷ ts) h = elim (f.open_call t) as (λ o. option_and_then (wait_for m.channel m.item) o ≡ None → AllByRecursion (λ r. laws.may_receive m r ≡ false) (cons_option (option_and_then receive_in o) (filter_map (receive_of f) ts))) [
-    | None ↦ λ e. none_may ts h.1
-    | Some o ↦ λ e. by_call (none_may ts h.1) o e
-  ] h.0
-    where
-      by_call : AllByRecursion (λ r. laws.may_receive m r ≡ false) (filter_map (receive_of f) ts) → (o : OpenCall) → wait_for m.channel m.item o ≡ None
-          → AllByRecursion (λ r. laws.may_receive m r ≡ false) (cons_option (receive_in o) (filter_map (receive_of f) ts))
-      by_call rest (Send s) e = rest
-      by_call rest (Receive r) e = (may_by r e, rest)
+  none_may (t ∷ ts) h = grind (arith, may_by, none_may ts)
 
   all_before : (n : ℕ) (ts : List ℕ) → list_any (is_later waits n) ts ≡ false → AllByRecursion (λ s. laws.may_receive m s ≡ true → s.number ≤ n) (filter_map (receive_of f) ts)
   all_before n [] h = tt
-  all_before n (t ∷ ts) h =
-      let parts = or_parts (is_later waits n t) (list_any (is_later waits n) ts) h in
-      elim (f.open_call t) as (λ o. option_map_or (λ m. nat_lt n m) (option_and_then (wait_for m.channel m.item) o) false ≡ false → AllByRecursion (λ s. laws.may_receive m s ≡ true → s.number ≤ n) (cons_option (option_and_then receive_in o) (filter_map (receive_of f) ts))) [
-        | None ↦ λ e. all_before n ts parts.1
-        | Some o ↦ λ e. by_call (all_before n ts parts.1) o e
-      ] parts.0
-    where
-      by_call : AllByRecursion (λ s. laws.may_receive m s ≡ true → s.number ≤ n) (filter_map (receive_of f) ts) → (o : OpenCall) → option_map_or (λ m. nat_lt n m) (wait_for m.channel m.item o) false ≡ false
-          → AllByRecursion (λ s. laws.may_receive m s ≡ true → s.number ≤ n) (cons_option (receive_in o) (filter_map (receive_of f) ts))
-      by_call rest (Send s) e = rest
-      by_call rest (Receive r) e = (λ may. ltb-false _ _ (subst (λ b. option_map_or (λ m. nat_lt n m) (cond b (Some r.number) None) false ≡ false) may e), rest)
+  all_before n (t ∷ ts) h = grind (arith, nat_tests, all_before n ts)
 
   newest_parts : (u : ℕ) (o : Option OpenCall) → f.open_call u ≡ o → option_map_or (is_last_wait f m.channel m.item) (option_and_then (wait_for m.channel m.item) o) false ≡ true → laws.IsNewest f m u
   newest_parts u None is e = absurd (true≢false (sym e))
@@ -136,15 +93,7 @@ module _ (f : Facts) (m : SentItem) where
 
   none_waits : (ts : List ℕ) → AllByRecursion (λ r. laws.may_receive m r ≡ false) (filter_map (receive_of f) ts) → AllByRecursion (λ v. waits v ≡ None) ts
   none_waits [] h = tt
-  none_waits (t ∷ ts) h = elim (f.open_call t) as (λ o. AllByRecursion (λ r. laws.may_receive m r ≡ false) (cons_option (option_and_then receive_in o) (filter_map (receive_of f) ts)) → (option_and_then (wait_for m.channel m.item) o ≡ None) × AllByRecursion (λ v. waits v ≡ None) ts) [
-    | None ↦ λ h. (refl, none_waits ts h)
-    | Some o ↦ λ h. by_call (none_waits ts) o h
-  ] h
-    where
-      by_call : (AllByRecursion (λ r. laws.may_receive m r ≡ false) (filter_map (receive_of f) ts) → AllByRecursion (λ v. waits v ≡ None) ts) → (o : OpenCall)
-          → AllByRecursion (λ r. laws.may_receive m r ≡ false) (cons_option (receive_in o) (filter_map (receive_of f) ts)) → (wait_for m.channel m.item o ≡ None) × AllByRecursion (λ v. waits v ≡ None) ts
-      by_call rest (Send s) h = (refl, rest h)
-      by_call rest (Receive r) h = (rw (h.0) refl, rest h.1)
+  none_waits (t ∷ ts) h = grind (arith, none_waits ts)
 
   none_of : (p : ℕ → Bool) (ts : List ℕ) → ((u : ℕ) → waits u ≡ None → p u ≡ false) → AllByRecursion (λ v. waits v ≡ None) ts → find p ts ≡ None
   none_of p [] h all = refl

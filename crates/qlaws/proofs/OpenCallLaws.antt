@@ -1,9 +1,7 @@
 -- The laws of the calls that threads wait in.
-use Rattle.qlaws.proofs.Common.{Call, IsRoster, Member, None, OldFacts, Option, Receive, Send, Some, Srch, Trace, accepted_at, and-true, begins_now, block, call_at, cancel_where, cancels, eqb-true, eqb_same, false_from_ne_true, held_sender, is_down, is_received, is_some, item_of, kept_number, made_newest, made_stays, may_wait, none-some, not, open_call, open_call_after, open_calls_keep_length, open_from, open_on, open_parts, open_receipt, option_map_or, or-false, passes_of, past_follows, same_Some, shuts_down, true≢false, unless, waits_on_open, ◌&&◌, ◌||◌}
-use Rattle.std.proofs.Common.{◌+◌, ◌≡◌, ◌∙◌, ℕ, List, [], ◌∷◌, length, refl, ap, sym, subst, cond, true, false, inl, inr, eqb, option_map}
+use Rattle.qlaws.proofs.Common.{Call, IsRoster, Member, None, OldFacts, Option, Receive, Send, Some, Trace, accepted_at, arith, and-true, begins_now, block, eqb-true, eqb_same, false_from_ne_true, held_sender, is_down, is_received, is_some, item_of, kept_number, made_newest, made_stays, may_wait, none-some, not, open_call, open_call_after, open_calls_keep_length, open_from, open_on, open_parts, open_receipt, option_map_or, or-false, passes_of, past_follows, same_Some, shuts_down, true≢false, waits_on_open, ◌&&◌, ◌||◌}
+use Rattle.std.proofs.Common.{◌+◌, ◌≡◌, ◌∙◌, ℕ, List, [], ◌∷◌, length, refl, ap, sym, subst, true, false, inl, inr, option_map}
 use Rattle.qrules.proofs.Words.Lawful as old
-use Rattle.qmodel.specs.declared.call.Call.TheVariants as calls
-use Rattle.qmodel.specs.Buffers.{buffer_of}
 use Rattle.qrules.proofs.Traces.TraceLaws.Unended.{asks_any, unended_newest}
 use Rattle.qrules.specs.Past.{waiter, is_ended, channel_of}
 use Rattle.qrules.proofs.Traces.Past.LiveSends.{over_attached}
@@ -97,27 +95,19 @@ nothing_pending_for_waiting roster past r l =
 
 -- ---- buffers
 
-as_long : (past : Trace) (i : ℕ) (buffer : List ℕ) → (c : Call) × (call_at past i ≡ Some c) × (length buffer ≡ length (buffer_of c)) → laws.IsAsLong past i buffer
-as_long past i buffer k = record { call = k.0; is = k.1; same = k.2 }
-
 pub reply_buffers_keep_length : laws.ReplyBuffersKeepLength
 reply_buffers_keep_length roster past r l = all_sends (facts_of roster past) (λ s. laws.IsAsLong past s.number s.reply_buffer) (λ u s is.
-    as_long past s.number s.reply_buffer (open_calls_keep_length roster past u (Send s) is))
+    let k = open_calls_keep_length roster past u (Send s) is in record { call = k.0; is = k.1; same = k.2 })
 
 pub receive_buffers_keep_length : laws.ReceiveBuffersKeepLength
 receive_buffers_keep_length roster past r l = all_receives (facts_of roster past) (λ s. laws.IsAsLong past s.number s.buffer) (λ u s is.
-    as_long past s.number s.buffer (open_calls_keep_length roster past u (Receive s) is))
+    let k = open_calls_keep_length roster past u (Receive s) is in record { call = k.0; is = k.1; same = k.2 })
 
 -- ---- after a shutdown
 
 -- a call that shuts the kernel down leaves no thread waiting
 shut_out : (f : OldFacts) (t : ℕ) (c : Call) (u : ℕ) → shuts_down c ≡ true → open_call_after f t c u ≡ None
-shut_out f t calls.Shutdown u e =
-    elim (eqb u t) as (λ b. cond b None (unless (is_some (cancels f (λ u wait. true) Srch u)) (f.open_call u)) ≡ None) [
-      | true ↦ refl
-      | false ↦ elim (f.open_call u) as (λ o. unless (is_some (cancel_where (λ wait. true) Srch u o)) o ≡ None) [ None ↦ refl | Some o ↦ refl ]
-    ]
-shut_out f t c u e = absurd (true≢false (sym e))
+shut_out f t c u e = grind arith
 
 none_open : (roster : List Member) (past : Trace) → IsRoster roster → old.IsLawful roster past → is_down past ≡ true → (u : ℕ) → open_call roster past u ≡ None
 none_open roster [] r l down u = absurd (true≢false (sym down))

@@ -1,5 +1,5 @@
 -- What comes before another is received first.
-use Rattle.qlaws.proofs.Common.{AllByRecursion, Any, Completion, Event, FirstGoesFirst, HasPriority, IsPending, IsRoster, Item, Kind, List, Member, PulseOnly, ReceiveRequest, SentItem, Some, TakesBeside, TakesBest, Trace, [], all_more, ap, arith, before_earlier, best_first, best_of, comes_before, cond, eqb, eqb_same, false, is_destroyed, is_gone, is_pulse, item_at, item_below, item_earlier, item_made, item_of, item_priority, items_more, items_on, length, made_all, made_by, made_on, map, may_take, none-some, not, now, number_received, option_map, pending_all, pending_is, pending_items, priority_before, refl, same_Some, staying, subst, sym, takeable, takeable_priorities, takeable_rises, true, ℕ, ◌++◌, ◌+◌, ◌∙◌, ◌∷◌, ◌≡◌, ◌≢◌, ◌≤◌}
+use Rattle.qlaws.proofs.Common.{AllByRecursion, Completion, Event, FirstGoesFirst, HasPriority, IsPending, IsRoster, Item, Kind, List, Member, ReceiveRequest, SentItem, Some, TakesBeside, TakesBest, Trace, [], all_more, ap, arith, before_earlier, best_first, best_of, comes_before, cond, eqb, eqb_same, false, is_destroyed, is_gone, item_at, item_below, item_earlier, item_made, item_of, item_priority, items_more, items_on, length, made_all, made_by, made_on, map, may_take, none-some, not, now, number_received, option_map, pending_all, pending_is, pending_items, priority_before, refl, same_Some, staying, subst, sym, takeable, takeable_priorities, takeable_rises, true, ℕ, ◌++◌, ◌+◌, ◌∙◌, ◌∷◌, ◌≡◌, ◌≢◌, ◌≤◌}
 use Rattle.std.proofs.lemmas.Bool.Decides.{nat_tests}
 use Rattle.std.proofs.lemmas.List.Elements.{recursion_from_All}
 use Rattle.qqueue.proofs.OrderLaws.{best-at, best_is_first}
@@ -12,7 +12,7 @@ use Rattle.qrules.proofs.Traces.Past.Best.{some_number}
 
 all_parts : (P : Item → Type 0) (xs ys : List Item) → AllByRecursion P (xs ++ ys) → AllByRecursion P xs × AllByRecursion P ys
 all_parts P [] ys all = (tt, all)
-all_parts P (x ∷ xs) ys all = let rest = all_parts P xs ys all.1 in ((all.0, rest.0), rest.1)
+all_parts P (x ∷ xs) ys all = grind (arith, all_parts P xs ys)
 
 -- ---- what was made for a channel is among its items
 
@@ -36,13 +36,6 @@ item_later roster past (e ∷ later) i m at =
     item_earlier roster e (later ++ past) i (item_below roster (later ++ past) i m before) ∙ before
 
 -- ---- two items
-
--- neither comes before the other where they are one, nor both
-differ : (x y w v : Item) → w.number ≡ y.number → w.priority ≡ y.priority → v.number ≡ x.number → v.priority ≡ x.priority → comes_before x y ≡ true → v.number ≡ w.number → v.priority ≡ w.priority → ⊥
-differ x y w v wn wp vn vp before sn sp = grind (arith, nat_tests)
-
-never_both : (x y w v : Item) → w.number ≡ y.number → w.priority ≡ y.priority → v.number ≡ x.number → v.priority ≡ x.priority → comes_before x y ≡ true → comes_before w v ≡ true → ⊥
-never_both x y w v wn wp vn vp before after = grind (arith, nat_tests)
 
 module _ (roster : List Member) (past : Trace) (e : Event) (h : ℕ) (kind : Kind) (b : Item) (best : best_of kind (takeable roster past e h) ≡ Some b) where
   -- each that may be taken is behind the one that is
@@ -74,11 +67,7 @@ module _ (roster : List Member) (past : Trace) (e : Event) (h : ℕ) (kind : Kin
       let waiting : AllByRecursion P (pending_items roster past h) = (all_parts P (pending_items roster past h) (made_on h (item_of roster e past)) behind).0 in
       let as_now : AllByRecursion P (map (now past) (staying roster past h)) = subst (AllByRecursion P) (pending_is roster past h ∙ ap (λ d. cond d [] (map (now past) (staying roster past h))) open_still) waiting in
       let each = all_unfilter (λ x. P (now past x)) (λ item. not (is_gone past item)) (items_on roster past h) (all_unmap P (now past) (staying roster past h) as_now) in
-      standing_each (λ x. not (is_gone past x) ≡ true → P (now past x)) roster past h i first at each (ap not stays) (same_kind kind past first ∙ may) other
-    where
-      same_kind : (kind : Kind) (past : Trace) (x : Item) → may_take kind (now past x) ≡ may_take kind x
-      same_kind Any past x = refl
-      same_kind PulseOnly past x = refl
+      standing_each (λ x. not (is_gone past x) ≡ true → P (now past x)) roster past h i first at each (ap not stays) (grind (arith, may)) other
 
 -- what is taken beside an item that comes before it
 gone_first : (roster : List Member) (past later : Trace) (e : Event) (h : ℕ) (x y : Item) (z : Completion) → IsPending roster past h x → IsPending roster past h y → comes_before x y ≡ true
@@ -96,21 +85,17 @@ gone_first roster past later e h x y z px py before has_x has_y b t =
     let w_priority : w.0.priority ≡ y.priority = sym (was_priority roster L e h t.request.kind w.0 w.1) ∙ ap (priority_before roster L e) w.2 ∙ before_earlier roster e L y.number below ∙ has_y in
     let v = now L px.first in
     let v_priority : v.priority ≡ x.priority = sym (item_priority roster L x.number _ at) ∙ has_x in
-    let may : may_take t.request.kind px.first ≡ true = kind_of t.request.kind px.first x px.what ∙ t.may in
+    let may : may_take t.request.kind px.first ≡ true = grind (arith, px.what, t.may) in
     let as_first : is_gone L px.first ≡ is_gone L x = gone_of L px.first x number px.what in
     elim (is_gone L x) as (λ d. is_gone L x ≡ d → d ≡ true) [
       | true ↦ λ _. refl
       | false ↦ λ stays.
           let open_still = standing roster L e h t.request.kind w.0 w.1 (let b_below : w.0.number ≤ length L = omega (arith, w.2, below) in b_below) in
           let after = behind_one roster L e h t.request.kind w.0 w.1 x.number px.first at (as_first ∙ stays) open_still may
-          (λ one. differ x y w.0 v w.2 w_priority number v_priority before (ap (λ (i : Item). i.number) one) (ap (λ (i : Item). i.priority) one)) in
-          absurd (never_both x y w.0 v w.2 w_priority number v_priority before after)
+          (λ one. grind (arith, nat_tests, one, w.2, w_priority, number, v_priority, before)) in
+          grind (arith, nat_tests, after, w.2, w_priority, number, v_priority, before)
     ] refl
   where
-    kind_of : (kind : Kind) (a c : Item) → a.what ≡ c.what → may_take kind a ≡ may_take kind c
-    kind_of Any a c same = refl
-    kind_of PulseOnly a c same = ap is_pulse same
-
     gone_of : (past : Trace) (a c : Item) → a.number ≡ c.number → a.what ≡ c.what → is_gone past a ≡ is_gone past c
     gone_of past a c number what =
         ap (λ n. is_gone past (record { number = n; priority = a.priority; what = a.what })) number ∙ ap (λ w. is_gone past (record { number = c.number; priority = a.priority; what = w })) what

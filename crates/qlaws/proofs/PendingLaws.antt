@@ -1,12 +1,9 @@
 -- What is pending rises in number, isn't held, and the Send of each message is the open call of its sender.
-use Rattle.qlaws.proofs.Common.{List, Member, OpenCall, Receive, Send, Some, Trace, all_more, ap, is_ended, is_for_receipt, none_of, not, not-true, open_call, open_own, option_and_then, or_parts, pending_all, pending_items, rises, sender_of, sent_by, sym, true, true≢false, ℕ, ◌&&◌, ◌∙◌, ◌≡◌}
+use Rattle.qlaws.proofs.Common.{List, Member, OpenCall, Receive, Send, Some, Trace, all_more, ap, is_ended, is_for_receipt, none_of, not, not-true, open_call, open_own, option_and_then, or_parts, pending_all, pending_items, sender_of, sent_by, sym, true, true≢false, ℕ, ◌&&◌, ◌∙◌, ◌≡◌}
 use Rattle.qmodel.specs.OpenCalls.{number_of, send_in}
 use Rattle.qrules.specs.Facts.{send_of}
 use Rattle.qrules.specs.Lawful.{facts_of}
 use Rattle.qlaws.specs.Pending as laws
-
-pub pending_rises : laws.PendingRises
-pending_rises roster past r l h = rises roster past h
 
 pub none_pending_is_held : laws.NonePendingIsHeld
 none_pending_is_held roster past r l h =

@@ -1,8 +1,8 @@
 -- An item's place falls with each item before it that is gone.
-use Rattle.qlaws.proofs.Common.{AllByRecursion, Bool, Event, Item, List, Member, SentItem, Stands, Trace, [], ap, arith, comes_before, cond, current_priority, eqb, eqb-true, false, false_from_ne_true, is_destroyed, is_gone, is_pulse, is_received, item_below, item_of, items_more, items_on, made_by, made_on, map, now, or_parts, pending_is, pending_items, priority_set_by, refl, sender_of, sent_by, standing_is, stands_all, staying, stays_gone, subst, sum_by-append, sum_by-cons, sym, true, true≢false, with_priority, worth_newest, worth_set, ℕ, ◌+◌, ◌∙◌, ◌∷◌, ◌≡◌, ◌≤◌, None, Some, not, ◌&&◌, count_by, filter, option_and_then, unwrap_or}
+use Rattle.qlaws.proofs.Common.{AllByRecursion, Bool, Event, Item, List, Member, SentItem, Stands, Trace, [], ap, arith, comes_before, cond, current_priority, eqb, eqb-true, false, false_from_ne_true, is_destroyed, is_gone, is_pulse, is_received, item_below, item_of, items_more, items_on, made_by, made_on, map, now, or_parts, pending_is, pending_items, priority_set_by, refl, sender_of, sent_by, standing_is, stands_all, staying, stays_gone, subst, sum_by-append, sym, true, true≢false, with_priority, worth_newest, worth_set, ℕ, ◌+◌, ◌∙◌, ◌∷◌, ◌≡◌, ◌≤◌, None, Some, not, ◌&&◌, count_by, filter, option_and_then, unwrap_or}
 use Rattle.qrules.proofs.Words.Lawful as old
 use Rattle.qlaws.specs.Pending as laws
-use Rattle.qlaws.proofs.Lists.{all_two, all_unfilter, all_unmap, fewer_left}
+use Rattle.qlaws.proofs.Lists.{count_cons, all_two, all_unfilter, all_unmap, fewer_left}
 
 -- ---- counts
 
@@ -11,42 +11,21 @@ one b = cond b 1 0
 
 count_filter : (q g : Item → Bool) (items : List Item) → count_by q (filter g items) ≡ count_by (λ y. g y && q y) items
 count_filter q g [] = refl
-count_filter q g (y ∷ items) =
-    let rest : count_by q (filter g items) ≡ count_by (λ y. g y && q y) items = count_filter q g items in
-    elim (g y) as (λ b. count_by q (cond b (y ∷ filter g items) (filter g items)) ≡ one (b && q y) + count_by (λ y. g y && q y) items) [
-      | true ↦ sum_by-cons (λ y. one (q y)) y (filter g items) ∙ ap (λ n. one (q y) + n) rest
-      | false ↦ omega arith
-    ] ∙ sym (sum_by-cons (λ y. one (g y && q y)) y items)
+count_filter q g (y ∷ items) = grind (arith, count_cons q y (filter g items), count_cons (λ y. g y && q y) y items, count_filter q g items)
 
 count_map : (q : Item → Bool) (k : Item → Item) (items : List Item) → count_by q (map k items) ≡ count_by (λ y. q (k y)) items
 count_map q k [] = refl
-count_map q k (y ∷ items) =
-    sum_by-cons (λ y. one (q y)) (k y) (map k items) ∙ ap (λ n. one (q (k y)) + n) (count_map q k items) ∙ sym (sum_by-cons (λ y. one (q (k y))) y items)
+count_map q k (y ∷ items) = grind (arith, count_cons q (k y) (map k items), count_cons (λ y. q (k y)) y items, count_map q k items)
 
 -- where the items that pass the first test or the second are no more than those that pass the third
 fewer : (p q s : Item → Bool) (items : List Item) → AllByRecursion (λ y. one (p y) + one (q y) ≤ one (s y)) items → count_by p items + count_by q items ≤ count_by s items
 fewer p q s [] all = omega arith
-fewer p q s (y ∷ items) all =
-    let first : one (p y) + one (q y) ≤ one (s y) = all.0 in
-    let rest : count_by p items + count_by q items ≤ count_by s items = fewer p q s items all.1 in
-    let of_p : count_by p (y ∷ items) ≡ one (p y) + count_by p items = sum_by-cons (λ y. one (p y)) y items in
-    let of_q : count_by q (y ∷ items) ≡ one (q y) + count_by q items = sum_by-cons (λ y. one (q y)) y items in
-    let of_s : count_by s (y ∷ items) ≡ one (s y) + count_by s items = sum_by-cons (λ y. one (s y)) y items in
-    omega arith
+fewer p q s (y ∷ items) all = grind (arith, count_cons p y items, count_cons q y items, count_cons s y items, all.0, fewer p q s items all.1)
 
 -- an item that goes counts only before, and one that stays counts afterwards only if it did so before
 weigh : (gone gone_after after before : Bool) → (gone ≡ true → gone_after ≡ true) → (gone_after ≡ false → after ≡ true → before ≡ true)
     → one (not gone_after && after) + one (not gone && (gone_after && before)) ≤ one (not gone && before)
-weigh true true after before stays put = omega arith
-weigh true false after before stays put = absurd (true≢false (sym (stays refl)))
-weigh false true after before stays put = omega arith
-weigh false false true true stays put = omega arith
-weigh false false true false stays put = absurd (true≢false (sym (put refl refl)))
-weigh false false false before stays put = omega arith
-
--- what is so of those that pass, each as it is by now
-of_passing : (P : Item → Type 0) (p : Item → Bool) (k : Item → Item) (items : List Item) → AllByRecursion P (map k (filter p items)) → AllByRecursion (λ y. p y ≡ true → P (k y)) items
-of_passing P p k items all = all_unfilter (λ y. P (k y)) p items (all_unmap P k (filter p items) all)
+weigh gone gone_after after before stays put = grind arith
 
 -- ---- in the words of the proofs
 
@@ -118,7 +97,7 @@ module _ (roster : List Member) (past : Trace) (e : Event) (l : old.IsLawful ros
             let new : count_by counts_after (made_on h (item_of roster e past)) ≡ 0 = none_made made in
             let less : count_by counts_after L + count_by (λ y. not (is_gone past y) && (is_gone (e ∷ past) y && comes_before (now past y) x)) L ≤ count_by (λ y. not (is_gone past y) && comes_before (now past y) x) L =
             fewer _ _ _ L (
-            all_two (Stands roster past h) (λ y. not (is_gone past y) ≡ true → P (now past y)) _ L (stands_all roster past h) (of_passing P (λ y. not (is_gone past y)) (now past) L (subst (AllByRecursion P) was put))
+            all_two (Stands roster past h) (λ y. not (is_gone past y) ≡ true → P (now past y)) _ L (stands_all roster past h) (all_unfilter (λ y. P (now past y)) (λ y. not (is_gone past y)) L (all_unmap P (now past) (staying roster past h) (subst (AllByRecursion P) was put)))
             (λ y at k. weigh (is_gone past y) (is_gone (e ∷ past) y) _ _ (stays_gone past e.thread e.call e.endings y) (stays_behind y at k))) in
             omega arith
       ] refl

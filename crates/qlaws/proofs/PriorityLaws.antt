@@ -1,7 +1,7 @@
 -- A pending message has the priority that its sender has by now.
-use Rattle.qlaws.proofs.Common.{Call, Completion, Connection, Facts, InReceive, InSend, IsLawful, Item, List, Member, None, OpenCall, Option, Outcome, Received, SentItem, Some, Stands, TakesOne, Trace, [], ap, cond, current_priority, eqb, eqb-true, facts_of, false, false_from_ne_true, inl, inr, is_accepted, is_accepted_by, is_fixed, is_for_receipt, is_gone, is_pulse, is_received, is_refused_by, item_accepted, item_at, item_below, item_newest, item_of, item_sent_over, laws_of, length, makes, message_of, none-some, option_or, or_parts, outcome_of, passes_of, pending_each, priority_of_thread, priority_set_for, priority_taken, receipt_of, refl, refused_sets_none, same_Some, sender_of, sent_by, sets, standing_is, stays_gone, subst, sym, takes_one, thread_of_send, true, true≢false, unwrap_or, waits_for, worth_newest, worth_set, worth_stays, ℕ, ◌+◌, ◌∙◌, ◌∷◌, ◌≡◌, ◌≤◌}
+use Rattle.qlaws.proofs.Common.{Call, Completion, Facts, IsLawful, Item, List, Member, None, OpenCall, Option, Outcome, Received, SentItem, Some, Stands, TakesOne, Trace, [], ap, arith, cond, current_priority, eqb, eqb-true, facts_of, false, false_from_ne_true, inl, inr, is_accepted, is_accepted_by, is_fixed, is_for_receipt, is_gone, is_pulse, is_received, is_refused_by, item_accepted, item_at, item_below, item_newest, item_of, laws_of, length, makes, none-some, option_or, or_parts, outcome_of, passes_of, pending_each, priority_of_thread, priority_set_for, priority_taken, receipt_of, refl, refused_sets_none, same_Some, sender_of, sent_by, sets, standing_is, stays_gone, subst, sym, takes_one, thread_of_send, true, true≢false, unwrap_or, waits_for, worth_newest, worth_set, worth_stays, ℕ, ◌+◌, ◌∙◌, ◌∷◌, ◌≡◌, ◌≤◌}
+use Rattle.qbase.proofs.Lists.{or_none}
 use Rattle.qlaws.specs.Pending as laws
-use Rattle.qmodel.specs.declared.call.Call.TheVariants.{Send}
 use Rattle.qrules.proofs.Traces.Past.Priorities.{priority_accepted, priority_refused}
 
 -- a thread that takes nothing takes no priority
@@ -16,15 +16,11 @@ none_taken f t c X u a never = by (receipt_of f t c) refl where
         | false ↦ λ other. refl
       ] refl
 
-waits_for_none : (w : OpenCall) → is_for_receipt w ≡ true → waits_for w ≡ None
-waits_for_none (InSend s) e = refl
-waits_for_none (InReceive r) e = absurd (true≢false (sym e))
-
 -- a thread that waits for the receipt of its message takes nothing
 sender_takes_none : (f : Facts) (t : ℕ) (c : Call) (u : ℕ) (o : OpenCall) → f.open_call t ≡ None → f.open_call u ≡ Some o → is_for_receipt o ≡ true → (y : Completion) (i : ℕ) → TakesOne f t c u y i → ⊥
 sender_takes_none f t c u o idle is unread y i k = elim k [
   | inl p ↦ none-some o (sym idle ∙ ap f.open_call (sym p.caller) ∙ is)
-  | inr m ↦ none-some _ (sym (waits_for_none o unread) ∙ ap (λ (x : OpenCall). waits_for x) (same_Some o m.waiting (sym is ∙ m.is_open)) ∙ m.waits)
+  | inr m ↦ let same : o ≡ m.waiting = same_Some o m.waiting (sym is ∙ m.is_open) in grind (arith, same, unread, m.waits)
 ]
 
 -- a message has its sender's priority as it is sent
@@ -34,15 +30,7 @@ pub record IsSentAs (f : Facts) (u : ℕ) (c : Call) (t : ℕ) (m : SentItem) : 
   pub none : sets c ≡ None
 
 sent_as : (f : Facts) (u : ℕ) (c : Call) (t : ℕ) (m : SentItem) → thread_of_send u c ≡ Some t → makes f u c ≡ Some m → IsSentAs f u c t m
-sent_as f u (Send coid message reply_buffer) t m s e = record { same = same_Some u t s; priority = over (f.connection coid) e; none = refl } where
-  over : (o : Option Connection) → item_sent_over o (message_of f u) ≡ Some m → m.item.priority ≡ f.priority u
-  over None none = absurd (none-some m none)
-  over (Some k) some = ap (λ (x : SentItem). x.item.priority) (sym (same_Some _ m some))
-sent_as f u c t m s e = absurd (none-some t s)
-
-or_none : (o : Option ℕ) (p : ℕ) → unwrap_or (option_or o None) p ≡ unwrap_or o p
-or_none None p = refl
-or_none (Some k) p = refl
+sent_as f u c t m s e = grind arith
 
 -- a message that isn't gone is worth what its sender's priority is
 is_senders : (roster : List Member) (past : Trace) → IsLawful roster past → (h : ℕ) (item : Item) (t : ℕ) → Stands roster past h item → is_gone past item ≡ false → is_pulse item.what ≡ false → sender_of past item.number ≡ Some t
@@ -86,7 +74,7 @@ is_senders roster (e ∷ past) l h item t at stays message sent =
                 worth_set e past item t below message unread by
                 ∙ ap (λ b. unwrap_or (cond b (priority_set_for (sets e.call) t) None) (current_priority past item)) (is_accepted_by roster e past a)
                 ∙ ap (unwrap_or (priority_set_for (sets e.call) t)) earlier
-                ∙ sym (or_none (priority_set_for (sets e.call) t) (priority_of_thread roster past t))
+                ∙ sym (ap (λ o. unwrap_or o (priority_of_thread roster past t)) (or_none (priority_set_for (sets e.call) t)))
                 ∙ ap (λ o. unwrap_or (option_or (priority_set_for (sets e.call) t) o) (priority_of_thread roster past t)) (sym taken)
                 ∙ sym (priority_accepted roster past e.thread e.call e.endings t l.0 l.1.0 a)
             | inr a ↦

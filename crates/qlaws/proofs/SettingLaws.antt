@@ -1,5 +1,5 @@
 -- What an accepted PrioritySet changes of what is pending.
-use Rattle.qlaws.proofs.Common.{IsLawful, IsPending, Item, List, Member, Outcome, PriorityChange, Some, Trace, [], all_more, ap, append-nil, cond, eq-eqb, eqb, eqb-true, eqb_either, facts_of, false, filter, is_message_of, is_pulse, is_unread_send, items_with_priority_set, map, map_same, mover, names, none-some, none_cancelled, not, open_call, outcome_of, past_follows, pending_after, pending_all, pending_items, pulse_unread, refl, sender_of, sent_by, sym, true, unread_elsewhere, with_priority, ℕ, ◌&&◌, ◌++◌, ◌∙◌, ◌∷◌, ◌≡◌}
+use Rattle.qlaws.proofs.Common.{IsLawful, IsPending, Item, List, Member, Outcome, PriorityChange, Some, Trace, [], all_more, ap, append-nil, arith, cond, eq-eqb, eqb, eqb-true, eqb_either, facts_of, false, filter, is_message_of, is_pulse, is_unread_send, items_with_priority_set, map, map_same, mover, names, none-some, none_cancelled, not, open_call, outcome_of, past_follows, pending_after, pending_all, pending_items, pulse_unread, refl, sender_of, sent_by, sym, true, unread_elsewhere, with_priority, ℕ, ◌&&◌, ◌++◌, ◌∙◌, ◌∷◌, ◌≡◌}
 use Rattle.qlaws.specs.Pending as laws
 use Rattle.qmodel.specs.declared.call.Call.TheVariants.{PrioritySet}
 
@@ -49,12 +49,7 @@ setting_moves_its_own roster past e r lawful accepted t priority is h =
 -- a message is its thread's whatever its priority
 others_same : (past : Trace) (t priority : ℕ) (items : List Item) → others_than past t (with_messages_at past t priority items) ≡ others_than past t items
 others_same past t priority [] = refl
-others_same past t priority (x ∷ items) =
-    elim (is_message_of past t x) as (λ b. is_message_of past t x ≡ b → filter (λ item. not (is_message_of past t item)) (cond b (with_priority priority x) x ∷ with_messages_at past t priority items)
-    ≡ cond (not b) (x ∷ others_than past t items) (others_than past t items)) [
-      | true ↦ λ own. rw own (others_same past t priority items)
-      | false ↦ λ other. rw other (ap (λ l. x ∷ l) (others_same past t priority items))
-    ] refl
+others_same past t priority (x ∷ items) = grind (arith, others_same past t priority items)
 
 pub others_keep_their_order : laws.OthersKeepTheirOrder
 others_keep_their_order roster past e r l accepted t priority is h =

@@ -1,5 +1,5 @@
 -- At most one unblock pulse is made for a message.
-use Rattle.qlaws.proofs.Common.{Bool, Call, List, Member, None, OldFacts, OpenCall, Receive, Send, SentItem, Some, Trace, [], ap, arith, cond, copied_count_of, count_by, eqb-true, false, filled, held_call, is_unblock_for, is_unblocked, item_accepted, item_of, items, makes, none-some, number_of, open_parts, option_map_or, option_to_list, or_parts, priority_of_item, refl, same_Some, subst, sum_by-append, sum_by-cons, sym, true, true≢false, unblocked_among, unblocked_among_now, unblocks, with_receipt, ℕ, ◌+◌, ◌∙◌, ◌∷◌, ◌≡◌, ◌≤◌}
+use Rattle.qlaws.proofs.Common.{Bool, Call, List, Member, None, OldFacts, OpenCall, Receive, Send, SentItem, Some, Trace, [], ap, arith, cond, copied_count_of, count_by, eqb-true, false, filled, held_call, is_unblock_for, is_unblocked, item_accepted, item_of, items, makes, number_of, open_parts, option_map_or, option_to_list, priority_of_item, refl, subst, sum_by-append, sym, true, true≢false, unblocked_among, unblocked_among_now, unblocks, with_receipt, ℕ, ◌+◌, ◌∙◌, ◌∷◌, ◌≡◌, ◌≤◌}
 use Rattle.qrules.proofs.Words.Lawful as old
 use Rattle.qmodel.specs.declared.call.Call.TheVariants as calls
 use Rattle.qmodel.specs.declared.open_call.Receipt.{Receipt as OldReceipt}
@@ -8,6 +8,7 @@ use Rattle.qrules.proofs.Traces.Calls.Unblock.{due_parts}
 use Rattle.qrules.proofs.Traces.Past.Unblocked.{none_unblocked}
 use Rattle.qrules.specs.Properties.{items}
 use Rattle.qlaws.specs.Pending as laws
+use Rattle.qlaws.proofs.Lists.{count_cons}
 
 -- the receipt doesn't tell that no unblock pulse was made
 abbrev told : OpenCall → Bool
@@ -15,12 +16,10 @@ told (Send s) = option_map_or (λ (r : OldReceipt). r.unblocked) s.receipt true
 told (Receive r) = true
 
 untold : (receipt : OldReceipt) (o : OpenCall) → told (held_call receipt o) ≡ false → receipt.unblocked ≡ false
-untold receipt (Send s) e = e
-untold receipt (Receive r) e = absurd (true≢false e)
+untold receipt o e = grind arith
 
 unblock_is : (c : Call) (v : ℕ) → unblocks c ≡ Some v → c ≡ calls.Unblock v
-unblock_is (calls.Unblock thread) v e = ap calls.Unblock (same_Some thread v e)
-unblock_is c v e = absurd (none-some v e)
+unblock_is c v e = grind arith
 
 -- of a message for which an unblock pulse is made, none was made before
 first_for : (roster : List Member) (past : Trace) (t : ℕ) (c : Call) (i : ℕ) (m : SentItem) → makes (old.facts_of roster past) t c ≡ Some m → is_unblock_for i m.item.what ≡ true → is_unblocked roster past i ≡ false
@@ -47,28 +46,16 @@ pulses_for i items = count_by (λ m. is_unblock_for i m.item.what) items
 
 none_counted : (i : ℕ) (items : List SentItem) → unblocked_among items i ≡ false → pulses_for i items ≡ 0
 none_counted i [] e = refl
-none_counted i (m ∷ items) e =
-    let p = or_parts (is_unblock_for i m.item.what) (unblocked_among items i) e in
-    let rest : pulses_for i items ≡ 0 = none_counted i items p.1 in
-    sum_by-cons (λ m. cond (is_unblock_for i m.item.what) 1 0) m items ∙ ap (λ b. cond b 1 0 + pulses_for i items) p.0 ∙ omega arith
+none_counted i (m ∷ items) e = grind (arith, count_cons (λ (m : SentItem). is_unblock_for i m.item.what) m items, none_counted i items)
 
 at_most_one : (roster : List Member) (past : Trace) (i : ℕ) → pulses_for i (items roster past) ≤ 1
 at_most_one roster [] i = omega arith
 at_most_one roster (e ∷ past) i =
-    let before : ℕ = pulses_for i (items roster past) in
-    let most : before ≤ 1 = at_most_one roster past i in
-    subst (λ n. n ≤ 1) (sym (sum_by-append (λ m. cond (is_unblock_for i m.item.what) 1 0) (items roster past) (option_to_list (item_of roster e past)))) (
-    elim (item_of roster e past) as (λ o. item_of roster e past ≡ o → before + pulses_for i (option_to_list o) ≤ 1) [
-      | None ↦ λ is. omega arith
-      | Some m ↦ λ is.
-          elim (is_unblock_for i m.item.what) as (λ b. is_unblock_for i m.item.what ≡ b → before + (0 + cond b 1 0) ≤ 1) [
-            | true ↦ λ pulse.
-                let first = first_for roster past e.thread e.call i m (item_accepted roster e past m is).1 pulse in
-                let none : before ≡ 0 = none_counted i (items roster past) (sym (unblocked_among_now past (items roster past) i) ∙ first) in
-                omega arith
-            | false ↦ λ other. omega arith
-          ] refl
-    ] refl)
+    let first : (m : SentItem) → item_of roster e past ≡ Some m → is_unblock_for i m.item.what ≡ true → pulses_for i (items roster past) ≡ 0 =
+    λ m is pulse. none_counted i (items roster past) (sym (unblocked_among_now past (items roster past) i) ∙ first_for roster past e.thread e.call i m (item_accepted roster e past m is).1 pulse) in
+    let all : pulses_for i (items roster (e ∷ past)) ≡ pulses_for i (items roster past) + pulses_for i (option_to_list (item_of roster e past)) =
+    sum_by-append (λ m. cond (is_unblock_for i m.item.what) 1 0) (items roster past) (option_to_list (item_of roster e past)) in
+    grind (arith, all, first, at_most_one roster past i)
 
 pub one_unblock_pulse : laws.OneUnblockPulse
 one_unblock_pulse roster past r l i = at_most_one roster past i

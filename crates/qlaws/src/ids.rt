@@ -3,11 +3,13 @@
 ghost use Rattle.qlaws.specs.Ids.{ChannelsAreLimited, ConnectionsAreLimited, DestroyedStaysDestroyed, DetachedStaysDetached};
 
 /// No more than 64 channels are open.
+#[tactic(auto, using(crate::proofs::IdLaws::channels_are_limited))]
 pub fn channels_are_limited()
     ensures { ChannelsAreLimited }
 {}
 
 /// No more than 1,024 connections are live.
+#[tactic(auto, using(crate::proofs::IdLaws::connections_are_limited))]
 pub fn connections_are_limited()
     ensures { ConnectionsAreLimited }
 {}

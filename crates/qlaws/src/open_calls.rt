@@ -3,17 +3,20 @@
 ghost use Rattle.qlaws.specs.OpenCalls.{AtMostOneOpen, HeldIsOpenSend, NewestIsLast, NobodyWaitsAfterShutdown, NoneIsNewest, NothingPendingForWaiting, OpenIsUnended, OpenSendsAreRouted, ReceiveBuffersKeepLength, ReplyBuffersKeepLength};
 
 /// At most one of a thread's accepted calls that may wait isn't ended, and the thread waits in exactly that one.
+#[tactic(auto, using(crate::proofs::OpenCallLaws::at_most_one_open, crate::proofs::OpenCallLaws::open_is_unended))]
 pub fn one_open_call()
     ensures one { AtMostOneOpen }
     ensures same { OpenIsUnended }
 {}
 
 /// The connection of each open Send is live and leads to the channel of the Send, which is open.
+#[tactic(auto, using(crate::proofs::OpenCallLaws::open_sends_are_routed))]
 pub fn open_sends_are_routed()
     ensures { OpenSendsAreRouted }
 {}
 
 /// A message is held, that is, received and not answered, exactly if its Send is open and has a receipt.
+#[tactic(auto, using(crate::proofs::OpenCallLaws::held_is_open_send))]
 pub fn held_is_open_send()
     ensures { HeldIsOpenSend }
 {}
@@ -26,17 +29,20 @@ pub fn newest_is_last()
 {}
 
 /// No item is pending on a channel while a receive that may take it is open there.
+#[tactic(auto, using(crate::proofs::OpenCallLaws::nothing_pending_for_waiting))]
 pub fn nothing_pending_for_waiting()
     ensures { NothingPendingForWaiting }
 {}
 
 /// The buffer of an open call is as long as the one that was passed in.
+#[tactic(auto, using(crate::proofs::OpenCallLaws::receive_buffers_keep_length, crate::proofs::OpenCallLaws::reply_buffers_keep_length))]
 pub fn buffers_keep_length()
     ensures sends { ReplyBuffersKeepLength }
     ensures receives { ReceiveBuffersKeepLength }
 {}
 
 /// After an accepted Shutdown no thread waits.
+#[tactic(auto, using(crate::proofs::OpenCallLaws::nobody_waits_after_shutdown))]
 pub fn nobody_waits_after_shutdown()
     ensures { NobodyWaitsAfterShutdown }
 {}

@@ -7,7 +7,7 @@ use crate::label::NameFault;
 use crate::line::Line;
 use crate::named::{Named, line_fault, name_faults, process_faults, push_process_number};
 use crate::plain::plain_line;
-use crate::reading::script::{Lined, lines_behind};
+use crate::reading::script::lines_behind;
 use qbase::ids::ThreadNo;
 use qkernel::kernel::Kernel;
 use qmodel::call::Call;
@@ -34,36 +34,20 @@ pub struct Growing {
     open: Vec<u64>,
 }
 
-/// What a line adds to the run.
-#[derive(Drop)]
-pub enum Step {
-    /// Nothing, or a state that is compared.
-    Nothing,
-    /// A thread.
-    Member(Member),
-    /// A call.
-    Call(ThreadNo, Call),
-    /// The line is faulty, and isn't added.
-    Faulty(Vec<Fault>),
-}
+/// What a line adds to the run; a blank one adds nothing, or a state that is compared. Or the faults of the line, which
+/// isn't added.
+pub type Step = Result<Plain, Vec<Fault>>;
 
 impl Growing {
     /// Returns the lines of a script that was read, and its calls, which are still to be made.
     pub fn of(alloc: Global, named: Named) -> Result<(Growing, Vec<(ThreadNo, Call)>), AllocError> {
-        let Named {
-            script,
-            check,
-            processes,
-            lines,
-            ..
-        } = named;
-        let Script { roster, calls } = script;
+        let Script { roster, calls } = named.script;
         let mut growing = Growing {
             alloc,
-            check,
+            check: named.check,
             roster,
-            processes,
-            lines,
+            processes: named.processes,
+            lines: named.lines,
             open: Vec::new(alloc),
         };
         for call in 1..=growing.check.calls.len() as u64 {
@@ -109,37 +93,27 @@ impl Growing {
         let mut lined = lines_behind(self.alloc, line, self.lines, calls as u64)?;
         let said = match lined.lines.pop() {
             Some(said) if lined.faults.is_empty() => said,
-            None if lined.faults.is_empty() => return Ok(Step::Nothing),
-            _ => return Ok(Step::Faulty(lined.faults)),
+            None if lined.faults.is_empty() => return Ok(Ok(Plain::Blank)),
+            _ => return Ok(Err(lined.faults)),
         };
         let states = self.check.states.len();
         let extent = self.check.scope.extent();
         let plain = plain_line(self.alloc, &self.check.scope, &said)?;
-        self.keep(&said, lined)?;
+        if !self.check.scope.has_room() {
+            return Err(AllocError);
+        }
+        self.check.scope.add(self.alloc, &said)?;
+        self.lines = lined.count;
+        self.check.calls.append(&mut lined.calls)?;
+        self.check.states.append(&mut lined.states)?;
         let step = self.step(&said, plain, calls)?;
-        if let Step::Faulty(_) = &step {
+        if step.is_err() {
             self.lines = self.lines.saturating_sub(1);
             self.check.scope.go_back(self.alloc, extent)?;
             self.check.calls.truncate(calls);
             self.check.states.truncate(states);
         }
         Ok(step)
-    }
-
-    /// Keeps what a line defines and expects.
-    fn keep(&mut self, said: &Line, lined: Lined) -> Result<(), AllocError> {
-        if !self.check.scope.has_room() {
-            return Err(AllocError);
-        }
-        self.check.scope.add(self.alloc, said)?;
-        self.lines = lined.count;
-        let Lined {
-            mut calls,
-            mut states,
-            ..
-        } = lined;
-        self.check.calls.append(&mut calls)?;
-        self.check.states.append(&mut states)
     }
 
     /// Returns what a line adds to the run, given its plain line or the fault of its names; `calls` is the number of
@@ -155,16 +129,14 @@ impl Growing {
             Err(fault) => {
                 let lines = slice::from_ref(said);
                 let faults = name_faults(lines, self.check.context(), &[fault])?;
-                return Ok(Step::Faulty(faults));
+                return Ok(Err(faults));
             }
         };
         let roster = self.roster.as_slice();
         match line_behind(self.alloc, roster, calls > 0, text.as_str().as_bytes()) {
             Ok(plain) => self.expected(said, plain),
             Err(ParseError::Memory) => Err(AllocError),
-            Err(ParseError::Fault(fault)) => {
-                Ok(Step::Faulty(line_fault(self.alloc, self.lines, fault)?))
-            }
+            Err(ParseError::Fault(fault)) => Ok(Err(line_fault(self.alloc, self.lines, fault)?)),
         }
     }
 
@@ -176,7 +148,7 @@ impl Growing {
         let faults = process_faults(self.alloc, processes, &self.check.scope)?;
         if !faults.is_empty() {
             self.processes.truncate(numbers);
-            return Ok(Step::Faulty(faults));
+            return Ok(Err(faults));
         }
         let waiting = self.open.len();
         if let Plain::Call(..) = &plain {
@@ -189,17 +161,13 @@ impl Growing {
         let (faults, open) = self.expectation_faults(Extent::Front, state)?;
         if !faults.is_empty() {
             self.open.truncate(waiting);
-            return Ok(Step::Faulty(faults));
+            return Ok(Err(faults));
         }
         self.open = open;
-        Ok(match plain {
-            Plain::Blank => Step::Nothing,
-            Plain::Roster(member) => {
-                self.roster.push(member)?;
-                Step::Member(member)
-            }
-            Plain::Call(thread, call) => Step::Call(thread, call),
-        })
+        if let Plain::Roster(member) = &plain {
+            self.roster.push(*member)?;
+        }
+        Ok(Ok(plain))
     }
 
     /// Returns what differs from the expectations at the end of the lines, and wasn't returned before: the names that

@@ -10,17 +10,11 @@ use qreading::near::{quotation, unknown_call};
 use qreading::place::{Fault, ReadError, fault_in_words};
 use qreading::reading::call::is;
 use std::alloc::{AllocError, Global};
-use std::str;
 
 /// Returns a word in lowercase, without underscores.
 fn lowercase(alloc: Global, word: &[u8]) -> Result<Vec<u8>, AllocError> {
-    let mut plain = Vec::new(alloc);
-    for byte in word {
-        if *byte != b'_' {
-            plain.push(byte.to_ascii_lowercase())?;
-        }
-    }
-    Ok(plain)
+    let letters = word.iter().filter(|byte| **byte != b'_');
+    letters.map(|byte| byte.to_ascii_lowercase()).collect(alloc)
 }
 
 /// Returns the form of the call that has this name, up to a parenthesis, here or in QNX: there in any case, with or
@@ -250,12 +244,10 @@ fn push_bytes_hint(wanted: &mut String, word: &[u8]) -> Result<(), AllocError> {
 
 /// Adds the form of `count` bytes of zero, if a buffer may have that many.
 fn push_count_hint(wanted: &mut String, count: &[u8]) -> Result<(), AllocError> {
-    let Ok(shown) = str::from_utf8(count) else {
-        return Ok(());
-    };
     if !is_decimal(count) || count.len() > 4 {
         return Ok(());
     }
+    let shown = quotation(count);
     write!(wanted, "; for {shown} bytes of zero write {shown}x00")
 }
 
@@ -277,11 +269,8 @@ const MOST_LETTERS: usize = 16;
 
 /// Adds the bytes of a word of letters, at least one of which isn't a hexadecimal digit, in the form that a script has.
 fn push_text_hint(wanted: &mut String, word: &[u8]) -> Result<(), AllocError> {
-    let is_long = word.len() > MOST_LETTERS;
-    if is_long || !word.iter().all(|byte| byte.is_ascii_alphabetic()) {
-        return Ok(());
-    }
-    if word.iter().all(|byte| byte.is_ascii_hexdigit()) {
+    let is_text = word.len() <= MOST_LETTERS && word.iter().all(|byte| byte.is_ascii_alphabetic());
+    if !is_text || word.iter().all(|byte| byte.is_ascii_hexdigit()) {
         return Ok(());
     }
     wanted.push_str("; these letters are ")?;
@@ -296,9 +285,7 @@ pub fn buffer_hint(alloc: Global, word: &[u8]) -> Result<Option<String>, AllocEr
     if !is_decimal(word) || word.first() == Some(&b'0') || word.len() > 4 {
         return Ok(None);
     }
-    let Ok(shown) = str::from_utf8(word) else {
-        return Ok(None);
-    };
+    let shown = quotation(word);
     let count = word.len() / 2;
     let bytes = if count == 1 { "byte" } else { "bytes" };
     let hint = format!(in alloc;

@@ -5,12 +5,12 @@ use crate::expecting::check::Check;
 use crate::expecting::names::NameCheck;
 use crate::hints::is_utf_16;
 use crate::label::NameFault;
-use crate::line::{CallLine, Line, Operand, Process};
+use crate::line::{CallLine, Kind, Line, Operand, Process};
 use crate::plain::plain_of;
 use crate::reading::script::{Lined, lines_behind};
 use crate::scope::Scope;
 use crate::translation::{Refusal, translate};
-use crate::wording::{Context, Usage, Use};
+use crate::wording::{Context, Usage};
 use qreading::fault::{LineFault, ScriptFault};
 use qreading::parts::Lines;
 use qreading::place::{Fault, Place};
@@ -55,14 +55,15 @@ fn single(alloc: Global, place: Place, what: String) -> Result<Vec<Fault>, Alloc
     Ok(faults)
 }
 
+/// A name, the way in which a line uses it, and the kind that it has to be of.
+type Use<'a> = (&'a Word, Usage<'a>, Kind);
+
 /// Returns the use of a name by an operand, if the name stands at this place.
 fn use_by<'a>(operand: &'a Operand, usage: Usage<'a>, place: Place) -> Option<Use<'a>> {
     match operand {
-        Operand::Name(mention) if mention.place == place => Some(Use {
-            name: &mention.name,
-            usage,
-            wanted: mention.wanted,
-        }),
+        Operand::Name(mention) if mention.place == place => {
+            Some((&mention.name, usage, mention.wanted))
+        }
         _ => None,
     }
 }
@@ -89,11 +90,7 @@ fn use_at<'a>(lines: &'a [Line], place: Place) -> Option<Use<'a>> {
         match definition {
             _ if used.is_some() => return used,
             Some(definition) if definition.place == place => {
-                return Some(Use {
-                    name: &definition.name,
-                    usage: Usage::Caller,
-                    wanted: definition.kind,
-                });
+                return Some((&definition.name, Usage::Caller, definition.kind));
             }
             _ => {}
         }
@@ -110,8 +107,8 @@ pub fn name_faults(
     let mut told = Vec::new(context.alloc);
     for fault in faults.iter().take(MOST_FAULTS) {
         let place = fault.place;
-        if let Some(used) = use_at(lines, place) {
-            let what = context.words(used, fault.error)?;
+        if let Some((name, usage, kind)) = use_at(lines, place) {
+            let what = context.words(name, usage, kind, fault.error)?;
             told.push(Fault { place, what })?;
         }
     }
@@ -173,11 +170,7 @@ pub fn line_fault(alloc: Global, line: u64, fault: LineFault) -> Result<Vec<Faul
 
 /// Returns the faults of lines that can't be translated, in words. The lines of the plain script are numbered like those
 /// of the script with names.
-fn refusal_faults(
-    alloc: Global,
-    lined: Lined,
-    refusal: &Refusal,
-) -> Result<Vec<Fault>, AllocError> {
+fn refusal_faults(alloc: Global, lined: Lined, refusal: Refusal) -> Result<Vec<Fault>, AllocError> {
     match refusal {
         Refusal::Memory | Refusal::Script(ScriptFault::NoMemory) => Err(AllocError),
         Refusal::Names(faults) => {
@@ -185,7 +178,7 @@ fn refusal_faults(
             let check = Check::new(alloc, scope, lined.calls, lined.states);
             name_faults(lined.lines.as_slice(), check.context(), faults.as_slice())
         }
-        Refusal::Script(ScriptFault::Line { number, fault }) => line_fault(alloc, *number, *fault),
+        Refusal::Script(ScriptFault::Line { number, fault }) => line_fault(alloc, number, fault),
         Refusal::Script(fault) => single(alloc, START, format!(in alloc; "{fault}")?),
     }
 }
@@ -253,7 +246,7 @@ fn read_lines(alloc: Global, text: &[u8], extent: Extent) -> Result<Reading, All
     }
     let translation = match translate(alloc, lined.lines.as_slice()) {
         Ok(translation) => translation,
-        Err(refusal) => return Ok(Reading::Faulty(refusal_faults(alloc, lined, &refusal)?)),
+        Err(refusal) => return Ok(Reading::Faulty(refusal_faults(alloc, lined, refusal)?)),
     };
     let mut processes = Vec::new(alloc);
     for line in &lined.lines {

@@ -27,14 +27,6 @@ pub enum Usage<'a> {
     Expectation,
 }
 
-/// A use of a name, and the kind that it has to be of.
-#[derive(Clone, Copy)]
-pub struct Use<'a> {
-    pub name: &'a Word,
-    pub usage: Usage<'a>,
-    pub wanted: Kind,
-}
-
 impl Context<'_> {
     /// Returns the word that names the call with this number.
     fn verb(&self, number: u64) -> &'static str {
@@ -57,9 +49,8 @@ impl Context<'_> {
         Ok(text)
     }
 
-    /// Returns the words for a name that stands for something of another kind.
-    fn other_kind(&self, used: Use<'_>) -> Result<String, AllocError> {
-        let name = used.name;
+    /// Returns the words for a name that stands for something of another kind than this.
+    fn other_kind(&self, name: &Word, usage: Usage<'_>, kind: Kind) -> Result<String, AllocError> {
         let Some(label) = self.scope.latest(name) else {
             return self.undefined(name);
         };
@@ -68,25 +59,30 @@ impl Context<'_> {
             Kind::Call => format!(in self.alloc; "a call of {made}")?,
             kind => String::from_str(self.alloc, kind.words())?,
         };
-        let wanted = used.wanted.words();
+        let wanted = kind.words();
         let mut text = format!(in self.alloc; "{name} is {is}, and ")?;
-        match used.usage {
+        match usage {
             Usage::Caller => text.push_str("a call begins with the thread that makes it")?,
             Usage::Operand(verb) => write!(text, "{verb} wants {wanted}")?,
             Usage::Expectation => write!(text, "{wanted} is wanted here")?,
         }
-        if matches!(used.wanted, Kind::Message) && made == "receive" {
+        if kind == Kind::Message && made == "receive" {
             text.push_str("; a message has the name of its send")?;
         }
         Ok(text)
     }
 
-    /// Returns the fault of a name, in words.
-    pub fn words(&self, used: Use<'_>, error: NameError) -> Result<String, AllocError> {
-        let name = used.name;
+    /// Returns the fault of a name that has to be of this kind, in words.
+    pub fn words(
+        &self,
+        name: &Word,
+        usage: Usage<'_>,
+        kind: Kind,
+        error: NameError,
+    ) -> Result<String, AllocError> {
         match error {
             NameError::Undefined => self.undefined(name),
-            NameError::OtherKind(_) => self.other_kind(used),
+            NameError::OtherKind(_) => self.other_kind(name, usage, kind),
             NameError::Twice(line) => {
                 format!(in self.alloc; "{name} is defined twice (line {line})")
             }

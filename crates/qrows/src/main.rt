@@ -48,7 +48,7 @@ fn compare<R: Print + AllocGlobal>(rt: &R, row: &Option<Row>) -> io::Result<bool
         return Ok(true);
     };
     let printed = row.printed(rt.alloc())?;
-    let name = row.name();
+    let name = &row.name;
     if row.wants(printed.as_str()) {
         println!(rt; "{name}: as written")?;
         return Ok(true);

@@ -10,7 +10,7 @@ use std::{io, str};
 /// A script, its name, and the output that it has to print.
 #[derive(Drop)]
 pub struct Row {
-    name: String,
+    pub name: String,
     explained: bool,
     script: String,
     wanted: String,
@@ -19,28 +19,17 @@ pub struct Row {
 impl Row {
     /// Returns the row that this line begins, if it begins one.
     pub fn begun_by(alloc: Global, line: &str) -> Result<Option<Row>, AllocError> {
-        if let Some(name) = line.strip_prefix("== ") {
-            return Ok(Some(Row::new(alloc, name, false)?));
-        }
-        match line.strip_prefix("=? ") {
-            Some(name) => Ok(Some(Row::new(alloc, name, true)?)),
-            None => Ok(None),
-        }
-    }
-
-    /// Returns a row without lines.
-    fn new(alloc: Global, name: &str, explained: bool) -> Result<Row, AllocError> {
-        Ok(Row {
+        let (name, explained) = match (line.strip_prefix("== "), line.strip_prefix("=? ")) {
+            (Some(name), _) => (name, false),
+            (None, Some(name)) => (name, true),
+            (None, None) => return Ok(None),
+        };
+        Ok(Some(Row {
             name: String::from_str(alloc, name)?,
             explained,
             script: String::new(alloc),
             wanted: String::new(alloc),
-        })
-    }
-
-    /// Returns the name.
-    pub fn name(&self) -> &str {
-        self.name.as_str()
+        }))
     }
 
     /// Adds a line of the script or of the output.
@@ -73,50 +62,34 @@ impl Row {
     /// Returns a fault, with its explanation if the row has one.
     fn faulty(&self, alloc: Global, fault: ScriptFault) -> io::Result<String> {
         let mut text = format!(in alloc; "{fault}\n")?;
-        let ScriptFault::Line { number, fault } = fault else {
-            return Ok(text);
-        };
-        if self.explained {
-            if let Some(explanation) = explain(alloc, self.script.as_bytes(), number, fault)? {
-                let lines = format!(in alloc; "{explanation}\n")?;
-                text.push_str(lines.as_str())?;
-            }
+        if let ScriptFault::Line { number, fault } = fault
+            && self.explained
+            && let Some(explanation) = explain(alloc, self.script.as_bytes(), number, fault)?
+        {
+            let shown = &explanation.text;
+            write!(text, "{shown}\n")?;
         }
         Ok(text)
     }
 }
 
-/// A line that stands once for each number from the first to the last.
-#[derive(Drop)]
-struct Repeat<'a> {
-    first: u64,
-    last: u64,
-    line: &'a str,
-}
-
-impl<'a> Repeat<'a> {
-    /// Returns the repeat that this line is, if it is one.
-    fn of(line: &'a str) -> Option<Repeat<'a>> {
-        let rest = line.strip_prefix("@ ")?;
-        let (first, rest) = rest.split_once(" ")?;
-        let (last, line) = rest.split_once(" ")?;
-        Some(Repeat {
-            first: first.parse().ok()?,
-            last: last.parse().ok()?,
-            line,
-        })
-    }
+/// Returns the first and the last number for which a line stands once each, and what it repeats, if it repeats a line.
+fn repeat_of(line: &str) -> Option<(u64, u64, &str)> {
+    let rest = line.strip_prefix("@ ")?;
+    let (first, rest) = rest.split_once(" ")?;
+    let (last, line) = rest.split_once(" ")?;
+    Some((first.parse().ok()?, last.parse().ok()?, line))
 }
 
 /// Adds the line, or each that it stands for.
 fn add_lines(text: &mut String, line: &str) -> io::Result<()> {
-    let Some(repeat) = Repeat::of(line) else {
+    let Some((first, last, repeated)) = repeat_of(line) else {
         text.push_str(line)?;
         text.push('\n')?;
         return Ok(());
     };
-    for number in repeat.first..=repeat.last {
-        add_numbered(text, repeat.line, number)?;
+    for number in first..=last {
+        add_numbered(text, repeated, number)?;
     }
     Ok(())
 }

@@ -32,7 +32,7 @@ fn make_rounds<E: Endpoint, R: Wait>(
     number: u8,
     rounds: u16,
 ) -> Result<Tally, WorkerFault> {
-    let mut tally = Tally::new();
+    let mut tally = Tally::default();
     let coid = caller.connect_attach(chid)?;
     for round in 0..rounds {
         caller.msg_send_pulse(coid, priority(CLIENT_LEVEL), COUNT, i32::from(round))?;
@@ -54,16 +54,12 @@ fn message_of(number: u8, round: u16) -> [u8; MESSAGE_LENGTH] {
 /// Returns what an answer adds to the sums, 0 for an echo; an error if the answer isn't that of the message.
 fn sum_in(message: &[u8; MESSAGE_LENGTH], answer: &Answer) -> Result<u64, WorkerFault> {
     let [service, number, low, last] = *message;
-    let sum = if service == SUM {
-        u64::from(number) + u64::from(low) + u64::from(last)
+    let (sum, bytes, copied) = if service == SUM {
+        let sum = u64::from(number) + u64::from(low) + u64::from(last);
+        (sum, sum.to_be_bytes(), REPLY_LENGTH)
     } else {
-        0
-    };
-    let echo = [service, number, low, last, 0, 0, 0, 0];
-    let (bytes, copied) = if service == SUM {
-        (sum.to_be_bytes(), REPLY_LENGTH)
-    } else {
-        (echo, MESSAGE_LENGTH)
+        let echo = [service, number, low, last, 0, 0, 0, 0];
+        (0, echo, MESSAGE_LENGTH)
     };
     if answer.status == 0
         && answer.copied == copied

@@ -10,7 +10,7 @@ use qbase::ids::ChannelId;
 use qcalls::caller::Caller;
 use qcalls::calls::Calls;
 use qcalls::endpoint::Endpoint;
-use qcalls::results::{Pulse, Received, Request};
+use qcalls::results::{Received, Request};
 use qqueue::item::What;
 use std::sync::Wait;
 
@@ -36,9 +36,9 @@ fn hold_and_serve<E: Endpoint, R: Wait>(
     caller: &mut Caller<E, R>,
     chid: ChannelId,
 ) -> Result<Tally, WorkerFault> {
-    let mut tally = Tally::new();
-    let first = next_request(caller, chid, &mut tally)?;
-    let second = poll_request(caller, chid, &mut tally)?;
+    let mut tally = Tally::default();
+    let first = next_request(caller, chid, false, &mut tally)?;
+    let second = next_request(caller, chid, true, &mut tally)?;
     answer(caller, &first)?;
     tally.count_answered();
     answer(caller, &second)?;
@@ -46,30 +46,20 @@ fn hold_and_serve<E: Endpoint, R: Wait>(
     Ok(tally.plus(serve_all(caller, chid)?))
 }
 
-/// Returns the next message, and waits if there is none.
+/// Returns the next message; if there is none, it polls for it if `polling` is set, and else waits.
 fn next_request<E: Endpoint, R: Wait>(
     caller: &mut Caller<E, R>,
     chid: ChannelId,
-    tally: &mut Tally,
-) -> Result<Request, WorkerFault> {
-    for _ in caller.rt().forever() {
-        let item = caller.msg_receive(chid, REQUEST_LENGTH)?;
-        if let Some(request) = request_in(item, tally)? {
-            return Ok(request);
-        }
-    }
-    unreachable!()
-}
-
-/// Returns the next message, and polls for it.
-fn poll_request<E: Endpoint, R: Wait>(
-    caller: &mut Caller<E, R>,
-    chid: ChannelId,
+    polling: bool,
     tally: &mut Tally,
 ) -> Result<Request, WorkerFault> {
     let mut polls = MOST_POLLS;
     for _ in caller.rt().forever() {
-        let item = poll_receive(caller, chid, &mut polls)?;
+        let item = if polling {
+            poll_receive(caller, chid, &mut polls)?
+        } else {
+            caller.msg_receive(chid, REQUEST_LENGTH)?
+        };
         if let Some(request) = request_in(item, tally)? {
             return Ok(request);
         }
@@ -81,12 +71,7 @@ fn poll_request<E: Endpoint, R: Wait>(
 fn request_in(item: Received, tally: &mut Tally) -> Result<Option<Request>, WorkerFault> {
     match item {
         Received::Message(request) => Ok(Some(request)),
-        Received::Pulse(
-            Pulse {
-                what: What::User { code: COUNT, .. },
-                ..
-            },
-        ) => {
+        Received::Pulse(pulse) if matches!(pulse.what, What::User { code: COUNT, .. }) => {
             tally.count_pulse();
             Ok(None)
         }

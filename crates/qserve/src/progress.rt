@@ -1,10 +1,5 @@
 //! Shows the progress of a run on one line, which is rewritten twice a second.
 
-use qbase::bytes::Bytes;
-use qbase::ids::ThreadNo;
-use qcalls::endpoint::Endpoint;
-use qmodel::call::{Call, Completion};
-use qshared::port::{Called, CalledBoth};
 use std::alloc::{AllocError, Global};
 use std::rt::Clock;
 use std::sync::atomic::{AtomicU64, Ordering};
@@ -33,7 +28,7 @@ impl Progress {
     }
 
     /// Counts one more round.
-    fn round(&self) {
+    pub fn round(&self) {
         self.rounds.fetch_add(1, Ordering::SeqCst);
     }
 
@@ -61,91 +56,6 @@ impl Progress {
     }
 }
 
-/// Passes calls on, and counts a round for each Send whose ending was collected.
-#[derive(Drop)]
-pub struct Counted<'p, E> {
-    inner: E,
-    progress: &'p Progress,
-    sending: bool,
-}
-
-impl<'p, E> Counted<'p, E> {
-    /// Returns an endpoint whose rounds are counted.
-    pub fn new(inner: E, progress: &'p Progress) -> Counted<'p, E> {
-        Counted {
-            inner,
-            progress,
-            sending: false,
-        }
-    }
-
-    /// Returns the endpoint alone.
-    pub fn into_inner(self) -> E {
-        let Counted { inner, .. } = self;
-        inner
-    }
-}
-
-impl<'p, E: Endpoint> Endpoint for Counted<'p, E> {
-    ghost history = { λ c. E.history c.inner };
-
-    ghost seen = { λ c. E.seen c.inner };
-
-    ghost came = { λ c. E.came c.inner };
-
-    ghost came_both = { λ c. E.came_both c.inner };
-
-    fn thread(&self) -> ThreadNo {
-        self.inner.thread()
-    }
-
-    fn call<R: Wait>(&mut self, rt: &R, call: Call) -> Called {
-        self.sending = matches!(call, Call::Send { .. });
-        let called = self.inner.call(rt, call);
-        if self.sending && matches!(called, Called::Done(_)) {
-            self.progress.round();
-        }
-        called
-    }
-
-    fn call_both<R: Wait>(&mut self, rt: &R, first: Call, second: Call) -> CalledBoth {
-        let sends = (
-            matches!(first, Call::Send { .. }),
-            matches!(second, Call::Send { .. }),
-        );
-        let both = self.inner.call_both(rt, first, second);
-        let (sending, called) = match &both {
-            CalledBoth::Both(_, called) => (sends.1, called),
-            CalledBoth::First(called, _) => (sends.0, called),
-        };
-        self.sending = sending;
-        if sending && matches!(called, Called::Done(_)) {
-            self.progress.round();
-        }
-        both
-    }
-
-    fn spare(&mut self) -> Option<Bytes> {
-        self.inner.spare()
-    }
-
-    fn poll(&mut self) -> Option<Completion> {
-        let completion = self.inner.poll()?;
-        if self.sending {
-            self.progress.round();
-        }
-        Some(completion)
-    }
-
-    fn wait<R: Wait>(&mut self, rt: &R) -> Completion {
-        let completion = self.inner.wait(rt);
-        if self.sending {
-            self.progress.round();
-        }
-        completion
-    }
-}
-
 /// Shows on standard error the progress of a run of `rounds` rounds, until `clients` clients have ended. A write that
 /// fails is ignored, and the line is removed at the end.
 pub fn show<R: Wait + Clock + Eprint>(
@@ -166,7 +76,9 @@ pub fn show<R: Wait + Clock + Eprint>(
         };
         if taken >= next {
             next = next.saturating_add(period);
-            show_line(rt, alloc, progress.rounds(), rounds, taken);
+            if let Ok(line) = line_of(alloc, progress.rounds(), rounds, taken) {
+                let _ = eprint!(rt; "\r{line}");
+            }
         }
         if progress.wait(rt, clients, next.saturating_sub(taken)) {
             break;
@@ -174,13 +86,6 @@ pub fn show<R: Wait + Clock + Eprint>(
     }
     if next > period {
         let _ = eprint!(rt; "\r{:60}\r", "");
-    }
-}
-
-/// Writes the line over the one before.
-fn show_line<R: Eprint>(rt: &R, alloc: Global, done: u64, rounds: u64, taken: Duration) {
-    if let Ok(line) = line_of(alloc, done, rounds, taken) {
-        let _ = eprint!(rt; "\r{line}");
     }
 }
 

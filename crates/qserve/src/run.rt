@@ -28,8 +28,8 @@ use qshared::tie::Tie;
 use std::alloc::Global;
 use std::rt::Clock;
 use std::sync::Wait;
+use std::thread;
 use std::thread::{Threads, available_parallelism};
-use std::{mem, thread};
 
 /// The ports of a kernel except that of the main thread, by the work of their threads.
 #[derive(Drop)]
@@ -101,9 +101,7 @@ pub fn run<K: Tie + Send + Sync, R: Threads + Wait + Clock + Eprint + Sync>(
 /// Sorts the ports except that of the main thread, which come in rising thread number: servers, clients, the alarm.
 fn crew_of<K: Tie>(mut ports: Vec<Port<K>>, servers: u8) -> Result<Crew<K>, WorkerFault> {
     let servers = usize::from(servers);
-    let Some(alarm) = ports.pop() else {
-        return Err(WorkerFault::Unexpected);
-    };
+    let alarm = ports.pop().ok_or(WorkerFault::Unexpected)?;
     if ports.len() < servers {
         return Err(WorkerFault::Unexpected);
     }
@@ -115,7 +113,8 @@ fn crew_of<K: Tie>(mut ports: Vec<Port<K>>, servers: u8) -> Result<Crew<K>, Work
     })
 }
 
-/// Starts the workers on threads of their own, and waits until all have ended.
+/// Starts the workers on threads of their own, and waits until all have ended. If the main thread's work fails, a
+/// Shutdown ends the workers.
 fn gather<K: Tie + Send + Sync, L: Log + Send, R: Threads + Wait + Clock + Eprint + Sync>(
     rt: &R,
     alloc: Global,
@@ -126,7 +125,7 @@ fn gather<K: Tie + Send + Sync, L: Log + Send, R: Threads + Wait + Clock + Eprin
     settings: Settings,
     stacks: Stacks,
 ) -> Result<Gathered<K>, WorkerFault> {
-    thread::scope(thread::scope_env(), rt, move |scope| {
+    let (work, port) = thread::scope(thread::scope_env(), rt, move |scope| {
         let stage = Stage {
             rt,
             alloc,
@@ -135,21 +134,12 @@ fn gather<K: Tie + Send + Sync, L: Log + Send, R: Threads + Wait + Clock + Eprin
             progress,
             stacks,
         };
-        direct(&stage, main, crew, settings)
-    })
-}
-
-/// Does the work of the main thread. If it fails, a Shutdown ends the workers.
-fn direct<'s, X, K: Tie + Send + Sync, L: Log + Send, R: Threads + Wait + Clock + Eprint + Sync>(
-    stage: &Stage<'s, X, K, L, R>,
-    main: Port<K>,
-    crew: Crew<K>,
-    settings: Settings,
-) -> Result<Gathered<K>, WorkerFault> {
-    let mut main = Caller::of(main, stage.shared, stage.rt, stage.alloc);
-    let work = conduct(stage, &mut main, crew, settings);
-    let mut gathered = main.or_shutdown(work)?;
-    gathered.ports.push(main.into_port())?;
+        let mut main = Caller::of(main, shared, rt, alloc);
+        let work = conduct(&stage, &mut main, crew, settings);
+        (main.or_shutdown(work), main.into_port())
+    });
+    let mut gathered = work?;
+    gathered.ports.push(port)?;
     Ok(gathered)
 }
 
@@ -168,37 +158,30 @@ fn conduct<
     crew: Crew<K>,
     settings: Settings,
 ) -> Result<Gathered<K>, WorkerFault> {
-    let Crew {
-        servers,
-        clients,
-        alarm,
-    } = crew;
     let (given, kept) = if settings.hold {
-        (Some(alarm), None)
+        (Some(crew.alarm), None)
     } else {
-        (None, Some(alarm))
+        (None, Some(crew.alarm))
     };
-    let many = servers.len();
+    let many = crew.servers.len();
     let chid = main.channel_create(ChannelFlags::of(0))?;
     let coid = main.connect_attach(chid)?;
-    let servers = stage.start_servers(servers, given, chid)?;
-    let clients = stage.start_clients(clients, chid, settings)?;
+    let servers = stage.start(crew.servers, None, given, chid)?;
+    let clients = stage.start(crew.clients, Some(settings), None, chid)?;
     let started = main.or_shutdown(both(servers.all, clients.all));
     if settings.progress {
         stage.show(clients.threads.len() as u64, settings.all_rounds());
     }
-    let mut clients = stage.join_all(clients.threads)?;
+    let clients = stage.join_all(clients.threads)?;
     let stopped = stop_servers(main, coid, many);
     let servers = stage.join_all(servers.threads)?;
     let tally = both(both(clients.done, servers.done), both(started, stopped))?;
     main.channel_destroy(chid)?;
     main.shutdown()?;
-    let trips = mem::replace(&mut clients.trips, Vec::new(stage.alloc));
-    let ports = ports_of(servers, clients, kept)?;
     Ok(Gathered {
         tally,
-        trips,
-        ports,
+        trips: clients.trips,
+        ports: ports_of(servers, clients.ports, kept)?,
     })
 }
 
@@ -212,25 +195,19 @@ fn stop_servers<E: Endpoint, R: Wait>(
         let sent = main.msg_send_pulse(coid, priority(MAIN_LEVEL), STOP, 0);
         main.or_shutdown(sent)?;
     }
-    Ok(Tally::new())
+    Ok(Tally::default())
 }
 
 /// Returns the ports of all workers and of the alarm, which the main thread kept or a server had.
 fn ports_of<K: Tie>(
     servers: Joined<K>,
-    mut clients: Joined<K>,
+    mut clients: Vec<Port<K>>,
     kept: Option<Port<K>>,
 ) -> Result<Vec<Port<K>>, WorkerFault> {
-    let Joined {
-        mut ports,
-        alarm,
-        ..
-    } = servers;
-    ports.append(&mut clients.ports)?;
-    for alarm in [kept, alarm] {
-        if let Some(alarm) = alarm {
-            ports.push(alarm)?;
-        }
+    let mut ports = servers.ports;
+    ports.append(&mut clients)?;
+    if let Some(alarm) = kept.or(servers.alarm) {
+        ports.push(alarm)?;
     }
     Ok(ports)
 }

@@ -28,7 +28,7 @@ pub fn serve_all<E: Endpoint, R: Wait>(
     caller: &mut Caller<E, R>,
     chid: ChannelId,
 ) -> Result<Tally, WorkerFault> {
-    let mut tally = Tally::new();
+    let mut tally = Tally::default();
     for _ in caller.rt().forever() {
         let pulse = match caller.msg_receive(chid, REQUEST_LENGTH)? {
             Received::Message(request) => {

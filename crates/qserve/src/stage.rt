@@ -3,7 +3,7 @@
 use crate::client::client;
 use crate::fault::WorkerFault;
 use crate::hold::holding_server;
-use crate::progress::{Counted, Progress, show};
+use crate::progress::{Progress, show};
 use crate::protocol::FIRST_CLIENT;
 use crate::server::server;
 use crate::settings::{Settings, Stacks};
@@ -74,46 +74,27 @@ impl<'s, X, K: Tie + Send + Sync, L: Log + Send, R: Threads + Wait + Clock + Epr
     L,
     R,
 > {
-    /// Starts a client for each of these ports. If there is no memory for a list of threads, it returns an error before
-    /// it starts the first.
-    pub fn start_clients(
+    /// Starts a worker for each of these ports: a client with these settings, or a server if there are none. If there
+    /// is an alarm, the first server takes it and holds a message. If there is no memory for a list of threads, it
+    /// returns an error before it starts the first.
+    pub fn start(
         &self,
         ports: Vec<Port<K>>,
-        chid: ChannelId,
-        settings: Settings,
-    ) -> Result<Started<K>, WorkerFault> {
-        let (rt, alloc, shared) = (self.rt, self.alloc, self.shared);
-        let progress = self.progress;
-        let mut threads = Vec::with_capacity(alloc, ports.len())?;
-        let mut all = Ok(Tally::new());
-        for port in ports {
-            let builder = Builder::new().stack_size(self.stacks.client);
-            let started = builder.spawn_scoped(self.scope, move || {
-                client_thread(rt, alloc, shared, progress, port, chid, settings)
-            });
-            match started {
-                Ok(thread) => threads.push(thread)?,
-                Err(_) => all = Err(WorkerFault::Unexpected),
-            }
-        }
-        Ok(Started { threads, all })
-    }
-
-    /// Starts a server for each of these ports. If there is an alarm, the first server takes it and holds a message.
-    pub fn start_servers(
-        &self,
-        ports: Vec<Port<K>>,
+        settings: Option<Settings>,
         mut alarm: Option<Port<K>>,
         chid: ChannelId,
     ) -> Result<Started<K>, WorkerFault> {
         let (rt, alloc, shared) = (self.rt, self.alloc, self.shared);
+        let progress = self.progress;
+        let stack = settings.map_or(self.stacks.server, |_| self.stacks.client);
         let mut threads = Vec::with_capacity(alloc, ports.len())?;
-        let mut all = Ok(Tally::new());
+        let mut all = Ok(Tally::default());
         for port in ports {
-            let builder = Builder::new().stack_size(self.stacks.server);
+            let builder = Builder::new().stack_size(stack);
             let alarm = alarm.take();
-            let started = builder.spawn_scoped(self.scope, move || {
-                server_thread(rt, alloc, shared, port, alarm, chid)
+            let started = builder.spawn_scoped(self.scope, move || match settings {
+                Some(settings) => client_thread(rt, alloc, shared, progress, port, chid, settings),
+                None => server_thread(rt, alloc, shared, port, alarm, chid),
             });
             match started {
                 Ok(thread) => threads.push(thread)?,
@@ -132,23 +113,18 @@ impl<'s, X, K: Tie + Send + Sync, L: Log + Send, R: Threads + Wait + Clock + Epr
     /// still run.
     pub fn join_all(&self, threads: Vec<JoinHandle<Ended<K>>>) -> Result<Joined<K>, WorkerFault> {
         let mut joined = Joined {
-            done: Ok(Tally::new()),
+            done: Ok(Tally::default()),
             ports: Vec::with_capacity(self.alloc, threads.len())?,
             alarm: None,
             trips: Vec::new(self.alloc),
         };
         for thread in threads {
-            let Ended {
-                done,
-                port,
-                alarm,
-                mut trips,
-            } = thread.join(self.rt);
-            joined.done = both(joined.done, done);
-            joined.ports.push(port)?;
-            joined.trips.append(&mut trips)?;
-            if alarm.is_some() {
-                joined.alarm = alarm;
+            let mut ended = thread.join(self.rt);
+            joined.done = both(joined.done, ended.done);
+            joined.trips.append(&mut ended.trips)?;
+            joined.ports.push(ended.port)?;
+            if ended.alarm.is_some() {
+                joined.alarm = ended.alarm;
             }
         }
         Ok(joined)
@@ -168,12 +144,12 @@ fn client_thread<K: Tie, L: Log, R: Wait + Clock>(
     let number = port.thread().0.wrapping_sub(FIRST_CLIENT);
     let port = Timed {
         inner: KernelPort::new(port, shared),
-        stopwatch: Stopwatch::new(rt, alloc, settings.time),
+        stopwatch: Stopwatch::new(rt, alloc, settings.time, progress),
     };
-    let mut caller = Caller::new(Counted::new(port, progress), rt, alloc);
+    let mut caller = Caller::new(port, rt, alloc);
     let done = client(&mut caller, chid, number, settings.rounds);
     progress.end(rt);
-    let Timed { inner, stopwatch } = caller.into_endpoint().into_inner();
+    let Timed { inner, stopwatch } = caller.into_endpoint();
     Ended {
         done: both(done, stopwatch.all()),
         port: inner.into_port(),
@@ -192,21 +168,19 @@ fn server_thread<K: Tie, L: Log, R: Wait>(
     chid: ChannelId,
 ) -> Ended<K> {
     let mut caller = Caller::of(port, shared, rt, alloc);
-    let Some(alarm) = alarm else {
-        let done = server(&mut caller, chid);
-        return Ended {
-            done,
-            port: caller.into_port(),
-            alarm: None,
-            trips: Vec::new(alloc),
-        };
+    let mut alarm = alarm.map(|alarm| Caller::of(alarm, shared, rt, alloc));
+    let done = match &mut alarm {
+        Some(alarm) => holding_server(&mut caller, alarm, chid),
+        None => server(&mut caller, chid),
     };
-    let mut alarm = Caller::of(alarm, shared, rt, alloc);
-    let done = holding_server(&mut caller, &mut alarm, chid);
+    let alarm = match alarm {
+        Some(alarm) => Some(alarm.into_port()),
+        None => None,
+    };
     Ended {
         done,
         port: caller.into_port(),
-        alarm: Some(alarm.into_port()),
+        alarm,
         trips: Vec::new(alloc),
     }
 }

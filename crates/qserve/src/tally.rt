@@ -4,7 +4,7 @@ use crate::fault::WorkerFault;
 use qcalls::error::CallError;
 
 /// The work of one worker, or of several together.
-#[derive(Clone, Copy, PartialEq, Eq)]
+#[derive(Clone, Copy, Default, PartialEq, Eq)]
 pub struct Tally {
     /// Messages that a client sent and had answered.
     pub sent: u64,
@@ -17,16 +17,6 @@ pub struct Tally {
 }
 
 impl Tally {
-    /// Returns the tally of no work.
-    pub fn new() -> Tally {
-        Tally {
-            sent: 0,
-            answered: 0,
-            pulses: 0,
-            sum: 0,
-        }
-    }
-
     /// Returns the work of two workers together. A number that would exceed 2^64 - 1 is 2^64 - 1.
     pub fn plus(self, other: Tally) -> Tally {
         Tally {

@@ -1,6 +1,7 @@
-//! An endpoint that times how long a client waits.
+//! An endpoint that times how long a client waits, and counts its rounds.
 
 use crate::fault::WorkerFault;
+use crate::progress::Progress;
 use crate::tally::Tally;
 use qbase::bytes::Bytes;
 use qbase::ids::ThreadNo;
@@ -13,13 +14,16 @@ use std::rt::Clock;
 use std::sync::Wait;
 use std::time::{Duration, Instant};
 
-/// The times of a thread's round trips, by a clock. A round trip begins with the call of a Send and ends when its
-/// ending is collected.
+/// The times of a thread's round trips, by a clock, and their count. A round trip begins with the call of a Send and
+/// ends when its ending is collected.
 #[derive(Drop)]
 pub struct Stopwatch<'c, C> {
     clock: &'c C,
     /// Whether anything is timed.
     on: bool,
+    progress: &'c Progress,
+    /// Whether the latest call is a Send.
+    sending: bool,
     /// The time of the Send that isn't collected yet.
     start: Option<Instant>,
     /// The nanoseconds of each round trip.
@@ -29,21 +33,24 @@ pub struct Stopwatch<'c, C> {
 }
 
 impl<'c, C: Clock> Stopwatch<'c, C> {
-    /// Returns a stopwatch without times so far; it takes times only if it is on.
-    pub fn new(clock: &'c C, alloc: Global, on: bool) -> Stopwatch<'c, C> {
+    /// Returns a stopwatch without times so far; it takes times only if it is on, and counts rounds in any case.
+    pub fn new(clock: &'c C, alloc: Global, on: bool, progress: &'c Progress) -> Stopwatch<'c, C> {
         Stopwatch {
             clock,
             on,
+            progress,
+            sending: false,
             start: None,
             trips: Vec::new(alloc),
-            all: Ok(Tally::new()),
+            all: Ok(Tally::default()),
         }
     }
 
     /// Notes that a call is about to be made.
     fn called(&mut self, call: &Call) {
         self.start = None;
-        if !self.on || !matches!(call, Call::Send { .. }) {
+        self.sending = matches!(call, Call::Send { .. });
+        if !self.on || !self.sending {
             return;
         }
         match Instant::now(self.clock) {
@@ -54,15 +61,18 @@ impl<'c, C: Clock> Stopwatch<'c, C> {
 
     /// Notes that an ending was collected.
     fn note_ending(&mut self) {
-        let Some(start) = self.start.take() else {
-            return;
-        };
-        let Ok(taken) = start.elapsed(self.clock) else {
-            self.all = Err(WorkerFault::Unexpected);
-            return;
-        };
-        if self.trips.push(nanoseconds_of(taken)).is_err() {
-            self.all = Err(WorkerFault::Call(CallError::NoMemory));
+        if let Some(start) = self.start.take() {
+            match start.elapsed(self.clock) {
+                Ok(taken) => {
+                    if self.trips.push(nanoseconds_of(taken)).is_err() {
+                        self.all = Err(WorkerFault::Call(CallError::NoMemory));
+                    }
+                }
+                Err(_) => self.all = Err(WorkerFault::Unexpected),
+            }
+        }
+        if self.sending {
+            self.progress.round();
         }
     }
 
@@ -83,8 +93,8 @@ pub fn nanoseconds_of(duration: Duration) -> u64 {
     u64::try_from(duration.as_nanos()).unwrap_or(u64::MAX)
 }
 
-/// Passes calls on, and times each Send. If a call is made before the ending of the one before is collected, only the
-/// second is timed.
+/// Passes calls on, times each Send, and counts a round for each whose ending was collected. If a call is made before
+/// the ending of the one before is collected, only the second is timed.
 #[derive(Drop)]
 pub struct Timed<'c, E, C> {
     pub inner: E,
@@ -114,12 +124,19 @@ impl<'c, E: Endpoint, C: Clock> Endpoint for Timed<'c, E, C> {
     }
 
     fn call_both<R: Wait>(&mut self, rt: &R, first: Call, second: Call) -> CalledBoth {
+        let sends_first = matches!(first, Call::Send { .. });
         self.stopwatch.called(&second);
         let both = self.inner.call_both(rt, first, second);
-        match &both {
-            CalledBoth::Both(_, Called::Done(_)) => self.stopwatch.note_ending(),
-            CalledBoth::Both(_, _) => {}
-            CalledBoth::First(_, _) => self.stopwatch.start = None,
+        let called = match &both {
+            CalledBoth::Both(_, called) => called,
+            CalledBoth::First(called, _) => {
+                self.stopwatch.start = None;
+                self.stopwatch.sending = sends_first;
+                called
+            }
+        };
+        if matches!(called, Called::Done(_)) {
+            self.stopwatch.note_ending();
         }
         both
     }

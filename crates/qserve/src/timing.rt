@@ -47,10 +47,7 @@ impl Timing {
 /// rise.
 fn share(trips: &[u64], hundredths: usize) -> u64 {
     let many = trips.len().saturating_mul(hundredths).div_ceil(100);
-    match trips.get(many.saturating_sub(1)) {
-        Some(nanoseconds) => *nanoseconds,
-        None => 0,
-    }
+    trips.get(many.saturating_sub(1)).copied().unwrap_or(0)
 }
 
 /// Returns the time now, if the run is timed.
@@ -58,10 +55,8 @@ pub fn start_of<C: Clock>(clock: &C, time: bool) -> Result<Option<Instant>, Work
     if !time {
         return Ok(None);
     }
-    match Instant::now(clock) {
-        Ok(start) => Ok(Some(start)),
-        Err(_) => Err(WorkerFault::Unexpected),
-    }
+    let start = Instant::now(clock).map_err(|_| WorkerFault::Unexpected)?;
+    Ok(Some(start))
 }
 
 /// Returns the times of a run that has just ended, if it is timed.
@@ -73,10 +68,8 @@ pub fn timing_of<C: Clock>(
     let Some(start) = start else {
         return Ok(None);
     };
-    match start.elapsed(clock) {
-        Ok(taken) => Ok(Some(Timing::of(nanoseconds_of(taken), trips))),
-        Err(_) => Err(WorkerFault::Unexpected),
-    }
+    let taken = start.elapsed(clock).map_err(|_| WorkerFault::Unexpected)?;
+    Ok(Some(Timing::of(nanoseconds_of(taken), trips)))
 }
 
 /// Returns the five lines of `--time`.

@@ -30,7 +30,7 @@ pub fn run_chart<R: Files + Input + Print + Eprint + AllocGlobal>(
     let text = text.as_slice();
     let view = view_of(run);
     let drawn = if run.names_in || file.is_some_and(is_named) {
-        let source = Source::new(file, text, false, run.colours.errors);
+        let source = Source::new(file, text, false, run.screen.colours.errors);
         let Named { script, check, .. } = named_of(rt, source)?;
         drawing_of(check.context(), script, &view)
     } else {
@@ -57,7 +57,7 @@ fn is_same<R: Files + AllocGlobal>(rt: &R, one: &str, other: &str) -> bool {
 
 /// Returns the view to draw: as text if that is asked for, or if standard output is a terminal.
 fn view_of(run: &ChartRun) -> View {
-    let is_text = run.text || (run.terminal && run.output.is_none());
+    let is_text = run.text || (run.screen.output && run.output.is_none());
     View {
         style: if is_text { Style::Text } else { Style::Svg },
         bytes: run.bytes,

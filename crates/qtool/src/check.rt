@@ -5,12 +5,11 @@ mod tally;
 
 use crate::colours::{Mood, marks};
 use crate::command::CheckRun;
-use crate::designs::{faults_of as faults_of_design, is_design, words_of};
-use crate::difference::{Difference, difference_of};
+use crate::designs::{is_design, words_of};
+use crate::difference::{Difference, difference_of, without_returns};
 use crate::ending::{end_unwritten, tell_unread};
 use crate::example::{Outcome, outcome_of, printed};
 use crate::json::quoted;
-use crate::lines::without_returns;
 use crate::names::{faults_of, is_named};
 use places::Example;
 use qexplain::faults::faults;
@@ -41,11 +40,8 @@ pub fn run_check<R: Files + Print + Eprint + AllocGlobal + Clone + Drop>(
     rt: &R,
     run: &CheckRun,
 ) -> Result<ExitCode, ExitCode> {
-    let mut check = Check {
-        rt,
-        run,
-        tally: Tally::default(),
-    };
+    let tally = Tally::default();
+    let mut check = Check { rt, run, tally };
     let checked = check.check_all();
     checked.map_err(|error| end_unwritten(rt, error))?;
     Ok(ExitCode::from(check.tally.status()))
@@ -106,10 +102,12 @@ impl<R: Files + Print + Eprint + AllocGlobal + Clone + Drop> Check<'_, R> {
         let name = example.name.as_str();
         // A verdict names the file alone, so it holds wherever the folder is.
         let file = Path::new(name).file_name().unwrap_or(name);
-        let Some(words) = words_of(self.rt.alloc(), file, text)? else {
-            self.tell(name, "faulty", "faulty")?;
-            let faults = faults_of_design(self.rt.alloc(), text)?;
-            return self.tell_places(example, faults.as_slice());
+        let words = match words_of(self.rt.alloc(), file, text)? {
+            Ok(words) => words,
+            Err(faults) => {
+                self.tell(name, "faulty", "faulty")?;
+                return self.tell_places(example, faults.as_slice());
+            }
         };
         let words = words.as_str().as_bytes();
         match self.wanted(example) {
@@ -167,7 +165,7 @@ impl<R: Files + Print + Eprint + AllocGlobal + Clone + Drop> Check<'_, R> {
                 "without" => Mood::Unsure,
                 _ => Mood::Good,
             };
-            let (begin, end) = marks(mood, self.run.colours.output);
+            let (begin, end) = marks(mood, self.run.screen.colours.output);
             return println!(self.rt; "{name}: {begin}{words}{end}");
         }
         let alloc = self.rt.alloc();
@@ -209,8 +207,7 @@ impl<R: Files + Print + Eprint + AllocGlobal + Clone + Drop> Check<'_, R> {
             return Ok(None);
         };
         let difference = difference_of(self.rt.alloc(), found, wanted.as_slice())?;
-        let line = difference.line;
-        let words = format_args!("differs from its {what} at line {line}");
+        let words = format_args!("differs from its {what} at line {}", difference.line);
         self.tell(name, "differs", words)?;
         self.tell_more(format_args!("{difference}"))?;
         Ok(Some(difference))
@@ -247,13 +244,12 @@ impl<R: Files + Print + Eprint + AllocGlobal + Clone + Drop> Check<'_, R> {
         };
         self.tell(name.as_str(), "faulty", "faulty")?;
         for remark in &faults(self.rt.alloc(), text)? {
-            let (line, explanation) = (remark.line, &remark.explanation);
-            let column = explanation.column();
+            let (line, column) = (remark.line, remark.explanation.column);
             if let Some(fault) = remark.fault {
                 self.tell_more(format_args!("  {script}:{line}:{column}: {fault}"))?;
             }
             if self.run.explain {
-                self.tell_more(format_args!("{explanation}"))?;
+                self.tell_more(remark.explanation.text.as_str())?;
             }
         }
         Ok(())

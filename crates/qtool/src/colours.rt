@@ -9,6 +9,14 @@ pub struct Colours {
     pub errors: bool,
 }
 
+/// Which outputs are terminals, and which have colours.
+#[derive(Clone, Copy, Default)]
+pub struct Screen {
+    pub output: bool,
+    pub errors: bool,
+    pub colours: Colours,
+}
+
 /// What a colour says.
 #[derive(Clone, Copy)]
 pub enum Mood {

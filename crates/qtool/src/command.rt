@@ -2,7 +2,7 @@
 
 mod options;
 
-use crate::colours::Colours;
+use crate::colours::Screen;
 use clap::{ArgMatches, Error};
 use options::command;
 use std::alloc::{AllocError, Global};
@@ -24,9 +24,8 @@ pub struct ScriptRun {
     pub plain: bool,
     /// Whether a call that fails makes the exit status 1.
     pub strict: bool,
-    /// Whether standard error is a terminal, on which faults are always explained.
-    pub terminal: bool,
-    pub colours: Colours,
+    /// The outputs; if standard error is a terminal, faults are always explained.
+    pub screen: Screen,
 }
 
 /// The scripts to check.
@@ -40,7 +39,7 @@ pub struct CheckRun {
     pub explain: bool,
     /// Whether the outcomes are printed as objects of JSON.
     pub json: bool,
-    pub colours: Colours,
+    pub screen: Screen,
 }
 
 /// A kernel to play with.
@@ -50,11 +49,11 @@ pub struct PlayRun {
     pub file: Option<String>,
     /// Whether answers have names in place of numbers, once the lines have names.
     pub names: bool,
-    pub colours: Colours,
+    pub screen: Screen,
 }
 
 /// A script whose run is drawn.
-#[derive(Default, Drop)]
+#[derive(Drop)]
 pub struct ChartRun {
     /// Its file; `None` for standard input.
     pub file: Option<String>,
@@ -70,9 +69,8 @@ pub struct ChartRun {
     pub from: u32,
     /// The number of the last call that is drawn; `None` for the last of the script.
     pub to: Option<u32>,
-    /// Whether standard output is a terminal, on which the drawing is always text.
-    pub terminal: bool,
-    pub colours: Colours,
+    /// The outputs; if standard output is a terminal, a drawing on it is always text.
+    pub screen: Screen,
 }
 
 /// A design to explore.
@@ -88,15 +86,16 @@ pub struct ExploreRun {
     pub names: bool,
     /// Whether the output is an object of JSON.
     pub json: bool,
+    /// Whether moments that differ in which of equal copies did what count as two.
+    pub no_symmetry: bool,
     /// The most moments of the search, at least 1.
     pub most: u32,
     /// The number of random interleavings; `None` to make all interleavings.
     pub random: Option<u32>,
     /// The seed of the random interleavings.
     pub seed: u32,
-    /// Whether standard error is a terminal, on which progress is shown.
-    pub terminal: bool,
-    pub colours: Colours,
+    /// The outputs; if standard error is a terminal, progress is shown on it.
+    pub screen: Screen,
 }
 
 /// A server and its clients to run.
@@ -148,21 +147,21 @@ fn file_of(alloc: Global, value: Option<&str>) -> Result<Option<String>, AllocEr
 }
 
 /// Returns the script that the arguments ask for.
-fn script_of(alloc: Global, matches: &ArgMatches<'_>) -> Result<ScriptRun, AllocError> {
+fn script_of(alloc: Global, matches: &ArgMatches<'_>, screen: Screen) -> Result<ScriptRun, Error> {
     Ok(ScriptRun {
         file: file_of(alloc, matches.get_str("file"))?,
         explain: matches.get_flag("explain"),
-        names: matches.get_flag("names"),
+        names: matches.get_flag("names") || screen.output,
         json: matches.get_flag("json"),
         names_in: matches.get_flag("names-in"),
         plain: matches.get_flag("plain"),
         strict: matches.get_flag("strict"),
-        ..ScriptRun::default()
+        screen,
     })
 }
 
 /// Returns the check that the arguments ask for: of the current folder, if they name no file or folder.
-fn check_of(alloc: Global, matches: &ArgMatches<'_>) -> Result<CheckRun, AllocError> {
+fn check_of(alloc: Global, matches: &ArgMatches<'_>, screen: Screen) -> Result<CheckRun, Error> {
     let mut paths = Vec::new(alloc);
     for path in matches.get_strs("path").unwrap_or(&["."]) {
         paths.push(String::from_str(alloc, path)?)?;
@@ -172,12 +171,12 @@ fn check_of(alloc: Global, matches: &ArgMatches<'_>) -> Result<CheckRun, AllocEr
         update: matches.get_flag("update"),
         explain: matches.get_flag("explain"),
         json: matches.get_flag("json"),
-        colours: Colours::default(),
+        screen,
     })
 }
 
 /// Returns the drawing that the arguments ask for.
-fn chart_of(alloc: Global, matches: &ArgMatches<'_>) -> Result<ChartRun, AllocError> {
+fn chart_of(alloc: Global, matches: &ArgMatches<'_>, screen: Screen) -> Result<ChartRun, Error> {
     Ok(ChartRun {
         file: file_of(alloc, matches.get_str("file"))?,
         output: file_of(alloc, matches.get_str("output"))?,
@@ -186,27 +185,32 @@ fn chart_of(alloc: Global, matches: &ArgMatches<'_>) -> Result<ChartRun, AllocEr
         names_in: matches.get_flag("names-in"),
         from: matches.get_one("from").unwrap_or(1),
         to: matches.get_one("to"),
-        ..ChartRun::default()
+        screen,
     })
 }
 
 /// Returns the design that the arguments ask for.
-fn explore_of(alloc: Global, matches: &ArgMatches<'_>) -> Result<ExploreRun, AllocError> {
+fn explore_of(
+    alloc: Global,
+    matches: &ArgMatches<'_>,
+    screen: Screen,
+) -> Result<ExploreRun, Error> {
     Ok(ExploreRun {
         file: file_of(alloc, matches.get_str("file"))?,
         listing: matches.get_flag("listing"),
+        no_symmetry: matches.get_flag("no-symmetry"),
         script: matches.get_flag("script"),
-        names: matches.get_flag("names"),
+        names: matches.get_flag("names") || screen.output,
         json: matches.get_flag("json"),
         most: matches.get_one("most").unwrap_or(1_000_000),
         random: matches.get_one("random"),
         seed: matches.get_one("seed").unwrap_or(1),
-        ..ExploreRun::default()
+        screen,
     })
 }
 
 /// Returns the demonstration that the arguments ask for. Each number has a default.
-fn serve_of(alloc: Global, matches: &ArgMatches<'_>) -> Result<ServeRun, AllocError> {
+fn serve_of(alloc: Global, matches: &ArgMatches<'_>) -> Result<ServeRun, Error> {
     Ok(ServeRun {
         clients: matches.get_one("clients").unwrap_or(0),
         servers: matches.get_one("servers").unwrap_or(0),
@@ -219,21 +223,21 @@ fn serve_of(alloc: Global, matches: &ArgMatches<'_>) -> Result<ServeRun, AllocEr
     })
 }
 
-/// Returns the action that a command line asks for; the first word is the program's name. The error may be a help text
-/// that was asked for.
-pub fn action_of(alloc: Global, words: &[String]) -> Result<Action, Error> {
+/// Returns the action that a command line asks for, as it is done with these outputs; the first word is the program's
+/// name. The error may be a help text that was asked for.
+pub fn action_of(alloc: Global, words: &[String], screen: Screen) -> Result<Action, Error> {
     let matches = command(alloc)?.try_get_matches_from(words)?;
     Ok(match matches.subcommand() {
         Some(("serve", serve)) => Action::Serve(serve_of(alloc, serve)?),
-        Some(("check", check)) => Action::Check(check_of(alloc, check)?),
+        Some(("check", check)) => Action::Check(check_of(alloc, check, screen)?),
         Some(("play", play)) => Action::Play(PlayRun {
             file: file_of(alloc, play.get_str("file"))?,
-            names: play.get_flag("names"),
-            colours: Colours::default(),
+            names: play.get_flag("names") || screen.output,
+            screen,
         }),
-        Some(("chart", chart)) => Action::Chart(chart_of(alloc, chart)?),
-        Some(("explore", explore)) => Action::Explore(explore_of(alloc, explore)?),
-        Some((_, script)) => Action::Script(script_of(alloc, script)?),
+        Some(("chart", chart)) => Action::Chart(chart_of(alloc, chart, screen)?),
+        Some(("explore", explore)) => Action::Explore(explore_of(alloc, explore, screen)?),
+        Some((_, script)) => Action::Script(script_of(alloc, script, screen)?),
         None => Action::Script(ScriptRun::default()),
     })
 }

@@ -34,11 +34,14 @@ impl Watch for Nobody {
     fn see(&mut self, _count: usize) {}
 }
 
+/// The words of a search, or the faults of a design that can't be read.
+pub type Told = Result<String, Vec<Fault>>;
+
 /// Explores all interleavings of the design in a text, and returns the words of the search; `file` is its name in them.
-/// Returns `None` if the design is faulty.
-pub fn words_of(alloc: Global, file: &str, text: &[u8]) -> Result<Option<String>, AllocError> {
-    let Reading::Good(design) = read(alloc, text)? else {
-        return Ok(None);
+pub fn words_of(alloc: Global, file: &str, text: &[u8]) -> Result<Told, AllocError> {
+    let design = match read(alloc, text)? {
+        Reading::Good(design) => design,
+        Reading::Faulty(faults) => return Ok(Err(faults)),
     };
     let source = Source {
         alloc,
@@ -51,15 +54,7 @@ pub fn words_of(alloc: Global, file: &str, text: &[u8]) -> Result<Option<String>
         ..ExploreRun::default()
     };
     let (words, _) = search(&run, source, &mut Nobody)?;
-    Ok(Some(words))
-}
-
-/// Returns the faults of the text of a design.
-pub fn faults_of(alloc: Global, text: &[u8]) -> Result<Vec<Fault>, AllocError> {
-    match read(alloc, text)? {
-        Reading::Good(_) => Ok(Vec::new(alloc)),
-        Reading::Faulty(faults) => Ok(faults),
-    }
+    Ok(Ok(words))
 }
 
 /// Returns whether a file has a design, by its name.
@@ -108,10 +103,11 @@ pub fn run_explore<R: Files + Input + Print + Eprint + AllocGlobal>(
     let text = text_of(rt, run.file.as_deref())?;
     let text = text.as_slice();
     let file = run.file.as_deref().unwrap_or("-");
+    let (errors, colours) = (run.screen.errors, run.screen.colours);
     let design = match read(rt.alloc(), text) {
         Ok(Reading::Good(design)) => design,
         Ok(Reading::Faulty(faults)) => {
-            let source = remarks::Source::new(Some(file), text, run.terminal, run.colours.errors);
+            let source = remarks::Source::new(Some(file), text, errors, colours.errors);
             return Err(source.end_faulty(rt, faults.as_slice()));
         }
         Err(_) => return Err(end_failed(rt, "out of memory")),
@@ -119,8 +115,9 @@ pub fn run_explore<R: Files + Input + Print + Eprint + AllocGlobal>(
     if run.listing {
         return print_listing(rt, &design);
     }
-    if run.terminal {
-        let _ = remarks::tell_oddities(rt, run.file.as_deref(), text);
+    if errors {
+        let source = remarks::Source::new(run.file.as_deref(), text, true, colours.errors);
+        let _ = source.tell_oddities(rt);
     }
     let source = Source {
         alloc: rt.alloc(),
@@ -149,7 +146,7 @@ fn print_told<R: Print + Eprint + AllocGlobal>(
     let printed = if run.json {
         object_of(rt.alloc(), file, words, status)
     } else {
-        painted(rt.alloc(), words, status, run.colours.output && !run.script)
+        painted(rt.alloc(), run, words, status)
     };
     let printed = printed.map_err(|_| end_failed(rt, "out of memory"))?;
     print_text(rt, printed.as_str())?;
@@ -157,18 +154,13 @@ fn print_told<R: Print + Eprint + AllocGlobal>(
 }
 
 /// Returns the words of a search, the first line of them in the colour of its outcome.
-fn painted(
-    alloc: Global,
-    words: &str,
-    status: u8,
-    has_colours: bool,
-) -> Result<String, AllocError> {
+fn painted(alloc: Global, run: &ExploreRun, words: &str, status: u8) -> Result<String, AllocError> {
     let mood = match status {
         0 => Mood::Good,
         1 => Mood::Bad,
         _ => Mood::Unsure,
     };
-    let (begin, end) = marks(mood, has_colours);
+    let (begin, end) = marks(mood, run.screen.colours.output && !run.script);
     let (first, rest) = words.split_once('\n').unwrap_or((words, ""));
     format!(in alloc; "{begin}{first}{end}\n{rest}")
 }
@@ -205,7 +197,7 @@ fn search_shown<R: Eprint + AllocGlobal>(
 ) -> Result<(String, u8), AllocError> {
     let mut progress = Progress {
         rt,
-        terminal: run.terminal,
+        terminal: run.screen.errors,
         steps: 0,
         shown: false,
     };
@@ -230,11 +222,14 @@ fn search<W: Watch>(
             None => (source.chance_words(count, seed)?, NOT_ALL),
         });
     }
-    Ok(match explore(alloc, design, run.most as usize, progress)? {
-        Verdict::Found(found) => (fault_of(run, source, &found, "a shortest run")?, 1),
-        Verdict::Nothing(summary) => (source.nothing_words(&summary)?, 0),
-        Verdict::GaveUp(tally) => (source.gave_up_words(tally)?, NOT_ALL),
-    })
+    let most = run.most as usize;
+    Ok(
+        match explore(alloc, design, most, !run.no_symmetry, progress)? {
+            Verdict::Found(found) => (fault_of(run, source, &found, "a shortest run")?, 1),
+            Verdict::Nothing(summary) => (source.nothing_words(&summary)?, 0),
+            Verdict::GaveUp(tally) => (source.gave_up_words(tally)?, NOT_ALL),
+        },
+    )
 }
 
 /// Returns the output for a fault; `which` says what kind of run shows it.

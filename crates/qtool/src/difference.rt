@@ -1,4 +1,4 @@
-//! Unproved: words and layout. Finds the first difference between two texts.
+//! Unproved: words and layout. Finds the first difference between two texts, whatever their line ends.
 
 use std::alloc::{AllocError, Global};
 use std::fmt;
@@ -61,4 +61,15 @@ fn shown_line(alloc: Global, text: &[u8], number: usize) -> Result<String, Alloc
     }
     shown.push_str("(end of text)")?;
     Ok(shown)
+}
+
+/// Returns a text without the carriage return in front of each line feed, as a script is read.
+pub fn without_returns(alloc: Global, text: &[u8]) -> Result<Vec<u8>, AllocError> {
+    let mut plain = Vec::with_capacity(alloc, text.len())?;
+    for (at, byte) in text.iter().enumerate() {
+        if *byte != b'\r' || text.get(at.saturating_add(1)) != Some(&b'\n') {
+            plain.push(*byte)?;
+        }
+    }
+    Ok(plain)
 }

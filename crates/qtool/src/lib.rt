@@ -11,7 +11,6 @@ pub mod difference;
 pub mod ending;
 pub mod example;
 pub mod json;
-pub mod lines;
 pub mod names;
 pub mod play;
 pub mod remarks;

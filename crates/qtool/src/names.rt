@@ -2,7 +2,7 @@
 
 use crate::command::ScriptRun;
 use crate::ending::{end_failed, print_text, text_of};
-use crate::remarks::{Source, tell_report};
+use crate::remarks::Source;
 use crate::scripts::print_trace;
 use qexplain::report::{Report, ReportedRun};
 use qnames::{Named, Reading, read};
@@ -33,32 +33,27 @@ pub fn run_named<R: Files + Input + Print + Eprint + AllocGlobal>(
 ) -> Result<ExitCode, ExitCode> {
     let file = run.file.as_deref();
     let text = text_of(rt, file)?;
-    let shows = run.explain || run.terminal;
-    let source = Source::new(file, text.as_slice(), shows, run.colours.errors);
+    let shows = run.explain || run.screen.errors;
+    let source = Source::new(file, text.as_slice(), shows, run.screen.colours.errors);
     let named = named_of(rt, source)?;
     if run.plain {
         print_text(rt, named.text.as_str())?;
         return Ok(ExitCode::SUCCESS);
     }
     let outcome = outcome_of(rt.alloc(), named, run.names && !run.json);
-    let outcome = outcome.map_err(|_| end_failed(rt, "out of memory"))?;
-    print_trace(rt, run, outcome.trace.as_str())?;
+    let (trace, report, faults) = outcome.map_err(|_| end_failed(rt, "out of memory"))?;
+    print_trace(rt, run, trace.as_str())?;
     if run.explain {
-        let _ = tell_report(rt, file, text.as_slice(), &outcome.report);
+        let _ = source.tell_report(rt, &report);
     }
-    if outcome.faults.is_empty() {
+    if faults.is_empty() {
         return Ok(ExitCode::SUCCESS);
     }
-    Err(source.end_faulty(rt, outcome.faults.as_slice()))
+    Err(source.end_faulty(rt, faults.as_slice()))
 }
 
 /// The outcome of a script with names: its trace, what the trace doesn't say, and what differs from its expectations.
-#[derive(Drop)]
-struct Outcome {
-    trace: String,
-    report: Report,
-    faults: Vec<Fault>,
-}
+type Outcome = (String, Report, Vec<Fault>);
 
 /// Runs a script with names once, and returns its outcome; the trace has the names if `in_names` is set.
 fn outcome_of(alloc: Global, named: Named, in_names: bool) -> Result<Outcome, AllocError> {
@@ -78,19 +73,18 @@ fn outcome_of(alloc: Global, named: Named, in_names: bool) -> Result<Outcome, Al
     check.finish(run.run().kernel())?;
     let blocked = run.run().kernel().blocked(alloc)?;
     check.context().push_blocked(&mut told, blocked.as_slice())?;
-    let (trace, report) = run.finish(check.context())?;
-    let faults = check.take_faults()?;
-    Ok(Outcome {
-        trace: if in_names { told } else { trace },
-        report,
-        faults,
-    })
+    let (plain, report) = run.finish(check.context())?;
+    let trace = if in_names { told } else { plain };
+    Ok((trace, report, check.take_faults()?))
 }
 
 /// Returns the faults of a script with names, or else what differs from its expectations in its run.
 pub fn faults_of(alloc: Global, text: &[u8]) -> Result<Vec<Fault>, AllocError> {
     match read(alloc, text)? {
-        Reading::Good(named) => Ok(outcome_of(alloc, named, false)?.faults),
+        Reading::Good(named) => {
+            let (_, _, faults) = outcome_of(alloc, named, false)?;
+            Ok(faults)
+        }
         Reading::Faulty(faults) => Ok(faults),
     }
 }

@@ -62,7 +62,7 @@ pub fn run_play<R: Files + Input + Print + Eprint + AllocGlobal>(
         terminal,
         lines: 0,
         faulty: false,
-        colours: run.colours.errors,
+        colours: run.screen.colours.errors,
     };
     if let Some(name) = run.file.as_deref() {
         let text = text_of(rt, Some(name))?;
@@ -199,20 +199,17 @@ impl<R: Files + Input + Print + Eprint + AllocGlobal> Play<'_, R> {
                 self.tell_typed(faults.as_slice(), &[])?;
                 if self.terminal {
                     for remark in &oddities(self.rt.alloc(), line)? {
-                        eprintln!(self.rt; "{}", remark.explanation)?;
+                        eprintln!(self.rt; "{}", remark.explanation.text)?;
                     }
                     self.tell_more()?;
                 }
-                Ok(())
             }
-            Ok(Taken::Plain(number, fault)) => self.tell_fault(line, number, fault),
-            Ok(Taken::Named(faults)) => self.tell_typed(faults.as_slice(), line),
-            Err(ScriptFault::NoMemory) => Err(AllocError.into()),
-            Err(_) => {
-                self.refuse("script too long");
-                Ok(())
-            }
+            Ok(Taken::Plain(number, fault)) => self.tell_fault(line, number, fault)?,
+            Ok(Taken::Named(faults)) => self.tell_typed(faults.as_slice(), line)?,
+            Err(ScriptFault::NoMemory) => return Err(AllocError.into()),
+            Err(_) => self.refuse("script too long"),
         }
+        Ok(())
     }
 
     /// Returns the lines so far with this one behind them, without adding it.
@@ -239,17 +236,17 @@ impl<R: Files + Input + Print + Eprint + AllocGlobal> Play<'_, R> {
             return Ok(());
         }
         let text = self.text_with(line)?;
-        match explain(self.rt.alloc(), text.as_slice(), number, fault)? {
-            Some(explanation) => eprintln!(self.rt; "{explanation}"),
-            None => Ok(()),
+        if let Some(explanation) = explain(self.rt.alloc(), text.as_slice(), number, fault)? {
+            eprintln!(self.rt; "{}", explanation.text)?;
         }
+        Ok(())
     }
 
     /// Prints why calls failed, who is blocked now, and which threads wait in a circle.
     fn tell_more(&self) -> io::Result<()> {
         let names = self.sheet.shown();
         if let Some(run) = self.sheet.session().run() {
-            for failure in &run.refusals(names)? {
+            for (_, failure) in &run.refusals(names)? {
                 println!(self.rt; "  {failure}")?;
             }
             for wait in &run.wait_words(names)? {

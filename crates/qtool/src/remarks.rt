@@ -45,13 +45,10 @@ impl<'a> Source<'a> {
                 }
             }
             let number = line.saturating_sub(1) as usize;
-            let place = Place {
-                at: column.saturating_sub(1) as usize,
-                len: 1,
-            };
+            let (at, len) = (column.saturating_sub(1) as usize, 1);
             if self.shows
                 && let Some(line) = Lines(self.text).nth(number)
-                && let Ok(excerpt) = excerpt_of(rt.alloc(), line, place)
+                && let Ok(excerpt) = excerpt_of(rt.alloc(), line, Place { at, len })
             {
                 let _ = eprintln!(rt; "{excerpt}");
             }
@@ -62,6 +59,48 @@ impl<'a> Source<'a> {
     pub fn end_faulty<R: Eprint + AllocGlobal>(self, rt: &R, faults: &[Fault]) -> ExitCode {
         self.tell_faults(rt, faults);
         ExitCode::FAILURE
+    }
+
+    /// Prints `FILE:LINE:COLUMN: FAULT`, or `line LINE: FAULT` if the script has no file.
+    fn tell_place<R: Eprint + AllocGlobal>(self, rt: &R, remark: &Remark) -> io::Result<()> {
+        let line = remark.line;
+        let column = remark.explanation.column;
+        let place = match self.file {
+            Some(name) => format!(in rt.alloc(); "{name}:{line}:{column}")?,
+            None => format!(in rt.alloc(); "line {line}")?,
+        };
+        match remark.fault {
+            Some(fault) => eprintln!(rt; "{place}: {fault}"),
+            None => eprintln!(rt; "{place}: warning"),
+        }
+    }
+
+    /// Prints the oddities of a script or a design, and explains them.
+    pub fn tell_oddities<R: Eprint + AllocGlobal>(self, rt: &R) -> io::Result<()> {
+        for remark in &oddities(rt.alloc(), self.text)? {
+            self.tell_place(rt, remark)?;
+            eprintln!(rt; "{}", remark.explanation.text)?;
+        }
+        Ok(())
+    }
+
+    /// Prints the oddities of a script, why its calls failed, and who is blocked on whom at its end.
+    pub fn tell_report<R: Eprint + AllocGlobal>(self, rt: &R, report: &Report) -> io::Result<()> {
+        self.tell_oddities(rt)?;
+        for (line, refusal) in &report.refusals {
+            match self.file {
+                Some(name) => eprintln!(rt; "{name}:{line}: {refusal}")?,
+                None => eprintln!(rt; "line {line}: {refusal}")?,
+            }
+        }
+        let more = report.failures.saturating_sub(report.refusals.len());
+        if more > 0 {
+            eprintln!(rt; "and {more} more that failed")?;
+        }
+        for wait in &report.waits {
+            eprintln!(rt; "{wait}")?;
+        }
+        Ok(())
     }
 }
 
@@ -74,66 +113,11 @@ pub fn tell_faults<R: Eprint + AllocGlobal>(rt: &R, source: Source<'_>) -> bool 
     let (begin, end) = marks(Mood::Bad, source.colours);
     for remark in &remarks {
         let _ = eprint!(rt; "{begin}qdemo:{end} ");
-        let _ = tell_place(rt, source.file, remark);
+        let _ = source.tell_place(rt, remark);
         if !source.shows {
             break;
         }
-        let _ = eprintln!(rt; "{}", remark.explanation);
+        let _ = eprintln!(rt; "{}", remark.explanation.text);
     }
     !remarks.is_empty()
-}
-
-/// Prints `FILE:LINE:COLUMN: FAULT`, or `line LINE: FAULT` if the script has no file.
-fn tell_place<R: Eprint + AllocGlobal>(
-    rt: &R,
-    file: Option<&str>,
-    remark: &Remark,
-) -> io::Result<()> {
-    let line = remark.line;
-    let column = remark.explanation.column();
-    let place = match file {
-        Some(name) => format!(in rt.alloc(); "{name}:{line}:{column}")?,
-        None => format!(in rt.alloc(); "line {line}")?,
-    };
-    match remark.fault {
-        Some(fault) => eprintln!(rt; "{place}: {fault}"),
-        None => eprintln!(rt; "{place}: warning"),
-    }
-}
-
-/// Prints the oddities of a script or a design, and explains them.
-pub fn tell_oddities<R: Eprint + AllocGlobal>(
-    rt: &R,
-    file: Option<&str>,
-    text: &[u8],
-) -> io::Result<()> {
-    for remark in &oddities(rt.alloc(), text)? {
-        tell_place(rt, file, remark)?;
-        eprintln!(rt; "{}", remark.explanation)?;
-    }
-    Ok(())
-}
-
-/// Prints the oddities of a script, why its calls failed, and who is blocked on whom at its end.
-pub fn tell_report<R: Eprint + AllocGlobal>(
-    rt: &R,
-    file: Option<&str>,
-    text: &[u8],
-    report: &Report,
-) -> io::Result<()> {
-    tell_oddities(rt, file, text)?;
-    for (line, refusal) in &report.refusals {
-        match file {
-            Some(name) => eprintln!(rt; "{name}:{line}: {refusal}")?,
-            None => eprintln!(rt; "line {line}: {refusal}")?,
-        }
-    }
-    let more = report.failures.saturating_sub(report.refusals.len());
-    if more > 0 {
-        eprintln!(rt; "and {more} more that failed")?;
-    }
-    for wait in &report.waits {
-        eprintln!(rt; "{wait}")?;
-    }
-    Ok(())
 }

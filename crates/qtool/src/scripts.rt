@@ -5,7 +5,7 @@ use crate::ending::{end_failed, end_quietly, end_unread, end_with, print_text};
 use crate::json::trace_json;
 use crate::names::{is_named, run_named};
 use crate::remarks;
-use crate::remarks::{tell_faults, tell_report};
+use crate::remarks::tell_faults;
 use crate::streams::{Outlet, Source};
 use qexplain::report::explained;
 use qscript::fault::ScriptFault;
@@ -26,11 +26,10 @@ pub fn run_script<R: Files + Input + Print + Eprint + AllocGlobal>(
     let file = run.file.as_deref();
     match file {
         _ if run.names_in || file.is_some_and(is_named) => run_named(rt, run),
-        _ if run.plain => Err(end_with(
-            rt,
-            "--plain wants a script with names: a file NAME.names, or --names-in",
-            2,
-        )),
+        _ if run.plain => {
+            let why = "--plain wants a script with names: a file NAME.names, or --names-in";
+            Err(end_with(rt, why, 2))
+        }
         None => run_plain(rt, run, rt.reader()),
         Some(name) => match fs::open(rt, name) {
             Ok(file) => run_plain(rt, run, file),
@@ -48,7 +47,7 @@ fn run_plain<R: Print + Eprint + AllocGlobal, S: Read + Drop>(
     if run.explain || run.strict || run.json {
         return explain_from(rt, run, input);
     }
-    let keeps = run.terminal || run.file.is_some();
+    let keeps = run.screen.errors || run.file.is_some();
     let mut reader = Watched::new(Source::new(rt.alloc(), input, keeps));
     let mut writer = Watched::new(Outlet::new(io::writer(rt)));
     match script(rt.alloc(), &mut reader, &mut writer) {
@@ -73,7 +72,9 @@ fn explain_from<R: Print + Eprint + AllocGlobal, S: Read + Drop>(
     print_trace(rt, run, trace.as_str())?;
     if run.explain {
         let text = source.text().unwrap_or(&[]);
-        let _ = tell_report(rt, run.file.as_deref(), text, &report);
+        let file = run.file.as_deref();
+        let told = remarks::Source::new(file, text, true, run.screen.colours.errors);
+        let _ = told.tell_report(rt, &report);
     }
     let is_refused = run.strict && report.failures > 0;
     Ok(ExitCode::from(u8::from(is_refused)))
@@ -105,8 +106,8 @@ fn end_faulty<R: Eprint + AllocGlobal, S>(
         return end_unread(rt, name, error);
     }
     if let (ScriptFault::Line { .. }, Some(text)) = (&fault, source.text()) {
-        let shows = run.explain || run.terminal;
-        let faulty = remarks::Source::new(file, text, shows, run.colours.errors);
+        let shows = run.explain || run.screen.errors;
+        let faulty = remarks::Source::new(file, text, shows, run.screen.colours.errors);
         if tell_faults(rt, faulty) {
             return ExitCode::from(fault.status());
         }

@@ -350,12 +350,13 @@ What is wrong is told with the fewest calls that lead to it:
 With --script only the run that shows it is printed, as a script; with --names, and
 on a terminal, that is a script with names. If nothing is wrong, the words go to
 standard error. With --listing all that the design has is printed, a row of JSON a
-line, and nothing is explored: designs with the same rows are the same.
+line, and nothing is explored: designs with the same rows are the same. Moments that
+differ in which of equal copies did what count as one, unless --no-symmetry stands there.
 docs/EXPLORE.md shows it by examples. 'qdemo help script' describes calls.",
     "Example:
   $ qdemo explore designs/two-servers-mended.design
-  designs/two-servers-mended.design: nothing found in all 2,218 interleavings: \
-    4 threads, 88 moments, 153 moves, none longer than 19 calls
+  designs/two-servers-mended.design: nothing found in all 797,811 interleavings: \
+    4 threads, 187 moments, 423 moves, none longer than 19 calls
     ends with files and names in receive, reader and finder done
 
 Status: 0 if nothing is wrong in any interleaving; 1 where something is, or for a

@@ -50,7 +50,8 @@ impl Sheet<'_> {
     /// Returns the measures that a chart needs.
     pub fn of<'a>(names: Context<'a>, chart: &'a Chart) -> Result<Sheet<'a>, AllocError> {
         let last = chart.lifelines.len().saturating_sub(1);
-        let head_half = head_half_for(chart.longest_head(names)?);
+        let more = chart.longest_head(names)?.saturating_sub(HEAD_LETTERS);
+        let head_half = HEAD_HALF.saturating_add(more.saturating_mul(4)); // eight pixels a letter
         let heads = head_half.saturating_mul(2).saturating_add(24);
         Ok(Sheet {
             names,
@@ -101,12 +102,6 @@ impl Sheet<'_> {
     pub fn height(&self) -> usize {
         self.legend().saturating_add(62)
     }
-}
-
-/// Returns half the width of heads with at most this many letters, at eight pixels a letter.
-fn head_half_for(letters: usize) -> usize {
-    let more = letters.saturating_sub(HEAD_LETTERS);
-    HEAD_HALF.saturating_add(more.saturating_mul(4))
 }
 
 /// Returns the width of this many letters, at seven pixels a letter.

@@ -11,17 +11,20 @@ pub struct Line {
 impl Line {
     /// Returns an empty line.
     pub fn new(alloc: Global) -> Line {
-        Line {
-            places: Vec::new(alloc),
-        }
+        let places = Vec::new(alloc);
+        Line { places }
     }
 
     /// Writes words at a place, counted from 0; spaces fill the line up to it.
     pub fn put(&mut self, place: usize, words: &str) -> Result<(), AllocError> {
-        let mut at = place;
-        for byte in words.bytes() {
-            self.set(at, byte)?;
-            at = at.saturating_add(1);
+        for (at, byte) in words.bytes().enumerate() {
+            let at = place.saturating_add(at);
+            for _ in self.places.len()..at.saturating_add(1) {
+                self.places.push(b' ')?;
+            }
+            if let Some(there) = self.places.get_mut(at) {
+                *there = byte;
+            }
         }
         Ok(())
     }
@@ -43,29 +46,11 @@ impl Line {
 
     /// Adds the line to a text, without trailing spaces and with a newline.
     pub fn end(&self, out: &mut String) -> Result<(), AllocError> {
-        let mut spaces = 0usize;
-        for byte in &self.places {
-            if *byte == b' ' {
-                spaces = spaces.saturating_add(1);
-                continue;
-            }
-            for _ in 0..spaces {
-                out.push(' ')?;
-            }
-            spaces = 0;
+        let last = self.places.iter().rposition(|byte| *byte != b' ');
+        let len = last.map_or(0, |last| last.saturating_add(1));
+        for byte in self.places.iter().take(len) {
             out.push(char::from(*byte))?;
         }
         out.push('\n')
-    }
-
-    fn set(&mut self, place: usize, byte: u8) -> Result<(), AllocError> {
-        let missing = place.saturating_add(1).saturating_sub(self.places.len());
-        for _ in 0..missing {
-            self.places.push(b' ')?;
-        }
-        if let Some(there) = self.places.get_mut(place) {
-            *there = byte;
-        }
-        Ok(())
     }
 }

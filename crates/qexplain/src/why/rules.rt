@@ -10,60 +10,34 @@ use qkernel::kernel::Kernel;
 use qkernel::open_call::Blocked;
 use qmodel::kind::CallKind;
 use qmodel::operands::Operand;
+use qnames::shown::Shown;
 use qnames::wording::Context;
-use std::alloc::{AllocError, Global};
+use std::alloc::AllocError;
 
 /// A call that was refused: the past calls, of which it is the last, and the kernel, which it left as it was.
 #[derive(Drop)]
-struct Refused<'a> {
-    alloc: Global,
-    names: Context<'a>,
-    kernel: &'a Kernel,
-    blocked: Vec<Blocked>,
-    history: &'a History,
-    call: Past,
-    /// What it names first: an id, a thread or flags.
-    named: u64,
-}
-
-/// Returns the rule that refused the latest call with this error, with what the call may have meant.
-pub fn rule_words(
-    names: Context<'_>,
-    kernel: &Kernel,
-    history: &History,
-    call: Past,
-    errno: Errno,
-) -> Result<String, AllocError> {
-    let refused = Refused {
-        alloc: names.alloc,
-        names,
-        kernel,
-        blocked: kernel.blocked(names.alloc)?,
-        history,
-        call,
-        named: call.operand,
-    };
-    refused.rule(errno)
-}
-
-/// Returns the words for the limit that a call of this kind reached.
-fn limit_words(kind: CallKind) -> &'static str {
-    match kind {
-        CallKind::ChannelCreate => "64 channels are open, and there may be no more",
-        CallKind::ConnectAttach => "there are 1,024 connections, and there may be no more",
-        _ => "1,024 pulses wait on the channel, and no more may",
-    }
+pub struct Refused<'a> {
+    pub names: Context<'a>,
+    pub kernel: &'a Kernel,
+    /// The blocked threads of the kernel.
+    pub blocked: Vec<Blocked>,
+    pub history: &'a History,
+    pub call: Past,
 }
 
 impl Refused<'_> {
-    /// Returns the rule that refuses it with this error.
-    fn rule(&self, errno: Errno) -> Result<String, AllocError> {
+    /// Returns the rule that refuses it with this error, with what it may have meant.
+    pub fn rule(&self, errno: Errno) -> Result<String, AllocError> {
         let kind = self.call.kind;
         match errno {
             Errno::Down => self.down(),
             Errno::Busy => self.busy(),
             Errno::NoMemory => self.plain("there was no memory for it"),
-            Errno::Again => self.plain(limit_words(kind)),
+            Errno::Again => self.plain(match kind {
+                CallKind::ChannelCreate => "64 channels are open, and there may be no more",
+                CallKind::ConnectAttach => "there are 1,024 connections, and there may be no more",
+                _ => "1,024 pulses wait on the channel, and no more may",
+            }),
             Errno::Badf => self.bad_connection(),
             Errno::Inval if kind == CallKind::Pulse => {
                 self.plain("its code is below 0, and the codes of pulses are 0 to 127")
@@ -87,7 +61,7 @@ impl Refused<'_> {
 
     /// Returns words as they are.
     fn plain(&self, words: &str) -> Result<String, AllocError> {
-        String::from_str(self.alloc, words)
+        String::from_str(self.names.alloc, words)
     }
 
     /// Returns the words for a call that nothing of what is known here refuses.
@@ -99,7 +73,7 @@ impl Refused<'_> {
     fn down(&self) -> Result<String, AllocError> {
         let by = self.history.accepted(CallKind::Shutdown, 0).unwrap_or(0);
         let by = self.names.call(by);
-        format!(in self.alloc; "{by} shut the kernel down")
+        format!(in self.names.alloc; "{by} shut the kernel down")
     }
 
     /// Returns what its thread is blocked in.
@@ -113,47 +87,51 @@ impl Refused<'_> {
         let lack = match blocked.state {
             ThreadState::ReceiveBlocked(chid) => {
                 let channel = self.names.id(chid.0);
-                return format!(in self.alloc;
+                return format!(in self.names.alloc;
                     "thread {thread} is blocked in {call}, and waits to receive on channel {channel}"
                 );
             }
             ThreadState::ReplyBlocked(_) => "answered",
             _ => "received",
         };
-        format!(in self.alloc; "thread {thread} is blocked in {call} until its message is {lack}")
+        format!(in self.names.alloc;
+            "thread {thread} is blocked in {call} until its message is {lack}"
+        )
     }
 
     /// Returns what is wrong with its flags.
     fn bad_flags(&self) -> Result<String, AllocError> {
-        let flags = self.named;
-        format!(in self.alloc;
+        let flags = self.call.operand;
+        format!(in self.names.alloc;
             "flags are a sum of 1 (FIXED_PRIORITY), 2 (UNBLOCK) and 4 (DISCONNECT), and {flags} is none"
         )
     }
 
+    /// Returns the call of this kind that ended what has this number, and what stands for that.
+    fn ended(&self, kind: CallKind, number: u64) -> Option<(Shown<'_>, Shown<'_>)> {
+        let by = self.history.accepted(kind, number)?;
+        Some((self.names.call(by), self.names.id(number)))
+    }
+
     /// Returns what is wrong with the channel that it names.
     fn bad_channel(&self) -> Result<String, AllocError> {
-        let channel = self.named;
+        let channel = self.call.operand;
         if let Some(open) = self.kernel.channels().get(ChannelId(channel)) {
             return self.of_others("channel", open.owner);
         }
-        match self.history.accepted(CallKind::ChannelDestroy, channel) {
-            Some(by) => {
-                let (by, channel) = (self.names.call(by), self.names.id(channel));
-                format!(in self.alloc; "{by} destroyed channel {channel}")
-            }
+        match self.ended(CallKind::ChannelDestroy, channel) {
+            Some((by, channel)) => format!(in self.names.alloc; "{by} destroyed channel {channel}"),
             None => self.missing("channel", self.likely_channel()?),
         }
     }
 
     /// Returns what is wrong with the connection that it names, or with the channel that this leads to.
     fn bad_connection(&self) -> Result<String, AllocError> {
-        let number = self.named;
+        let number = self.call.operand;
         let Some(live) = self.kernel.connections().get(ConnectionId(number)) else {
-            return match self.history.accepted(CallKind::ConnectDetach, number) {
-                Some(by) => {
-                    let (by, connection) = (self.names.call(by), self.names.id(number));
-                    format!(in self.alloc; "{by} detached connection {connection}")
+            return match self.ended(CallKind::ConnectDetach, number) {
+                Some((by, connection)) => {
+                    format!(in self.names.alloc; "{by} detached connection {connection}")
                 }
                 None => self.missing("connection", self.likely_connection()?),
             };
@@ -161,11 +139,9 @@ impl Refused<'_> {
         if live.process != self.process() {
             return self.of_others("connection", live.process);
         }
-        let channel = live.channel.0;
-        match self.history.accepted(CallKind::ChannelDestroy, channel) {
-            Some(by) => {
-                let (by, channel) = (self.names.call(by), self.names.id(channel));
-                format!(in self.alloc; "it leads to channel {channel}, which {by} destroyed")
+        match self.ended(CallKind::ChannelDestroy, live.channel.0) {
+            Some((by, channel)) => {
+                format!(in self.names.alloc; "it leads to channel {channel}, which {by} destroyed")
             }
             None => self.unknown(),
         }
@@ -173,16 +149,16 @@ impl Refused<'_> {
 
     /// Returns what is wrong with the thread that it names.
     fn bad_thread(&self) -> Result<String, AllocError> {
-        let thread = self.named;
+        let thread = self.call.operand;
         match self.process_of(thread) {
             Some(process) => self.of_others("thread", process),
-            None => format!(in self.alloc; "there is no line 'thread {thread} ..'"),
+            None => format!(in self.names.alloc; "there is no line 'thread {thread} ..'"),
         }
     }
 
     /// Returns what is wrong with the message that it names.
     fn bad_message(&self) -> Result<String, AllocError> {
-        let message = self.named;
+        let message = self.call.operand;
         if let Some(owner) = self.holder_of(message) {
             return self.of_others("the channel of message", owner);
         }
@@ -192,33 +168,33 @@ impl Refused<'_> {
         };
         let (by, message) = (self.names.call(send.ended_by), self.names.id(message));
         match send.end {
-            End::Open => format!(in self.alloc; "message {message} isn't received yet"),
-            End::Cut => format!(in self.alloc; "{by} ended the send of message {message}"),
-            _ => format!(in self.alloc; "{by} answered message {message}"),
+            End::Open => format!(in self.names.alloc; "message {message} isn't received yet"),
+            End::Cut => format!(in self.names.alloc; "{by} ended the send of message {message}"),
+            _ => format!(in self.names.alloc; "{by} answered message {message}"),
         }
     }
 
     /// Returns the words for a call that names a thing of this process, another than that of its thread.
     fn of_others(&self, thing: &str, owner: ProcessNo) -> Result<String, AllocError> {
-        let named = operand_shown(self.names, self.call.kind, self.named);
+        let named = operand_shown(self.names, self.call.kind, self.call.operand);
         let owner = self.names.process(owner);
         let thread = self.names.thread(self.call.thread);
         let process = self.names.process(self.process());
-        format!(in self.alloc;
+        format!(in self.names.alloc;
             "{thing} {named} is of process {owner}, and thread {thread} of process {process}"
         )
     }
 
     /// Returns the words for a number that never named such a thing, with the one that may have been meant.
     fn missing(&self, thing: &str, other: String) -> Result<String, AllocError> {
-        let named = self.names.id(self.named);
-        let found = self.call_words(self.named)?;
-        format!(in self.alloc; "{named} is no {thing}: {found}; {other}")
+        let named = self.names.id(self.call.operand);
+        let found = self.call_words(self.call.operand)?;
+        format!(in self.names.alloc; "{named} is no {thing}: {found}; {other}")
     }
 
     /// Returns what the call with this number did.
     fn call_words(&self, number: u64) -> Result<String, AllocError> {
-        let alloc = self.alloc;
+        let alloc = self.names.alloc;
         if number == 0 {
             return self.plain("calls are numbered from 1");
         }
@@ -255,12 +231,12 @@ impl Refused<'_> {
     /// last one that is open.
     fn likely_channel(&self) -> Result<String, AllocError> {
         let channels = self.kernel.channels();
-        if let Some(past) = self.history.call(self.named)
+        if let Some(past) = self.history.call(self.call.operand)
             && past.end == End::Connection
             && channels.get(ChannelId(past.operand)).is_some()
         {
             let leads = self.names.id(past.operand);
-            return format!(in self.alloc; "it leads to channel {leads}");
+            return format!(in self.names.alloc; "it leads to channel {leads}");
         }
         let count = channels.len();
         if count == 0 {
@@ -268,7 +244,7 @@ impl Refused<'_> {
         }
         let channel = channels.id_at(count - 1).0;
         let (call, channel) = (self.names.call(channel), self.names.id(channel));
-        format!(in self.alloc; "{call} made channel {channel}")
+        format!(in self.names.alloc; "{call} made channel {channel}")
     }
 
     /// Returns the connection that may have been meant: the first of its process to a channel of this number, or else
@@ -281,7 +257,7 @@ impl Refused<'_> {
             let connection = connections.at(place);
             if connection.process == process {
                 likely = Some(connections.id_at(place).0);
-                if connection.channel.0 == self.named {
+                if connection.channel.0 == self.call.operand {
                     break;
                 }
             }
@@ -290,9 +266,9 @@ impl Refused<'_> {
         match likely {
             Some(number) => {
                 let (call, connection) = (self.names.call(number), self.names.id(number));
-                format!(in self.alloc; "{call} made connection {connection}")
+                format!(in self.names.alloc; "{call} made connection {connection}")
             }
-            None => format!(in self.alloc; "process {process} has no connection"),
+            None => format!(in self.names.alloc; "process {process} has no connection"),
         }
     }
 
@@ -314,9 +290,9 @@ impl Refused<'_> {
         match likely {
             Some(message) => {
                 let message = self.names.id(message);
-                format!(in self.alloc; "message {message} is held")
+                format!(in self.names.alloc; "message {message} is held")
             }
-            None => format!(in self.alloc; "process {process} holds no message"),
+            None => format!(in self.names.alloc; "process {process} holds no message"),
         }
     }
 

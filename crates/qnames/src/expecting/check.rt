@@ -80,8 +80,7 @@ impl Check {
 
     /// Returns the differences that were found since they were asked for last, in the order of their places.
     pub fn take_faults(&mut self) -> Result<Vec<Fault>, AllocError> {
-        let mut faults = Vec::new(self.alloc);
-        faults.append(&mut self.faults)?;
+        let mut faults = mem::replace(&mut self.faults, Vec::new(self.alloc));
         faults.sort_by_key(|fault| (fault.place.line, fault.place.column))?;
         Ok(faults)
     }
@@ -188,21 +187,19 @@ impl Check {
     /// Returns how the end of a call differs from the expected one.
     fn difference(&self, end: &End, expected: &Expectation) -> Result<Option<Fault>, AllocError> {
         if let Ending::Parts(patterns) = &expected.ending
-            && end.fits(self.alloc, &self.scope, patterns.as_slice())?
+            && end.fits(self.context(), patterns.as_slice())?
         {
             return Ok(None);
         }
         let wanted = &expected.text;
         let came = self.came(end, expected.place.line)?;
-        difference_at(
-            expected.place,
-            format!(in self.alloc; "expected {wanted}, and {came}"),
-        )
+        let what = format!(in self.alloc; "expected {wanted}, and {came}");
+        difference_at(expected.place, what)
     }
 
     /// Returns `COMPLETION came`, and the line of the call that brought it, if that isn't this line.
     fn came(&self, end: &End, here: u64) -> Result<String, AllocError> {
-        let came = end.told(self.alloc, &self.scope)?;
+        let came = end.told(self.context())?;
         let line = self.line_of(end.event);
         if line == here {
             return format!(in self.alloc; "{came} came");
@@ -222,10 +219,8 @@ impl Check {
         }
         let verb = check.kind.word();
         let came = self.came(end, check.place.line)?;
-        difference_at(
-            check.place,
-            format!(in self.alloc; "{verb} isn't expected to fail, and {came}"),
-        )
+        let what = format!(in self.alloc; "{verb} isn't expected to fail, and {came}");
+        difference_at(check.place, what)
     }
 
     /// Returns whether the line of the call that ended this one says how it ends.
@@ -307,10 +302,8 @@ impl Check {
         }
         let is = self.context().state(&now)?;
         let wanted = &check.text;
-        difference_at(
-            check.place,
-            format!(in self.alloc; "expected {wanted}, and it is {is}"),
-        )
+        let what = format!(in self.alloc; "expected {wanted}, and it is {is}");
+        difference_at(check.place, what)
     }
 
     /// Adds a line for each of these endings, which came in the latest call: the line of that call, the call that ended,
@@ -323,7 +316,7 @@ impl Check {
             };
             let thread = self.context().thread(ending.thread);
             let verb = check.kind.word();
-            let told = end.told(self.alloc, &self.scope)?;
+            let told = end.told(self.context())?;
             write!(out, "{line}: ")?;
             if let Some(name) = self.scope.name_of(false, ending.call) {
                 write!(out, "{name} = ")?;
@@ -336,10 +329,8 @@ impl Check {
     /// Compares what is left at the end of the run: calls that are expected to end, and haven't.
     pub fn finish(&mut self, kernel: &Kernel) -> Result<(), AllocError> {
         for call in 1..=self.ends.len() as u64 {
-            if let (Some(CallCheck { own: Some(own), .. }), None) = (
-                self.at(call),
-                self.end_of(call),
-            ) {
+            let own = self.at(call).and_then(|check| check.own.as_ref());
+            if let (Some(own), None) = (own, self.end_of(call)) {
                 let difference = self.open_difference(kernel, call, own)?;
                 self.tell(difference)?;
             }

@@ -2,14 +2,16 @@
 
 use crate::expectation::Pattern;
 use crate::scope::Scope;
+use crate::shown::Shown;
+use crate::wording::Context;
 use qbase::bytes::Bytes;
 use qbase::errno::word;
+use qbase::ids::{ProcessNo, ThreadNo};
 use qbase::state::ThreadState;
 use qmodel::call::{Info, Mark};
 use qqueue::item::What;
 use qreading::lexing::quoted::shown_bytes;
 use qreading::states::{state_channel, state_word};
-use qreading::word::Word;
 use std::alloc::{AllocError, Global};
 
 /// The end of a call.
@@ -167,47 +169,36 @@ impl End {
     }
 
     /// Returns whether its first parts fit these patterns.
-    pub fn fits(
-        &self,
-        alloc: Global,
-        scope: &Scope,
-        patterns: &[Pattern],
-    ) -> Result<bool, AllocError> {
-        let parts = self.parts(alloc)?;
+    pub fn fits(&self, names: Context<'_>, patterns: &[Pattern]) -> Result<bool, AllocError> {
+        let parts = self.parts(names.alloc)?;
         if parts.len() < patterns.len() {
             return Ok(false);
         }
         let mut pairs = patterns.iter().zip(parts.as_slice());
-        Ok(pairs.all(|(pattern, part)| part.fits(scope, pattern)))
+        Ok(pairs.all(|(pattern, part)| part.fits(names.scope, pattern)))
     }
 
     /// Returns its words, with names in place of numbers, and of its buffer only the bytes that were copied.
-    pub fn told(&self, alloc: Global, scope: &Scope) -> Result<String, AllocError> {
-        let mut out = String::new(alloc);
-        for part in &self.parts(alloc)? {
+    pub fn told(&self, names: Context<'_>) -> Result<String, AllocError> {
+        let mut out = String::new(names.alloc);
+        for part in &self.parts(names.alloc)? {
             match *part {
                 Part::Word(word) => write!(out, " {word}")?,
                 Part::Number(number) => write!(out, " {number}")?,
-                Part::Id(id) => push_named(&mut out, scope.name_of(false, id), id)?,
-                Part::Thread(number) => {
-                    let number = u64::from(number);
-                    push_named(&mut out, scope.name_of(true, number), number)?
-                }
-                Part::Process(number) => {
-                    let at = usize::from(number).wrapping_sub(1);
-                    push_named(&mut out, scope.process_names().get(at), u64::from(number))?
-                }
-                Part::Copied(count) => self.push_content(alloc, &mut out, count)?,
+                Part::Id(id) => push_shown(&mut out, names.id(id))?,
+                Part::Thread(number) => push_shown(&mut out, names.thread(ThreadNo(number)))?,
+                Part::Process(number) => push_shown(&mut out, names.process(ProcessNo(number)))?,
+                Part::Copied(count) => self.push_content(names.alloc, &mut out, count)?,
                 Part::Counted(count) => {
                     write!(out, " {count}")?;
                     if self.buffer.is_some() {
-                        self.push_content(alloc, &mut out, count)?;
+                        self.push_content(names.alloc, &mut out, count)?;
                     }
                 }
                 Part::Buffer(_) => {}
             }
         }
-        String::from_str(alloc, out.as_str().trim_start())
+        String::from_str(names.alloc, out.as_str().trim_start())
     }
 
     /// Adds a space and the first `count` bytes of the buffer.
@@ -217,19 +208,14 @@ impl End {
         out: &mut String,
         count: usize,
     ) -> Result<(), AllocError> {
-        let buffer = self
-            .buffer
-            .as_ref()
-            .map_or([].as_slice(), |buffer| buffer.as_slice());
+        let buffer = self.buffer.as_ref();
+        let buffer = buffer.map_or([].as_slice(), |buffer| buffer.as_slice());
         let shown = shown_bytes(alloc, buffer.get(..count).unwrap_or(buffer))?;
         write!(out, " {shown}")
     }
 }
 
 /// Adds a space and a name, or the number if there is no name.
-fn push_named(out: &mut String, name: Option<&Word>, number: u64) -> Result<(), AllocError> {
-    match name {
-        Some(name) => write!(out, " {name}"),
-        None => write!(out, " {number}"),
-    }
+fn push_shown(out: &mut String, shown: Shown<'_>) -> Result<(), AllocError> {
+    write!(out, " {shown}")
 }

@@ -3,7 +3,7 @@
 use crate::expectation::{CallCheck, Ending, Expectation, Extent, Pattern, StateCheck};
 use crate::label::NameError;
 use crate::line::{Kind, Mention, Operand};
-use crate::wording::{Context, Usage, Use};
+use crate::wording::{Context, Usage};
 use qreading::place::{Fault, Place};
 use qreading::word::Word;
 use std::alloc::AllocError;
@@ -45,12 +45,7 @@ impl<'a> NameCheck<'a> {
             Some(label) if may_stand(label.kind, wanted) => return Ok(()),
             Some(label) => NameError::OtherKind(label.kind),
         };
-        let used = Use {
-            name,
-            usage: Usage::Expectation,
-            wanted,
-        };
-        let what = self.context.words(used, error)?;
+        let what = self.context.words(name, Usage::Expectation, wanted, error)?;
         self.faults.push(Fault { place, what })?;
         Ok(())
     }

@@ -19,10 +19,8 @@ pub fn text_of(alloc: Global, line: &[u8], tokens: &[Token<'_>]) -> Result<Word,
     };
     let start = from.place.column.saturating_sub(1) as usize;
     let end = to.place.column.saturating_sub(1).saturating_add(to.len) as usize;
-    word_of(
-        alloc,
-        line.get(..end).unwrap_or(line).get(start..).unwrap_or(&[]),
-    )
+    let text = line.get(..end).unwrap_or(line).get(start..);
+    word_of(alloc, text.unwrap_or(&[]))
 }
 
 /// Reads an expected end: the words behind an arrow.

@@ -84,12 +84,8 @@ type Table = &'static [(&'static str, &'static [Part])];
 
 /// Returns the word of a table that stands here, and what may follow it.
 fn form_of(table: Table, token: &Token<'_>) -> Option<(&'static str, &'static [Part])> {
-    for (word, parts) in table {
-        if token.is_word(word) {
-            return Some((*word, *parts));
-        }
-    }
-    None
+    let mut rows = table.iter().copied();
+    rows.find(|(word, _)| token.is_word(word))
 }
 
 fn number(alloc: Global, token: &Token<'_>) -> Result<i128, ReadError> {
@@ -109,11 +105,8 @@ fn errno(alloc: Global, token: &Token<'_>) -> Result<&'static str, ReadError> {
     {
         return Ok(errno::word(errno));
     }
-    let words: Vec<&str> = ERRNOS
-        .iter()
-        .take(CALL_ERRORS)
-        .map(|errno| errno::word(*errno))
-        .collect(alloc)?;
+    let errors = ERRNOS.iter().take(CALL_ERRORS);
+    let words: Vec<&str> = errors.map(|errno| errno::word(*errno)).collect(alloc)?;
     let word = quotation(token.bytes);
     let all = error_words(alloc, token.bytes)?;
     let what = no_such(alloc, word, words.as_slice(), "is no error", all.as_str());
@@ -177,18 +170,8 @@ impl Patterns {
         Ok(())
     }
 
-    /// Adds the patterns of the parts behind a word; the last ones may be left out.
-    fn add_parts(&mut self, parts: &[Part], tokens: &[Token<'_>]) -> Result<(), ReadError> {
-        if let Some(extra) = tokens.get(parts.len()) {
-            return Err(wanted(self.alloc, extra, "nothing more is printed there"));
-        }
-        for (part, token) in parts.iter().zip(tokens) {
-            self.add(*part, token)?;
-        }
-        Ok(())
-    }
-
-    /// Adds the pattern of a word that is printed as it stands here, and the patterns of what follows it.
+    /// Adds the pattern of a word that is printed as it stands here, and the patterns of what follows it, of which the
+    /// last ones may be left out.
     fn add_word(
         &mut self,
         word: &'static str,
@@ -196,7 +179,13 @@ impl Patterns {
         rest: &[Token<'_>],
     ) -> Result<(), ReadError> {
         self.all.push(Pattern::Word(word))?;
-        self.add_parts(parts, rest)
+        if let Some(extra) = rest.get(parts.len()) {
+            return Err(wanted(self.alloc, extra, "nothing more is printed there"));
+        }
+        for (part, token) in parts.iter().zip(rest) {
+            self.add(*part, token)?;
+        }
+        Ok(())
     }
 
     /// Adds the patterns of a word of a table, which may be left out, and of what follows it.
@@ -237,13 +226,10 @@ fn pulse_len(tokens: &[Token<'_>]) -> usize
 /// Returns the words for a first word that no ending has.
 fn unknown_ending(alloc: Global, token: &Token<'_>) -> Result<String, AllocError> {
     let words: Vec<&str> = FORMS.iter().map(|(word, _)| *word).collect(alloc)?;
-    no_such(
-        alloc,
-        quotation(token.bytes),
-        words.as_slice(),
-        "ends no call",
-        "a call ends with ok, fail, channel, connection, message, pulse, reply, error, count, state or info, or is blocked",
-    )
+    let word = quotation(token.bytes);
+    let all =
+        "a call ends with ok, fail, channel, connection, message, pulse, reply, error, count, state or info, or is blocked";
+    no_such(alloc, word, words.as_slice(), "ends no call", all)
 }
 
 /// Reads the expected end of a call.

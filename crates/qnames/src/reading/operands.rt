@@ -8,16 +8,17 @@ use qreading::lexing::token::{Sort, Token};
 use qreading::lexing::values::{size_of, text_bytes, wanted, word_of};
 use qreading::near::{no_such, quotation};
 use qreading::place::{ReadError, fault_at};
+use qreading::word::Word;
 use std::alloc::Global;
 
 /// Reads a word as plain scripts have it.
-fn plain(alloc: Global, slot: Slot, token: &Token<'_>) -> Result<Operand, ReadError> {
+pub fn plain_word(alloc: Global, slot: Slot, token: &Token<'_>) -> Result<Word, ReadError> {
     if token.sort != Sort::Word || fault_of(alloc, slot, token.bytes)?.is_some() {
         let mut what = String::from_str(alloc, wanted_words(slot))?;
         push_operand_hint(&mut what, slot, token.bytes)?;
         return Err(wanted(alloc, token, what.as_str()));
     }
-    Ok(Operand::Plain(word_of(alloc, token.bytes)?))
+    Ok(word_of(alloc, token.bytes)?)
 }
 
 /// Reads bytes: a text, a number of zeros, or a word as plain scripts have it.
@@ -54,7 +55,7 @@ fn flag(alloc: Global, token: &Token<'_>, name: &[u8]) -> Result<u8, ReadError> 
 /// Reads flags: their names with `|` between, or a number.
 fn flags(alloc: Global, token: &Token<'_>) -> Result<Operand, ReadError> {
     if token.sort != Sort::Word || is_numeric(token) {
-        return plain(alloc, Slot::Flags, token);
+        return Ok(Operand::Plain(plain_word(alloc, Slot::Flags, token)?));
     }
     let mut bits = 0u8;
     for name in token.bytes.split(|b| *b == b'|') {
@@ -71,7 +72,7 @@ pub fn is_numeric(token: &Token<'_>) -> bool {
 /// Reads a name, or a number as plain scripts have it.
 pub fn id(alloc: Global, kind: Kind, slot: Slot, token: &Token<'_>) -> Result<Operand, ReadError> {
     if is_numeric(token) {
-        return plain(alloc, slot, token);
+        return Ok(Operand::Plain(plain_word(alloc, slot, token)?));
     }
     if token.sort != Sort::Word || !is_name(token.bytes) {
         let kind = kind.words();
@@ -94,6 +95,6 @@ pub fn operand(alloc: Global, slot: Slot, token: &Token<'_>) -> Result<Operand, 
         Slot::ReceiveId => id(alloc, Kind::Message, slot, token),
         Slot::Flags => flags(alloc, token),
         Slot::Message | Slot::ReplyBuffer | Slot::Buffer | Slot::Data => bytes(alloc, slot, token),
-        _ => plain(alloc, slot, token),
+        _ => Ok(Operand::Plain(plain_word(alloc, slot, token)?)),
     }
 }

@@ -1,9 +1,9 @@
 //! Reads the line of a thread, and one that says the state of a thread.
 
 use crate::expectation::StateCheck;
-use crate::line::{Definition, Kind, Operand, Process, ThreadLine};
-use crate::reading::operands::id;
-use qreading::grammar::{Operand as Slot, fault_of, wanted_words};
+use crate::line::{Definition, Operand, Process, ThreadLine};
+use crate::reading::operands::{operand, plain_word};
+use qreading::grammar::{Operand as Slot, wanted_words};
 use qreading::lexing::name::is_name;
 use qreading::lexing::token::{Sort, Token};
 use qreading::lexing::values::{wanted, word_of};
@@ -30,30 +30,16 @@ fn process(alloc: Global, token: &Token<'_>) -> Result<Process, ReadError> {
             return Ok(Process::Name(word_of(alloc, token.bytes)?));
         }
     }
-    Err(wanted(
-        alloc,
-        token,
-        "a process has a name, or a number from 0 to 255",
-    ))
-}
-
-/// Reads the priority of a thread.
-fn priority(alloc: Global, token: &Token<'_>) -> Result<Word, ReadError> {
-    let slot = Slot::Priority;
-    if token.sort != Sort::Word || fault_of(alloc, slot, token.bytes)?.is_some() {
-        return Err(wanted(alloc, token, wanted_words(slot)));
-    }
-    Ok(word_of(alloc, token.bytes)?)
+    let what = "a process has a name, or a number from 0 to 255";
+    Err(wanted(alloc, token, what))
 }
 
 /// Returns the fault of a thread's line with too few or too many words.
 fn word_count(alloc: Global, place: Place, found: usize) -> ReadError {
-    fault_at(
-        place,
-        format!(in alloc;
-            "a thread's line is NAME = thread PROCESS PRIORITY or NAME = thread THREAD PROCESS PRIORITY, found {found} words behind thread"
-        ),
-    )
+    let what = format!(in alloc;
+        "a thread's line is NAME = thread PROCESS PRIORITY or NAME = thread THREAD PROCESS PRIORITY, found {found} words behind thread"
+    );
+    fault_at(place, what)
 }
 
 /// Reads the line of a thread; `place` is that of the word `thread`, and the tokens are those behind it.
@@ -78,7 +64,7 @@ pub fn thread_line(
         thread,
         process: process(alloc, of)?,
         place: of.place,
-        priority: priority(alloc, level)?,
+        priority: plain_word(alloc, Slot::Priority, level)?,
     })
 }
 
@@ -101,16 +87,11 @@ fn state(alloc: Global, token: &Token<'_>) -> Result<&'static str, ReadError> {
 
 /// Reads the channel behind `on`, if there is one.
 fn channel(alloc: Global, tokens: &[Token<'_>]) -> Result<Option<Operand>, ReadError> {
+    let what = "behind a state stands nothing, or 'on' and a channel";
     match tokens {
         [] => Ok(None),
-        [on, channel] if on.is_word("on") => {
-            Ok(Some(id(alloc, Kind::Channel, Slot::Channel, channel)?))
-        }
-        [first, ..] => Err(wanted(
-            alloc,
-            first,
-            "behind a state stands nothing, or 'on' and a channel",
-        )),
+        [on, channel] if on.is_word("on") => Ok(Some(operand(alloc, Slot::Channel, channel)?)),
+        [first, ..] => Err(wanted(alloc, first, what)),
     }
 }
 
@@ -134,7 +115,7 @@ pub fn state_line(
     }
     Ok(StateCheck {
         calls,
-        thread: id(alloc, Kind::Thread, Slot::Thread, thread)?,
+        thread: operand(alloc, Slot::Thread, thread)?,
         state,
         channel: channel(alloc, rest)?,
         text,

@@ -1,7 +1,6 @@
 //! Prints how a call ended.
 
-ghost use Rattle.std.specs.Prelude.{◌≡◌, [], ◌∷◌, ◌++◌, OnOk, codes, decimal, string_bytes};
-ghost use Rattle.std.specs.Fmt.{signed_decimal};
+ghost use Rattle.std.specs.Prelude.{◌≡◌, [], ◌∷◌, ◌++◌, OnOk, codes, string_bytes};
 ghost use Rattle.qbase.specs.Errno.{word_of};
 ghost use Rattle.qscript.specs.Printing.Words.{words_with_spaces};
 ghost use Rattle.qscript.specs.Printing.Marks.{info_words, brought_words, pulse_words, told_words, mark_words};
@@ -24,9 +23,9 @@ pub fn push_mark(out: &mut String, mark: Mark) -> Result<(), AllocError>
         Mark::Failed(errno) => push_failed(out, errno),
         Mark::Channel(chid) => number(out, "channel", chid.0),
         Mark::Connection(coid) => number(out, "connection", coid.0),
-        Mark::Replied { status, copied } => push_replied(out, status, copied),
+        Mark::Replied { status, copied } => write!(out, " reply {status} {copied}"),
         Mark::Message { rcvid, copied } => numbers(out, "message", rcvid.0, copied as u64),
-        Mark::Errored(code) => push_errored(out, code),
+        Mark::Errored(code) => write!(out, " error {code}"),
         Mark::Count(copied) => number(out, "count", copied as u64),
         Mark::Info(info) => push_info(out, info),
         Mark::Pulse {
@@ -44,20 +43,6 @@ fn push_failed(out: &mut String, errno: Errno) -> Result<(), AllocError>
 {
     let word = word(errno);
     write!(out, " fail {word}")
-}
-
-/// Adds `reply STATUS COPIED`.
-fn push_replied(out: &mut String, status: i64, copied: usize) -> Result<(), AllocError>
-    ensures { OnOk result (string_bytes out.new ≡ string_bytes out.old ++ words_with_spaces (codes "reply" ∷ signed_decimal status ∷ decimal copied ∷ [])) }
-{
-    write!(out, " reply {status} {copied}")
-}
-
-/// Adds `error CODE`.
-fn push_errored(out: &mut String, code: i32) -> Result<(), AllocError>
-    ensures { OnOk result (string_bytes out.new ≡ string_bytes out.old ++ words_with_spaces (codes "error" ∷ signed_decimal code ∷ [])) }
-{
-    write!(out, " error {code}")
 }
 
 /// Adds `info PROCESS THREAD CONNECTION MSGLEN SRCMSGLEN DSTMSGLEN PRIORITY`.
@@ -103,20 +88,12 @@ fn push_brought(out: &mut String, what: What) -> Result<(), AllocError>
 fn push_told(out: &mut String, state: ThreadState, priority: Priority) -> Result<(), AllocError>
     ensures { OnOk result (string_bytes out.new ≡ string_bytes out.old ++ words_with_spaces (told_words state priority)) }
 {
-    let level = priority.get();
+    let level = u64::from(priority.get());
+    write!(out, " state")?;
     match state {
-        ThreadState::Ready => write!(out, " state ready {level}"),
-        ThreadState::SendBlocked(chid) => {
-            let chid = chid.0;
-            write!(out, " state send {chid} {level}")
-        }
-        ThreadState::ReceiveBlocked(chid) => {
-            let chid = chid.0;
-            write!(out, " state receive {chid} {level}")
-        }
-        ThreadState::ReplyBlocked(chid) => {
-            let chid = chid.0;
-            write!(out, " state reply {chid} {level}")
-        }
+        ThreadState::Ready => number(out, "ready", level),
+        ThreadState::SendBlocked(chid) => numbers(out, "send", chid.0, level),
+        ThreadState::ReceiveBlocked(chid) => numbers(out, "receive", chid.0, level),
+        ThreadState::ReplyBlocked(chid) => numbers(out, "reply", chid.0, level),
     }
 }

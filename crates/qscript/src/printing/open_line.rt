@@ -5,6 +5,7 @@ ghost use Rattle.qscript.specs.Printing.Words.{words_with_spaces};
 ghost use Rattle.qscript.specs.Printing.OpenLine.{open_text};
 ghost use Rattle.qscript.specs.Printing.State.{state_words};
 
+use crate::printing::operands::number;
 use qbase::state::ThreadState;
 use qkernel::open_call::Blocked;
 use std::alloc::AllocError;
@@ -15,18 +16,9 @@ fn push_state(out: &mut String, state: ThreadState) -> Result<(), AllocError>
 {
     match state {
         ThreadState::Ready => write!(out, " ready"),
-        ThreadState::SendBlocked(chid) => {
-            let chid = chid.0;
-            write!(out, " send {chid}")
-        }
-        ThreadState::ReceiveBlocked(chid) => {
-            let chid = chid.0;
-            write!(out, " receive {chid}")
-        }
-        ThreadState::ReplyBlocked(chid) => {
-            let chid = chid.0;
-            write!(out, " reply {chid}")
-        }
+        ThreadState::SendBlocked(chid) => number(out, "send", chid.0),
+        ThreadState::ReceiveBlocked(chid) => number(out, "receive", chid.0),
+        ThreadState::ReplyBlocked(chid) => number(out, "reply", chid.0),
     }
 }
 

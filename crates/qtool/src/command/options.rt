@@ -141,13 +141,14 @@ fn explore_command<'a>(alloc: Global) -> Result<Command<'a>, AllocError> {
     let script = "script: Print the run that shows a fault alone, as a script";
     let json = "json: Print an object of JSON in place of lines";
     let listing = "listing: Print all that the design has, in rows of JSON, and explore nothing";
+    let symmetry = "no-symmetry: Tell equal copies apart";
     let count = value_parser!(u32).range(1..4294967295);
     let any = value_parser!(u32).range(0..4294967295);
     let most = "Give up once more than N moments are known";
     let random = "Make N interleavings by chance, and not all";
     let seed = "What chance begins with; the same seed makes the same interleavings";
     let command = subcommand(alloc, "explore", &EXPLORE).arg(file(alloc, help))?;
-    with_flags(alloc, command, &[script, NAMES, json, listing])?
+    with_flags(alloc, command, &[script, NAMES, json, listing, symmetry])?
         .arg(number(alloc, "most", "N", count, most).default_value("1000000"))?
         .arg(number(alloc, "random", "N", count, random))?
         .arg(number(alloc, "seed", "S", any, seed).default_value("1"))

@@ -5,13 +5,14 @@ use qbase::ids::ThreadNo;
 use qexplain::session::Session;
 use qkernel::kernel::Kernel;
 use qmodel::call::Call;
-use qnames::growing::{Growing, Step};
+use qnames::growing::Growing;
 use qnames::scope::Scope;
 use qnames::wording::Context;
 use qnames::{Reading, read_so_far};
 use qreading::MOST_TEXT;
 use qreading::parts::{Lines, last_line};
 use qreading::place::Fault;
+use qreading::reading::line::Line;
 use qscript::fault::{LineFault, ScriptFault};
 use std::alloc::{AllocError, Global};
 
@@ -89,22 +90,24 @@ impl Names {
         call: Call,
     ) -> Result<(), AllocError> {
         session.make(thread, call).map_err(|_| AllocError)?;
-        let Some(run) = session.run() else {
-            return Ok(());
-        };
-        let endings = run.run().endings();
-        let check = &mut self.growing.check;
-        check.follow(run.run().kernel(), endings)?;
-        check.push_trace(&mut self.trace, endings)
+        if let Some(run) = session.run() {
+            let endings = run.run().endings();
+            self.growing.check.follow(run.run().kernel(), endings)?;
+            self.growing.check.push_trace(&mut self.trace, endings)?;
+        }
+        Ok(())
     }
 
     /// Adds a line, and what it says to the run, unless it is faulty.
     fn add(&mut self, session: &mut Session, line: &[u8]) -> Result<Vec<Fault>, AllocError> {
-        match self.growing.add(line)? {
-            Step::Faulty(faults) => return Ok(faults),
-            Step::Member(member) => session.add_member(member)?,
-            Step::Call(thread, call) => self.make(session, thread, call)?,
-            Step::Nothing => self.growing.check.compare_states(kernel_of(session))?,
+        let read = match self.growing.add(line)? {
+            Ok(read) => read,
+            Err(faults) => return Ok(faults),
+        };
+        match read {
+            Line::Roster(member) => session.add_member(member)?,
+            Line::Call(thread, call) => self.make(session, thread, call)?,
+            Line::Blank => self.growing.check.compare_states(kernel_of(session))?,
         }
         push_lines(&mut self.text, line)?;
         Ok(Vec::new(session.alloc()))
