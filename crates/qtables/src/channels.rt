@@ -1,6 +1,6 @@
 //! The open channels.
 
-ghost use Rattle.std.specs.Prelude.{◌≡◌, ◌<◌, ◌≤◌, ◌==◌, nat_lt, ◌+◌, [], ◌∷◌, ◌++◌, length, option_copied, slice_get, if◌then◌else◌, Some, IfErr, IfSome, OnOk, OnErr, OnSome};
+ghost use Rattle.std.specs.Prelude.{◌≡◌, ◌<◌, ◌≤◌, ◌==◌, nat_lt, ◌+◌, [], ◌∷◌, ◌++◌, length, option_copied, slice_get, if◌then◌else◌, Some, IfErr, IfOk, IfSome, OnOk, OnErr, OnSome};
 ghost use Rattle.std.specs.List.{AllByRecursion};
 ghost use Rattle.std.specs.Option.{option_copied_mut, option_map};
 ghost use Rattle.std.specs.Borrow.{sem};
@@ -8,7 +8,7 @@ ghost use Rattle.std.specs.Borrow.{sem};
 use crate::entries::Entries;
 use qbase::errno::Errno;
 use qbase::ids::ChannelId;
-use std::alloc::Global;
+use std::alloc::{AllocError, Global};
 use std::marker::Model;
 
 /// The greatest number of channels that may be open at a time (own profile).
@@ -44,6 +44,15 @@ impl<Record: Drop> Channels<Record> {
         Channels {
             entries: Entries::new(alloc),
         }
+    }
+
+    /// Makes an empty table with room for `count` channels; error if the allocator refuses.
+    pub fn with_capacity(alloc: Global, count: usize) -> Result<Channels<Record>, AllocError>
+        ensures { IfOk result (λ channels. channels ≡ []) }
+    {
+        Ok(Channels {
+            entries: Entries::with_capacity(alloc, count)?,
+        })
     }
 
     /// Opens a channel, whose id must be greater than those of all open channels. On an error it returns the record:

@@ -1,6 +1,6 @@
 //! The live connections.
 
-ghost use Rattle.std.specs.Prelude.{◌≡◌, ◌<◌, ◌≤◌, ◌==◌, nat_lt, ◌+◌, ◌&&◌, [], ◌∷◌, ◌++◌, length, count_by, option_copied, slice_get, if◌then◌else◌, Some, IfErr, OnOk, OnErr, OnSome};
+ghost use Rattle.std.specs.Prelude.{◌≡◌, ◌<◌, ◌≤◌, ◌==◌, nat_lt, ◌+◌, ◌&&◌, [], ◌∷◌, ◌++◌, length, count_by, option_copied, slice_get, if◌then◌else◌, Some, IfErr, IfOk, OnOk, OnErr, OnSome};
 ghost use Rattle.std.specs.List.{AllByRecursion};
 ghost use Rattle.std.specs.Option.{option_copied_mut, option_map};
 ghost use Rattle.std.specs.Borrow.{sem};
@@ -9,7 +9,7 @@ use crate::connection::Connection;
 use crate::entries::Entries;
 use qbase::errno::Errno;
 use qbase::ids::{ChannelId, ConnectionId, ProcessNo};
-use std::alloc::Global;
+use std::alloc::{AllocError, Global};
 use std::marker::Model;
 
 /// The greatest number of connections that may be live at a time (own profile).
@@ -43,6 +43,15 @@ impl Connections {
         Connections {
             entries: Entries::new(alloc),
         }
+    }
+
+    /// Makes an empty table with room for `count` connections; error if the allocator refuses.
+    pub fn with_capacity(alloc: Global, count: usize) -> Result<Connections, AllocError>
+        ensures { IfOk result (λ connections. connections ≡ []) }
+    {
+        Ok(Connections {
+            entries: Entries::with_capacity(alloc, count)?,
+        })
     }
 
     /// Adds a connection, whose id must be greater than those of all live connections. On an error it returns the

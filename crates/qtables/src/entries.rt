@@ -1,6 +1,6 @@
 //! A map from numbers to records, which the tables of channels and of connections use.
 
-ghost use Rattle.std.specs.Prelude.{◌≡◌, ◌<◌, ◌≤◌, nat_lt, ◌+◌, [], ◌∷◌, ◌++◌, length, slice_get, option_copied, if◌then◌else◌, IfErr, IfSome, IfNone, OnOk, OnErr, OnSome, None, Some};
+ghost use Rattle.std.specs.Prelude.{◌≡◌, ◌<◌, ◌≤◌, nat_lt, ◌+◌, [], ◌∷◌, ◌++◌, length, slice_get, option_copied, if◌then◌else◌, IfErr, IfOk, IfSome, IfNone, OnOk, OnErr, OnSome, None, Some};
 ghost use Rattle.std.specs.List.{AllByRecursion};
 ghost use Rattle.std.specs.Option.{option_copied_mut, option_map};
 ghost use Rattle.std.specs.Borrow.{sem};
@@ -8,7 +8,7 @@ ghost use Rattle.qtables.specs.Entries.{entry_at, with_record, without_entry, Is
 
 use qbase::errno::Errno;
 use slab::Slab;
-use std::alloc::Global;
+use std::alloc::{AllocError, Global};
 use std::marker::Model;
 
 /// A map from numbers to records. A record stays in one slot, beside its number, until it is removed. The index has the
@@ -63,6 +63,16 @@ impl<Record: Drop> Entries<Record> {
             slots: Slab::new(alloc),
             index: Vec::new(alloc),
         }
+    }
+
+    /// Makes an empty map with room for `count` entries; error if the allocator refuses.
+    pub fn with_capacity(alloc: Global, count: usize) -> Result<Entries<Record>, AllocError>
+        ensures { IfOk result (λ entries. entries ≡ []) }
+    {
+        Ok(Entries {
+            slots: Slab::with_capacity(alloc, count)?,
+            index: Vec::with_capacity(alloc, count)?,
+        })
     }
 
     /// Adds an entry, whose number must be greater than all others. On an error it returns the record: `Again` if there
