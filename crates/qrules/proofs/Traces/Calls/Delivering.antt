@@ -1,18 +1,17 @@
 -- The laws of a call that delivers an item.
-use Rattle.qrules.proofs.Common.{◌≡◌, ◌∙◌, ℕ, List, ap, refl, sym, subst, inl, cond, eqb, true, false, option_map, Receive, Send, eqb-true, ne_eqb, none-some, same_Some, Item, Connection, completion_to, row_of, newest_receiver, receipt_completion, takes, SentItem, Call, Completion, OpenCall, eqb_same, ReceivedItem, Option, None, Some, is_some}
+use Rattle.std.proofs.Common.{arith}
+use Rattle.qrules.proofs.Common.{◌≡◌, ◌∙◌, ℕ, List, ap, refl, sym, subst, inl, eqb, true, false, option_map, Receive, Send, ne_eqb, none-some, same_Some, Item, Connection, completion_to, row_of, newest_receiver, receipt_completion, takes, SentItem, Call, Completion, OpenCall, eqb_same, ReceivedItem, Option, None, Some, is_some}
 use Rattle.qrules.proofs.Words.Items.{receipt_of, delivers, receiver, receipt_by, receipt_when_sent, Received, item_in, receipt_in, item_sent_over}
 use Rattle.qrules.proofs.Words.Facts.{Facts, route}
 use Rattle.qrules.proofs.Traces.Parts.{leads_to}
 use Rattle.qrules.proofs.Words.Effects.{asks, makes}
 use Rattle.qrules.proofs.Traces.Past.Laws.{IsOfOpen, IsSettled, IsReceipt, IsReceived, is_settled}
 use Rattle.qrules.proofs.Traces.Calls.Taking.{Taken, taken_by, receipt_from, receipt_in_at}
-use Rattle.qrules.proofs.Traces.Routes.{leads_over}
 use Rattle.qmodel.specs.declared.open_call.OpenReceive.{OpenReceive}
 
 -- what goes over a connection is the item
 pub sent_item : (o : Option Connection) (item : Item) (m : SentItem) → item_sent_over o item ≡ Some m → m.item ≡ item
-sent_item None item m e = absurd (none-some m e)
-sent_item (Some c) item m e = ap (λ x. x.item) (sym (same_Some _ m e))
+sent_item o item m e = grind arith
 
 -- ---- the receiver that it meets
 
@@ -22,12 +21,7 @@ pub record IsReceiver (f : Facts) (item : Item) (message : List ℕ) (r : Option
   pub given : receipt_by f item message u ≡ Some y
 
 pub met_by : (f : Facts) (item : Item) (message : List ℕ) (r : Option ℕ) (u : ℕ) (y : Completion) → delivers f item message r u ≡ Some y → IsReceiver f item message r u y
-met_by f item message None u y e = absurd (none-some y e)
-met_by f item message (Some v) u y e =
-    elim (eqb u v) as (λ b. eqb u v ≡ b → cond b (receipt_by f item message u) None ≡ Some y → IsReceiver f item message (Some v) u y) [
-      | true ↦ λ same is. record { receiver_is = ap Some (sym (eqb-true u v same)); given = is }
-      | false ↦ λ other is. absurd (none-some y is)
-    ] refl e
+met_by f item message r u y e = grind arith
 
 -- and so it does where it is the receiver
 met_at : (f : Facts) (item : Item) (message : List ℕ) (r : Option ℕ) (v : ℕ) (y : Completion) → r ≡ Some v → receipt_by f item message v ≡ Some y → delivers f item message r v ≡ Some y
@@ -37,16 +31,11 @@ met_at f item message r v y is given = rw (is, eqb_same v) given
 
 -- what is sent over a way goes to its channel
 pub sent_way : (f : Facts) (t coid : ℕ) (item : Item) (h : ℕ) → route f t coid ≡ Some h → item_sent_over (f.connection coid) item ≡ Some (record { item = item; channel = h })
-sent_way f t coid item h e =
-    let l = leads_over f t (f.connection coid) h e in
-    ap (λ o. item_sent_over o item) l.is ∙ ap (λ k. Some (record { item = item; channel = k })) l.channel
+sent_way f t coid item h e = grind arith
 
 -- what goes over a way goes to an open channel
 pub goes_to_open : (f : Facts) (t : ℕ) (o : Option Connection) (h : ℕ) (item : Item) (m : SentItem) → leads_to f t o ≡ Some h → item_sent_over o item ≡ Some m → is_some (f.channel m.channel) ≡ true
-goes_to_open f t o h item m e made =
-    let l = leads_over f t o h e in
-    let same : record { item = item; channel = l.connection.channel } ≡ m = same_Some _ m (ap (λ x. item_sent_over x item) (sym l.is) ∙ made) in
-    subst (λ k. is_some (f.channel k) ≡ true) (sym l.channel ∙ ap (λ (x : SentItem). x.channel) same) l.is_open
+goes_to_open f t o h item m e made = grind arith
 
 -- the item goes over channel h to thread v, whose call ends by y
 record Sent (f : Facts) (sender : Option ℕ) (item : Item) (message : List ℕ) (o r : Option ℕ) (q : Received) : Type 0 where
@@ -79,8 +68,7 @@ sent_on f sender item message h (Some v) q e =
     ] refl e
 
 sent_over_way : (f : Facts) (sender : Option ℕ) (item : Item) (message : List ℕ) (o r : Option ℕ) (q : Received) → receipt_when_sent f sender item message o r ≡ Some q → Sent f sender item message o r q
-sent_over_way f sender item message None r q e = absurd (none-some q e)
-sent_over_way f sender item message (Some h) r q e = sent_on f sender item message h r q e
+sent_over_way f sender item message o r q e = grind (arith, sent_on)
 
 -- the receiver that is met has the receipt of the row
 met_receives : (f : Facts) (sender : Option ℕ) (item : Item) (message : List ℕ) (o : Option ℕ) (u : ℕ) (y : Completion) (p : ReceivedItem) → delivers f item message (receiver f item o) u ≡ Some y → item_in y.mark ≡ Some p

@@ -1,9 +1,9 @@
 -- The laws of Pulse.
+use Rattle.std.proofs.Common.{arith}
 use Rattle.qrules.proofs.Traces.Rows.{pulse_same}
 use Rattle.qrules.proofs.Common.{◌≡◌, ◌∙◌, ℕ, [], ap, refl, sym, subst, true, pulse_over, ℤ, None, Some, none-some, same_Some, is_pulse, SentItem, Pulse}
 use Rattle.std.proofs.lemmas.Bool.{true≢false}
 use Rattle.qrules.proofs.Words.Facts.{Facts}
-use Rattle.qrules.proofs.Words.Past.{is_unblock_for}
 use Rattle.qrules.proofs.Words.Items.{ends_receiver, pulse_receipt, pulse_item, item_in}
 use Rattle.qrules.proofs.Traces.Past.Laws.{CallLaws, RowLaws, Passes, IsOwn}
 use Rattle.qrules.proofs.Traces.Calls.Delivering.{delivers_open, delivers_settled, delivers_receipt, delivers_received, goes_to_open, sent_item, sent_way}
@@ -14,17 +14,7 @@ pub sent_is_pulse : (f : Facts) (coid priority : ℕ) (code value : ℤ) (m : Se
 sent_is_pulse f coid priority code value m e = ap (λ x. is_pulse x.what) (sent_item (f.connection coid) (pulse_item f.number priority code value) m e)
 
 pub call_laws : (coid priority : ℕ) (code value : ℤ) → CallLaws (Pulse coid priority code value)
-call_laws coid priority code value = record {
-  asks_one = λ n t h o e. absurd (none-some o e);
-  makes_one = λ f t m e. record {
-    number = ap (λ x. x.number) (sent_item (f.connection coid) (pulse_item f.number priority code value) m e);
-    waits = λ t h o a. absurd (none-some o a);
-    message = λ t h o a. absurd (none-some o a);
-  };
-  waits_write = λ n t h o e. refl;
-  unblocks_none = λ none f t m e i. ap (λ x. is_unblock_for i x.what) (sent_item (f.connection coid) (pulse_item f.number priority code value) m e);
-  unblocks_one = λ v is f t m e. absurd (none-some v is);
-}
+call_laws coid priority code value = grind arith
 
 pub row_laws : (f : Facts) (t coid priority : ℕ) (code value : ℤ) → Passes f t (Pulse coid priority code value) → RowLaws f t (Pulse coid priority code value)
 row_laws f t coid priority code value p =

@@ -1,10 +1,11 @@
 -- The laws of a call that receives.
-use Rattle.qrules.proofs.Common.{◌≡◌, ◌∙◌, ℕ, List, ap, refl, sym, subst, inr, true≢false, Receive, none-some, same_Some, best_of, Item, Kind, row_of, receipt_completion, Call, Completion, OpenCall, eqb_same, ReceivedItem, Option, None, Some}
+use Rattle.std.proofs.Common.{arith}
+use Rattle.qrules.proofs.Common.{◌≡◌, ◌∙◌, ℕ, List, ap, refl, sym, subst, inr, Receive, none-some, same_Some, best_of, Item, Kind, row_of, receipt_completion, Call, Completion, OpenCall, eqb_same, ReceivedItem, Option, None, Some}
 use Rattle.qrules.proofs.Words.Items.{receipt_of, own_receipt, receipt_when_taken, sender_for, Received, item_in}
 use Rattle.qrules.proofs.Words.Facts.{Facts, message}
 use Rattle.qrules.proofs.Words.Effects.{asks, makes, writes}
-use Rattle.qrules.proofs.Traces.Past.Laws.{BeginsToWait, CallLaws, RowLaws, IsOwn, IsReceived}
-use Rattle.qrules.proofs.Traces.Calls.Taking.{given_no_failure, given_received, receipt_from, receipt_in_at}
+use Rattle.qrules.proofs.Traces.Past.Laws.{CallLaws, RowLaws, IsOwn, IsReceived}
+use Rattle.qrules.proofs.Traces.Calls.Taking.{given_received, receipt_from, receipt_in_at}
 
 -- the open call of a receive
 abbrev pub receiver : ℕ → Kind → List ℕ → ℕ → ℕ → OpenCall
@@ -12,17 +13,10 @@ receiver chid kind buffer n t = Receive (record { number = n; thread = t; channe
 
 pub receiving_call : (c : Call) (chid : ℕ) (kind : Kind) (buffer : List ℕ) → ((n t h : ℕ) → asks n t h c ≡ Some (receiver chid kind buffer n t))
     → ((f : Facts) (t : ℕ) → makes f t c ≡ None) → writes c ≡ None → CallLaws c
-receiving_call c chid kind buffer a m w = record {
-  asks_one = λ n t h o e. subst (BeginsToWait n t h) (same_Some (receiver chid kind buffer n t) o (sym (a n t h) ∙ e)) (record { number = refl; thread = refl; fresh = refl; channel = λ answer. absurd (true≢false (sym answer)) });
-  makes_one = λ f t i e. absurd (none-some i (sym (m f t) ∙ e));
-  waits_write = λ n t h o e. w;
-  unblocks_none = λ none f t i e. absurd (none-some i (sym (m f t) ∙ e));
-  unblocks_one = λ v is f t i e. absurd (none-some i (sym (m f t) ∙ e));
-}
+receiving_call c chid kind buffer a m w = grind arith
 
 own_one : (f : Facts) (t : ℕ) (buffer : List ℕ) (o : Option Item) (y : Completion) → own_receipt f t buffer o ≡ Some y → IsOwn f.number t y
-own_one f t buffer None y e = absurd (none-some y e)
-own_one f t buffer (Some item) y e = subst (IsOwn f.number t) (same_Some _ y e) (record { call = refl; thread = refl; mark = given_no_failure item (message f item.number) buffer })
+own_one f t buffer o y e = grind arith
 
 -- what it receives by its own completion is the receipt of the row
 record Own (f : Facts) (t chid : ℕ) (buffer : List ℕ) (o : Option Item) (p : ReceivedItem) : Type 0 where

@@ -1,9 +1,10 @@
 -- A completion that answers a message: whose it is, by each call's row.
-use Rattle.qrules.proofs.Basics.{answer_same, pulse_same, sent_same, unblocked_same, error_finish, reply_finish, info_completion, message_item, Finish, ends_sender, item_sent_over, Facts, is_for_answer, message, sender, threads_of, route, number_of, asks, makes, thread_of_send, cancel_parts, IsHeldFor, SenderEnds, answering, finished_held, has_sender, held_for, sender_ends, sender_sends, Passes, given_is, ReceiveTakes, receive_takes, Delivers, delivery_meets, has_way, leads_over, detach_ends}
-use Rattle.qrules.proofs.Common.{◌≡◌, ◌∙◌, ℕ, List, [], cond, ap, refl, sym, subst, true, false, inl, inr, option_map, is_on, delivery_of, is_answer, int_eq, none-some, same_Some, Srch, completion_to, row_of, effect_of, Item, Kind, Any, PulseOnly, Connection, error_mark, info_of, refusal_unless_held, SentItem, Call, Completion, OpenCall, eqb_same, ℤ, pos, Option, None, Some}
+use Rattle.std.proofs.Common.{arith}
+use Rattle.qrules.proofs.Basics.{answer_same, pulse_same, sent_same, unblocked_same, error_finish, reply_finish, info_completion, message_item, Finish, ends_sender, item_sent_over, Facts, is_for_answer, message, sender, threads_of, route, number_of, asks, makes, thread_of_send, cancel_parts, IsHeldFor, SenderEnds, answering, finished_held, has_sender, held_for, sender_ends, sender_sends, Passes, given_is, ReceiveTakes, Delivers, delivery_meets, has_way, leads_over, detach_ends}
+use Rattle.qrules.proofs.Common.{◌≡◌, ◌∙◌, ℕ, List, [], cond, ap, refl, sym, subst, true, false, inl, inr, option_map, is_on, delivery_of, is_answer, int_eq, none-some, same_Some, Srch, completion_to, row_of, effect_of, Item, Kind, Connection, error_mark, refusal_unless_held, SentItem, Call, Completion, OpenCall, eqb_same, ℤ, pos, Option, None, Some}
 use Rattle.std.proofs.lemmas.Bool.{true≢false}
 use Rattle.qmodel.specs.declared.call.Info.{Info as Told}
-use Rattle.qmodel.specs.declared.call.Call.TheVariants.{Send, Receive, Reply, Error, Info, ReceivePulse, Pulse, ChannelDestroy, Shutdown, Unblock, ConnectDetach}
+use Rattle.qmodel.specs.declared.call.Call.TheVariants.{Send, Reply, Error, Pulse, ChannelDestroy, Shutdown, Unblock, ConnectDetach}
 use Rattle.qmodel.specs.declared.open_call.OpenCall.TheVariants.{Receive as InReceive, Send as InSend}
 use Rattle.qrules.proofs.Traces.Properties.Receipts.{completion_of}
 use Rattle.qrules.proofs.Traces.Properties.Rows.Telling.{told_meets, unblock_ends}
@@ -37,15 +38,10 @@ met_no_answer f o item sent u y s is = no_answer _ y s.completion (given_no_answ
 
 -- what is told is no answer
 tells_only : (n t : ℕ) (o : Option Told) (y : Completion) → option_map (info_completion n t) o ≡ Some y → is_answer y.mark ≡ false
-tells_only n t None y e = absurd (none-some y e)
-tells_only n t (Some told_so) y e = ap (λ x. is_answer x.mark) (sym (same_Some _ y e))
+tells_only n t o y e = grind arith
 
 own_answers : (f : Facts) (t : ℕ) (c : Call) (u : ℕ) (y : Completion) → (row_of f t c).own ≡ Some y → is_answer y.mark ≡ true → AnswersHeld f t c u y
-own_answers f t (Send coid message reply_buffer) u y e is = absurd (none-some y e)
-own_answers f t (Receive chid buffer) u y e is = takes_no_answer f t chid Any buffer y (receive_takes f t chid Any buffer y e) is
-own_answers f t (ReceivePulse chid) u y e is = takes_no_answer f t chid PulseOnly [] y (receive_takes f t chid PulseOnly [] y e) is
-own_answers f t (Info rcvid) u y e is = absurd (true≢false (sym is ∙ tells_only f.number t (info_of f (sender f rcvid)) y e))
-own_answers f t c u y e is = no_answer _ y (same_Some _ y e) refl is
+own_answers f t c u y e is = grind arith
 
 -- the Send that a call ends is the one that it names
 answers_by : (f : Facts) (t : ℕ) (c : Call) (rcvid : ℕ) (finish : Finish) (u : ℕ) (y : Completion) → (effect_of c).answers ≡ Some rcvid → SenderEnds f t rcvid finish u y → AnswersHeld f t c u y
@@ -151,15 +147,8 @@ send_over f t coid message reply_buffer p =
     }
 
 pub sends_over : (f : Facts) (t h : ℕ) (c : Call) (b : OpenCall) → Passes f t c → asks f.number t h c ≡ Some b → is_for_answer b ≡ true → SendsOver f t c (over b)
-sends_over f t h (ReceivePulse chid) b p e w = absurd (true≢false (sym w ∙ ap is_for_answer (sym (same_Some _ b e))))
-sends_over f t h (Receive chid buffer) b p e w = absurd (true≢false (sym w ∙ ap is_for_answer (sym (same_Some _ b e))))
-sends_over f t h (Send coid message reply_buffer) b p e w =
-    subst (SendsOver f t (Send coid message reply_buffer)) (ap over (same_Some _ b e)) (send_over f t coid message reply_buffer p)
-sends_over f t h c b p e w = absurd (none-some b e)
+sends_over f t h c b p e w = grind (arith, send_over)
 
 -- and its thread is the caller
 pub sends_by : (n t h : ℕ) (c : Call) (b : OpenCall) → asks n t h c ≡ Some b → is_for_answer b ≡ true → thread_of_send t c ≡ Some t
-sends_by n t h (Send coid message reply_buffer) b e w = refl
-sends_by n t h (Receive chid buffer) b e w = absurd (true≢false (sym w ∙ ap is_for_answer (sym (same_Some _ b e))))
-sends_by n t h (ReceivePulse chid) b e w = absurd (true≢false (sym w ∙ ap is_for_answer (sym (same_Some _ b e))))
-sends_by n t h c b e w = absurd (none-some b e)
+sends_by n t h c b e w = grind arith

@@ -1,5 +1,6 @@
 -- A receipt takes the item of greatest priority, and among equals the one that was made first.
-use Rattle.qrules.proofs.Common.{◌≡◌, ◌∙◌, ℕ, List, [], ◌∷◌, ◌++◌, refl, ap, sym, true, false, inl, inr, request_of, takeable, BestFirst, TakesBest, number_of, AllByRecursion, none-some, same_Some, best_of, may_take, Item, Kind, IsRoster, Member, Outcome, ReceiveRequest, effect_of, call_at, Event, Trace, Call, Completion, eqb_same, Option, None, Some}
+use Rattle.std.proofs.Common.{arith}
+use Rattle.qrules.proofs.Common.{◌≡◌, ◌∙◌, ℕ, List, [], ◌∷◌, ◌++◌, refl, ap, sym, true, false, inl, inr, request_of, takeable, BestFirst, TakesBest, number_of, AllByRecursion, best_of, may_take, Item, Kind, IsRoster, Member, Outcome, ReceiveRequest, effect_of, call_at, Event, Trace, Call, Completion, eqb_same, Option, Some}
 use Rattle.std.specs.Option.{option_and_then, option_map}
 use Rattle.std.proofs.lemmas.List.{append-nil}
 use Rattle.qrules.proofs.Basics.{facts_of, IsLawful, pending_items, made_on, block_asked, block_below, call_earlier, call_newest, open_parts}
@@ -20,8 +21,7 @@ record Asks (receives : Option ReceiveRequest) (place : ℕ × Kind) : Type 0 wh
   at : place_of request ≡ place
 
 asks_at : (receives : Option ReceiveRequest) (place : ℕ × Kind) → option_map place_of receives ≡ Some place → Asks receives place
-asks_at None place e = absurd (none-some place e)
-asks_at (Some r) place e = record { request = r; is = refl; at = same_Some (place_of r) place e }
+asks_at receives place e = grind arith
 
 -- ---- the caller takes the best of what was pending
 
