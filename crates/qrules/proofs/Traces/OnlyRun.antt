@@ -1,16 +1,11 @@
 -- Where memory doesn't run out, a run is a function of its calls.
-use Rattle.std.proofs.Common.{arith}
-use Rattle.qrules.proofs.Common.{◌≡◌, ℕ, List, [], ◌∷◌, map, refl, ap, sym, subst, NoMemory, Answers, MayRefuse, refusal_of, event_call, HadMemory, IsOnlyRun, Some, AllByRecursion, Errno, Member, Call, Completion, Event, Trace}
-use Rattle.qrules.proofs.Basics.{refusal_completion, Facts, IsLawful, facts_of, followed_by}
+use Rattle.qrules.proofs.Common.{arith, ◌≡◌, ℕ, List, [], ◌∷◌, map, refl, ap, sym, subst, NoMemory, Answers, event_call, HadMemory, IsOnlyRun, AllByRecursion, Member, Call, Completion, Event, Trace}
+use Rattle.qrules.proofs.Basics.{Facts, IsLawful, facts_of, followed_by}
 use Rattle.qmodel.specs.declared.call.Mark.TheVariants as mark
 
 -- no completion says that there was no memory
 abbrev Fine : List Completion → Type 0
 Fine X = AllByRecursion (λ x. x.mark ≡ mark.Failed NoMemory → ⊥) X
-
--- a refusal for another reason than memory is the first that applies
-first_refusal : (f : Facts) (t : ℕ) (c : Call) (e : Errno) (X : List Completion) → MayRefuse f t c e → X ≡ refusal_completion f t c e ∷ [] → Fine X → refusal_of f t c ≡ Some e
-first_refusal f t c e X h is fine = grind arith
 
 one_answer : (f : Facts) (t : ℕ) (c : Call) (X Y : List Completion) → Answers f t c X → Answers f t c Y → Fine X → Fine Y → X ≡ Y
 one_answer f t c X Y h e p q = grind arith

@@ -1,7 +1,6 @@
 -- Where a way leads: over a live connection to an open channel.
-use Rattle.std.proofs.Common.{arith}
-use Rattle.qrules.proofs.Common.{◌≡◌, ℕ, cond, true, Badf, Connection, ℤ, Option, None, Some, is_some}
-use Rattle.qrules.proofs.Traces.Parts.{refusal_on, leads_to}
+use Rattle.qrules.proofs.Common.{arith, ◌≡◌, ℕ, cond, true, Badf, Connection, Option, None, Some, is_some}
+use Rattle.qrules.proofs.Traces.Parts.{leads_to}
 use Rattle.qrules.proofs.Words.Facts.{Facts, route}
 
 -- there is a connection, it is to channel h, and that is open
@@ -17,6 +16,3 @@ leads_over f t o h e = grind arith
 -- an accepted Send has a way, and so has an accepted Pulse
 pub has_way : (f : Facts) (t coid : ℕ) → cond (is_some (route f t coid)) None (Some Badf) ≡ None → (h : ℕ) × (route f t coid ≡ Some h)
 has_way f t coid r = grind arith
-
-pub pulse_way : (f : Facts) (t coid : ℕ) (code : ℤ) → refusal_on f code (route f t coid) ≡ None → (h : ℕ) × (route f t coid ≡ Some h)
-pulse_way f t coid code r = grind arith

@@ -1,6 +1,5 @@
 -- What the calls share that end others by force.
-use Rattle.std.proofs.Common.{arith}
-use Rattle.qrules.proofs.Common.{◌≡◌, ℕ, true, Errno, cancel_call, cancel_where, Completion, OpenCall, Bool, Option, Some}
+use Rattle.qrules.proofs.Common.{arith, ◌≡◌, ℕ, true, Errno, cancel_call, cancel_where, Completion, OpenCall, Bool, Option, Some}
 
 -- the completion is of an open call that is cancelled
 pub record IsCancelledCall (is_cancelled : OpenCall → Bool) (e : Errno) (u : ℕ) (o : Option OpenCall) (y : Completion) : Type 0 where

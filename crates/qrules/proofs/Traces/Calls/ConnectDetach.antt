@@ -1,6 +1,5 @@
 -- The laws of ConnectDetach.
-use Rattle.std.proofs.Common.{arith}
-use Rattle.qrules.proofs.Common.{◌≡◌, ◌⊎◌, ℕ, [], ap, sym, true, is_over, cancels, deliver, refusal_if_full_for, tells_disconnect, disconnect_item, option_or, Badf, is_pulse, Connection, row_of, disconnect_pulse, OpenChannel, SentItem, ConnectDetach, Completion, Option, None, Some, is_some}
+use Rattle.qrules.proofs.Common.{arith, ◌≡◌, ◌⊎◌, ℕ, [], ap, sym, true, is_over, cancels, deliver, refusal_if_full_for, tells_disconnect, disconnect_item, option_or, Badf, is_pulse, Connection, row_of, disconnect_pulse, OpenChannel, SentItem, ConnectDetach, Completion, Option, None, Some, is_some}
 use Rattle.qrules.proofs.Words.Items.{ends_receiver}
 use Rattle.qrules.proofs.Traces.Parts.{due_pulse_over}
 use Rattle.qrules.proofs.Words.Facts.{Facts}

@@ -1,9 +1,7 @@
 -- The laws of a call that delivers an item.
-use Rattle.std.proofs.Common.{arith}
-use Rattle.qrules.proofs.Common.{◌≡◌, ◌∙◌, ℕ, List, ap, refl, sym, true, Receive, Send, none-some, same_Some, Item, Connection, receipt_completion, takes, SentItem, Completion, OpenCall, Option, None, Some, is_some}
+use Rattle.qrules.proofs.Common.{arith, ◌≡◌, ◌∙◌, ℕ, List, ap, refl, sym, Receive, Send, none-some, same_Some, Item, Connection, receipt_completion, takes, SentItem, Completion, OpenCall, Option, None, Some}
 use Rattle.qrules.proofs.Words.Items.{delivers, receiver, receipt_by, item_sent_over}
 use Rattle.qrules.proofs.Words.Facts.{Facts, route}
-use Rattle.qrules.proofs.Traces.Parts.{leads_to}
 use Rattle.qrules.proofs.Traces.Past.Laws.{IsSettled, is_settled}
 use Rattle.qrules.proofs.Traces.Calls.Taking.{taken_by}
 use Rattle.qmodel.specs.declared.open_call.OpenReceive.{OpenReceive}
@@ -27,10 +25,6 @@ met_by f item message r u y e = grind arith
 -- what is sent over a way goes to its channel
 pub sent_way : (f : Facts) (t coid : ℕ) (item : Item) (h : ℕ) → route f t coid ≡ Some h → item_sent_over (f.connection coid) item ≡ Some (record { item = item; channel = h })
 sent_way f t coid item h e = grind arith
-
--- what goes over a way goes to an open channel
-pub goes_to_open : (f : Facts) (t : ℕ) (o : Option Connection) (h : ℕ) (item : Item) (m : SentItem) → leads_to f t o ≡ Some h → item_sent_over o item ≡ Some m → is_some (f.channel m.channel) ≡ true
-goes_to_open f t o h item m e made = grind arith
 
 -- an open call that waits for an item
 pub record ForAnItem (call : Option OpenCall) : Type 0 where

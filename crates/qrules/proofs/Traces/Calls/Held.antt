@@ -1,9 +1,7 @@
 -- What the calls on held messages share: whose message is held, and how an answer ends its Send.
-use Rattle.std.proofs.Common.{arith}
-use Rattle.qrules.proofs.Common.{◌≡◌, ◌∙◌, ℕ, List, ap, refl, sym, subst, cond, Bool, true, false, Send, none-some, same_Some, Errno, refusal_unless_held, Completion, OpenCall, Receipt, Option, None, Some}
+use Rattle.qrules.proofs.Common.{arith, ◌≡◌, ◌∙◌, ℕ, List, ap, refl, sym, subst, cond, Bool, true, false, Send, none-some, same_Some, Errno, refusal_unless_held, Completion, OpenCall, Receipt, Option, None, Some}
 use Rattle.qrules.proofs.Words.Facts.{Facts, sender, threads_of, number_of, owns}
 use Rattle.qrules.proofs.Words.Items.{Finish, ends_sender, answer_completion}
-use Rattle.qrules.proofs.Traces.Parts.{is_held_for}
 use Rattle.qrules.proofs.Traces.Past.Senders.{sender_sends}
 use Rattle.qmodel.specs.declared.open_call.OpenSend.{OpenSend}
 
@@ -18,9 +16,6 @@ pub record IsHeldFor (f : Facts) (t : ℕ) (call : Option OpenCall) : Type 0 whe
   pub is_open : call ≡ Some (Send send)
   pub held : send.receipt ≡ Some receipt
   pub owner : owns f t send.channel ≡ true
-
-held_parts : (f : Facts) (t : ℕ) (call : Option OpenCall) → is_held_for f t call ≡ true → IsHeldFor f t call
-held_parts f t call e = grind arith
 
 -- what is refused nothing passes
 passes : (b : Bool) (e : Errno) → cond b None (Some e) ≡ None → b ≡ true

@@ -1,6 +1,5 @@
 -- The laws of Info.
-use Rattle.std.proofs.Common.{arith}
-use Rattle.qrules.proofs.Common.{◌≡◌, ℕ, option_map, None, Completion, Option, Some}
+use Rattle.qrules.proofs.Common.{arith, ◌≡◌, ℕ, option_map, None, Completion, Option, Some}
 use Rattle.qrules.proofs.Words.Items.{info_completion, item_in}
 use Rattle.qmodel.specs.declared.call.Info.{Info as Told}
 use Rattle.qrules.proofs.Traces.Past.Laws.{IsOwn}

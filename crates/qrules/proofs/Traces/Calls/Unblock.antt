@@ -1,6 +1,5 @@
 -- The laws of Unblock.
-use Rattle.std.proofs.Common.{arith}
-use Rattle.qrules.proofs.Common.{◌≡◌, ℕ, ap, sym, eqb, Bool, true, false, unblock_pulse, guards, pulse_for, tells_unblock, Send, is_pulse, row_of, OpenChannel, SentItem, refusal_if_full_for, Unblock, OpenCall, Receipt, Option, None, Some, is_some, not, ◌&&◌}
+use Rattle.qrules.proofs.Common.{arith, ◌≡◌, ℕ, ap, sym, eqb, Bool, true, false, unblock_pulse, guards, tells_unblock, Send, is_pulse, row_of, OpenChannel, SentItem, refusal_if_full_for, Unblock, OpenCall, Receipt, Option, None, Some, is_some, not, ◌&&◌}
 use Rattle.qrules.proofs.Words.Items.{unblock_item}
 use Rattle.qrules.proofs.Traces.Parts.{due_pulse_of_open}
 use Rattle.qrules.proofs.Words.Facts.{Facts}
@@ -21,9 +20,6 @@ pub record IsDue (f : Facts) (o : Option OpenCall) (m : SentItem) : Type 0 where
   pub tells : tells_unblock (f.channel send.channel) ≡ true
   pub first : receipt.unblocked ≡ false
   pub made : record { item = unblock_item f.number receipt.priority send.number; channel = send.channel } ≡ m
-
-due_send : (f : Facts) (s : OpenSend) (m : SentItem) → pulse_for f s ≡ Some m → IsDue f (Some (Send s)) m
-due_send f s m e = grind arith
 
 pub due_parts : (f : Facts) (o : Option OpenCall) (m : SentItem) → due_pulse_of_open f o ≡ Some m → IsDue f o m
 due_parts f o m e = grind arith

@@ -1,6 +1,5 @@
 -- Every lawful trace has the properties.
-use Rattle.std.proofs.Common.{arith}
-use Rattle.qrules.proofs.Common.{List, HasProperties, IsRoster, Member, Trace}
+use Rattle.qrules.proofs.Common.{arith, List, HasProperties, IsRoster, Member, Trace}
 use Rattle.qrules.proofs.Words.Lawful.{IsLawful}
 use Rattle.qrules.proofs.Traces.Properties.AnsweredToSender.{answered_to_sender}
 use Rattle.qrules.proofs.Traces.Properties.BestFirst.{best_first}

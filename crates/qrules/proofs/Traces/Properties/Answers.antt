@@ -1,9 +1,7 @@
 -- A completion that answers a message: whose it is, by each call's row.
-use Rattle.std.proofs.Common.{arith}
-use Rattle.qrules.proofs.Basics.{answer_same, pulse_same, sent_same, unblocked_same, error_finish, reply_finish, info_completion, message_item, Finish, ends_sender, item_sent_over, Facts, is_for_answer, message, sender, threads_of, route, number_of, asks, makes, thread_of_send, cancel_parts, IsHeldFor, SenderEnds, answering, finished_held, has_sender, held_for, sender_ends, sender_sends, Passes, given_is, ReceiveTakes, Delivers, delivery_meets, has_way, leads_over, detach_ends}
-use Rattle.qrules.proofs.Common.{◌≡◌, ◌∙◌, ℕ, List, [], cond, ap, refl, sym, subst, true, false, inl, inr, option_map, is_on, delivery_of, is_answer, int_eq, none-some, same_Some, Srch, completion_to, row_of, effect_of, Item, Kind, Connection, error_mark, refusal_unless_held, SentItem, Call, Completion, OpenCall, eqb_same, ℤ, pos, Option, None, Some}
+use Rattle.qrules.proofs.Basics.{answer_same, pulse_same, sent_same, unblocked_same, error_finish, reply_finish, message_item, Finish, ends_sender, item_sent_over, Facts, is_for_answer, message, sender, threads_of, route, number_of, asks, makes, thread_of_send, cancel_parts, IsHeldFor, SenderEnds, answering, finished_held, has_sender, held_for, sender_ends, sender_sends, Passes, given_is, Delivers, delivery_meets, has_way, leads_over, detach_ends}
+use Rattle.qrules.proofs.Common.{arith, ◌≡◌, ◌∙◌, ℕ, List, [], cond, ap, refl, sym, subst, true, false, inl, inr, is_on, delivery_of, is_answer, int_eq, none-some, same_Some, Srch, completion_to, row_of, effect_of, Item, Connection, error_mark, refusal_unless_held, SentItem, Call, Completion, OpenCall, eqb_same, ℤ, pos, Option, None, Some}
 use Rattle.std.proofs.lemmas.Bool.{true≢false}
-use Rattle.qmodel.specs.declared.call.Info.{Info as Told}
 use Rattle.qmodel.specs.declared.call.Call.TheVariants.{Send, Reply, Error, Pulse, ChannelDestroy, Shutdown, Unblock, ConnectDetach}
 use Rattle.qmodel.specs.declared.open_call.OpenCall.TheVariants.{Receive as InReceive, Send as InSend}
 use Rattle.qrules.proofs.Traces.Properties.Receipts.{completion_of}
@@ -30,15 +28,8 @@ no_answer x y same none e = absurd (true≢false (sym e ∙ ap (λ z. is_answer 
 given_no_answer : (item : Item) (message buffer : List ℕ) → is_answer (delivery_of item message buffer).0 ≡ false
 given_no_answer item message buffer = given_is is_answer false (λ i n. refl) item message buffer refl
 
-takes_no_answer : {P : Type 0} (f : Facts) (t chid : ℕ) (kind : Kind) (buffer : List ℕ) (y : Completion) → ReceiveTakes f t chid kind buffer y → is_answer y.mark ≡ true → P
-takes_no_answer f t chid kind buffer y r is = no_answer _ y r.completion (given_no_answer r.item (message f r.item.number) buffer) is
-
 met_no_answer : {P : Type 0} (f : Facts) (o : Option ℕ) (item : Item) (sent : List ℕ) (u : ℕ) (y : Completion) → Delivers f o item sent u y → is_answer y.mark ≡ true → P
 met_no_answer f o item sent u y s is = no_answer _ y s.completion (given_no_answer item sent s.receive.buffer) is
-
--- what is told is no answer
-tells_only : (n t : ℕ) (o : Option Told) (y : Completion) → option_map (info_completion n t) o ≡ Some y → is_answer y.mark ≡ false
-tells_only n t o y e = grind arith
 
 own_answers : (f : Facts) (t : ℕ) (c : Call) (u : ℕ) (y : Completion) → (row_of f t c).own ≡ Some y → is_answer y.mark ≡ true → AnswersHeld f t c u y
 own_answers f t c u y e is = grind arith

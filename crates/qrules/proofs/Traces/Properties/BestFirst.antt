@@ -1,6 +1,5 @@
 -- A receipt takes the item of greatest priority, and among equals the one that was made first.
-use Rattle.std.proofs.Common.{arith}
-use Rattle.qrules.proofs.Common.{◌≡◌, ◌∙◌, ℕ, List, [], ◌∷◌, ◌++◌, refl, ap, sym, true, false, inl, inr, request_of, takeable, BestFirst, TakesBest, number_of, AllByRecursion, best_of, may_take, Item, Kind, IsRoster, Member, Outcome, ReceiveRequest, effect_of, call_at, Event, Trace, Call, Completion, eqb_same, Option, Some}
+use Rattle.qrules.proofs.Common.{arith, ◌≡◌, ◌∙◌, ℕ, List, [], ◌∷◌, ◌++◌, refl, ap, sym, true, false, inl, inr, request_of, takeable, BestFirst, TakesBest, number_of, AllByRecursion, best_of, may_take, Item, Kind, IsRoster, Member, Outcome, ReceiveRequest, effect_of, call_at, Event, Trace, Call, Completion, eqb_same, Option, Some}
 use Rattle.std.specs.Option.{option_and_then, option_map}
 use Rattle.std.proofs.lemmas.List.{append-nil}
 use Rattle.qrules.proofs.Basics.{facts_of, IsLawful, pending_items, made_on, block_asked, block_below, call_earlier, call_newest, open_parts}

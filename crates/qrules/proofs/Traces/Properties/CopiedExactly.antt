@@ -1,6 +1,6 @@
 -- Every buffer and every count is what was to be copied.
 use Rattle.qrules.proofs.Basics.{answer_same, pulse_same, sent_same, unblocked_same, writes, error_finish, reply_finish, info_completion, message_item, Finish, Facts, message, sender, threads_of, route, number_of, reply_buffer, message_same, reply_buffer_same, facts_of, IsLawful, open_call, refuses, passes_of, refused, item_below, Passes, call_earlier, call_newest, open_below, sender_sends, ReceiveTakes, receive_takes, IsCancelledCall, cancel_parts, IsHeldFor, SenderEnds, answering, has_sender, held_for, sender_ends, Delivers, delivery_meets, detach_ends}
-use Rattle.qrules.proofs.Common.{◌≡◌, ◌∙◌, ℕ, ◌+◌, ◌≤◌, List, [], ◌∷◌, length, refl, ap, sym, subst, cond, arith, Bool, true, false, inl, inr, message_in, reply_buffer_in, buffer_at, message_at, CopiedExactly, IsCopied, AllByRecursion, int_eq, none-some, same_Some, Errno, Srch, Intr, Badf, is_pulse, Item, Kind, Any, PulseOnly, laid_count, lay_over, Member, completion_to, Answers, row_of, effect_of, info_of, refusal_unless_held, is_on, is_over, receipt_completion, SentItem, Event, Trace, Call, Completion, Mark, OpenCall, all_filter_map, buffer_in, ℤ, pos, Option, None, Some}
+use Rattle.qrules.proofs.Common.{◌≡◌, ◌∙◌, ℕ, ◌+◌, ◌≤◌, List, [], ◌∷◌, length, refl, ap, sym, subst, cond, arith, Bool, true, false, inl, inr, message_in, reply_buffer_in, buffer_at, message_at, CopiedExactly, IsCopied, AllByRecursion, int_eq, none-some, same_Some, Errno, Srch, Intr, Badf, is_pulse, Item, Kind, Any, PulseOnly, laid_count, Member, completion_to, Answers, row_of, effect_of, info_of, refusal_unless_held, is_on, is_over, receipt_completion, SentItem, Event, Trace, Call, Completion, OpenCall, all_filter_map, buffer_in, ℤ, pos, Option, None, Some}
 use Rattle.std.specs.Option.{option_and_then, option_map, option_map_or}
 use Rattle.std.proofs.lemmas.Bool.{true≢false}
 use Rattle.qmodel.specs.Buffers.{buffer_of}
@@ -14,7 +14,6 @@ use Rattle.qrules.proofs.Traces.Properties.Rows.Telling.{Tells, told_meets, unbl
 use Rattle.qrules.proofs.Traces.Calls.Pulse.{sent_is_pulse}
 use Rattle.qrules.proofs.Traces.Calls.Unblock.{is_cancelled}
 use Rattle.qmodel.specs.declared.open_call.OpenCall.TheVariants.{Receive as InReceive, Send as InSend}
-use Rattle.qmodel.specs.declared.call.Mark.TheVariants as mark
 use Rattle.qrules.specs.Rules.Connections as connect_detach
 use Rattle.qrules.specs.Rules.Unblock as unblock
 use Rattle.qrules.specs.Rules.Pulse as pulse
@@ -34,10 +33,6 @@ message_newest e past = ap (λ c. option_map_or message_sent c []) (call_newest 
 
 message_earlier : (e : Event) (past : Trace) (i : ℕ) → i ≤ length past → message_at (e ∷ past) i ≡ message_at past i
 message_earlier e past i l = ap (λ c. option_map_or message_sent c []) (call_earlier e past i l)
-
--- a call that writes nothing leaves the buffers of earlier calls
-buffer_stays : (e : Event) (past : Trace) (i : ℕ) (c : Call) → writes e.call ≡ None → buffer_by (e ∷ past) i c ≡ buffer_by past i c
-buffer_stays e past i c none = grind arith
 
 buffer_earlier : (e : Event) (past : Trace) (i : ℕ) → i ≤ length past → writes e.call ≡ None → buffer_at (e ∷ past) i ≡ buffer_at past i
 buffer_earlier e past i l none = grind arith
@@ -73,10 +68,6 @@ held_buffer roster past t rcvid passed =
     reply_buffer_same f rcvid ∙ ap reply_buffer_in (held_call_is f t rcvid s.0 s.1 h) ∙ sym (open_buffer roster past s.0 (InSend h.send) h.is_open) ∙ ap (buffer_at past) (held_number f t rcvid s.0 s.1 h)
 
 -- ---- the forms of a completion
-
--- what a receipt gives, by whether it is of a pulse
-abbrev as_given : Item → List ℕ → List ℕ → Bool → Mark × List ℕ
-as_given item buffer bytes t = cond {A = Mark × List ℕ} t (mark.Pulse item.number item.priority item.what, buffer) (mark.Message item.number (laid_count buffer 0 bytes), lay_over buffer 0 bytes)
 
 -- a message is laid over the buffer, and a pulse leaves it
 taking_copied : (past : Trace) (e : Event) (m u : ℕ) (item : Item) (buffer bytes : List ℕ) (y : Completion) → buffer_at (e ∷ past) m ≡ buffer → (is_pulse item.what ≡ false → message_at (e ∷ past) item.number ≡ bytes)

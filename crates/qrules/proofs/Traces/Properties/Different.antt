@@ -1,6 +1,5 @@
 -- Lists of numbers of which no two are equal.
-use Rattle.std.proofs.Common.{arith}
-use Rattle.qrules.proofs.Common.{◌≡◌, ℕ, ◌<◌, List, [], ◌∷◌, ◌++◌, map, refl, ap, eqb, false, AllDifferent, filter_map, cons_option, AllByRecursion, Member, IsRoster, Completion, all_append, Option, None, Some}
+use Rattle.qrules.proofs.Common.{arith, ◌≡◌, ℕ, ◌<◌, List, [], ◌∷◌, ◌++◌, map, refl, ap, eqb, false, AllDifferent, filter_map, cons_option, AllByRecursion, Member, IsRoster, Completion, all_append, Option, None, Some}
 use Rattle.std.specs.Option.{option_and_then}
 use Rattle.qrules.proofs.Words.Facts.{threads_of}
 

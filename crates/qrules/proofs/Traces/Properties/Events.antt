@@ -1,6 +1,5 @@
 -- The newest event of a lawful trace: what it made, where it was accepted, and what its endings receive.
-use Rattle.std.proofs.Common.{arith}
-use Rattle.qrules.proofs.Common.{◌≡◌, ℕ, List, ap, subst, true, false, inl, inr, None, Some, not, AllByRecursion, none-some, Member, completion_to, Outcome, Answers, number_received, SentItem, Event, Trace, Call, Completion, all_filter_map}
+use Rattle.qrules.proofs.Common.{arith, ◌≡◌, ℕ, List, ap, subst, true, false, inl, inr, None, Some, not, AllByRecursion, none-some, Member, completion_to, Outcome, Answers, number_received, SentItem, Event, Trace, Call, Completion, all_filter_map}
 use Rattle.qrules.proofs.Basics.{Facts, threads_of, facts_of, is_accepted, item_of, makes, accepted, passes_of, refused}
 use Rattle.qrules.proofs.Traces.Properties.Receipts.{TakesOne, receives_it, takes_one}
 

@@ -1,7 +1,6 @@
 -- A completion that receives an item: the caller's own of what was pending, or of a thread that waited for what the call makes.
-use Rattle.std.proofs.Common.{arith}
 use Rattle.qrules.proofs.Basics.{answer_same, pulse_same, sent_same, unblocked_same, error_finish, reply_finish, message_item, item_in, Facts, message, sender, route, number_of, makes, Delivers, delivery_meets, ReceiveTakes, receive_takes, cancel_parts, sender_ends, detach_ends, sent_way}
-use Rattle.qrules.proofs.Common.{◌≡◌, ◌∙◌, ℕ, List, [], ap, refl, sym, eqb, true, false, inl, inr, ◌⊎◌, none-some, same_Some, Srch, best_of, may_take, Item, Kind, Any, PulseOnly, completion_to, row_of, effect_of, info_of, is_on, ReceiveRequest, number_received, SentItem, Call, Completion, OpenCall, ReceivedItem, Option, None, Some}
+use Rattle.qrules.proofs.Common.{arith, ◌≡◌, ◌∙◌, ℕ, List, [], ap, refl, sym, eqb, true, false, inl, inr, ◌⊎◌, none-some, same_Some, Srch, best_of, may_take, Item, Kind, Any, PulseOnly, completion_to, row_of, effect_of, info_of, is_on, ReceiveRequest, number_received, SentItem, Call, Completion, OpenCall, ReceivedItem, Option, None, Some}
 use Rattle.qmodel.specs.declared.call.Call.TheVariants.{Send, Receive, Reply, Error, Info, ReceivePulse, Pulse, ChannelDestroy, Shutdown, Unblock, ConnectDetach}
 use Rattle.qmodel.specs.declared.open_call.OpenCall.TheVariants.{Receive as InReceive, Send as InSend}
 use Rattle.qrules.proofs.Traces.Calls.Answering.{answer_receives}

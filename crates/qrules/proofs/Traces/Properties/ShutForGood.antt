@@ -1,6 +1,5 @@
 -- Nothing is received from a channel that is destroyed, and no thread is blocked on it.
-use Rattle.std.proofs.Common.{arith}
-use Rattle.qrules.proofs.Common.{◌≡◌, ◌∙◌, ℕ, ◌+◌, List, [], ◌∷◌, length, refl, ap, sym, subst, cond, eqb, true, false, inl, inr, receive_in, send_in, OpenReceive, OpenSend, number_received, IsShut, ShutForGood, AllByRecursion, none-some, same_Some, Srch, best_of, IsRoster, Member, Outcome, row_of, effect_of, is_on, item_among, channel_of, unblocked_call, Event, Trace, Call, Completion, OpenCall, Option, None, Some, is_some, ◌||◌}
+use Rattle.qrules.proofs.Common.{arith, ◌≡◌, ◌∙◌, ℕ, ◌+◌, List, [], ◌∷◌, length, refl, ap, sym, subst, cond, eqb, true, false, inl, inr, receive_in, send_in, OpenReceive, OpenSend, number_received, IsShut, ShutForGood, AllByRecursion, none-some, same_Some, Srch, best_of, IsRoster, Member, Outcome, row_of, effect_of, is_on, item_among, channel_of, unblocked_call, Event, Trace, Call, Completion, OpenCall, Option, None, Some, is_some, ◌||◌}
 use Rattle.std.specs.Option.{option_and_then, option_map}
 use Rattle.std.proofs.lemmas.Bool.{or_cases, true≢false}
 use Rattle.qrules.proofs.Basics.{receipt_of, names, Facts, owns, asks, closes, makes, unblocks, writes, facts_of, IsLawful, attached_connection, is_destroyed, items, open_call, after_receipt, after_write, channel_after, open_call_after, unless, after_unblock, accepted, laws_of, passes_of, item_at, item_below, item_earlier, item_found, item_newest, made_by, Passes, held_on, buffer_on}

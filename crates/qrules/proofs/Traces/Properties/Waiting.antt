@@ -1,7 +1,6 @@
 -- While a thread waits for an item of a channel, nothing that it may take is pending there.
-use Rattle.std.proofs.Common.{arith}
-use Rattle.qrules.proofs.Common.{◌≡◌, ◌∙◌, ℕ, List, [], ◌∷◌, ◌++◌, refl, ap, sym, subst, cond, eqb, Bool, true, false, inl, inr, option_map, none-some, none-may, all_append, all_filter, all_more, is_among, none_of, some_of, AllByRecursion, eqb-true, eqb-false, best_of, may_take, Item, Kind, IsRoster, Member, row_of, effect_of, held_call, with_buffer, unblocked_call, ReceiveRequest, newest_receiver, SentItem, Trace, Call, OpenCall, Receipt, channel_of, Option, None, Some, is_some, not, filter}
-use Rattle.qrules.proofs.Basics.{receipt_of, message_item, receiver, receipt_when_sent, own_receipt, Received, item_sent_over, pulse_receipt, Facts, sender, threads_of, route, asks, makes, unblocks, writes, facts_of, IsLawful, made_on, after_receipt, after_write, is_cancelled, uncancelled_items, open_call_after, pending_after, unreceived_items, unless, after_unblock, given_received, receipt_from, open_known, passes_of, Passes, has_way, known}
+use Rattle.qrules.proofs.Common.{arith, ◌≡◌, ◌∙◌, ℕ, List, [], ◌∷◌, ◌++◌, refl, ap, sym, subst, cond, eqb, Bool, true, false, inl, inr, option_map, none-some, none-may, all_append, all_filter, all_more, is_among, none_of, some_of, AllByRecursion, eqb-true, eqb-false, best_of, may_take, Item, Kind, IsRoster, Member, row_of, effect_of, held_call, with_buffer, unblocked_call, ReceiveRequest, newest_receiver, SentItem, Trace, Call, OpenCall, Receipt, channel_of, Option, None, Some, is_some, not, filter}
+use Rattle.qrules.proofs.Basics.{receipt_of, message_item, receiver, receipt_when_sent, Received, item_sent_over, pulse_receipt, Facts, sender, threads_of, route, asks, makes, unblocks, writes, facts_of, IsLawful, made_on, after_receipt, after_write, is_cancelled, uncancelled_items, open_call_after, pending_after, unreceived_items, unless, after_unblock, given_received, receipt_from, open_known, passes_of, Passes, has_way, known}
 use Rattle.qmodel.specs.declared.call.Call.TheVariants.{Send, Pulse, Unblock, ConnectDetach}
 use Rattle.qmodel.specs.declared.open_call.OpenCall.TheVariants.{Receive as InReceive}
 use Rattle.qrules.proofs.Traces.Past.Follows.{past_follows}
@@ -36,9 +35,6 @@ waits_for_asked n t h c b e = grind arith
 -- a call that begins to wait for an item finds none, and makes none
 abbrev BeginsWithNone : Facts → ℕ → Call → ℕ × Kind → Type 0
 BeginsWithNone f t c p = (best_of p.1 (f.pending p.0) ≡ None) × (makes f t c ≡ None)
-
-none_to_take : (f : Facts) (t : ℕ) (buffer : List ℕ) (o : Option Item) → own_receipt f t buffer o ≡ None → o ≡ None
-none_to_take f t buffer o e = grind arith
 
 begins_with_none : (f : Facts) (t h : ℕ) (c : Call) (b : OpenCall) (p : ℕ × Kind) → asks f.number t h c ≡ Some b → waits_for b ≡ Some p → (row_of f t c).own ≡ None → BeginsWithNone f t c p
 begins_with_none f t h c b p e w own = grind arith

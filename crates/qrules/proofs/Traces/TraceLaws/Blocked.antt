@@ -1,6 +1,5 @@
 -- Whose the endings of an event are, and who is blocked after it.
-use Rattle.std.proofs.Common.{arith}
-use Rattle.qrules.proofs.Common.{◌≡◌, ◌∙◌, ℕ, ◌+◌, List, [], ◌∷◌, length, refl, ap, sym, subst, cond, Bool, true, false, eqb, inl, inr, gets, AreApart, is_among, eqb_same, any_filter_map, any_filter_map_at, all_filter_map, cond_same, filter_map, AllByRecursion, or-true, member_at, IsRoster, Member, completion_to, row_of, SentItem, Event, Trace, Call, Completion, OpenCall, Transfer, channel_of, Option, Some, is_some, ◌||◌}
+use Rattle.qrules.proofs.Common.{arith, ◌≡◌, ◌∙◌, ℕ, ◌+◌, List, [], ◌∷◌, length, refl, ap, sym, subst, cond, Bool, true, false, eqb, inl, inr, gets, AreApart, is_among, eqb_same, any_filter_map, any_filter_map_at, all_filter_map, cond_same, filter_map, AllByRecursion, or-true, member_at, IsRoster, Member, completion_to, row_of, SentItem, Event, Trace, Call, Completion, OpenCall, Transfer, channel_of, Option, Some, is_some, ◌||◌}
 use Rattle.std.proofs.lemmas.Bool.{cases_Bool, eqb-true, ne_eqb, true≢false}
 use Rattle.qrules.proofs.Basics.{receipt_of, Received, Facts, threads_of, asks, makes, facts_of, IsLawful, has_completion_of, open_call, after_receipt, after_unblock, after_write, open_call_after, unless, completion_names, ends_own, laws_of, open_known, passes_of, Passes, waits_or_ends, Rises, rises, not_among, known}
 use Rattle.qrules.proofs.Traces.Past.OpenCalls.{open_accepted, open_refused}

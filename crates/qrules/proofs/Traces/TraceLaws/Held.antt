@@ -1,6 +1,5 @@
 -- The sender of a message that is held waits in its Send.
-use Rattle.std.proofs.Common.{arith}
-use Rattle.qrules.proofs.Common.{◌≡◌, ◌∙◌, ◌+◌, ℕ, List, [], ◌∷◌, length, refl, ap, sym, subst, cond, eqb, true, false, option_map, option_or, waiter, AllByRecursion, none-some, same_Some, IsRoster, Member, row_of, number_received, TakesBest, takeable, SentItem, Trace, Event, Completion, OpenCall, best_of, best-at, Option, None, Some, is_some, not, ◌&&◌}
+use Rattle.qrules.proofs.Common.{arith, ◌≡◌, ◌∙◌, ◌+◌, ℕ, List, [], ◌∷◌, length, refl, ap, sym, subst, cond, eqb, true, false, option_map, option_or, waiter, AllByRecursion, none-some, same_Some, IsRoster, Member, row_of, number_received, TakesBest, takeable, SentItem, Trace, Event, Completion, OpenCall, best_of, best-at, Option, None, Some, is_some, not, ◌&&◌}
 use Rattle.std.proofs.lemmas.Bool.{and_parts, eqb-true, not-true, or_parts, true≢false}
 use Rattle.qrules.proofs.Basics.{is_for_answer, is_send, sender, threads_of, number_of, may_wait, waits_or_ends, IsLawful, facts_of, has_completion_of, is_ended, is_received, item_of, accepted_at, open_call, copied_count_among, copied_count_of, filled, ends_own, open_known, passes_of, item_accepted, item_answer, item_at, item_below, item_earlier, item_made, send_from, send_parts, sender_found, known, open_from, filled_answer, open_thread, kept, kept_number, receipt_for_answer}
 use Rattle.qrules.proofs.Traces.Properties.BestFirst.{best_first}

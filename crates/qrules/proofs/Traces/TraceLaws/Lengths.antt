@@ -1,6 +1,6 @@
 -- How long the buffers are that endings give back.
 use Rattle.qrules.proofs.Basics.{answer_same, pulse_same, sent_same, unblocked_same, asks, makes, unblocks, writes, error_finish, reply_finish, message_item, receipt_of, info_completion, Finish, ends_sender, Received, buffer_after_write, Facts, message, sender, threads_of, route, number_of, after_receipt, after_unblock, after_write, open_call_after, unless, with_writes, open_call, filled, with_receipt, detach_ends, IsCancelledCall, cancel_parts, Passes, block_asked, open_parts, Delivers, delivery_meets, receive_takes, facts_of, IsLawful, completion_names, laws_of, passes_of}
-use Rattle.qrules.proofs.Common.{◌≡◌, ℕ, ◌≤◌, List, [], ◌∷◌, length, refl, ap, sym, subst, ◌∙◌, cond, Bool, true, false, eqb, arith, inl, inr, option_map, buffer_of_open, with_buffer, held_call, unblocked_call, AllByRecursion, none-some, same_Some, laid_count, lay_over, Errno, Srch, is_pulse, Item, Any, PulseOnly, completion_to, row_of, info_of, refusal_unless_held, is_on, receipt_completion, SentItem, Event, Trace, Call, Completion, Mark, OpenCall, Receipt, IsRoster, Member, call_at, all_filter_map, all_more, eqb_same, Transfer, buffer_in, channel_of, Option, None, Some, is_some}
+use Rattle.qrules.proofs.Common.{◌≡◌, ℕ, ◌≤◌, List, [], ◌∷◌, length, refl, ap, sym, subst, ◌∙◌, cond, Bool, true, false, eqb, arith, inl, inr, option_map, buffer_of_open, with_buffer, AllByRecursion, none-some, same_Some, laid_count, lay_over, Errno, Srch, is_pulse, Item, Any, PulseOnly, completion_to, row_of, info_of, refusal_unless_held, is_on, receipt_completion, SentItem, Event, Trace, Call, Completion, Mark, OpenCall, IsRoster, Member, call_at, all_filter_map, all_more, eqb_same, Transfer, buffer_in, channel_of, Option, None, Some, is_some}
 use Rattle.std.proofs.lemmas.Bool.{ne_eqb, true≢false}
 use Rattle.qmodel.specs.Buffers.{buffer_of}
 use Rattle.qmodel.specs.declared.call.Call.TheVariants.{Send, Receive, Reply, Error, Read, Info, ReceivePulse, Pulse, ChannelDestroy, Shutdown, Unblock, ConnectDetach}
@@ -87,17 +87,8 @@ endings_keep_length roster past e r l =
 asked_length : (n t h : ℕ) (c : Call) → is_some (asks n t h c) ≡ true → length (buffer_of_open (asks n t h c)) ≡ length (buffer_of c)
 asked_length n t h c e = grind arith
 
-map_length : (k : OpenCall → OpenCall) → ((o : OpenCall) → length (buffer_in (k o)) ≡ length (buffer_in o)) → (o : Option OpenCall) → length (buffer_of_open (option_map k o)) ≡ length (buffer_of_open o)
-map_length k h o = grind arith
-
-held_length : (receipt : Receipt) (w : OpenCall) → length (buffer_in (held_call receipt w)) ≡ length (buffer_in w)
-held_length receipt w = grind arith
-
 written_length : (at : ℕ) (bytes : List ℕ) (w : OpenCall) → length (buffer_in (with_buffer (λ b. lay_over b at bytes) w)) ≡ length (buffer_in w)
 written_length at bytes w = grind (arith, lay_length)
-
-unblocked_length : (w : OpenCall) → length (buffer_in (unblocked_call w)) ≡ length (buffer_in w)
-unblocked_length w = grind arith
 
 receipt_length : (r : Option Received) (u : ℕ) (o : Option OpenCall) → length (buffer_of_open (after_receipt r u o)) ≡ length (buffer_of_open o)
 receipt_length r u o = grind arith

@@ -1,6 +1,5 @@
 -- A call that may wait and isn't ended is the newest blocking call of its thread.
-use Rattle.std.proofs.Common.{arith}
-use Rattle.qrules.proofs.Common.{◌≡◌, ℕ, ◌+◌, List, [], ◌∷◌, length, refl, sym, subst, ◌∙◌, cond, true, false, eqb, waiter, channel_of, number_of, none-some, Member, Event, Trace, Call, OpenCall, Option, None, Some, is_some}
+use Rattle.qrules.proofs.Common.{arith, ◌≡◌, ℕ, ◌+◌, List, [], ◌∷◌, length, refl, sym, subst, ◌∙◌, cond, true, false, eqb, waiter, channel_of, number_of, none-some, Member, Event, Trace, Call, OpenCall, Option, None, Some, is_some}
 use Rattle.std.proofs.lemmas.Bool.{eqb-true, or_parts}
 use Rattle.qrules.proofs.Basics.{may_wait, IsLawful, has_completion_of, is_accepted, is_ended, accepted_at, block, item_of, asks, call_laws}
 use Rattle.qrules.proofs.Traces.Properties.Messages.{block_stays}

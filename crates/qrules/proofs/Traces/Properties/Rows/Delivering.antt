@@ -1,6 +1,5 @@
 -- A call that delivers an item meets a thread that waits on its channel, if it ends another's.
-use Rattle.std.proofs.Common.{arith}
-use Rattle.qrules.proofs.Common.{◌≡◌, ℕ, List, true, Receive, may_take, Item, receipt_completion, Completion, Option, Some}
+use Rattle.qrules.proofs.Common.{arith, ◌≡◌, ℕ, List, true, Receive, may_take, Item, receipt_completion, Completion, Option, Some}
 use Rattle.qrules.proofs.Words.Items.{delivers, receiver}
 use Rattle.qrules.proofs.Words.Facts.{Facts}
 use Rattle.qrules.proofs.Traces.Properties.Receivers.{WaitsOn, newest_waits}

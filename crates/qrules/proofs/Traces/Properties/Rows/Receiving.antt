@@ -1,6 +1,5 @@
 -- A receive that ends in its own event takes the best item of its channel.
-use Rattle.std.proofs.Common.{arith}
-use Rattle.qrules.proofs.Common.{◌≡◌, ℕ, List, Some, best_of, Item, Kind, receipt_completion, Completion}
+use Rattle.qrules.proofs.Common.{arith, ◌≡◌, ℕ, List, Some, best_of, Item, Kind, receipt_completion, Completion}
 use Rattle.qrules.proofs.Words.Items.{own_receipt}
 use Rattle.qrules.proofs.Words.Facts.{Facts, message}
 

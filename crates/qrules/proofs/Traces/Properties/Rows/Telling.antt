@@ -1,6 +1,5 @@
 -- A call whose pulse is due may meet a thread that waits for it.
-use Rattle.std.proofs.Common.{arith}
-use Rattle.qrules.proofs.Common.{◌≡◌, ℕ, [], ◌⊎◌, Intr, SentItem, Completion, Option, Some}
+use Rattle.qrules.proofs.Common.{arith, ◌≡◌, ℕ, [], ◌⊎◌, Intr, SentItem, Completion, Option, Some}
 use Rattle.qrules.proofs.Basics.{ends_unblocked, ends_receiver, Facts, IsCancelledCall, Delivers, delivery_meets}
 use Rattle.qrules.proofs.Traces.Calls.Unblock.{is_cancelled}
 
