@@ -47,13 +47,8 @@ answers_by f t c rcvid finish u y named r =
     }
 
 ends_answers : (f : Facts) (t : ℕ) (c : Call) (u : ℕ) (y : Completion) → Passes f t c → (row_of f t c).others u ≡ Some y → is_answer y.mark ≡ true → AnswersHeld f t c u y
-ends_answers f t (Send coid message reply_buffer) u y p e is = met_no_answer f (route f t coid) (message_item f t) message u y (delivery_meets f (route f t coid) (message_item f t) message u y (sym (sent_same f t coid message reply_buffer u p.row) ∙ e)) is
-ends_answers f t (Pulse coid level code value) u y p e is =
-    let k = told_meets f (pulse.pulse_over f coid level code value) u y (sym (pulse_same f (pulse.pulse_over f coid level code value) u) ∙ e) in met_no_answer f (Some k.made.channel) k.made.item [] u y k.delivers is
 ends_answers f t (Reply rcvid status bytes) u y p e is = answers_by f t (Reply rcvid status bytes) rcvid (reply_finish status bytes) u y refl (sender_ends f t rcvid (reply_finish status bytes) u y p.row (sym (answer_same f (reply_finish status bytes) (sender f rcvid) u) ∙ e))
 ends_answers f t (Error rcvid code) u y p e is = answers_by f t (Error rcvid code) rcvid (error_finish code) u y refl (sender_ends f t rcvid (error_finish code) u y p.row (sym (answer_same f (error_finish code) (sender f rcvid) u) ∙ e))
-ends_answers f t (ChannelDestroy chid) u y p e is = no_answer _ y (cancel_parts (is_on chid) Srch u (f.open_call u) y e).completion refl is
-ends_answers f t Shutdown u y p e is = no_answer _ y (cancel_parts (λ wait. true) Srch u (f.open_call u) y e).completion refl is
 ends_answers f t (Unblock thread) u y p e is = elim (unblock_ends f thread u y (unblock.unblock_pulse f thread) (sym (unblocked_same f t thread u) ∙ e)) [
   | inl cancel ↦ no_answer _ y cancel.completion refl is
   | inr k ↦ met_no_answer f (Some k.made.channel) k.made.item [] u y k.delivers is
@@ -62,7 +57,7 @@ ends_answers f t (ConnectDetach coid) u y p e is = elim (detach_ends f coid (con
   | inl cancel ↦ no_answer _ y cancel.completion refl is
   | inr s ↦ let k = told_meets f (connect_detach.disconnect_pulse f t coid) u y s in met_no_answer f (Some k.made.channel) k.made.item [] u y k.delivers is
 ]
-ends_answers f t c u y p e is = absurd (none-some y e)
+ends_answers f t c u y p e is = grind arith
 
 -- each completion that answers a message answers so
 pub answers_held : (f : Facts) (t : ℕ) (c : Call) (u : ℕ) (y : Completion) → Passes f t c → completion_to f t c u ≡ Some y → is_answer y.mark ≡ true → AnswersHeld f t c u y

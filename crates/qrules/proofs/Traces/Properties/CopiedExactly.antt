@@ -106,16 +106,12 @@ best_copied roster past t c X y chid kind buffer l brought r =
 
 own_copied : (roster : List Member) (past : Trace) (t : ℕ) (c : Call) (X : List Completion) (y : Completion) → IsLawful roster past → Passes (facts_of roster past) t c → (row_of (facts_of roster past) t c).own ≡ Some y
     → IsCopied past (event t c X) y y.mark
-own_copied roster past t (Send coid sent reply_buffer) X y l p e = absurd (none-some y e)
 own_copied roster past t (Read rcvid offset buffer) X y l p e =
     plain_copied past (event t (Read rcvid offset buffer) X) y _ (same_Some _ y e) (rw (held_message roster past t rcvid p.row) (refl, refl))
 own_copied roster past t (Write rcvid offset bytes) X y l p e =
     plain_copied past (event t (Write rcvid offset bytes) X) y _ (same_Some _ y e) (refl, ap (λ b. laid_count b offset bytes) (held_buffer roster past t rcvid p.row))
-own_copied roster past t (Info rcvid) X y l p e =
-    told_copied past (event t (Info rcvid) X) (length past + 1) t (info_of (facts_of roster past) (sender (facts_of roster past) rcvid)) y e (buffer_newest (event t (Info rcvid) X) past)
 own_copied roster past t (Receive chid buffer) X y l p e = best_copied roster past t (Receive chid buffer) X y chid Any buffer l (buffer_newest (event t (Receive chid buffer) X) past) (receive_takes (facts_of roster past) t chid Any buffer y e)
-own_copied roster past t (ReceivePulse chid) X y l p e = best_copied roster past t (ReceivePulse chid) X y chid PulseOnly [] l (buffer_newest (event t (ReceivePulse chid) X) past) (receive_takes (facts_of roster past) t chid PulseOnly [] y e)
-own_copied roster past t c X y l p e = plain_copied past (event t c X) y _ (same_Some _ y e) (sym (buffer_newest (event t c X) past))
+own_copied roster past t c X y l p e = grind arith
 
 -- the buffer of the Send that is answered
 answered_buffer : (roster : List Member) (past : Trace) (v : Event) (t rcvid : ℕ) (finish : Finish) (u : ℕ) (y : Completion) → writes v.call ≡ None → (r : SenderEnds (facts_of roster past) t rcvid finish u y)
@@ -142,8 +138,6 @@ told_now roster past t c X u y o none pulse k =
 
 ends_copied : (roster : List Member) (past : Trace) (t : ℕ) (c : Call) (X : List Completion) (u : ℕ) (y : Completion) → Passes (facts_of roster past) t c → (row_of (facts_of roster past) t c).others u ≡ Some y
     → IsCopied past (event t c X) y y.mark
-ends_copied roster past t (ChannelDestroy chid) X u y p e = cancel_copied roster past t (ChannelDestroy chid) X u y (is_on chid) Srch refl (cancel_parts (is_on chid) Srch u (open_call roster past u) y e)
-ends_copied roster past t Shutdown X u y p e = cancel_copied roster past t Shutdown X u y (λ o. true) Srch refl (cancel_parts (λ o. true) Srch u (open_call roster past u) y e)
 ends_copied roster past t (Unblock thread) X u y p e = elim (unblock_ends (facts_of roster past) thread u y (unblock.unblock_pulse (facts_of roster past) thread) (sym (unblocked_same (facts_of roster past) t thread u) ∙ e)) [
   | inl cancel ↦ cancel_copied roster past t (Unblock thread) X u y (is_cancelled (facts_of roster past) thread u) Intr refl cancel
   | inr k ↦ told_now roster past t (Unblock thread) X u y (unblock.unblock_pulse (facts_of roster past) thread) refl (λ m is. unblocking.due_is_pulse (facts_of roster past) thread m is) k
@@ -167,7 +161,7 @@ ends_copied roster past t (Error rcvid code) X u y p e =
     let r = sender_ends (facts_of roster past) t rcvid (error_finish code) u y p.row (sym (answer_same (facts_of roster past) (error_finish code) (sender (facts_of roster past) rcvid) u) ∙ e) in
     let v = event t (Error rcvid code) X in
     errored_copied past v rcvid u code r.held.send.reply_buffer y refl (answered_buffer roster past v t rcvid (error_finish code) u y refl r) r.completion
-ends_copied roster past t c X u y p e = absurd (none-some y e)
+ends_copied roster past t c X u y p e = grind (arith, buffer_open)
 
 completion_copied : (roster : List Member) (past : Trace) (t : ℕ) (c : Call) (X : List Completion) (u : ℕ) (y : Completion) → IsLawful roster past → Passes (facts_of roster past) t c
     → completion_to (facts_of roster past) t c u ≡ Some y → IsCopied past (event t c X) y y.mark

@@ -60,16 +60,12 @@ pub record IsMessage (n t : ℕ) (c : Call) (m : SentItem) : Type 0 where
   pub answer : is_for_answer begins ≡ true
 
 pub makes_message : (f : Facts) (t : ℕ) (c : Call) (m : SentItem) → makes f t c ≡ Some m → is_pulse m.item.what ≡ false → IsMessage f.number t c m
-makes_message f t (Unblock thread) m e message = absurd (true≢false (sym (due_is_pulse f thread m (e)) ∙ message))
-makes_message f t (ConnectDetach coid) m e message = absurd (true≢false (sym (detaching.due_is_pulse f t coid m e) ∙ message))
-makes_message f t (Pulse coid level code value) m e message =
-    absurd (true≢false (ap (λ x. is_pulse x.what) (sym (sent_item (f.connection coid) (pulse_item f.number level code value) m e)) ∙ message))
 makes_message f t (Send coid sent reply_buffer) m e message = record {
   begins = InSend (record { number = f.number; thread = t; connection = coid; channel = m.channel; message = sent; reply_buffer = reply_buffer; receipt = None });
   asked = refl;
   answer = refl;
 }
-makes_message f t c m e message = absurd (none-some m e)
+makes_message f t c m e message = grind arith
 
 abbrev newest_of : List Member → Trace → ℕ → Option OpenCall
 newest_of roster past u = block roster past u

@@ -60,11 +60,9 @@ takes_best : (f : Facts) (t : ℕ) (c : Call) (chid : ℕ) (kind : Kind) (buffer
 takes_best f t c chid kind buffer u y p same receives none r m = grind arith
 
 own_takes : (f : Facts) (t : ℕ) (c : Call) (u : ℕ) (y : Completion) (p : ReceivedItem) → u ≡ t → (row_of f t c).own ≡ Some y → item_in y.mark ≡ Some p → TakesOne f t c u y p.number
-own_takes f t (Send coid message reply_buffer) u y p same e m = absurd (none-some y e)
-own_takes f t (Info rcvid) u y p same e m = absurd (none-some p (sym (plain f.number t (info_of f (sender f rcvid)) y e).mark ∙ m))
 own_takes f t (Receive chid buffer) u y p same e m = takes_best f t (Receive chid buffer) chid Any buffer u y p same refl refl (receive_takes f t chid Any buffer y e) m
 own_takes f t (ReceivePulse chid) u y p same e m = takes_best f t (ReceivePulse chid) chid PulseOnly [] u y p same refl refl (receive_takes f t chid PulseOnly [] y e) m
-own_takes f t c u y p same e m = absurd (none-some p (ap (λ x. item_in x.mark) (same_Some _ y e) ∙ m))
+own_takes f t c u y p same e m = grind arith
 
 -- a receiver that takes what is delivered
 takes_met : (f : Facts) (t : ℕ) (c : Call) (o : Option ℕ) (item : Item) (message : List ℕ) (u : ℕ) (y : Completion) (p : ReceivedItem) → Delivers f o item message u y → ((h : ℕ) → o ≡ Some h → makes f t c ≡ Some (record { item = item; channel = h }))
@@ -76,11 +74,6 @@ takes_told : (f : Facts) (t : ℕ) (c : Call) (o : Option SentItem) (u : ℕ) (y
 takes_told f t c o u y p made k m = grind arith
 
 ends_takes : (f : Facts) (t : ℕ) (c : Call) (u : ℕ) (y : Completion) (p : ReceivedItem) → (row_of f t c).refusal ≡ None → (row_of f t c).others u ≡ Some y → item_in y.mark ≡ Some p → TakesOne f t c u y p.number
-ends_takes f t (Reply rcvid status bytes) u y p r e m =
-    absurd (none-some p (sym (answer_receives f t rcvid (reply_finish status bytes) u y (λ buffer. refl) (sender_ends f t rcvid (reply_finish status bytes) u y r (sym (answer_same f (reply_finish status bytes) (sender f rcvid) u) ∙ e))) ∙ m))
-ends_takes f t (Error rcvid code) u y p r e m = absurd (none-some p (sym (answer_receives f t rcvid (error_finish code) u y (λ buffer. no_receipt code) (sender_ends f t rcvid (error_finish code) u y r (sym (answer_same f (error_finish code) (sender f rcvid) u) ∙ e))) ∙ m))
-ends_takes f t (ChannelDestroy chid) u y p r e m = absurd (none-some p (ap (λ x. item_in x.mark) (cancel_parts (is_on chid) Srch u (f.open_call u) y e).completion ∙ m))
-ends_takes f t Shutdown u y p r e m = absurd (none-some p (ap (λ x. item_in x.mark) (cancel_parts (λ wait. true) Srch u (f.open_call u) y e).completion ∙ m))
 ends_takes f t (Unblock thread) u y p r e m = elim (unblock_ends f thread u y (unblock.unblock_pulse f thread) (sym (unblocked_same f t thread u) ∙ e)) [
   | inl cancel ↦ absurd (none-some p (ap (λ x. item_in x.mark) cancel.completion ∙ m))
   | inr k ↦ takes_told f t (Unblock thread) (unblock.unblock_pulse f thread) u y p refl k m
@@ -93,7 +86,7 @@ ends_takes f t (Send coid message reply_buffer) u y p r e m =
     takes_met f t (Send coid message reply_buffer) (route f t coid) (message_item f t) message u y p (delivery_meets f (route f t coid) (message_item f t) message u y (sym (sent_same f t coid message reply_buffer u r) ∙ e)) (sent_way f t coid (message_item f t)) m
 ends_takes f t (Pulse coid level code value) u y p r e m =
     takes_told f t (Pulse coid level code value) (pulse.pulse_over f coid level code value) u y p refl (told_meets f (pulse.pulse_over f coid level code value) u y (sym (pulse_same f (pulse.pulse_over f coid level code value) u) ∙ e)) m
-ends_takes f t c u y p r e m = absurd (none-some y e)
+ends_takes f t c u y p r e m = grind arith
 
 -- each completion that receives an item takes it so
 pub takes_one : (f : Facts) (t : ℕ) (c : Call) (u : ℕ) (y : Completion) (p : ReceivedItem) → (row_of f t c).refusal ≡ None → completion_to f t c u ≡ Some y → item_in y.mark ≡ Some p → TakesOne f t c u y p.number

@@ -27,12 +27,9 @@ no_buffer : (n t : ℕ) (o : Option Told) (y : Completion) → option_map (info_
 no_buffer n t o y e = grind arith
 
 own_length : (f : Facts) (t : ℕ) (c : Call) (y : Completion) → (row_of f t c).own ≡ Some y → length y.buffer ≡ length (buffer_of c)
-own_length f t (Send coid message reply_buffer) y e = absurd (none-some y e)
 own_length f t (Receive chid buffer) y e = let k = receive_takes f t chid Any buffer y e in ap (λ x. length x.buffer) (sym k.completion) ∙ taking_length k.item _ t f.number buffer
 own_length f t (Read rcvid offset buffer) y e = ap (λ x. length x.buffer) (sym (same_Some _ y e)) ∙ lay_length buffer 0 _
-own_length f t (Info rcvid) y e = no_buffer f.number t (info_of f (sender f rcvid)) y e
-own_length f t (ReceivePulse chid) y e = let k = receive_takes f t chid PulseOnly [] y e in ap (λ x. length x.buffer) (sym k.completion) ∙ taking_length k.item _ t f.number []
-own_length f t c y e = ap (λ x. length x.buffer) (sym (same_Some _ y e))
+own_length f t c y e = grind arith
 
 -- ---- another thread's completion
 
@@ -48,20 +45,7 @@ answered_length f t rcvid finish u y keeps r e = grind arith
 ends_length : (f : Facts) (t : ℕ) (c : Call) (u : ℕ) (y : Completion) → Passes f t c → (row_of f t c).others u ≡ Some y → length y.buffer ≡ length (buffer_of_open (f.open_call u))
 ends_length f t (Send coid message reply_buffer) u y p e = met_length f (route f t coid) (message_item f t) message u y (delivery_meets f (route f t coid) (message_item f t) message u y (sym (sent_same f t coid message reply_buffer u p.row) ∙ e))
 ends_length f t (Reply rcvid status bytes) u y p e = answered_length f t rcvid (reply_finish status bytes) u y (λ b. lay_length b 0 bytes) p.row (sym (answer_same f (reply_finish status bytes) (sender f rcvid) u) ∙ e)
-ends_length f t (Error rcvid code) u y p e = answered_length f t rcvid (error_finish code) u y (λ b. refl) p.row (sym (answer_same f (error_finish code) (sender f rcvid) u) ∙ e)
-ends_length f t (Pulse coid priority code value) u y p e =
-    let k = told_meets f (pulse.pulse_over f coid priority code value) u y (sym (pulse_same f (pulse.pulse_over f coid priority code value) u) ∙ e) in met_length f (Some k.made.channel) k.made.item [] u y k.delivers
-ends_length f t (ChannelDestroy chid) u y p e = cancel_length (is_on chid) Srch u (f.open_call u) y (cancel_parts (is_on chid) Srch u (f.open_call u) y e)
-ends_length f t Shutdown u y p e = cancel_length (λ o. true) Srch u (f.open_call u) y (cancel_parts (λ o. true) Srch u (f.open_call u) y e)
-ends_length f t (Unblock thread) u y p e = elim (unblock_ends f thread u y (unblock.unblock_pulse f thread) (sym (unblocked_same f t thread u) ∙ e)) [
-  | inl cancel ↦ cancel_length _ _ u (f.open_call u) y cancel
-  | inr k ↦ met_length f (Some k.made.channel) k.made.item [] u y k.delivers
-]
-ends_length f t (ConnectDetach coid) u y p e = elim (detach_ends f coid (connect_detach.disconnect_pulse f t coid) u y e) [
-  | inl cancel ↦ cancel_length _ _ u (f.open_call u) y cancel
-  | inr s ↦ let k = told_meets f (connect_detach.disconnect_pulse f t coid) u y s in met_length f (Some k.made.channel) k.made.item [] u y k.delivers
-]
-ends_length f t c u y p e = absurd (none-some y e)
+ends_length f t c u y p e = grind arith
 
 -- ---- an event's endings
 
