@@ -1,15 +1,14 @@
 -- A completion that answers a message: whose it is, by each call's row.
-use Rattle.qrules.proofs.Basics.{answer_same, pulse_same, sent_same, unblocked_same, error_finish, reply_finish, message_item, Finish, ends_sender, item_sent_over, Facts, is_for_answer, message, sender, threads_of, route, number_of, asks, makes, thread_of_send, cancel_parts, IsHeldFor, SenderEnds, answering, finished_held, has_sender, held_for, sender_ends, sender_sends, Passes, given_is, Delivers, delivery_meets, has_way, leads_over, detach_ends}
-use Rattle.qrules.proofs.Common.{arith, ◌≡◌, ◌∙◌, ℕ, List, [], cond, ap, refl, sym, subst, true, false, inl, inr, is_on, delivery_of, is_answer, int_eq, none-some, same_Some, Srch, completion_to, row_of, effect_of, Item, Connection, error_mark, refusal_unless_held, SentItem, Call, Completion, OpenCall, eqb_same, ℤ, pos, Option, None, Some}
+use Rattle.qrules.proofs.Basics.{answer_same, unblocked_same, error_finish, reply_finish, message_item, Finish, ends_sender, item_sent_over, Facts, is_for_answer, message, sender, threads_of, asks, makes, thread_of_send, IsHeldFor, SenderEnds, answering, finished_held, has_sender, held_for, sender_ends, sender_sends, Passes, given_is, Delivers, has_way, leads_over, detach_ends}
+use Rattle.qrules.proofs.Common.{arith, ◌≡◌, ◌∙◌, ℕ, List, [], cond, ap, refl, sym, subst, true, false, inl, inr, delivery_of, is_answer, int_eq, none-some, same_Some, completion_to, row_of, effect_of, Item, Connection, error_mark, refusal_unless_held, SentItem, Call, Completion, OpenCall, eqb_same, ℤ, pos, Option, None, Some}
 use Rattle.std.proofs.lemmas.Bool.{true≢false}
-use Rattle.qmodel.specs.declared.call.Call.TheVariants.{Send, Reply, Error, Pulse, ChannelDestroy, Shutdown, Unblock, ConnectDetach}
+use Rattle.qmodel.specs.declared.call.Call.TheVariants.{Send, Reply, Error, Unblock, ConnectDetach}
 use Rattle.qmodel.specs.declared.open_call.OpenCall.TheVariants.{Receive as InReceive, Send as InSend}
 use Rattle.qrules.proofs.Traces.Properties.Receipts.{completion_of}
 use Rattle.qrules.proofs.Traces.Properties.Rows.Telling.{told_meets, unblock_ends}
 use Rattle.qmodel.specs.declared.call.Mark.TheVariants as mark
 use Rattle.qrules.specs.Rules.Connections as connect_detach
 use Rattle.qrules.specs.Rules.Unblock as unblock
-use Rattle.qrules.specs.Rules.Pulse as pulse
 
 -- ---- what answers
 
@@ -85,16 +84,7 @@ ends_one f t c rcvid finish i passed ends marks same =
     let h = held_for f t rcvid s.0 passed s.1 in
     let k = sender_sends f.open_call rcvid (threads_of f.roster) s.0 s.1 in
     let at : ends_sender f finish (sender f rcvid) s.0 ≡ Some (answering h.send.number s.0 finish h.send.reply_buffer) = rw (s.1, eqb_same s.0) (finished_held f t finish s.0 (f.open_call s.0) h) in
-    record {
-      thread = s.0;
-      is_sender = subst (λ j. sender f j ≡ Some s.0) same s.1;
-      waiting = InSend h.send;
-      is_open = h.is_open;
-      given = answering h.send.number s.0 finish h.send.reply_buffer;
-      is = ends s.0 ∙ at;
-      call = sym (ap number_of (same_Some k.waiting (InSend h.send) (sym k.is ∙ h.is_open))) ∙ k.number ∙ same;
-      answers = marks h.send.reply_buffer;
-    }
+    grind arith
 
 -- an Error marks an answer
 error_answers : (code : ℤ) → is_answer (error_mark code) ≡ true

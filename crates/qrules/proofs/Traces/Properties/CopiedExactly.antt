@@ -1,11 +1,10 @@
 -- Every buffer and every count is what was to be copied.
-use Rattle.qrules.proofs.Basics.{answer_same, pulse_same, sent_same, unblocked_same, writes, error_finish, reply_finish, info_completion, message_item, Finish, Facts, message, sender, threads_of, route, number_of, reply_buffer, message_same, reply_buffer_same, facts_of, IsLawful, open_call, refuses, passes_of, refused, item_below, Passes, call_earlier, call_newest, open_below, sender_sends, ReceiveTakes, receive_takes, IsCancelledCall, cancel_parts, IsHeldFor, SenderEnds, answering, has_sender, held_for, sender_ends, Delivers, delivery_meets, detach_ends}
-use Rattle.qrules.proofs.Common.{◌≡◌, ◌∙◌, ℕ, ◌+◌, ◌≤◌, List, [], ◌∷◌, length, refl, ap, sym, subst, cond, arith, Bool, true, false, inl, inr, message_in, reply_buffer_in, buffer_at, message_at, CopiedExactly, IsCopied, AllByRecursion, int_eq, none-some, same_Some, Errno, Srch, Intr, Badf, is_pulse, Item, Kind, Any, PulseOnly, laid_count, Member, completion_to, Answers, row_of, effect_of, info_of, refusal_unless_held, is_on, is_over, receipt_completion, SentItem, Event, Trace, Call, Completion, OpenCall, all_filter_map, buffer_in, ℤ, pos, Option, None, Some}
-use Rattle.std.specs.Option.{option_and_then, option_map, option_map_or}
+use Rattle.qrules.proofs.Basics.{answer_same, pulse_same, sent_same, unblocked_same, writes, error_finish, reply_finish, message_item, Finish, Facts, message, sender, threads_of, route, number_of, reply_buffer, message_same, reply_buffer_same, facts_of, IsLawful, open_call, refuses, passes_of, refused, item_below, Passes, call_earlier, call_newest, open_below, sender_sends, ReceiveTakes, receive_takes, IsCancelledCall, IsHeldFor, SenderEnds, answering, has_sender, held_for, sender_ends, Delivers, delivery_meets, detach_ends}
+use Rattle.qrules.proofs.Common.{◌≡◌, ◌∙◌, ℕ, ◌+◌, ◌≤◌, List, [], ◌∷◌, length, refl, ap, sym, subst, cond, arith, Bool, true, false, inl, inr, message_in, reply_buffer_in, buffer_at, message_at, CopiedExactly, IsCopied, AllByRecursion, int_eq, same_Some, Errno, Intr, Badf, is_pulse, Item, Kind, Any, laid_count, Member, completion_to, Answers, row_of, effect_of, refusal_unless_held, is_over, receipt_completion, SentItem, Event, Trace, Call, Completion, OpenCall, all_filter_map, buffer_in, ℤ, pos, Option, None, Some}
+use Rattle.std.specs.Option.{option_and_then, option_map_or}
 use Rattle.std.proofs.lemmas.Bool.{true≢false}
 use Rattle.qmodel.specs.Buffers.{buffer_of}
-use Rattle.qmodel.specs.declared.call.Call.TheVariants.{Send, Receive, Reply, Error, Read, Write, Info, ReceivePulse, Pulse, ChannelDestroy, Shutdown, Unblock, ConnectDetach}
-use Rattle.qmodel.specs.declared.call.Info.{Info as Told}
+use Rattle.qmodel.specs.declared.call.Call.TheVariants.{Send, Receive, Reply, Error, Read, Write, Pulse, Unblock, ConnectDetach}
 use Rattle.qrules.proofs.Traces.Past.Receipts.{best_pending}
 use Rattle.qrules.proofs.Traces.Past.Writes.{writes_beyond}
 use Rattle.qrules.proofs.Traces.Properties.Messages.{buffer_by, message_sent, open_buffer, open_message, pending_message}
@@ -87,10 +86,6 @@ errored_copied past e m u code buffer y says b is = grind arith
 -- a completion that gives the call's own buffer back
 plain_copied : (past : Trace) (e : Event) (y x : Completion) → x ≡ y → IsCopied past e x x.mark → IsCopied past e y y.mark
 plain_copied past e y x is h = subst (λ (z : Completion). IsCopied past e z z.mark) is h
-
--- what is told gives no buffer
-told_copied : (past : Trace) (e : Event) (n t : ℕ) (o : Option Told) (y : Completion) → option_map (info_completion n t) o ≡ Some y → buffer_at (e ∷ past) n ≡ [] → IsCopied past e y y.mark
-told_copied past e n t o y is b = grind arith
 
 -- ---- each completion of an accepted call
 

@@ -1,14 +1,12 @@
 -- The messages and buffers of open calls are those that their calls brought, and a message that is pending has its Send open.
 use Rattle.qrules.proofs.Common.{arith, ◌≡◌, ◌∙◌, ℕ, ◌+◌, List, [], ◌∷◌, length, refl, ap, sym, subst, cond, eqb, true, false, Option, message_in, message_of, held_call, with_buffer, buffer_at, message_at, buffer_of, none-some, is_pulse, Item, Member, effect_of, SentItem, Event, Trace, Call, OpenCall, Receipt, eqb_same, channel_of, buffer_in, None, Some, is_some, not, ◌&&◌}
 use Rattle.std.specs.Option.{option_and_then, option_map_or}
-use Rattle.std.proofs.lemmas.Bool.{eqb-true, or_parts, and_parts, true≢false}
-use Rattle.qrules.proofs.Basics.{message_same, is_for_answer, message, sender, threads_of, is_send, Facts, number_of, facts_of, IsLawful, has_completion_of, is_ended, item_of, open_call, with_writes, block, filled, asks, makes, pulse_item, sent_item, open_known, passes_of, item_accepted, IsPending, item_at, blocks, blocks_thread, block_asked, call_laws, send_from, send_parts, sender_found, known, open_from, filled_answer, open_parts, open_thread, receipt_for_answer, kept, kept_number}
-use Rattle.qmodel.specs.declared.call.Call.TheVariants.{Send, Pulse, Unblock, ConnectDetach}
+use Rattle.std.proofs.lemmas.Bool.{eqb-true, or_parts, and_parts}
+use Rattle.qrules.proofs.Basics.{message_same, is_for_answer, message, sender, threads_of, is_send, Facts, number_of, facts_of, IsLawful, has_completion_of, is_ended, item_of, open_call, with_writes, block, filled, asks, makes, open_known, passes_of, item_accepted, IsPending, item_at, blocks, blocks_thread, block_asked, call_laws, send_from, send_parts, sender_found, known, open_from, filled_answer, open_parts, open_thread, receipt_for_answer, kept, kept_number}
+use Rattle.qmodel.specs.declared.call.Call.TheVariants.{Send}
 use Rattle.qmodel.specs.declared.open_call.OpenCall.TheVariants.{Send as InSend}
 use Rattle.qrules.proofs.Traces.Properties.Events.{outcome_of}
 use Rattle.qrules.proofs.Traces.Properties.Sends.{open_filled, open_keeps}
-use Rattle.qrules.proofs.Traces.Calls.Unblock.{due_is_pulse}
-use Rattle.qrules.proofs.Traces.Calls.ConnectDetach as detaching
 
 -- ---- what a call brings is what it waits with
 

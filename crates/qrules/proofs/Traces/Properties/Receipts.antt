@@ -1,13 +1,9 @@
 -- A completion that receives an item: the caller's own of what was pending, or of a thread that waited for what the call makes.
-use Rattle.qrules.proofs.Basics.{answer_same, pulse_same, sent_same, unblocked_same, error_finish, reply_finish, message_item, item_in, Facts, message, sender, route, number_of, makes, Delivers, delivery_meets, ReceiveTakes, receive_takes, cancel_parts, sender_ends, detach_ends, sent_way}
-use Rattle.qrules.proofs.Common.{arith, ◌≡◌, ◌∙◌, ℕ, List, [], ap, refl, sym, eqb, true, false, inl, inr, ◌⊎◌, none-some, same_Some, Srch, best_of, may_take, Item, Kind, Any, PulseOnly, completion_to, row_of, effect_of, info_of, is_on, ReceiveRequest, number_received, SentItem, Call, Completion, OpenCall, ReceivedItem, Option, None, Some}
-use Rattle.qmodel.specs.declared.call.Call.TheVariants.{Send, Receive, Reply, Error, Info, ReceivePulse, Pulse, ChannelDestroy, Shutdown, Unblock, ConnectDetach}
+use Rattle.qrules.proofs.Basics.{pulse_same, sent_same, unblocked_same, message_item, item_in, Facts, message, route, number_of, makes, Delivers, delivery_meets, ReceiveTakes, receive_takes, detach_ends, sent_way}
+use Rattle.qrules.proofs.Common.{arith, ◌≡◌, ◌∙◌, ℕ, List, [], ap, refl, sym, eqb, true, false, inl, inr, ◌⊎◌, none-some, best_of, may_take, Item, Kind, Any, PulseOnly, completion_to, row_of, effect_of, ReceiveRequest, number_received, SentItem, Call, Completion, OpenCall, ReceivedItem, Option, None, Some}
+use Rattle.qmodel.specs.declared.call.Call.TheVariants.{Send, Receive, ReceivePulse, Pulse, Unblock, ConnectDetach}
 use Rattle.qmodel.specs.declared.open_call.OpenCall.TheVariants.{Receive as InReceive, Send as InSend}
-use Rattle.qrules.proofs.Traces.Calls.Answering.{answer_receives}
-use Rattle.qrules.proofs.Traces.Calls.Error.{no_receipt}
-use Rattle.qrules.proofs.Traces.Calls.Info.{plain}
 use Rattle.qrules.proofs.Traces.Properties.Rows.Telling.{Tells, told_meets, unblock_ends}
-use Rattle.qrules.specs.Rules.Connections as connect_detach
 use Rattle.qrules.specs.Rules.Unblock as unblock
 use Rattle.qrules.specs.Rules.Pulse as pulse
 
@@ -78,10 +74,8 @@ ends_takes f t (Unblock thread) u y p r e m = elim (unblock_ends f thread u y (u
   | inl cancel ↦ absurd (none-some p (ap (λ x. item_in x.mark) cancel.completion ∙ m))
   | inr k ↦ takes_told f t (Unblock thread) (unblock.unblock_pulse f thread) u y p refl k m
 ]
-ends_takes f t (ConnectDetach coid) u y p r e m = elim (detach_ends f coid (connect_detach.disconnect_pulse f t coid) u y e) [
-  | inl cancel ↦ absurd (none-some p (ap (λ x. item_in x.mark) cancel.completion ∙ m))
-  | inr s ↦ takes_told f t (ConnectDetach coid) (connect_detach.disconnect_pulse f t coid) u y p refl (told_meets f (connect_detach.disconnect_pulse f t coid) u y s) m
-]
+ends_takes f t (ConnectDetach coid) u y p r e m =
+    grind (arith, detach_ends, takes_told, told_meets)
 ends_takes f t (Send coid message reply_buffer) u y p r e m =
     takes_met f t (Send coid message reply_buffer) (route f t coid) (message_item f t) message u y p (delivery_meets f (route f t coid) (message_item f t) message u y (sym (sent_same f t coid message reply_buffer u r) ∙ e)) (sent_way f t coid (message_item f t)) m
 ends_takes f t (Pulse coid level code value) u y p r e m =

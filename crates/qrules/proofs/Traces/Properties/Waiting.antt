@@ -1,6 +1,6 @@
 -- While a thread waits for an item of a channel, nothing that it may take is pending there.
 use Rattle.qrules.proofs.Common.{arith, ◌≡◌, ◌∙◌, ℕ, List, [], ◌∷◌, ◌++◌, refl, ap, sym, subst, cond, eqb, Bool, true, false, inl, inr, option_map, none-some, none-may, all_append, all_filter, all_more, is_among, none_of, some_of, AllByRecursion, eqb-true, eqb-false, best_of, may_take, Item, Kind, IsRoster, Member, row_of, effect_of, held_call, with_buffer, unblocked_call, ReceiveRequest, newest_receiver, SentItem, Trace, Call, OpenCall, Receipt, channel_of, Option, None, Some, is_some, not, filter}
-use Rattle.qrules.proofs.Basics.{receipt_of, message_item, receiver, receipt_when_sent, Received, item_sent_over, pulse_receipt, Facts, sender, threads_of, route, asks, makes, unblocks, writes, facts_of, IsLawful, made_on, after_receipt, after_write, is_cancelled, uncancelled_items, open_call_after, pending_after, unreceived_items, unless, after_unblock, given_received, receipt_from, open_known, passes_of, Passes, has_way, known}
+use Rattle.qrules.proofs.Basics.{receipt_of, message_item, receiver, receipt_when_sent, Received, item_sent_over, pulse_receipt, Facts, sender, threads_of, route, asks, makes, unblocks, writes, facts_of, IsLawful, made_on, after_receipt, after_write, is_cancelled, uncancelled_items, open_call_after, pending_after, unreceived_items, unless, after_unblock, open_known, passes_of, Passes, has_way, known}
 use Rattle.qmodel.specs.declared.call.Call.TheVariants.{Send, Pulse, Unblock, ConnectDetach}
 use Rattle.qmodel.specs.declared.open_call.OpenCall.TheVariants.{Receive as InReceive}
 use Rattle.qrules.proofs.Traces.Past.Follows.{past_follows}
@@ -46,11 +46,6 @@ pub record IsReceivedAtOnce (f : Facts) (t : ℕ) (c : Call) (m : SentItem) : Ty
   pub channel : receipt.channel ≡ m.channel
   pub item : receipt.item ≡ m.item.number
 
--- the receipt of an item by the newest receiver
-delivered_receipt : (f : Facts) (sender : Option ℕ) (item : Item) (message : List ℕ) (w : Option ℕ) (h r : ℕ) (v : WaitsOn h item (f.open_call r)) → w ≡ Some h → newest_receiver f h item ≡ Some r
-    → receipt_when_sent f sender item message w (receiver f item w) ≡ Some (receipt_from h sender item.priority r (record { number = item.number; copied = (given_received item message v.receive.buffer).0 }))
-delivered_receipt f sender item message w h r v is_way is_newest = grind arith
-
 delivered_at_once : (f : Facts) (t : ℕ) (c : Call) (w : Option ℕ) (item : Item) (message : List ℕ) (sender : Option ℕ) (m : SentItem) (u : ℕ) (o : OpenCall) (kind : Kind) → w ≡ Some m.channel → m.item ≡ item
     → (receipt_of f t c) ≡ receipt_when_sent f sender item message w (receiver f item w) → is_among (threads_of f.roster) u ≡ true → f.open_call u ≡ Some o
     → waits_for o ≡ Some (m.channel, kind) → may_take kind m.item ≡ true → IsReceivedAtOnce f t c m
@@ -59,12 +54,7 @@ delivered_at_once f t c w item message sender m u o kind is_way it receipt among
     let on : WaitsOn m.channel item (f.open_call u) = record { receive = b.0; is_open = is ∙ ap (λ x. Some x) b.1; on = b.2; may = ap (λ k. may_take k item) b.3 ∙ ap (may_take kind) (sym it) ∙ may } in
     let r = some_of (newest_receiver f m.channel item) (newest_some f m.channel item u among on) in
     let v = newest_waits f m.channel item r.0 r.1 in
-    record {
-      receipt = receipt_from m.channel sender item.priority r.0 (record { number = item.number; copied = (given_received item message v.receive.buffer).0 });
-      is = receipt ∙ delivered_receipt f sender item message w m.channel r.0 v is_way r.1;
-      channel = refl;
-      item = ap (λ x. x.number) (sym it);
-    }
+    grind arith
 
 -- what is sent over a way is the item, to its channel
 sent_is : (f : Facts) (t coid : ℕ) (item : Item) (m : SentItem) (h : ℕ) → route f t coid ≡ Some h → item_sent_over (f.connection coid) item ≡ Some m → (route f t coid ≡ Some m.channel) × (m.item ≡ item)
@@ -117,8 +107,7 @@ caller_finds_none f t c o h kind is waits =
     let none : AllByRecursion (λ (w : Item). may_take kind w ≡ false) (f.pending h) = none-may kind (f.pending h) k.0 in
     let Q = λ (w : Item). ((r : Received) → (receipt_of f t c) ≡ Some r → r.channel ≡ h → eqb w.number r.item ≡ false) → may_take kind w ≡ false in
     let left = λ (w : Item). not (is_cancelled f t c h w.number) in
-    all_after kind f t c h (rw (k.1) (all_left P (receipt_of f t c) h (uncancelled_items f t c h (f.pending h ++ []))
-    (all_filter Q left (f.pending h ++ []) (all_append Q (f.pending h) [] (all_more P Q (f.pending h) none (λ w m _. m)) tt))))
+    grind (arith, all_after, all_append, all_filter, all_left, all_more)
 
 -- another thread that waits on: what it may take is received at once
 other_finds_none : (f : Facts) (t : ℕ) (c : Call) (u : ℕ) (o : OpenCall) (h : ℕ) (kind : Kind) → Passes f t c → NothingFor f → is_among (threads_of f.roster) u ≡ true → f.open_call u ≡ Some o

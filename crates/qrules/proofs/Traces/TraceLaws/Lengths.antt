@@ -1,17 +1,12 @@
 -- How long the buffers are that endings give back.
-use Rattle.qrules.proofs.Basics.{answer_same, pulse_same, sent_same, unblocked_same, asks, makes, unblocks, writes, error_finish, reply_finish, message_item, receipt_of, info_completion, Finish, ends_sender, Received, buffer_after_write, Facts, message, sender, threads_of, route, number_of, after_receipt, after_unblock, after_write, open_call_after, unless, with_writes, open_call, filled, with_receipt, detach_ends, IsCancelledCall, cancel_parts, Passes, block_asked, open_parts, Delivers, delivery_meets, receive_takes, facts_of, IsLawful, completion_names, laws_of, passes_of}
-use Rattle.qrules.proofs.Common.{◌≡◌, ℕ, ◌≤◌, List, [], ◌∷◌, length, refl, ap, sym, subst, ◌∙◌, cond, Bool, true, false, eqb, arith, inl, inr, option_map, buffer_of_open, with_buffer, AllByRecursion, none-some, same_Some, laid_count, lay_over, Errno, Srch, is_pulse, Item, Any, PulseOnly, completion_to, row_of, info_of, refusal_unless_held, is_on, receipt_completion, SentItem, Event, Trace, Call, Completion, Mark, OpenCall, IsRoster, Member, call_at, all_filter_map, all_more, eqb_same, Transfer, buffer_in, channel_of, Option, None, Some, is_some}
+use Rattle.qrules.proofs.Basics.{answer_same, sent_same, asks, makes, unblocks, writes, reply_finish, message_item, receipt_of, Finish, ends_sender, Received, buffer_after_write, Facts, message, sender, threads_of, route, number_of, after_receipt, after_unblock, after_write, open_call_after, unless, with_writes, open_call, filled, with_receipt, Passes, block_asked, open_parts, Delivers, delivery_meets, receive_takes, facts_of, IsLawful, completion_names, laws_of, passes_of}
+use Rattle.qrules.proofs.Common.{◌≡◌, ℕ, ◌≤◌, List, [], ◌∷◌, length, refl, ap, sym, subst, ◌∙◌, cond, Bool, true, false, eqb, arith, inl, inr, buffer_of_open, with_buffer, AllByRecursion, none-some, same_Some, laid_count, lay_over, is_pulse, Item, Any, completion_to, row_of, refusal_unless_held, receipt_completion, SentItem, Event, Trace, Call, Completion, Mark, OpenCall, IsRoster, Member, call_at, all_filter_map, all_more, eqb_same, Transfer, buffer_in, channel_of, Option, None, Some, is_some}
 use Rattle.std.proofs.lemmas.Bool.{ne_eqb, true≢false}
 use Rattle.qmodel.specs.Buffers.{buffer_of}
-use Rattle.qmodel.specs.declared.call.Call.TheVariants.{Send, Receive, Reply, Error, Read, Info, ReceivePulse, Pulse, ChannelDestroy, Shutdown, Unblock, ConnectDetach}
-use Rattle.qmodel.specs.declared.call.Info.{Info as Told}
-use Rattle.qrules.proofs.Traces.Properties.Rows.Telling.{told_meets, unblock_ends}
+use Rattle.qmodel.specs.declared.call.Call.TheVariants.{Send, Receive, Reply, Read}
 use Rattle.qbase.proofs.Lengths.{lay_length}
 use Rattle.qrules.proofs.Traces.TraceLaws.Blocked.{some_receipt}
 use Rattle.qrules.proofs.Traces.Past.OpenCalls.{open_accepted, open_refused}
-use Rattle.qrules.specs.Rules.Connections as connect_detach
-use Rattle.qrules.specs.Rules.Unblock as unblock
-use Rattle.qrules.specs.Rules.Pulse as pulse
 use Rattle.qmodel.specs.declared.call.Mark.TheVariants as mark
 
 taking_length : (item : Item) (message : List ℕ) (u m : ℕ) (buffer : List ℕ) → length (receipt_completion item message u m buffer).buffer ≡ length buffer
@@ -23,9 +18,6 @@ taking_length item message u m buffer =
 
 -- ---- the call's own completion
 
-no_buffer : (n t : ℕ) (o : Option Told) (y : Completion) → option_map (info_completion n t) o ≡ Some y → length y.buffer ≡ 0
-no_buffer n t o y e = grind arith
-
 own_length : (f : Facts) (t : ℕ) (c : Call) (y : Completion) → (row_of f t c).own ≡ Some y → length y.buffer ≡ length (buffer_of c)
 own_length f t (Receive chid buffer) y e = let k = receive_takes f t chid Any buffer y e in ap (λ x. length x.buffer) (sym k.completion) ∙ taking_length k.item _ t f.number buffer
 own_length f t (Read rcvid offset buffer) y e = ap (λ x. length x.buffer) (sym (same_Some _ y e)) ∙ lay_length buffer 0 _
@@ -35,9 +27,6 @@ own_length f t c y e = grind arith
 
 met_length : (f : Facts) (o : Option ℕ) (item : Item) (message : List ℕ) (u : ℕ) (y : Completion) → Delivers f o item message u y → length y.buffer ≡ length (buffer_of_open (f.open_call u))
 met_length f o item message u y k = ap (λ x. length x.buffer) (sym k.completion) ∙ taking_length item message u k.receive.number k.receive.buffer ∙ ap (λ x. length (buffer_of_open x)) (sym k.is_open)
-
-cancel_length : (is_cancelled : OpenCall → Bool) (e : Errno) (u : ℕ) (o : Option OpenCall) (y : Completion) → IsCancelledCall is_cancelled e u o y → length y.buffer ≡ length (buffer_of_open o)
-cancel_length is_cancelled e u o y k = ap (λ x. length x.buffer) (sym k.completion) ∙ ap (λ x. length (buffer_of_open x)) (sym k.is)
 
 answered_length : (f : Facts) (t rcvid : ℕ) (finish : Finish) (u : ℕ) (y : Completion) → ((b : List ℕ) → length (finish b).1 ≡ length b) → refusal_unless_held f t rcvid ≡ None → ends_sender f finish (sender f rcvid) u ≡ Some y → length y.buffer ≡ length (buffer_of_open (f.open_call u))
 answered_length f t rcvid finish u y keeps r e = grind arith
