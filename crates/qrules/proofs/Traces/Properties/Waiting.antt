@@ -105,8 +105,6 @@ caller_finds_none f t c o h kind is waits =
     let k = begins_with_none f t (channel_of (makes f t c)) c b.call (h, kind) b.is (b.same ∙ waits) (none_of (row_of f t c).own x.0) in
     let P = λ (w : Item). may_take kind w ≡ false in
     let none : AllByRecursion (λ (w : Item). may_take kind w ≡ false) (f.pending h) = none-may kind (f.pending h) k.0 in
-    let Q = λ (w : Item). ((r : Received) → (receipt_of f t c) ≡ Some r → r.channel ≡ h → eqb w.number r.item ≡ false) → may_take kind w ≡ false in
-    let left = λ (w : Item). not (is_cancelled f t c h w.number) in
     grind (arith, all_after, all_append, all_filter, all_left, all_more)
 
 -- another thread that waits on: what it may take is received at once
