@@ -3,10 +3,10 @@ pub use Rattle.qrules.proofs.Messages.{message_same, reply_buffer_same}
 pub use Rattle.qrules.proofs.Traces.Calls.{call_laws}
 pub use Rattle.qrules.proofs.Traces.Calls.Cancelling.{IsCancelledCall, cancel_parts}
 pub use Rattle.qrules.proofs.Traces.Calls.ConnectDetach.{detach_ends}
-pub use Rattle.qrules.proofs.Traces.Calls.Delivering.{goes_to_open, sent_item, sent_way}
+pub use Rattle.qrules.proofs.Traces.Calls.Delivering.{sent_item, sent_way}
 pub use Rattle.qrules.proofs.Traces.Calls.Held.{IsHeldFor, SenderEnds, answering, finished_held, has_sender, held_for, sender_ends}
 pub use Rattle.qrules.proofs.Traces.Calls.PrioritySet.{sets_alone}
-pub use Rattle.qrules.proofs.Traces.Calls.Taking.{given_is, given_received, receipt_from, receipt_in_at}
+pub use Rattle.qrules.proofs.Traces.Calls.Taking.{given_is, given_received, receipt_from}
 pub use Rattle.qrules.proofs.Traces.Parts.{error_finish, is_own, is_owned_by, reply_finish}
 pub use Rattle.qrules.proofs.Traces.Past.CurrentPriority.{among_now, now, refused_sets_none, sets_none, taken_sets_none, unblocked_among_now, worth_beyond, worth_newest, worth_set, worth_stays}
 pub use Rattle.qrules.proofs.Traces.Past.Ends.{accepted, block_known, completion_names, ended_below, ends_other, ends_own, laws_of, not_ended, open_known, other_below, passes_of, refused, refused_ends}

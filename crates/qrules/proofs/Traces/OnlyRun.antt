@@ -1,24 +1,14 @@
 -- Where memory doesn't run out, a run is a function of its calls.
-use Rattle.qrules.proofs.Common.{◌≡◌, ℕ, List, [], ◌∷◌, map, refl, ap, sym, subst, ◌∙◌, inl, inr, NoMemory, Answers, MayRefuse, refusal_of, event_call, HadMemory, IsOnlyRun, Some, AllByRecursion, none-some, Errno, Member, Call, Completion, Event, Trace}
-use Rattle.qrules.proofs.Basics.{refusal_completion, Facts, IsLawful, facts_of, followed_by}
+use Rattle.qrules.proofs.Common.{arith, ◌≡◌, ℕ, List, [], ◌∷◌, map, refl, ap, sym, subst, NoMemory, Answers, event_call, HadMemory, IsOnlyRun, AllByRecursion, Member, Call, Completion, Event, Trace}
+use Rattle.qrules.proofs.Basics.{Facts, IsLawful, facts_of, followed_by}
 use Rattle.qmodel.specs.declared.call.Mark.TheVariants as mark
 
 -- no completion says that there was no memory
 abbrev Fine : List Completion → Type 0
 Fine X = AllByRecursion (λ x. x.mark ≡ mark.Failed NoMemory → ⊥) X
 
--- a refusal for another reason than memory is the first that applies
-first_refusal : (f : Facts) (t : ℕ) (c : Call) (e : Errno) (X : List Completion) → MayRefuse f t c e → X ≡ refusal_completion f t c e ∷ [] → Fine X → refusal_of f t c ≡ Some e
-first_refusal f t c e X (inl first) is fine = first
-first_refusal f t c e X (inr short) is fine = absurd ((subst Fine is fine).0 (ap mark.Failed (short.2)))
-
 one_answer : (f : Facts) (t : ℕ) (c : Call) (X Y : List Completion) → Answers f t c X → Answers f t c Y → Fine X → Fine Y → X ≡ Y
-one_answer f t c X Y (inl x) (inl y) p q = x.1 ∙ sym y.1
-one_answer f t c X Y (inl x) (inr y) p q = absurd (none-some y.0 (sym x.0 ∙ first_refusal f t c y.0 Y y.1 y.2 q))
-one_answer f t c X Y (inr x) (inl y) p q = absurd (none-some x.0 (sym y.0 ∙ first_refusal f t c x.0 X x.1 x.2 p))
-one_answer f t c X Y (inr x) (inr y) p q =
-    let same : x.0 ≡ y.0 = cc (first_refusal f t c x.0 X x.1 x.2 p, first_refusal f t c y.0 Y y.1 y.2 q) in
-    x.2 ∙ ap (λ e. refusal_completion f t c e ∷ []) same ∙ sym y.2
+one_answer f t c X Y h e p q = grind arith
 
 -- the past of a lawful trace is lawful
 lawful_past : (roster : List Member) (past : Trace) (events : List Event) → IsLawful roster (followed_by past events) → IsLawful roster past
@@ -47,5 +37,4 @@ only_run-by roster past (e ∷ events) l h (o ∷ others) same m g =
     cc
 
 pub only_run : (roster : List Member) (past : Trace) (events : List Event) → IsLawful roster (followed_by past events) → IsOnlyRun roster past events
-only_run roster past events l h others same m g =
-    only_run-by roster past events l h others same m g
+only_run roster past events l h others same m g = grind (arith, only_run-by)

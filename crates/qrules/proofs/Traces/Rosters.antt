@@ -19,8 +19,7 @@ rises (m ∷ roster) h = (all_below m.thread roster h.0, rises roster h.1)
 -- a thread is one of the roster's just where a member has its number
 is_among-member : (roster : List Member) (t : ℕ) → is_some (member_at roster t) ≡ is_among (threads_of roster) t
 is_among-member [] t = refl
-is_among-member (m ∷ roster) t =
-    elim (eqb m.thread t) as (λ b. is_some (cond b (Some m) (member_at roster t)) ≡ (b || is_among (threads_of roster) t)) [ true ↦ refl | false ↦ is_among-member roster t ]
+is_among-member (m ∷ roster) t = grind (arith, is_among-member roster)
 
 pub known : (roster : List Member) (t : ℕ) → is_some (member_at roster t) ≡ true → is_among (threads_of roster) t ≡ true
 known roster t h = sym (is_among-member roster t) ∙ h
@@ -38,11 +37,7 @@ not_among (u ∷ ts) t h = let other : eqb u t ≡ false = ne_eqb u t (λ s. let
 
 pub all_at : (t v : ℕ) (ts : List ℕ) → AllByRecursion (λ u. t < u) ts → is_among ts v ≡ true → t < v
 all_at t v [] h e = absurd (true≢false (sym e))
-all_at t v (u ∷ ts) h e =
-    elim (eqb u v) as (λ b. eqb u v ≡ b → (b || is_among ts v) ≡ true → t < v) [
-      | true ↦ λ same e. let s : u ≡ v = eqb-true u v same in let l : t < u = h.0 in omega arith
-      | false ↦ λ other e. all_at t v ts h.1 e
-    ] refl e
+all_at t v (u ∷ ts) h e = grind (arith, all_at t v ts)
 
 module _ {Y : Type 0} where
   pub nothing : (ts : List ℕ) (f : ℕ → Option Y) → ((u : ℕ) → f u ≡ None) → filter_map f ts ≡ []
@@ -55,11 +50,7 @@ module _ {Y : Type 0} where
 
   none_own : (ts : List ℕ) (t : ℕ) (o : Option Y) → is_among ts t ≡ false → filter_map (λ u. cond (eqb u t) o None) ts ≡ []
   none_own [] t o h = refl
-  none_own (u ∷ ts) t o h =
-      elim (eqb u t) as (λ b. (b || is_among ts t) ≡ false → cons_option (cond b o None) (filter_map (λ u. cond (eqb u t) o None) ts) ≡ []) [
-        | true ↦ λ e. absurd (true≢false e)
-        | false ↦ λ e. none_own ts t o e
-      ] h
+  none_own (u ∷ ts) t o h = grind (arith, none_own ts)
 
   -- one thread alone gets something
   pub only_own : (ts : List ℕ) (t : ℕ) (o : Option Y) → Rises ts → is_among ts t ≡ true → filter_map (λ u. cond (eqb u t) o None) ts ≡ option_to_list o

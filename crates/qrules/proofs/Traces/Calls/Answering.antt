@@ -1,41 +1,9 @@
 -- Calls that answer a held message.
-use Rattle.qrules.proofs.Common.{◌≡◌, ◌∙◌, ℕ, List, ap, sym, is_some, Send, None, Some, none-some, same_Some, row_of, refusal_unless_held, Call, Completion, Transfer}
-use Rattle.qrules.proofs.Words.Items.{receipt_of, Finish, ends_sender, item_in}
-use Rattle.qrules.proofs.Words.Facts.{Facts, sender}
-use Rattle.qrules.proofs.Words.Effects.{makes, writes}
-use Rattle.qrules.proofs.Traces.Calls.Alone.{IsPlain}
-use Rattle.qrules.proofs.Traces.Calls.Held.{SenderEnds, sender_ends}
-use Rattle.qrules.proofs.Traces.Past.Laws.{IsOfOpen, IsSettled, RowLaws, is_settled}
-
-of_open : (f : Facts) (t rcvid : ℕ) (finish : Finish) (u : ℕ) (y : Completion) → SenderEnds f t rcvid finish u y → IsOfOpen f u y
-of_open f t rcvid finish u y s = record {
-  waiting = Send s.held.send;
-  is = s.held.is_open;
-  call = sym (ap (λ x. x.call) s.completion) ∙ sym s.number;
-  thread = sym (ap (λ x. x.thread) s.completion);
-}
-
-settled_open : (f : Facts) (t rcvid : ℕ) (finish : Finish) (u : ℕ) (y : Completion) → SenderEnds f t rcvid finish u y → IsSettled (f.open_call u)
-settled_open f t rcvid finish u y s w is = ap is_settled (same_Some w (Send s.held.send) (sym is ∙ s.held.is_open)) ∙ ap is_some s.held.held
+use Rattle.qrules.proofs.Common.{◌≡◌, ◌∙◌, ℕ, List, ap, sym, None, Completion}
+use Rattle.qrules.proofs.Words.Items.{Finish, item_in}
+use Rattle.qrules.proofs.Words.Facts.{Facts}
+use Rattle.qrules.proofs.Traces.Calls.Held.{SenderEnds}
 
 -- its mark is none of a receipt
 pub answer_receives : (f : Facts) (t rcvid : ℕ) (finish : Finish) (u : ℕ) (y : Completion) → ((buffer : List ℕ) → item_in (finish buffer).0 ≡ None) → SenderEnds f t rcvid finish u y → item_in y.mark ≡ None
 answer_receives f t rcvid finish u y none s = ap (λ x. item_in x.mark) (sym s.completion) ∙ none s.held.send.reply_buffer
-
--- a call that ends in its own event, and ends the Send that it answers
-pub answers : (f : Facts) (t : ℕ) (c : Call) (rcvid : ℕ) (finish : Finish) → ((buffer : List ℕ) → item_in (finish buffer).0 ≡ None) → refusal_unless_held f t rcvid ≡ None
-    → ((y : Completion) → (row_of f t c).own ≡ Some y → IsPlain f.number t y) → ((u : ℕ) → (row_of f t c).others u ≡ ends_sender f finish (sender f rcvid) u) → (receipt_of f t c) ≡ None
-    → makes f t c ≡ None → ((w : Transfer) → writes c ≡ Some w → (s : ℕ) × (sender f w.rcvid ≡ Some s)) → RowLaws f t c
-answers f t c rcvid finish none passed own ends receipt made written =
-    let ended = λ (u : ℕ) (y : Completion) (e : (row_of f t c).others u ≡ Some y). sender_ends f t rcvid finish u y passed (sym (ends u) ∙ e) in
-    record {
-      owns = λ y e. (own y e).own;
-      ends_open = λ u y e. of_open f t rcvid finish u y (ended u y e);
-      ends_settled = λ mild u y e. settled_open f t rcvid finish u y (ended u y e);
-      own_receives = λ y q e m. absurd (none-some q (sym (own y e).mark ∙ m));
-      ends_receives = λ u y q e m. absurd (none-some q (sym (answer_receives f t rcvid finish u y none (ended u y e)) ∙ m));
-      receives = λ r e. absurd (none-some r (sym receipt ∙ e));
-      sends = λ m e message. absurd (none-some m (sym made ∙ e));
-      makes_open = λ m e. absurd (none-some m (sym made ∙ e));
-      writes_sent = written;
-    }

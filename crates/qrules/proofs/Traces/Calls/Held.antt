@@ -1,11 +1,7 @@
 -- What the calls on held messages share: whose message is held, and how an answer ends its Send.
-use Rattle.qrules.proofs.Common.{◌≡◌, ◌∙◌, ℕ, List, ap, refl, sym, subst, cond, eqb, Bool, true, false, is_some, holds, Receive, Send, none-some, same_Some, Errno, refusal_unless_held, Completion, OpenCall, Receipt, some_of, Option, None, Some}
-use Rattle.std.specs.Option.{option_and_then}
-use Rattle.std.proofs.lemmas.Bool.{eqb-true, true≢false, and_parts}
-use Rattle.qrules.proofs.Messages.{held_same}
+use Rattle.qrules.proofs.Common.{arith, ◌≡◌, ◌∙◌, ℕ, List, ap, refl, sym, subst, cond, Bool, true, false, Send, none-some, same_Some, Errno, refusal_unless_held, Completion, OpenCall, Receipt, Option, None, Some}
 use Rattle.qrules.proofs.Words.Facts.{Facts, sender, threads_of, number_of, owns}
 use Rattle.qrules.proofs.Words.Items.{Finish, ends_sender, answer_completion}
-use Rattle.qrules.proofs.Traces.Parts.{is_held_for}
 use Rattle.qrules.proofs.Traces.Past.Senders.{sender_sends}
 use Rattle.qmodel.specs.declared.open_call.OpenSend.{OpenSend}
 
@@ -21,30 +17,17 @@ pub record IsHeldFor (f : Facts) (t : ℕ) (call : Option OpenCall) : Type 0 whe
   pub held : send.receipt ≡ Some receipt
   pub owner : owns f t send.channel ≡ true
 
-held_parts : (f : Facts) (t : ℕ) (call : Option OpenCall) → is_held_for f t call ≡ true → IsHeldFor f t call
-held_parts f t None e = absurd (true≢false (sym e))
-held_parts f t (Some (Receive r)) e = absurd (true≢false (sym e))
-held_parts f t (Some (Send s)) e =
-    let both = and_parts (is_some s.receipt) (owns f t s.channel) e in
-    let r = some_of s.receipt both.0 in
-    record { send = s; receipt = r.0; is_open = refl; held = r.1; owner = both.1 }
-
 -- what is refused nothing passes
 passes : (b : Bool) (e : Errno) → cond b None (Some e) ≡ None → b ≡ true
 passes true e h = refl
 passes false e h = absurd (none-some e (sym h))
 
 pub held_for : (f : Facts) (t rcvid s : ℕ) → refusal_unless_held f t rcvid ≡ None → sender f rcvid ≡ Some s → IsHeldFor f t (f.open_call s)
-held_for f t rcvid s r e =
-    held_parts f t (f.open_call s) (subst (λ o. is_held_for f t (option_and_then f.open_call o) ≡ true) e (sym (held_same f t rcvid) ∙ passes (holds f t rcvid) _ r))
+held_for f t rcvid s r e = grind arith
 
 -- a call that isn't refused has a sender
 pub has_sender : (f : Facts) (t rcvid : ℕ) → refusal_unless_held f t rcvid ≡ None → (s : ℕ) × (sender f rcvid ≡ Some s)
-has_sender f t rcvid r =
-    elim (sender f rcvid) as (λ o. is_held_for f t (option_and_then f.open_call o) ≡ true → (s : ℕ) × (o ≡ Some s)) [
-      | None ↦ λ e. absurd (true≢false (sym e))
-      | Some s ↦ λ e. (s, refl)
-    ] (sym (held_same f t rcvid) ∙ passes (holds f t rcvid) _ r)
+has_sender f t rcvid r = grind arith
 
 -- thread u holds the Send of this number, which ends by the answer
 pub record SenderEnds (f : Facts) (t rcvid : ℕ) (finish : Finish) (u : ℕ) (y : Completion) : Type 0 where
@@ -58,12 +41,7 @@ pub finished_held : (f : Facts) (t : ℕ) (finish : Finish) (u : ℕ) (call : Op
 finished_held f t finish u call h = rw h.is_open refl
 
 ends_parts : (f : Facts) (finish : Finish) (r : Option ℕ) (u : ℕ) (y : Completion) → ends_sender f finish r u ≡ Some y → (r ≡ Some u) × (answer_completion finish u (f.open_call u) ≡ Some y)
-ends_parts f finish None u y e = absurd (none-some y e)
-ends_parts f finish (Some v) u y e =
-    elim (eqb u v) as (λ b. eqb u v ≡ b → cond b (answer_completion finish u (f.open_call u)) None ≡ Some y → (Some v ≡ Some u) × (answer_completion finish u (f.open_call u) ≡ Some y)) [
-      | true ↦ λ same s. (ap (λ k. Some k) (sym (eqb-true u v same)), s)
-      | false ↦ λ other s. absurd (none-some y s)
-    ] refl e
+ends_parts f finish r u y e = grind arith
 
 pub sender_ends : (f : Facts) (t rcvid : ℕ) (finish : Finish) (u : ℕ) (y : Completion) → refusal_unless_held f t rcvid ≡ None → ends_sender f finish (sender f rcvid) u ≡ Some y → SenderEnds f t rcvid finish u y
 sender_ends f t rcvid finish u y r e =

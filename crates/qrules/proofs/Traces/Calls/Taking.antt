@@ -1,7 +1,6 @@
 -- An open call that takes an item.
-use Rattle.qrules.proofs.Common.{◌≡◌, ℕ, List, cond, true, false, refl, subst, delivery_of, takes_into, takes, Receive, Send, number_of, none-some, same_Some, laid_count, lay_over, is_pulse, Item, Completion, Mark, OpenCall, ReceivedItem, Option, None, Some}
-use Rattle.qrules.proofs.Words.Past.{is_failure}
-use Rattle.qrules.proofs.Words.Items.{item_in, Received, receipt_in}
+use Rattle.qrules.proofs.Common.{arith, ◌≡◌, ℕ, List, cond, true, false, refl, subst, delivery_of, takes_into, takes, Receive, Send, number_of, none-some, same_Some, laid_count, lay_over, is_pulse, Item, Completion, Mark, OpenCall, ReceivedItem, Option, Some}
+use Rattle.qrules.proofs.Words.Items.{item_in, Received}
 use Rattle.qrules.proofs.Traces.Past.Laws.{is_settled}
 use Rattle.qmodel.specs.declared.call.Mark.TheVariants as mark
 
@@ -17,14 +16,7 @@ given_received item message buffer =
 
 -- any other than a receipt's is told apart by it
 pub given_is : {A : Type 0} (g : Mark → A) (x : A) → ((i : ℕ) (n : ℕ) → g (mark.Message i n) ≡ x) → (item : Item) (message buffer : List ℕ) → g (mark.Pulse item.number item.priority item.what) ≡ x → g (delivery_of item message buffer).0 ≡ x
-given_is g x h item message buffer pulse =
-    elim (is_pulse item.what) as (λ b. g (cond {A = Mark × List ℕ} b (mark.Pulse item.number item.priority item.what, buffer) (mark.Message item.number (laid_count buffer 0 message), lay_over buffer 0 message)).0 ≡ x) [
-      | true ↦ pulse
-      | false ↦ h item.number (laid_count buffer 0 message)
-    ]
-
-pub given_no_failure : (item : Item) (message buffer : List ℕ) → is_failure (delivery_of item message buffer).0 ≡ false
-given_no_failure item message buffer = given_is is_failure false (λ i n. refl) item message buffer refl
+given_is g x h item message buffer pulse = grind arith
 
 -- ---- the open call
 
@@ -45,13 +37,8 @@ taken_into item message u (Receive r) y e =
     subst (Taken item.number u (Some (Receive r))) (same_Some _ y e) (record { waiting = Receive r; is = refl; settled = refl; call = refl; thread = refl; copied = g.0; mark = g.1 })
 
 pub taken_by : (item : Item) (message : List ℕ) (u : ℕ) (o : Option OpenCall) (y : Completion) → takes item message u o ≡ Some y → Taken item.number u o y
-taken_by item message u None y e = absurd (none-some y e)
-taken_by item message u (Some o) y e = taken_into item message u o y e
+taken_by item message u o y e = grind (arith, taken_into)
 
 -- the receipt that a completion with such a mark is
 abbrev pub receipt_from : ℕ → Option ℕ → ℕ → ℕ → ReceivedItem → Received
 receipt_from h sender priority u p = record { item = p.number; channel = h; by = u; sender = sender; kept = record { priority = priority; copied = p.copied; unblocked = false } }
-
-pub receipt_in_at : (h : ℕ) (sender : Option ℕ) (priority : ℕ) (o : Option Completion) (y : Completion) (p : ReceivedItem) → o ≡ Some y → item_in y.mark ≡ Some p
-    → receipt_in h sender priority o ≡ Some (receipt_from h sender priority y.thread p)
-receipt_in_at h sender priority o y p e m = rw (e, m) refl

@@ -1,16 +1,14 @@
 -- A completion that answers a message: whose it is, by each call's row.
-use Rattle.qrules.proofs.Basics.{answer_same, pulse_same, sent_same, unblocked_same, error_finish, reply_finish, info_completion, message_item, Finish, ends_sender, item_sent_over, Facts, is_for_answer, message, sender, threads_of, route, number_of, asks, makes, thread_of_send, cancel_parts, IsHeldFor, SenderEnds, answering, finished_held, has_sender, held_for, sender_ends, sender_sends, Passes, given_is, ReceiveTakes, receive_takes, Delivers, delivery_meets, has_way, leads_over, detach_ends}
-use Rattle.qrules.proofs.Common.{◌≡◌, ◌∙◌, ℕ, List, [], cond, ap, refl, sym, subst, true, false, inl, inr, option_map, is_on, delivery_of, is_answer, int_eq, none-some, same_Some, Srch, completion_to, row_of, effect_of, Item, Kind, Any, PulseOnly, Connection, error_mark, info_of, refusal_unless_held, SentItem, Call, Completion, OpenCall, eqb_same, ℤ, pos, Option, None, Some}
+use Rattle.qrules.proofs.Basics.{answer_same, unblocked_same, error_finish, reply_finish, message_item, Finish, ends_sender, item_sent_over, Facts, is_for_answer, message, sender, threads_of, asks, makes, thread_of_send, IsHeldFor, SenderEnds, answering, finished_held, has_sender, held_for, sender_ends, sender_sends, Passes, given_is, Delivers, has_way, leads_over, detach_ends}
+use Rattle.qrules.proofs.Common.{arith, ◌≡◌, ◌∙◌, ℕ, List, [], cond, ap, refl, sym, subst, true, false, inl, inr, delivery_of, is_answer, int_eq, none-some, same_Some, completion_to, row_of, effect_of, Item, Connection, error_mark, refusal_unless_held, SentItem, Call, Completion, OpenCall, eqb_same, ℤ, pos, Option, None, Some}
 use Rattle.std.proofs.lemmas.Bool.{true≢false}
-use Rattle.qmodel.specs.declared.call.Info.{Info as Told}
-use Rattle.qmodel.specs.declared.call.Call.TheVariants.{Send, Receive, Reply, Error, Info, ReceivePulse, Pulse, ChannelDestroy, Shutdown, Unblock, ConnectDetach}
+use Rattle.qmodel.specs.declared.call.Call.TheVariants.{Send, Reply, Error, Unblock, ConnectDetach}
 use Rattle.qmodel.specs.declared.open_call.OpenCall.TheVariants.{Receive as InReceive, Send as InSend}
 use Rattle.qrules.proofs.Traces.Properties.Receipts.{completion_of}
 use Rattle.qrules.proofs.Traces.Properties.Rows.Telling.{told_meets, unblock_ends}
 use Rattle.qmodel.specs.declared.call.Mark.TheVariants as mark
 use Rattle.qrules.specs.Rules.Connections as connect_detach
 use Rattle.qrules.specs.Rules.Unblock as unblock
-use Rattle.qrules.specs.Rules.Pulse as pulse
 
 -- ---- what answers
 
@@ -29,23 +27,11 @@ no_answer x y same none e = absurd (true≢false (sym e ∙ ap (λ z. is_answer 
 given_no_answer : (item : Item) (message buffer : List ℕ) → is_answer (delivery_of item message buffer).0 ≡ false
 given_no_answer item message buffer = given_is is_answer false (λ i n. refl) item message buffer refl
 
-takes_no_answer : {P : Type 0} (f : Facts) (t chid : ℕ) (kind : Kind) (buffer : List ℕ) (y : Completion) → ReceiveTakes f t chid kind buffer y → is_answer y.mark ≡ true → P
-takes_no_answer f t chid kind buffer y r is = no_answer _ y r.completion (given_no_answer r.item (message f r.item.number) buffer) is
-
 met_no_answer : {P : Type 0} (f : Facts) (o : Option ℕ) (item : Item) (sent : List ℕ) (u : ℕ) (y : Completion) → Delivers f o item sent u y → is_answer y.mark ≡ true → P
 met_no_answer f o item sent u y s is = no_answer _ y s.completion (given_no_answer item sent s.receive.buffer) is
 
--- what is told is no answer
-tells_only : (n t : ℕ) (o : Option Told) (y : Completion) → option_map (info_completion n t) o ≡ Some y → is_answer y.mark ≡ false
-tells_only n t None y e = absurd (none-some y e)
-tells_only n t (Some told_so) y e = ap (λ x. is_answer x.mark) (sym (same_Some _ y e))
-
 own_answers : (f : Facts) (t : ℕ) (c : Call) (u : ℕ) (y : Completion) → (row_of f t c).own ≡ Some y → is_answer y.mark ≡ true → AnswersHeld f t c u y
-own_answers f t (Send coid message reply_buffer) u y e is = absurd (none-some y e)
-own_answers f t (Receive chid buffer) u y e is = takes_no_answer f t chid Any buffer y (receive_takes f t chid Any buffer y e) is
-own_answers f t (ReceivePulse chid) u y e is = takes_no_answer f t chid PulseOnly [] y (receive_takes f t chid PulseOnly [] y e) is
-own_answers f t (Info rcvid) u y e is = absurd (true≢false (sym is ∙ tells_only f.number t (info_of f (sender f rcvid)) y e))
-own_answers f t c u y e is = no_answer _ y (same_Some _ y e) refl is
+own_answers f t c u y e is = grind arith
 
 -- the Send that a call ends is the one that it names
 answers_by : (f : Facts) (t : ℕ) (c : Call) (rcvid : ℕ) (finish : Finish) (u : ℕ) (y : Completion) → (effect_of c).answers ≡ Some rcvid → SenderEnds f t rcvid finish u y → AnswersHeld f t c u y
@@ -60,13 +46,8 @@ answers_by f t c rcvid finish u y named r =
     }
 
 ends_answers : (f : Facts) (t : ℕ) (c : Call) (u : ℕ) (y : Completion) → Passes f t c → (row_of f t c).others u ≡ Some y → is_answer y.mark ≡ true → AnswersHeld f t c u y
-ends_answers f t (Send coid message reply_buffer) u y p e is = met_no_answer f (route f t coid) (message_item f t) message u y (delivery_meets f (route f t coid) (message_item f t) message u y (sym (sent_same f t coid message reply_buffer u p.row) ∙ e)) is
-ends_answers f t (Pulse coid level code value) u y p e is =
-    let k = told_meets f (pulse.pulse_over f coid level code value) u y (sym (pulse_same f (pulse.pulse_over f coid level code value) u) ∙ e) in met_no_answer f (Some k.made.channel) k.made.item [] u y k.delivers is
 ends_answers f t (Reply rcvid status bytes) u y p e is = answers_by f t (Reply rcvid status bytes) rcvid (reply_finish status bytes) u y refl (sender_ends f t rcvid (reply_finish status bytes) u y p.row (sym (answer_same f (reply_finish status bytes) (sender f rcvid) u) ∙ e))
 ends_answers f t (Error rcvid code) u y p e is = answers_by f t (Error rcvid code) rcvid (error_finish code) u y refl (sender_ends f t rcvid (error_finish code) u y p.row (sym (answer_same f (error_finish code) (sender f rcvid) u) ∙ e))
-ends_answers f t (ChannelDestroy chid) u y p e is = no_answer _ y (cancel_parts (is_on chid) Srch u (f.open_call u) y e).completion refl is
-ends_answers f t Shutdown u y p e is = no_answer _ y (cancel_parts (λ wait. true) Srch u (f.open_call u) y e).completion refl is
 ends_answers f t (Unblock thread) u y p e is = elim (unblock_ends f thread u y (unblock.unblock_pulse f thread) (sym (unblocked_same f t thread u) ∙ e)) [
   | inl cancel ↦ no_answer _ y cancel.completion refl is
   | inr k ↦ met_no_answer f (Some k.made.channel) k.made.item [] u y k.delivers is
@@ -75,7 +56,7 @@ ends_answers f t (ConnectDetach coid) u y p e is = elim (detach_ends f coid (con
   | inl cancel ↦ no_answer _ y cancel.completion refl is
   | inr s ↦ let k = told_meets f (connect_detach.disconnect_pulse f t coid) u y s in met_no_answer f (Some k.made.channel) k.made.item [] u y k.delivers is
 ]
-ends_answers f t c u y p e is = absurd (none-some y e)
+ends_answers f t c u y p e is = grind arith
 
 -- each completion that answers a message answers so
 pub answers_held : (f : Facts) (t : ℕ) (c : Call) (u : ℕ) (y : Completion) → Passes f t c → completion_to f t c u ≡ Some y → is_answer y.mark ≡ true → AnswersHeld f t c u y
@@ -103,16 +84,7 @@ ends_one f t c rcvid finish i passed ends marks same =
     let h = held_for f t rcvid s.0 passed s.1 in
     let k = sender_sends f.open_call rcvid (threads_of f.roster) s.0 s.1 in
     let at : ends_sender f finish (sender f rcvid) s.0 ≡ Some (answering h.send.number s.0 finish h.send.reply_buffer) = rw (s.1, eqb_same s.0) (finished_held f t finish s.0 (f.open_call s.0) h) in
-    record {
-      thread = s.0;
-      is_sender = subst (λ j. sender f j ≡ Some s.0) same s.1;
-      waiting = InSend h.send;
-      is_open = h.is_open;
-      given = answering h.send.number s.0 finish h.send.reply_buffer;
-      is = ends s.0 ∙ at;
-      call = sym (ap number_of (same_Some k.waiting (InSend h.send) (sym k.is ∙ h.is_open))) ∙ k.number ∙ same;
-      answers = marks h.send.reply_buffer;
-    }
+    grind arith
 
 -- an Error marks an answer
 error_answers : (code : ℤ) → is_answer (error_mark code) ≡ true
@@ -151,15 +123,8 @@ send_over f t coid message reply_buffer p =
     }
 
 pub sends_over : (f : Facts) (t h : ℕ) (c : Call) (b : OpenCall) → Passes f t c → asks f.number t h c ≡ Some b → is_for_answer b ≡ true → SendsOver f t c (over b)
-sends_over f t h (ReceivePulse chid) b p e w = absurd (true≢false (sym w ∙ ap is_for_answer (sym (same_Some _ b e))))
-sends_over f t h (Receive chid buffer) b p e w = absurd (true≢false (sym w ∙ ap is_for_answer (sym (same_Some _ b e))))
-sends_over f t h (Send coid message reply_buffer) b p e w =
-    subst (SendsOver f t (Send coid message reply_buffer)) (ap over (same_Some _ b e)) (send_over f t coid message reply_buffer p)
-sends_over f t h c b p e w = absurd (none-some b e)
+sends_over f t h c b p e w = grind (arith, send_over)
 
 -- and its thread is the caller
 pub sends_by : (n t h : ℕ) (c : Call) (b : OpenCall) → asks n t h c ≡ Some b → is_for_answer b ≡ true → thread_of_send t c ≡ Some t
-sends_by n t h (Send coid message reply_buffer) b e w = refl
-sends_by n t h (Receive chid buffer) b e w = absurd (true≢false (sym w ∙ ap is_for_answer (sym (same_Some _ b e))))
-sends_by n t h (ReceivePulse chid) b e w = absurd (true≢false (sym w ∙ ap is_for_answer (sym (same_Some _ b e))))
-sends_by n t h c b e w = absurd (none-some b e)
+sends_by n t h c b e w = grind arith

@@ -1,5 +1,5 @@
 -- A receipt takes the item of greatest priority, and among equals the one that was made first.
-use Rattle.qrules.proofs.Common.{◌≡◌, ◌∙◌, ℕ, List, [], ◌∷◌, ◌++◌, refl, ap, sym, true, false, inl, inr, request_of, takeable, BestFirst, TakesBest, number_of, AllByRecursion, none-some, same_Some, best_of, may_take, Item, Kind, IsRoster, Member, Outcome, ReceiveRequest, effect_of, call_at, Event, Trace, Call, Completion, eqb_same, Option, None, Some}
+use Rattle.qrules.proofs.Common.{arith, ◌≡◌, ◌∙◌, ℕ, List, [], ◌∷◌, ◌++◌, refl, ap, sym, true, false, inl, inr, request_of, takeable, BestFirst, TakesBest, number_of, AllByRecursion, best_of, may_take, Item, Kind, IsRoster, Member, Outcome, ReceiveRequest, effect_of, call_at, Event, Trace, Call, Completion, eqb_same, Option, Some}
 use Rattle.std.specs.Option.{option_and_then, option_map}
 use Rattle.std.proofs.lemmas.List.{append-nil}
 use Rattle.qrules.proofs.Basics.{facts_of, IsLawful, pending_items, made_on, block_asked, block_below, call_earlier, call_newest, open_parts}
@@ -20,8 +20,7 @@ record Asks (receives : Option ReceiveRequest) (place : ℕ × Kind) : Type 0 wh
   at : place_of request ≡ place
 
 asks_at : (receives : Option ReceiveRequest) (place : ℕ × Kind) → option_map place_of receives ≡ Some place → Asks receives place
-asks_at None place e = absurd (none-some place e)
-asks_at (Some r) place e = record { request = r; is = refl; at = same_Some (place_of r) place e }
+asks_at receives place e = grind arith
 
 -- ---- the caller takes the best of what was pending
 
@@ -54,12 +53,7 @@ takes_made roster past e u y i r l a k =
     let best : best_of k.kind (pending_items roster past k.made.channel ++ k.made.item ∷ []) ≡ Some k.made.item =
     best_behind k.kind (pending_items roster past k.made.channel) k.made.item (nothing_for roster past r l u k.waiting k.made.channel k.kind k.is_open k.waits) k.may in
     let asks = asks_at (effect_of c.call).receives (k.made.channel, k.kind) (waits_for_asked (number_of b.block) u c.channel c.call b.block c.asks_it ∙ sym (open_keeps waits_for roster past u k.waiting b held_waits_for buffer_waits_for) ∙ k.waits) in
-    record {
-      request = asks.request;
-      call = request_from (e ∷ past) y.call c.call asks.request (ap (call_at (e ∷ past)) (k.call ∙ b.number) ∙ call_earlier e past (number_of b.block) (block_below roster past u b.block b.is) ∙ c.is) asks.is;
-      best = ap (λ place. option_map (λ (item : Item). item.number) (best_of place.1 (takeable roster past e place.0))) asks.at
-          ∙ ap (λ items. option_map (λ (item : Item). item.number) (best_of k.kind items)) all ∙ ap (option_map (λ (item : Item). item.number)) best ∙ ap (λ n. Some n) k.number;
-    }
+    grind (arith, block_below, call_earlier, request_from)
 
 pub best_first : (roster : List Member) (past : Trace) → IsRoster roster → IsLawful roster past → BestFirst roster past
 best_first roster [] r l = tt

@@ -1,5 +1,5 @@
 -- What could be taken from a channel: items of that channel, and so of the connections over which they were sent.
-use Rattle.qrules.proofs.Common.{◌≡◌, ◌∙◌, ℕ, ◌+◌, List, [], ◌∷◌, length, refl, ap, sym, subst, cond, eqb, true, false, connection_of, takeable, AllByRecursion, none-some, same_Some, Item, Connection, Member, call_at, effect_of, SentItem, Event, Trace, Call, all_append, all_more, Option, None, Some, is_some}
+use Rattle.qrules.proofs.Common.{arith, ◌≡◌, ◌∙◌, ℕ, ◌+◌, List, [], ◌∷◌, length, ap, sym, subst, cond, eqb, true, false, connection_of, takeable, AllByRecursion, none-some, same_Some, Item, Connection, Member, call_at, effect_of, SentItem, Event, Trace, Call, all_append, all_more, Option, Some, is_some}
 use Rattle.std.specs.Option.{option_and_then, option_map, option_or}
 use Rattle.qrules.proofs.Basics.{makes, item_of, pending_items, priority_before, attached_connection, made_on, message_numbered, pulse_item, item_sent_over, before_earlier, before_newest, item_accepted, IsPending, item_at, item_below, item_earlier, item_newest, item_priority, made_by, pending_all, pending_each, Facts, facts_of}
 use Rattle.qmodel.specs.declared.call.Call.TheVariants.{Send, Pulse}
@@ -45,11 +45,7 @@ abbrev sends_over : Call → Option ℕ
 sends_over c = option_or (option_map (λ s. s.connection) (effect_of c).sends) (effect_of c).pulses_over
 
 sent_is_over : (connection : ℕ → Option Connection) (k : ℕ) (item : Item) (m : SentItem) → item_sent_over (connection k) item ≡ Some m → IsOver connection k m
-sent_is_over connection k item m e =
-    elim (connection k) as (λ o. connection k ≡ o → item_sent_over o item ≡ Some m → IsOver connection k m) [
-      | None ↦ λ is s. absurd (none-some m s)
-      | Some c ↦ λ is s. record { over = c; is = is; channel = ap (λ (x : SentItem). x.channel) (sym (same_Some _ m s)) }
-    ] refl e
+sent_is_over connection k item m e = grind arith
 
 makes_over : (f : Facts) (t : ℕ) (c : Call) (m : SentItem) (k : ℕ) → makes f t c ≡ Some m → sends_over c ≡ Some k → IsOver f.connection k m
 makes_over f t (Pulse coid level code value) m k e s = subst (λ i. IsOver f.connection i m) (same_Some coid k s) (sent_is_over f.connection coid (pulse_item f.number level code value) m e)

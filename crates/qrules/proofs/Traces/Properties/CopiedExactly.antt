@@ -1,21 +1,18 @@
 -- Every buffer and every count is what was to be copied.
-use Rattle.qrules.proofs.Basics.{answer_same, pulse_same, sent_same, unblocked_same, writes, error_finish, reply_finish, info_completion, message_item, Finish, Facts, message, sender, threads_of, route, number_of, reply_buffer, message_same, reply_buffer_same, facts_of, IsLawful, open_call, refuses, passes_of, refused, item_below, Passes, call_earlier, call_newest, open_below, sender_sends, ReceiveTakes, receive_takes, IsCancelledCall, cancel_parts, IsHeldFor, SenderEnds, answering, has_sender, held_for, sender_ends, Delivers, delivery_meets, detach_ends}
-use Rattle.qrules.proofs.Common.{◌≡◌, ◌∙◌, ℕ, ◌+◌, ◌≤◌, List, [], ◌∷◌, length, refl, ap, sym, subst, cond, arith, Bool, true, false, inl, inr, message_in, reply_buffer_in, buffer_at, message_at, CopiedExactly, IsCopied, AllByRecursion, int_eq, none-some, same_Some, Errno, Srch, Intr, Badf, is_pulse, Item, Kind, Any, PulseOnly, laid_count, lay_over, Member, completion_to, Answers, row_of, effect_of, info_of, refusal_unless_held, cancel_call, is_on, is_over, receipt_completion, call_at, SentItem, Event, Trace, Call, Completion, Mark, OpenCall, all_filter_map, buffer_in, ℤ, pos, Option, None, Some}
-use Rattle.std.specs.Option.{option_and_then, option_map, option_map_or}
+use Rattle.qrules.proofs.Basics.{answer_same, pulse_same, sent_same, unblocked_same, writes, error_finish, reply_finish, message_item, Finish, Facts, message, sender, threads_of, route, number_of, reply_buffer, message_same, reply_buffer_same, facts_of, IsLawful, open_call, refuses, passes_of, refused, item_below, Passes, call_earlier, call_newest, open_below, sender_sends, ReceiveTakes, receive_takes, IsCancelledCall, IsHeldFor, SenderEnds, answering, has_sender, held_for, sender_ends, Delivers, delivery_meets, detach_ends}
+use Rattle.qrules.proofs.Common.{◌≡◌, ◌∙◌, ℕ, ◌+◌, ◌≤◌, List, [], ◌∷◌, length, refl, ap, sym, subst, cond, arith, Bool, true, false, inl, inr, message_in, reply_buffer_in, buffer_at, message_at, CopiedExactly, IsCopied, AllByRecursion, int_eq, same_Some, Errno, Intr, Badf, is_pulse, Item, Kind, Any, laid_count, Member, completion_to, Answers, row_of, effect_of, refusal_unless_held, is_over, receipt_completion, SentItem, Event, Trace, Call, Completion, OpenCall, all_filter_map, buffer_in, ℤ, pos, Option, None, Some}
+use Rattle.std.specs.Option.{option_and_then, option_map_or}
 use Rattle.std.proofs.lemmas.Bool.{true≢false}
 use Rattle.qmodel.specs.Buffers.{buffer_of}
-use Rattle.qmodel.specs.declared.call.Call.TheVariants.{Send, Receive, Reply, Error, Read, Write, Info, ReceivePulse, Pulse, ChannelDestroy, Shutdown, Unblock, ConnectDetach}
-use Rattle.qmodel.specs.declared.call.Info.{Info as Told}
+use Rattle.qmodel.specs.declared.call.Call.TheVariants.{Send, Receive, Reply, Error, Read, Write, Pulse, Unblock, ConnectDetach}
 use Rattle.qrules.proofs.Traces.Past.Receipts.{best_pending}
-use Rattle.qrules.proofs.Traces.Past.Writes.{writes_beyond, writes_nothing, writes_refused}
+use Rattle.qrules.proofs.Traces.Past.Writes.{writes_beyond}
 use Rattle.qrules.proofs.Traces.Properties.Messages.{buffer_by, message_sent, open_buffer, open_message, pending_message}
 use Rattle.qrules.proofs.Traces.Properties.Receipts.{completion_of}
-use Rattle.qrules.proofs.Traces.Laying.{lay_nothing, count_nothing}
 use Rattle.qrules.proofs.Traces.Properties.Rows.Telling.{Tells, told_meets, unblock_ends}
 use Rattle.qrules.proofs.Traces.Calls.Pulse.{sent_is_pulse}
 use Rattle.qrules.proofs.Traces.Calls.Unblock.{is_cancelled}
 use Rattle.qmodel.specs.declared.open_call.OpenCall.TheVariants.{Receive as InReceive, Send as InSend}
-use Rattle.qmodel.specs.declared.call.Mark.TheVariants as mark
 use Rattle.qrules.specs.Rules.Connections as connect_detach
 use Rattle.qrules.specs.Rules.Unblock as unblock
 use Rattle.qrules.specs.Rules.Pulse as pulse
@@ -36,15 +33,8 @@ message_newest e past = ap (λ c. option_map_or message_sent c []) (call_newest 
 message_earlier : (e : Event) (past : Trace) (i : ℕ) → i ≤ length past → message_at (e ∷ past) i ≡ message_at past i
 message_earlier e past i l = ap (λ c. option_map_or message_sent c []) (call_earlier e past i l)
 
--- a call that writes nothing leaves the buffers of earlier calls
-buffer_stays : (e : Event) (past : Trace) (i : ℕ) (c : Call) → writes e.call ≡ None → buffer_by (e ∷ past) i c ≡ buffer_by past i c
-buffer_stays e past i (Send coid message reply_buffer) none = writes_nothing e past i reply_buffer none
-buffer_stays e past i c none = refl
-
 buffer_earlier : (e : Event) (past : Trace) (i : ℕ) → i ≤ length past → writes e.call ≡ None → buffer_at (e ∷ past) i ≡ buffer_at past i
-buffer_earlier e past i l none =
-    ap (λ o. option_map_or (buffer_by (e ∷ past) i) o []) (call_earlier e past i l)
-    ∙ (elim (call_at past i) as (λ o. option_map_or (buffer_by (e ∷ past) i) o [] ≡ option_map_or (buffer_by past i) o []) [ None ↦ refl | Some c ↦ buffer_stays e past i c none ])
+buffer_earlier e past i l none = grind arith
 
 -- the buffer that an open call waits with is its buffer so far
 buffer_open : (roster : List Member) (e : Event) (past : Trace) (u : ℕ) (o : OpenCall) → writes e.call ≡ None → open_call roster past u ≡ Some o → buffer_at (e ∷ past) (number_of o) ≡ buffer_in o
@@ -78,17 +68,10 @@ held_buffer roster past t rcvid passed =
 
 -- ---- the forms of a completion
 
--- what a receipt gives, by whether it is of a pulse
-abbrev as_given : Item → List ℕ → List ℕ → Bool → Mark × List ℕ
-as_given item buffer bytes t = cond {A = Mark × List ℕ} t (mark.Pulse item.number item.priority item.what, buffer) (mark.Message item.number (laid_count buffer 0 bytes), lay_over buffer 0 bytes)
-
 -- a message is laid over the buffer, and a pulse leaves it
 taking_copied : (past : Trace) (e : Event) (m u : ℕ) (item : Item) (buffer bytes : List ℕ) (y : Completion) → buffer_at (e ∷ past) m ≡ buffer → (is_pulse item.what ≡ false → message_at (e ∷ past) item.number ≡ bytes)
     → receipt_completion item bytes u m buffer ≡ y → IsCopied past e y y.mark
-taking_copied past e m u item buffer bytes y b s is = subst (λ (x : Completion). IsCopied past e x x.mark) is (by (is_pulse item.what) s) where
-  by : (t : Bool) → (t ≡ false → message_at (e ∷ past) item.number ≡ bytes) → IsCopied past e (record { call = m; thread = u; mark = (as_given item buffer bytes t).0; buffer = (as_given item buffer bytes t).1 }) (as_given item buffer bytes t).0
-  by true s = sym b
-  by false s = rw (b, s refl) (refl, refl)
+taking_copied past e m u item buffer bytes y b s is = grind arith
 
 -- the bytes of a Reply are laid over the buffer
 replied_copied : (past : Trace) (e : Event) (m u : ℕ) (status : ℤ) (bytes buffer : List ℕ) (y : Completion) → (effect_of e.call).replies ≡ Some (status, bytes) → buffer_at (e ∷ past) m ≡ buffer → answering m u (reply_finish status bytes) buffer ≡ y
@@ -98,20 +81,11 @@ replied_copied past e m u status bytes buffer y says b is = subst (λ (x : Compl
 -- an Error leaves the buffer
 errored_copied : (past : Trace) (e : Event) (m u : ℕ) (code : ℤ) (buffer : List ℕ) (y : Completion) → (effect_of e.call).replies ≡ cond (int_eq code (pos 0)) (Some (pos 0, [])) None → buffer_at (e ∷ past) m ≡ buffer → answering m u (error_finish code) buffer ≡ y
     → IsCopied past e y y.mark
-errored_copied past e m u code buffer y says b is = subst (λ (x : Completion). IsCopied past e x x.mark) is (
-    elim (int_eq code (pos 0)) as (λ t. (effect_of e.call).replies ≡ cond t (Some (pos 0, [])) None → IsCopied past e (record { call = m; thread = u; mark = cond t (mark.Replied (pos 0) 0) (mark.Errored code); buffer = buffer }) (cond t (mark.Replied (pos 0) 0) (mark.Errored code))) [
-      | true ↦ λ says. ([], says, (rw b (lay_nothing buffer), rw b (count_nothing buffer)))
-      | false ↦ λ says. sym b
-    ] says)
+errored_copied past e m u code buffer y says b is = grind arith
 
 -- a completion that gives the call's own buffer back
 plain_copied : (past : Trace) (e : Event) (y x : Completion) → x ≡ y → IsCopied past e x x.mark → IsCopied past e y y.mark
 plain_copied past e y x is h = subst (λ (z : Completion). IsCopied past e z z.mark) is h
-
--- what is told gives no buffer
-told_copied : (past : Trace) (e : Event) (n t : ℕ) (o : Option Told) (y : Completion) → option_map (info_completion n t) o ≡ Some y → buffer_at (e ∷ past) n ≡ [] → IsCopied past e y y.mark
-told_copied past e n t None y is b = absurd (none-some y is)
-told_copied past e n t (Some told_so) y is b = plain_copied past e y (info_completion n t told_so) (same_Some _ y is) (sym b)
 
 -- ---- each completion of an accepted call
 
@@ -127,16 +101,12 @@ best_copied roster past t c X y chid kind buffer l brought r =
 
 own_copied : (roster : List Member) (past : Trace) (t : ℕ) (c : Call) (X : List Completion) (y : Completion) → IsLawful roster past → Passes (facts_of roster past) t c → (row_of (facts_of roster past) t c).own ≡ Some y
     → IsCopied past (event t c X) y y.mark
-own_copied roster past t (Send coid sent reply_buffer) X y l p e = absurd (none-some y e)
 own_copied roster past t (Read rcvid offset buffer) X y l p e =
     plain_copied past (event t (Read rcvid offset buffer) X) y _ (same_Some _ y e) (rw (held_message roster past t rcvid p.row) (refl, refl))
 own_copied roster past t (Write rcvid offset bytes) X y l p e =
     plain_copied past (event t (Write rcvid offset bytes) X) y _ (same_Some _ y e) (refl, ap (λ b. laid_count b offset bytes) (held_buffer roster past t rcvid p.row))
-own_copied roster past t (Info rcvid) X y l p e =
-    told_copied past (event t (Info rcvid) X) (length past + 1) t (info_of (facts_of roster past) (sender (facts_of roster past) rcvid)) y e (buffer_newest (event t (Info rcvid) X) past)
 own_copied roster past t (Receive chid buffer) X y l p e = best_copied roster past t (Receive chid buffer) X y chid Any buffer l (buffer_newest (event t (Receive chid buffer) X) past) (receive_takes (facts_of roster past) t chid Any buffer y e)
-own_copied roster past t (ReceivePulse chid) X y l p e = best_copied roster past t (ReceivePulse chid) X y chid PulseOnly [] l (buffer_newest (event t (ReceivePulse chid) X) past) (receive_takes (facts_of roster past) t chid PulseOnly [] y e)
-own_copied roster past t c X y l p e = plain_copied past (event t c X) y _ (same_Some _ y e) (sym (buffer_newest (event t c X) past))
+own_copied roster past t c X y l p e = grind arith
 
 -- the buffer of the Send that is answered
 answered_buffer : (roster : List Member) (past : Trace) (v : Event) (t rcvid : ℕ) (finish : Finish) (u : ℕ) (y : Completion) → writes v.call ≡ None → (r : SenderEnds (facts_of roster past) t rcvid finish u y)
@@ -153,8 +123,7 @@ met_copied roster past t c X u y o item sent none message s =
 -- what is cancelled gives its buffer back as it is by now
 cancel_copied : (roster : List Member) (past : Trace) (t : ℕ) (c : Call) (X : List Completion) (u : ℕ) (y : Completion) (is_cancelled : OpenCall → Bool) (errno : Errno) → writes c ≡ None → IsCancelledCall is_cancelled errno u (open_call roster past u) y
     → IsCopied past (event t c X) y y.mark
-cancel_copied roster past t c X u y is_cancelled errno none k =
-    plain_copied past (event t c X) y (cancel_call errno u k.waiting) k.completion (sym (buffer_open roster (event t c X) past u k.waiting none k.is))
+cancel_copied roster past t c X u y is_cancelled errno none k = grind (arith, buffer_open)
 
 -- what a receiver takes that a pulse meets which is due
 told_now : (roster : List Member) (past : Trace) (t : ℕ) (c : Call) (X : List Completion) (u : ℕ) (y : Completion) (o : Option SentItem) → writes c ≡ None → ((m : SentItem) → o ≡ Some m → is_pulse m.item.what ≡ true)
@@ -164,8 +133,6 @@ told_now roster past t c X u y o none pulse k =
 
 ends_copied : (roster : List Member) (past : Trace) (t : ℕ) (c : Call) (X : List Completion) (u : ℕ) (y : Completion) → Passes (facts_of roster past) t c → (row_of (facts_of roster past) t c).others u ≡ Some y
     → IsCopied past (event t c X) y y.mark
-ends_copied roster past t (ChannelDestroy chid) X u y p e = cancel_copied roster past t (ChannelDestroy chid) X u y (is_on chid) Srch refl (cancel_parts (is_on chid) Srch u (open_call roster past u) y e)
-ends_copied roster past t Shutdown X u y p e = cancel_copied roster past t Shutdown X u y (λ o. true) Srch refl (cancel_parts (λ o. true) Srch u (open_call roster past u) y e)
 ends_copied roster past t (Unblock thread) X u y p e = elim (unblock_ends (facts_of roster past) thread u y (unblock.unblock_pulse (facts_of roster past) thread) (sym (unblocked_same (facts_of roster past) t thread u) ∙ e)) [
   | inl cancel ↦ cancel_copied roster past t (Unblock thread) X u y (is_cancelled (facts_of roster past) thread u) Intr refl cancel
   | inr k ↦ told_now roster past t (Unblock thread) X u y (unblock.unblock_pulse (facts_of roster past) thread) refl (λ m is. unblocking.due_is_pulse (facts_of roster past) thread m is) k
@@ -189,7 +156,7 @@ ends_copied roster past t (Error rcvid code) X u y p e =
     let r = sender_ends (facts_of roster past) t rcvid (error_finish code) u y p.row (sym (answer_same (facts_of roster past) (error_finish code) (sender (facts_of roster past) rcvid) u) ∙ e) in
     let v = event t (Error rcvid code) X in
     errored_copied past v rcvid u code r.held.send.reply_buffer y refl (answered_buffer roster past v t rcvid (error_finish code) u y refl r) r.completion
-ends_copied roster past t c X u y p e = absurd (none-some y e)
+ends_copied roster past t c X u y p e = grind (arith, buffer_open)
 
 completion_copied : (roster : List Member) (past : Trace) (t : ℕ) (c : Call) (X : List Completion) (u : ℕ) (y : Completion) → IsLawful roster past → Passes (facts_of roster past) t c
     → completion_to (facts_of roster past) t c u ≡ Some y → IsCopied past (event t c X) y y.mark
@@ -202,10 +169,7 @@ completion_copied roster past t c X u y l p e = elim (completion_of (facts_of ro
 
 -- a refused call has the buffer that it brought: nothing was written over it
 refused_buffer : (roster : List Member) (past : Trace) (t : ℕ) (c : Call) (X : List Completion) → IsLawful roster past → refuses X (length past + 1) ≡ true → buffer_of c ≡ buffer_at (event t c X ∷ past) (length past + 1)
-refused_buffer roster past t c X l r = brought c ∙ sym (buffer_newest (event t c X) past) where
-  brought : (d : Call) → buffer_of d ≡ buffer_by (event t c X ∷ past) (length past + 1) d
-  brought (Send coid message reply_buffer) = sym (writes_refused (event t c X) past (length past + 1) reply_buffer r ∙ writes_beyond roster past (length past + 1) reply_buffer l (omega arith))
-  brought d = refl
+refused_buffer roster past t c X l r = grind (arith, writes_beyond)
 
 all_copied : (roster : List Member) (past : Trace) (t : ℕ) (c : Call) (X : List Completion) → IsLawful roster past → Answers (facts_of roster past) t c X
     → AllByRecursion (λ x. IsCopied past (event t c X) x x.mark) X

@@ -1,5 +1,5 @@
 -- Lists of numbers of which no two are equal.
-use Rattle.qrules.proofs.Common.{◌≡◌, ℕ, ◌<◌, List, [], ◌∷◌, ◌++◌, map, refl, ap, eqb, false, AllDifferent, filter_map, cons_option, AllByRecursion, Member, IsRoster, Completion, all_append, Option, None, Some}
+use Rattle.qrules.proofs.Common.{arith, ◌≡◌, ℕ, ◌<◌, List, [], ◌∷◌, ◌++◌, map, refl, ap, eqb, false, AllDifferent, filter_map, cons_option, AllByRecursion, Member, IsRoster, Completion, all_append, Option, None, Some}
 use Rattle.std.specs.Option.{option_and_then}
 use Rattle.qrules.proofs.Words.Facts.{threads_of}
 
@@ -20,8 +20,7 @@ filter_map_twice {X} {Y} {Z} k g (x ∷ xs) =
     ]
 
 pub calls_as : (endings : List Completion) → map (λ x. x.call) endings ≡ filter_map (λ x. Some x.call) endings
-calls_as [] = refl
-calls_as (x ∷ endings) = ap (λ rest. x.call ∷ rest) (calls_as endings)
+calls_as endings = grind arith
 
 -- two threads are given different numbers
 abbrev pub GivesDifferent : (ℕ → Option ℕ) → Type 0
@@ -29,11 +28,7 @@ GivesDifferent h = (u v i j : ℕ) → u < v → h u ≡ Some i → h v ≡ Some
 
 none_of_later : (h : ℕ → Option ℕ) (u i : ℕ) (roster : List Member) → GivesDifferent h → h u ≡ Some i → AllByRecursion (λ x. u < x.thread) roster → IsNoneOf i (filter_map h (threads_of roster))
 none_of_later h u i [] d e later = tt
-none_of_later h u i (m ∷ roster) d e later =
-    elim (h m.thread) as (λ o. h m.thread ≡ o → IsNoneOf i (cons_option o (filter_map h (threads_of roster)))) [
-      | None ↦ λ none. none_of_later h u i roster d e later.1
-      | Some j ↦ λ some. (d u m.thread i j later.0 e some, none_of_later h u i roster d e later.1)
-    ] refl
+none_of_later h u i (m ∷ roster) d e later = grind (arith, none_of_later h u i roster)
 
 -- what the threads of a roster are given is different
 pub different_given : (h : ℕ → Option ℕ) (roster : List Member) → IsRoster roster → GivesDifferent h → AllDifferent (filter_map h (threads_of roster))

@@ -1,6 +1,5 @@
 -- The newest event of a lawful trace: what it made, where it was accepted, and what its endings receive.
-use Rattle.qrules.proofs.Common.{◌≡◌, ◌∙◌, ℕ, List, refl, ap, sym, subst, cond, true, false, inl, inr, None, Some, not, AllByRecursion, none-some, Member, completion_to, Outcome, Answers, number_received, SentItem, Event, Trace, Call, Completion, all_filter_map}
-use Rattle.std.proofs.lemmas.Bool.{true≢false}
+use Rattle.qrules.proofs.Common.{arith, ◌≡◌, ℕ, List, ap, subst, true, false, inl, inr, None, Some, not, AllByRecursion, none-some, Member, completion_to, Outcome, Answers, number_received, SentItem, Event, Trace, Call, Completion, all_filter_map}
 use Rattle.qrules.proofs.Basics.{Facts, threads_of, facts_of, is_accepted, item_of, makes, accepted, passes_of, refused}
 use Rattle.qrules.proofs.Traces.Properties.Receipts.{TakesOne, receives_it, takes_one}
 
@@ -13,10 +12,7 @@ is_refused_by roster e past a = ap not (refused roster past e.thread e.call e.en
 -- an event that was accepted has the outcome of one
 pub outcome_of : (roster : List Member) (e : Event) (past : Trace) → Answers (facts_of roster past) e.thread e.call e.endings → is_accepted e past ≡ true
     → Outcome true (facts_of roster past) e.thread e.call e.endings
-outcome_of roster e past a is = elim a [
-  | inl a ↦ a
-  | inr a ↦ absurd (true≢false (sym is ∙ is_refused_by roster e past a))
-]
+outcome_of roster e past a is = grind arith
 
 -- an accepted event made what its call makes
 pub made_now : (roster : List Member) (e : Event) (past : Trace) (m : SentItem) → Outcome true (facts_of roster past) e.thread e.call e.endings
@@ -25,8 +21,7 @@ made_now roster e past m a is = rw (is_accepted_by roster e past a) is
 
 pub none_made : (roster : List Member) (e : Event) (past : Trace)
     → makes (facts_of roster past) e.thread e.call ≡ None → item_of roster e past ≡ None
-none_made roster e past is =
-    elim (is_accepted e past) as (λ b. cond b (makes (facts_of roster past) e.thread e.call) None ≡ None) [ true ↦ is | false ↦ refl ]
+none_made roster e past is = grind arith
 
 -- ---- what the endings of an event receive
 

@@ -1,14 +1,12 @@
 -- The messages and buffers of open calls are those that their calls brought, and a message that is pending has its Send open.
-use Rattle.qrules.proofs.Common.{◌≡◌, ◌∙◌, ℕ, ◌+◌, List, [], ◌∷◌, length, refl, ap, sym, subst, cond, eqb, true, false, Option, message_in, message_of, held_call, with_buffer, buffer_at, message_at, buffer_of, none-some, same_Some, is_pulse, Item, Member, effect_of, SentItem, Event, Trace, Call, OpenCall, Receipt, eqb_same, channel_of, buffer_in, None, Some, is_some, not, ◌&&◌}
+use Rattle.qrules.proofs.Common.{arith, ◌≡◌, ◌∙◌, ℕ, ◌+◌, List, [], ◌∷◌, length, refl, ap, sym, subst, cond, eqb, true, false, Option, message_in, message_of, held_call, with_buffer, buffer_at, message_at, buffer_of, none-some, is_pulse, Item, Member, effect_of, SentItem, Event, Trace, Call, OpenCall, Receipt, eqb_same, channel_of, buffer_in, None, Some, is_some, not, ◌&&◌}
 use Rattle.std.specs.Option.{option_and_then, option_map_or}
-use Rattle.std.proofs.lemmas.Bool.{eqb-true, or_parts, and_parts, true≢false}
-use Rattle.qrules.proofs.Basics.{message_same, is_for_answer, message, sender, threads_of, is_send, Facts, number_of, facts_of, IsLawful, has_completion_of, is_ended, item_of, open_call, with_writes, block, filled, asks, makes, pulse_item, sent_item, open_known, passes_of, item_accepted, IsPending, item_at, blocks, blocks_thread, block_asked, call_laws, send_from, send_parts, sender_found, known, open_from, filled_answer, open_parts, open_thread, receipt_for_answer, kept, kept_number}
-use Rattle.qmodel.specs.declared.call.Call.TheVariants.{Send, Receive, ReceivePulse, Pulse, Unblock, ConnectDetach}
-use Rattle.qmodel.specs.declared.open_call.OpenCall.TheVariants.{Receive as InReceive, Send as InSend}
+use Rattle.std.proofs.lemmas.Bool.{eqb-true, or_parts, and_parts}
+use Rattle.qrules.proofs.Basics.{message_same, is_for_answer, message, sender, threads_of, is_send, Facts, number_of, facts_of, IsLawful, has_completion_of, is_ended, item_of, open_call, with_writes, block, filled, asks, makes, open_known, passes_of, item_accepted, IsPending, item_at, blocks, blocks_thread, block_asked, call_laws, send_from, send_parts, sender_found, known, open_from, filled_answer, open_parts, open_thread, receipt_for_answer, kept, kept_number}
+use Rattle.qmodel.specs.declared.call.Call.TheVariants.{Send}
+use Rattle.qmodel.specs.declared.open_call.OpenCall.TheVariants.{Send as InSend}
 use Rattle.qrules.proofs.Traces.Properties.Events.{outcome_of}
 use Rattle.qrules.proofs.Traces.Properties.Sends.{open_filled, open_keeps}
-use Rattle.qrules.proofs.Traces.Calls.Unblock.{due_is_pulse}
-use Rattle.qrules.proofs.Traces.Calls.ConnectDetach as detaching
 
 -- ---- what a call brings is what it waits with
 
@@ -26,22 +24,16 @@ pub record Keeps (past : Trace) (n : ℕ) (c : Call) (b : OpenCall) : Type 0 whe
   pub sent : message_sent c ≡ message_of b
 
 pub keeps : (past : Trace) (n t h : ℕ) (c : Call) (b : OpenCall) → asks n t h c ≡ Some b → Keeps past n c b
-keeps past n t h (ReceivePulse chid) b e = subst (Keeps past n (ReceivePulse chid)) (same_Some _ b e) (record { buffer = refl; sent = refl })
-keeps past n t h (Send coid message reply_buffer) b e = subst (Keeps past n (Send coid message reply_buffer)) (same_Some _ b e) (record { buffer = refl; sent = refl })
-keeps past n t h (Receive chid buffer) b e = subst (Keeps past n (Receive chid buffer)) (same_Some _ b e) (record { buffer = refl; sent = refl })
-keeps past n t h c b e = absurd (none-some b e)
+keeps past n t h c b e = grind arith
 
 held_buffer_of : (receipt : Receipt) (w : OpenCall) → buffer_in (held_call receipt w) ≡ buffer_in w
-held_buffer_of receipt (InSend s) = refl
-held_buffer_of receipt (InReceive r) = refl
+held_buffer_of receipt w = grind arith
 
 held_message : (receipt : Receipt) (w : OpenCall) → message_of (held_call receipt w) ≡ message_of w
-held_message receipt (InSend s) = refl
-held_message receipt (InReceive r) = refl
+held_message receipt w = grind arith
 
 buffer_message : (f : List ℕ → List ℕ) (w : OpenCall) → message_of (with_buffer f w) ≡ message_of w
-buffer_message f (InSend s) = refl
-buffer_message f (InReceive r) = refl
+buffer_message f w = grind arith
 
 -- the buffer of an open call is the one that the call of its number brought, with what was written over it
 pub open_buffer : (roster : List Member) (past : Trace) (u : ℕ) (o : OpenCall) → open_call roster past u ≡ Some o → buffer_at past (number_of o) ≡ buffer_in o
@@ -66,16 +58,12 @@ pub record IsMessage (n t : ℕ) (c : Call) (m : SentItem) : Type 0 where
   pub answer : is_for_answer begins ≡ true
 
 pub makes_message : (f : Facts) (t : ℕ) (c : Call) (m : SentItem) → makes f t c ≡ Some m → is_pulse m.item.what ≡ false → IsMessage f.number t c m
-makes_message f t (Unblock thread) m e message = absurd (true≢false (sym (due_is_pulse f thread m (e)) ∙ message))
-makes_message f t (ConnectDetach coid) m e message = absurd (true≢false (sym (detaching.due_is_pulse f t coid m e) ∙ message))
-makes_message f t (Pulse coid level code value) m e message =
-    absurd (true≢false (ap (λ x. is_pulse x.what) (sym (sent_item (f.connection coid) (pulse_item f.number level code value) m e)) ∙ message))
 makes_message f t (Send coid sent reply_buffer) m e message = record {
   begins = InSend (record { number = f.number; thread = t; connection = coid; channel = m.channel; message = sent; reply_buffer = reply_buffer; receipt = None });
   asked = refl;
   answer = refl;
 }
-makes_message f t c m e message = absurd (none-some m e)
+makes_message f t c m e message = grind arith
 
 abbrev newest_of : List Member → Trace → ℕ → Option OpenCall
 newest_of roster past u = block roster past u

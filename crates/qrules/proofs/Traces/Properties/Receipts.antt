@@ -1,13 +1,9 @@
 -- A completion that receives an item: the caller's own of what was pending, or of a thread that waited for what the call makes.
-use Rattle.qrules.proofs.Basics.{answer_same, pulse_same, sent_same, unblocked_same, error_finish, reply_finish, message_item, item_in, Facts, message, sender, route, number_of, makes, given_received, Delivers, delivery_meets, ReceiveTakes, receive_takes, cancel_parts, sender_ends, detach_ends, sent_way}
-use Rattle.qrules.proofs.Common.{◌≡◌, ◌∙◌, ℕ, List, [], ap, refl, sym, cond, eqb, true, false, inl, inr, ◌⊎◌, option_map, eqb-true, none-some, same_Some, Srch, best_of, may_take, Item, Kind, Any, PulseOnly, completion_to, row_of, effect_of, info_of, is_on, ReceiveRequest, number_received, SentItem, Call, Completion, OpenCall, ReceivedItem, Option, None, Some}
-use Rattle.qmodel.specs.declared.call.Call.TheVariants.{Send, Receive, Reply, Error, Info, ReceivePulse, Pulse, ChannelDestroy, Shutdown, Unblock, ConnectDetach}
+use Rattle.qrules.proofs.Basics.{pulse_same, sent_same, unblocked_same, message_item, item_in, Facts, message, route, number_of, makes, Delivers, delivery_meets, ReceiveTakes, receive_takes, detach_ends, sent_way}
+use Rattle.qrules.proofs.Common.{arith, ◌≡◌, ◌∙◌, ℕ, List, [], ap, refl, sym, eqb, true, false, inl, inr, ◌⊎◌, none-some, best_of, may_take, Item, Kind, Any, PulseOnly, completion_to, row_of, effect_of, ReceiveRequest, number_received, SentItem, Call, Completion, OpenCall, ReceivedItem, Option, None, Some}
+use Rattle.qmodel.specs.declared.call.Call.TheVariants.{Send, Receive, ReceivePulse, Pulse, Unblock, ConnectDetach}
 use Rattle.qmodel.specs.declared.open_call.OpenCall.TheVariants.{Receive as InReceive, Send as InSend}
-use Rattle.qrules.proofs.Traces.Calls.Answering.{answer_receives}
-use Rattle.qrules.proofs.Traces.Calls.Error.{no_receipt}
-use Rattle.qrules.proofs.Traces.Calls.Info.{plain}
 use Rattle.qrules.proofs.Traces.Properties.Rows.Telling.{Tells, told_meets, unblock_ends}
-use Rattle.qrules.specs.Rules.Connections as connect_detach
 use Rattle.qrules.specs.Rules.Unblock as unblock
 use Rattle.qrules.specs.Rules.Pulse as pulse
 
@@ -15,19 +11,11 @@ use Rattle.qrules.specs.Rules.Pulse as pulse
 
 pub completion_of : (f : Facts) (t : ℕ) (c : Call) (u : ℕ) (y : Completion) → completion_to f t c u ≡ Some y
     → ((u ≡ t) × ((row_of f t c).own ≡ Some y)) ⊎ ((eqb u t ≡ false) × ((row_of f t c).others u ≡ Some y))
-completion_of f t c u y e =
-    elim (eqb u t) as (λ b. eqb u t ≡ b → cond b (row_of f t c).own ((row_of f t c).others u) ≡ Some y → ((u ≡ t) × ((row_of f t c).own ≡ Some y)) ⊎ ((eqb u t ≡ false) × ((row_of f t c).others u ≡ Some y))) [
-      | true ↦ λ same s. inl (eqb-true u t same, s)
-      | false ↦ λ other s. inr (other, s)
-    ] refl e
+completion_of f t c u y e = grind arith
 
 -- what a completion receives
 pub receives_it : (x : Completion) (i : ℕ) → number_received x ≡ Some i → (p : ReceivedItem) × (item_in x.mark ≡ Some p) × (p.number ≡ i)
-receives_it x i e =
-    elim (item_in x.mark) as (λ o. option_map (λ r. r.number) o ≡ Some i → (p : ReceivedItem) × (o ≡ Some p) × (p.number ≡ i)) [
-      | None ↦ λ s. absurd (none-some i s)
-      | Some p ↦ λ s. (p, refl, same_Some p.number i s)
-    ] e
+receives_it x i e = grind arith
 
 -- ---- the receipt
 
@@ -65,67 +53,35 @@ TakesOne f t c u y i = TakesPending f t c u y i ⊎ TakesMade f t c u y i
 -- a receive that takes the best
 takes_best : (f : Facts) (t : ℕ) (c : Call) (chid : ℕ) (kind : Kind) (buffer : List ℕ) (u : ℕ) (y : Completion) (p : ReceivedItem) → u ≡ t → (effect_of c).receives ≡ Some (record { channel = chid; kind = kind; buffer = buffer }) → makes f t c ≡ None
     → ReceiveTakes f t chid kind buffer y → item_in y.mark ≡ Some p → TakesOne f t c u y p.number
-takes_best f t c chid kind buffer u y p same receives none r m = inl (record {
-  caller = same;
-  call = sym (ap (λ x. x.call) r.completion);
-  request = record { channel = chid; kind = kind; buffer = buffer };
-  item = r.item;
-  receives = receives;
-  makes_none = none;
-  best = r.best;
-  number = ap (λ q. q.number) (same_Some (record { number = r.item.number; copied = (given_received r.item (message f r.item.number) buffer).0 }) p (sym (given_received r.item (message f r.item.number) buffer).1 ∙ ap (λ x. item_in x.mark) r.completion ∙ m));
-})
+takes_best f t c chid kind buffer u y p same receives none r m = grind arith
 
 own_takes : (f : Facts) (t : ℕ) (c : Call) (u : ℕ) (y : Completion) (p : ReceivedItem) → u ≡ t → (row_of f t c).own ≡ Some y → item_in y.mark ≡ Some p → TakesOne f t c u y p.number
-own_takes f t (Send coid message reply_buffer) u y p same e m = absurd (none-some y e)
-own_takes f t (Info rcvid) u y p same e m = absurd (none-some p (sym (plain f.number t (info_of f (sender f rcvid)) y e).mark ∙ m))
 own_takes f t (Receive chid buffer) u y p same e m = takes_best f t (Receive chid buffer) chid Any buffer u y p same refl refl (receive_takes f t chid Any buffer y e) m
 own_takes f t (ReceivePulse chid) u y p same e m = takes_best f t (ReceivePulse chid) chid PulseOnly [] u y p same refl refl (receive_takes f t chid PulseOnly [] y e) m
-own_takes f t c u y p same e m = absurd (none-some p (ap (λ x. item_in x.mark) (same_Some _ y e) ∙ m))
+own_takes f t c u y p same e m = grind arith
 
 -- a receiver that takes what is delivered
 takes_met : (f : Facts) (t : ℕ) (c : Call) (o : Option ℕ) (item : Item) (message : List ℕ) (u : ℕ) (y : Completion) (p : ReceivedItem) → Delivers f o item message u y → ((h : ℕ) → o ≡ Some h → makes f t c ≡ Some (record { item = item; channel = h }))
     → item_in y.mark ≡ Some p → TakesOne f t c u y p.number
-takes_met f t c o item message u y p s made m = inr (record {
-  made = record { item = item; channel = s.channel };
-  is_made = made s.channel s.leads;
-  number = ap (λ q. q.number) (same_Some (record { number = item.number; copied = (given_received item message s.receive.buffer).0 }) p (sym (given_received item message s.receive.buffer).1 ∙ ap (λ x. item_in x.mark) s.completion ∙ m));
-  waiting = InReceive s.receive;
-  is_open = s.is_open;
-  call = sym (ap (λ x. x.call) s.completion);
-  kind = s.receive.kind;
-  waits = ap (λ h. Some (h, s.receive.kind)) s.on;
-  may = s.may;
-})
+takes_met f t c o item message u y p s made m = grind arith
 
 -- a receiver that takes a pulse which is due
 takes_told : (f : Facts) (t : ℕ) (c : Call) (o : Option SentItem) (u : ℕ) (y : Completion) (p : ReceivedItem) → makes f t c ≡ o → Tells f o u y → item_in y.mark ≡ Some p → TakesOne f t c u y p.number
-takes_told f t c o u y p made k m =
-    takes_met f t c (Some k.made.channel) k.made.item [] u y p k.delivers (λ h s. made ∙ k.is_due ∙ ap (λ n. Some (record { item = k.made.item; channel = n })) (same_Some k.made.channel h s)) m
+takes_told f t c o u y p made k m = grind arith
 
 ends_takes : (f : Facts) (t : ℕ) (c : Call) (u : ℕ) (y : Completion) (p : ReceivedItem) → (row_of f t c).refusal ≡ None → (row_of f t c).others u ≡ Some y → item_in y.mark ≡ Some p → TakesOne f t c u y p.number
-ends_takes f t (Reply rcvid status bytes) u y p r e m =
-    absurd (none-some p (sym (answer_receives f t rcvid (reply_finish status bytes) u y (λ buffer. refl) (sender_ends f t rcvid (reply_finish status bytes) u y r (sym (answer_same f (reply_finish status bytes) (sender f rcvid) u) ∙ e))) ∙ m))
-ends_takes f t (Error rcvid code) u y p r e m = absurd (none-some p (sym (answer_receives f t rcvid (error_finish code) u y (λ buffer. no_receipt code) (sender_ends f t rcvid (error_finish code) u y r (sym (answer_same f (error_finish code) (sender f rcvid) u) ∙ e))) ∙ m))
-ends_takes f t (ChannelDestroy chid) u y p r e m = absurd (none-some p (ap (λ x. item_in x.mark) (cancel_parts (is_on chid) Srch u (f.open_call u) y e).completion ∙ m))
-ends_takes f t Shutdown u y p r e m = absurd (none-some p (ap (λ x. item_in x.mark) (cancel_parts (λ wait. true) Srch u (f.open_call u) y e).completion ∙ m))
 ends_takes f t (Unblock thread) u y p r e m = elim (unblock_ends f thread u y (unblock.unblock_pulse f thread) (sym (unblocked_same f t thread u) ∙ e)) [
   | inl cancel ↦ absurd (none-some p (ap (λ x. item_in x.mark) cancel.completion ∙ m))
   | inr k ↦ takes_told f t (Unblock thread) (unblock.unblock_pulse f thread) u y p refl k m
 ]
-ends_takes f t (ConnectDetach coid) u y p r e m = elim (detach_ends f coid (connect_detach.disconnect_pulse f t coid) u y e) [
-  | inl cancel ↦ absurd (none-some p (ap (λ x. item_in x.mark) cancel.completion ∙ m))
-  | inr s ↦ takes_told f t (ConnectDetach coid) (connect_detach.disconnect_pulse f t coid) u y p refl (told_meets f (connect_detach.disconnect_pulse f t coid) u y s) m
-]
+ends_takes f t (ConnectDetach coid) u y p r e m =
+    grind (arith, detach_ends, takes_told, told_meets)
 ends_takes f t (Send coid message reply_buffer) u y p r e m =
     takes_met f t (Send coid message reply_buffer) (route f t coid) (message_item f t) message u y p (delivery_meets f (route f t coid) (message_item f t) message u y (sym (sent_same f t coid message reply_buffer u r) ∙ e)) (sent_way f t coid (message_item f t)) m
 ends_takes f t (Pulse coid level code value) u y p r e m =
     takes_told f t (Pulse coid level code value) (pulse.pulse_over f coid level code value) u y p refl (told_meets f (pulse.pulse_over f coid level code value) u y (sym (pulse_same f (pulse.pulse_over f coid level code value) u) ∙ e)) m
-ends_takes f t c u y p r e m = absurd (none-some y e)
+ends_takes f t c u y p r e m = grind arith
 
 -- each completion that receives an item takes it so
 pub takes_one : (f : Facts) (t : ℕ) (c : Call) (u : ℕ) (y : Completion) (p : ReceivedItem) → (row_of f t c).refusal ≡ None → completion_to f t c u ≡ Some y → item_in y.mark ≡ Some p → TakesOne f t c u y p.number
-takes_one f t c u y p r e m = elim (completion_of f t c u y e) [
-  | inl o ↦ own_takes f t c u y p o.0 o.1 m
-  | inr o ↦ ends_takes f t c u y p r o.1 m
-]
+takes_one f t c u y p r e m = grind (arith, ends_takes, own_takes)

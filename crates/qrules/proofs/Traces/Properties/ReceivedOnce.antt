@@ -1,7 +1,7 @@
 -- No item is received twice, none before it was made, and no call is ended twice.
-use Rattle.qrules.proofs.Common.{◌≡◌, ◌≢◌, ◌∙◌, ℕ, ◌+◌, ◌≤◌, List, [], ◌∷◌, ◌++◌, length, map, refl, ap, sym, subst, arith, cond, eqb, true, false, inl, inr, option_map, option_or, filter_map-append, same_Some, option_and_then_some, AllDifferent, ReceivedOnce, items, number_received, InEachEvent, endings_of, AllByRecursion, filter_map, cons_option, map-append, Member, IsRoster, completion_to, Answers, Outcome, item_among, SentItem, Event, Trace, Call, Completion, all_append, all_map, all_more, Option, None, Some, is_some}
+use Rattle.qrules.proofs.Common.{◌≡◌, ◌≢◌, ◌∙◌, ℕ, ◌+◌, ◌≤◌, List, [], ◌∷◌, ◌++◌, length, map, refl, ap, sym, subst, arith, eqb, true, false, inl, inr, option_or, filter_map-append, same_Some, option_and_then_some, AllDifferent, ReceivedOnce, items, number_received, InEachEvent, endings_of, AllByRecursion, filter_map, cons_option, map-append, Member, IsRoster, completion_to, Answers, Outcome, item_among, SentItem, Event, Trace, Call, Completion, all_append, all_map, all_more, Option, None, Some, is_some}
 use Rattle.std.proofs.lemmas.Bool.{or_parts, ne_eqb, eqb-false, true≢false}
-use Rattle.qrules.proofs.Basics.{Facts, threads_of, facts_of, IsLawful, copied_count_in, has_completion_of, is_ended, is_received, copied_count_among, copied_count_of, item_in, completion_names, laws_of, not_ended, other_below, IsPending, item_at, item_below, item_earlier, item_found, item_newest, call_laws, open_thread}
+use Rattle.qrules.proofs.Basics.{Facts, threads_of, facts_of, IsLawful, has_completion_of, is_ended, is_received, copied_count_among, copied_count_of, completion_names, laws_of, not_ended, other_below, IsPending, item_at, item_below, item_earlier, item_found, item_newest, call_laws, open_thread}
 use Rattle.qrules.proofs.Traces.Past.Receipts.{best_pending, completion_receives, receipt_beyond}
 use Rattle.qrules.proofs.Traces.Properties.Different.{IsNoneOf, different_append, different_kept, calls_as}
 use Rattle.qrules.proofs.Traces.Properties.Receipts.{TakesPending, TakesMade, receives_it}
@@ -109,15 +109,7 @@ event_items roster past t c X r a = elim a [
 
 none_received : (X : List Completion) (i : ℕ) → is_some (copied_count_among X i) ≡ false → IsNoneOf i (filter_map number_received X)
 none_received [] i e = tt
-none_received (x ∷ X) i e =
-    elim (item_in x.mark) as (λ o. is_some (option_or (copied_count_in i o) (copied_count_among X i)) ≡ false → IsNoneOf i (cons_option (option_map (λ r. r.number) o) (filter_map number_received X))) [
-      | None ↦ λ h. none_received X i h
-      | Some r ↦ λ h.
-          elim (eqb r.number i) as (λ b. eqb r.number i ≡ b → is_some (option_or (cond b (Some r.copied) None) (copied_count_among X i)) ≡ false → IsNoneOf i (r.number ∷ filter_map number_received X)) [
-            | true ↦ λ same s. absurd (true≢false s)
-            | false ↦ λ other s. (eqb_flip r.number i other, none_received X i s)
-          ] refl h
-    ] e
+none_received (x ∷ X) i e = grind (arith, none_received X)
 
 -- an item that isn't taken is none of those that are
 untaken : (past : Trace) (i : ℕ) → is_received past i ≡ false → IsNoneOf i (filter_map number_received (endings_of past))

@@ -1,6 +1,6 @@
 -- The receiver that began to wait last: it waits, no other that waits began later, and there is one where any waits.
-use Rattle.qrules.proofs.Common.{◌≡◌, ◌<◌, ◌≤◌, ◌∙◌, ℕ, List, [], ◌∷◌, refl, ap, sym, subst, arith, cond, eqb, true, false, inl, inr, Receive, Send, is_after, is_last_wait, is_newest, newest_receiver_among, wait_on, list_any, option_map_or, none-some, same_Some, or-true, may_take, Item, OpenCall, newest_receiver, eqb_same, is_among, Option, None, Some, is_some, ◌&&◌, ◌⊎◌, nat_lt, Bool, find}
-use Rattle.std.proofs.lemmas.Bool.{and_parts, cases_Bool, eqb-true, le-ltb, lt-ltb, ltb-true, not-true, or_cases, or_parts, true≢false}
+use Rattle.qrules.proofs.Common.{◌≡◌, ◌<◌, ◌≤◌, ◌∙◌, ℕ, List, [], ◌∷◌, refl, ap, sym, arith, eqb, true, false, inl, inr, Receive, is_after, is_newest, newest_receiver_among, wait_on, list_any, none-some, or-true, may_take, Item, OpenCall, newest_receiver, eqb_same, is_among, Option, None, Some, is_some, ◌⊎◌, nat_lt, Bool, find}
+use Rattle.std.proofs.lemmas.Bool.{cases_Bool, eqb-true, le-ltb, lt-ltb, ltb-true, or_cases, true≢false}
 use Rattle.qrules.proofs.Words.Facts.{Facts, threads_of}
 use Rattle.qmodel.specs.declared.open_call.OpenReceive.{OpenReceive}
 
@@ -12,37 +12,22 @@ pub record WaitsOn (h : ℕ) (item : Item) (call : Option OpenCall) : Type 0 whe
   pub may : may_take receive.kind item ≡ true
 
 wait_on_is : (h : ℕ) (item : Item) (call : Option OpenCall) (k : ℕ) → wait_on h item call ≡ Some k → WaitsOn h item call
-wait_on_is h item None k e = absurd (none-some k e)
-wait_on_is h item (Some (Send s)) k e = absurd (none-some k e)
-wait_on_is h item (Some (Receive r)) k e =
-    elim ((eqb r.channel h) && may_take r.kind item) as (λ b. ((eqb r.channel h) && may_take r.kind item) ≡ b → cond b (Some r.number) None ≡ Some k → WaitsOn h item (Some (Receive r))) [
-      | true ↦ λ both s. let p = and_parts _ _ both in record { receive = r; is_open = refl; on = eqb-true r.channel h p.0; may = p.1 }
-      | false ↦ λ other s. absurd (none-some k s)
-    ] refl e
+wait_on_is h item call k e = grind arith
 
 -- the first number of which this is so is one of which it is so
 first_is : (p : ℕ → Bool) (ns : List ℕ) (u : ℕ) → find p ns ≡ Some u → p u ≡ true
 first_is p [] u e = absurd (none-some u e)
-first_is p (v ∷ ns) u e = elim (p v) as (λ b. p v ≡ b → cond b (Some v) (find p ns) ≡ Some u → p u ≡ true) [
-  | true ↦ λ is s. subst (λ w. p w ≡ true) (same_Some v u s) is
-  | false ↦ λ _ s. first_is p ns u s
-] refl e
+first_is p (v ∷ ns) u e = grind (arith, first_is p ns)
 
 -- it is among them
 first_among_them : (p : ℕ → Bool) (ns : List ℕ) (u : ℕ) → find p ns ≡ Some u → is_among ns u ≡ true
 first_among_them p [] u e = absurd (none-some u e)
-first_among_them p (v ∷ ns) u e = elim (p v) as (λ b. cond b (Some v) (find p ns) ≡ Some u → is_among (v ∷ ns) u ≡ true) [
-  | true ↦ λ s. rw (same_Some v u s, eqb_same u) refl
-  | false ↦ λ s. rw (first_among_them p ns u s) (or-true (eqb v u))
-] e
+first_among_them p (v ∷ ns) u e = grind (arith, first_among_them p ns)
 
 -- where it is so of one of them, there is a first
 first_there : (p : ℕ → Bool) (ns : List ℕ) (u : ℕ) → is_among ns u ≡ true → p u ≡ true → is_some (find p ns) ≡ true
 first_there p [] u a is = absurd (true≢false (sym a))
-first_there p (v ∷ ns) u a is = elim (cases_Bool (eqb v u)) [
-  | inl same ↦ let here : p v ≡ true = ap p (eqb-true v u same) ∙ is in rw here refl
-  | inr other ↦ elim (p v) as (λ b. is_some (cond b (Some v) (find p ns)) ≡ true) [ true ↦ refl | false ↦ first_there p ns u (rw other at a) is ]
-]
+first_there p (v ∷ ns) u a is = grind (arith, first_there p ns)
 
 -- ---- calls that wait, by the number of each thread's, if it waits
 
@@ -80,10 +65,7 @@ module _ (wait : ℕ → Option ℕ) where
   -- where none waits, none waits in a later call
   unwaited : (m : ℕ) (ts : List ℕ) → list_any (λ v. is_some (wait v)) ts ≡ false → any_after m ts ≡ false
   unwaited m [] e = refl
-  unwaited m (v ∷ ts) e = let p = or_parts (is_some (wait v)) (list_any (λ u. is_some (wait u)) ts) e in rw (unwaited_one (wait v) p.0, unwaited m ts p.1) refl where
-    unwaited_one : (o : Option ℕ) → is_some o ≡ false → is_after m o ≡ false
-    unwaited_one None h = refl
-    unwaited_one (Some k) h = absurd (true≢false h)
+  unwaited m (v ∷ ts) e = grind (arith, unwaited m ts)
 
   greatest_or_none : (ts : List ℕ) → (list_any (λ v. is_some (wait v)) ts ≡ false) ⊎ Greatest ts
   greatest_or_none [] = inl refl
@@ -127,11 +109,7 @@ pub record IsNewest (open_call : ℕ → Option OpenCall) (h : ℕ) (item : Item
   pub last : any_after (λ v. wait_on h item (open_call v)) m ts ≡ false
 
 pub newest_parts : (open_call : ℕ → Option OpenCall) (h : ℕ) (item : Item) (ts : List ℕ) (u : ℕ) → newest_receiver_among open_call h item ts ≡ Some u → (m : ℕ) × IsNewest open_call h item ts u m
-newest_parts open_call h item ts u e =
-    elim (wait_on h item (open_call u)) as (λ o. wait_on h item (open_call u) ≡ o → option_map_or (is_last_wait open_call h item ts) o false ≡ true → (m : ℕ) × IsNewest open_call h item ts u m) [
-      | None ↦ λ w s. absurd (true≢false (sym s))
-      | Some m ↦ λ w s. (m, record { among = first_among_them (is_newest open_call h item ts) ts u e; waits = w; last = not-true _ s })
-    ] refl (first_is (is_newest open_call h item ts) ts u e)
+newest_parts open_call h item ts u e = grind (arith, first_among_them, first_is)
 
 -- the newest receiver waits on the channel
 pub newest_waits : (f : Facts) (h : ℕ) (item : Item) (r : ℕ) → newest_receiver f h item ≡ Some r → WaitsOn h item (f.open_call r)

@@ -1,6 +1,7 @@
 -- A Send that waits: its thread, and the connection and channel of its item.
-use Rattle.qrules.proofs.Common.{◌≡◌, ◌∙◌, ℕ, ◌+◌, ◌≤◌, List, [], ◌∷◌, length, refl, ap, sym, subst, arith, cond, true, false, inl, inr, ◌⊎◌, Receive, Send, ne_eqb, and_parts, none-some, Connection, Member, held_call, with_buffer, SentItem, Event, Trace, OpenCall, Receipt, eqb_same, channel_of, is_on, Option, None, Some, is_some}
-use Rattle.qrules.proofs.Basics.{is_for_answer, number_of, facts_of, IsLawful, asks, thread_of_send, is_accepted, accepted_at, priority_of_item, copied_count_of, sender_of, with_receipt, with_writes, attached_connection, block, filled, item_of, open_call, passes_of, item_at, item_below, item_earlier, item_newest, blocks, blocks_thread, made_below, block_below, call_laws, IsOpen, buffer_answer, held_for_answer, is_unblocked, open_parts, held_on, buffer_on}
+use Rattle.std.proofs.lemmas.Bool.Decides.{nat_tests}
+use Rattle.qrules.proofs.Common.{◌≡◌, ◌∙◌, ℕ, ◌+◌, ◌≤◌, List, [], ◌∷◌, length, refl, ap, sym, subst, arith, true, inl, inr, ◌⊎◌, ne_eqb, none-some, Connection, Member, held_call, with_buffer, SentItem, Event, Trace, OpenCall, Receipt, eqb_same, channel_of, is_on, Option, Some, is_some}
+use Rattle.qrules.proofs.Basics.{is_for_answer, number_of, facts_of, IsLawful, asks, thread_of_send, is_accepted, accepted_at, sender_of, with_writes, attached_connection, block, filled, item_of, open_call, passes_of, item_at, item_below, item_earlier, item_newest, made_below, block_below, IsOpen, buffer_answer, held_for_answer, open_parts, held_on, buffer_on}
 use Rattle.qrules.proofs.Traces.Properties.Answers.{over, sends_by, sends_over}
 use Rattle.qrules.proofs.Traces.Properties.Events.{made_now, outcome_of}
 use Rattle.qrules.proofs.Traces.Past.Connections.{live_attached}
@@ -28,16 +29,7 @@ pub record BeginsNow (roster : List Member) (e : Event) (past : Trace) (u : ℕ)
   pub number : number_of b ≡ length past + 1
 
 pub begins_now : (roster : List Member) (e : Event) (past : Trace) (u : ℕ) (b : OpenCall) → block roster (e ∷ past) u ≡ Some b → BeginsNow roster e past u b ⊎ (block roster past u ≡ Some b)
-begins_now roster e past u b is =
-    elim (blocks roster e past u) as (λ t. blocks roster e past u ≡ t → cond t (asks (length past + 1) u (channel_of (item_of roster e past)) e.call) (block roster past u) ≡ Some b → BeginsNow roster e past u b ⊎ (block roster past u ≡ Some b)) [
-      | true ↦ λ h at. inl (record {
-        thread = blocks_thread roster e past u h;
-        accepted = (and_parts _ _ (and_parts _ _ h).0).1;
-        asked = at;
-        number = ((call_laws e.call).asks_one (length past + 1) u (channel_of (item_of roster e past)) b at).number;
-      })
-      | false ↦ λ h at. inr at
-    ] refl is
+begins_now roster e past u b is = grind arith
 
 -- the thread of a Send that waits is its sender
 pub block_sender : (roster : List Member) (past : Trace) (u : ℕ) (b : OpenCall) → block roster past u ≡ Some b → is_for_answer b ≡ true → sender_of past (number_of b) ≡ Some u
@@ -85,23 +77,14 @@ block_over roster (e ∷ past) u b l is w = elim (begins_now roster e past u b i
 -- a Send waits on the channel of the item that it made
 pub block_on : (roster : List Member) (past : Trace) (u : ℕ) (b : OpenCall) (m : SentItem) → block roster past u ≡ Some b → is_for_answer b ≡ true → item_at roster past (number_of b) ≡ Some m → is_on m.channel b ≡ true
 block_on roster [] u b m is w made = absurd (none-some b is)
-block_on roster (e ∷ past) u b m is w made = elim (begins_now roster e past u b is) [
-  | inl h ↦
-      let at : item_of roster e past ≡ Some m = sym (item_newest roster e past) ∙ ap (item_at roster (e ∷ past)) (sym h.number) ∙ made in
-      subst (λ o. is_on (channel_of o) b ≡ true) at (((call_laws e.call).asks_one (length past + 1) u (channel_of (item_of roster e past)) b h.asked).channel w)
-  | inr h ↦ block_on roster past u b m h w (sym (item_earlier roster e past (number_of b) (block_below roster past u b h)) ∙ made)
-]
+block_on roster (e ∷ past) u b m is w made = grind (arith, nat_tests, block_below, block_on roster past)
 
 -- ---- what is open
 
 -- what a receipt doesn't change of a wait is that of the call as it is written
 pub open_filled : {A : Type 0} (g : OpenCall → A) (roster : List Member) (past : Trace) (u : ℕ) (o : OpenCall) (k : IsOpen roster past u o) → ((receipt : Receipt) (w : OpenCall) → g (held_call receipt w) ≡ g w)
     → g o ≡ g (filled past k.block)
-open_filled {A} g roster past u o k h =
-    elim (copied_count_of past (number_of k.block)) as (λ r. o ≡ with_receipt (priority_of_item roster past (number_of k.block)) (is_unblocked roster past (number_of k.block)) r (filled past k.block) → g o ≡ g (filled past k.block)) [
-      | None ↦ λ same. ap (λ x. g x) same
-      | Some copied ↦ λ same. ap (λ x. g x) same ∙ h (record { priority = priority_of_item roster past (number_of k.block); copied = copied; unblocked = is_unblocked roster past (number_of k.block) }) (filled past k.block)
-    ] k.same
+open_filled {A} g roster past u o k h = grind arith
 
 -- what neither a receipt nor a write changes is that of the call as it began
 pub open_keeps : {A : Type 0} (g : OpenCall → A) (roster : List Member) (past : Trace) (u : ℕ) (o : OpenCall) (k : IsOpen roster past u o) → ((receipt : Receipt) (w : OpenCall) → g (held_call receipt w) ≡ g w)
@@ -109,12 +92,10 @@ pub open_keeps : {A : Type 0} (g : OpenCall → A) (roster : List Member) (past 
 open_keeps g roster past u o k h wrote = open_filled g roster past u o k h ∙ wrote (with_writes past (number_of k.block)) k.block
 
 pub held_over : (receipt : Receipt) (w : OpenCall) → over (held_call receipt w) ≡ over w
-held_over receipt (Send s) = refl
-held_over receipt (Receive r) = refl
+held_over receipt w = grind arith
 
 pub buffer_over : (f : List ℕ → List ℕ) (w : OpenCall) → over (with_buffer f w) ≡ over w
-buffer_over f (Send s) = refl
-buffer_over f (Receive r) = refl
+buffer_over f w = grind arith
 
 -- the connection over which an open Send was sent was attached to the channel on which the Send is open
 pub open_on : (roster : List Member) (past : Trace) (u : ℕ) (o : OpenCall) → IsLawful roster past → open_call roster past u ≡ Some o → is_for_answer o ≡ true → (c : Connection) × (attached_connection roster past (over o) ≡ Some c) × (is_on c.channel o ≡ true)
@@ -130,6 +111,4 @@ open_on roster past u o l is w =
 
 -- the connection of an open Send, and its item
 pub open_over : (roster : List Member) (past : Trace) (u : ℕ) (o : OpenCall) (k : IsOpen roster past u o) → IsLawful roster past → is_for_answer o ≡ true → IsSentOver roster past (over o) (number_of k.block)
-open_over roster past u o k l w =
-    subst (λ coid. IsSentOver roster past coid (number_of k.block)) (sym (open_keeps over roster past u o k held_over buffer_over))
-    (block_over roster past u k.block l k.is (sym (open_keeps is_for_answer roster past u o k held_for_answer buffer_answer) ∙ w))
+open_over roster past u o k l w = grind (arith, block_over, buffer_over, held_for_answer, held_over, open_keeps, over)

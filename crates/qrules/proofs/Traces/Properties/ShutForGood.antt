@@ -1,10 +1,9 @@
 -- Nothing is received from a channel that is destroyed, and no thread is blocked on it.
-use Rattle.qrules.proofs.Common.{◌≡◌, ◌∙◌, ℕ, ◌+◌, List, [], ◌∷◌, length, refl, ap, sym, subst, cond, eqb, true, false, inl, inr, receive_in, send_in, OpenReceive, OpenSend, number_received, IsShut, ShutForGood, AllByRecursion, none-some, same_Some, Srch, best_of, IsRoster, Member, Outcome, row_of, effect_of, is_on, item_among, channel_of, unblocked_call, Event, Trace, Call, Completion, OpenCall, Option, None, Some, is_some, ◌||◌}
+use Rattle.qrules.proofs.Common.{arith, ◌≡◌, ◌∙◌, ℕ, ◌+◌, List, [], ◌∷◌, length, refl, ap, sym, subst, cond, eqb, true, false, inl, inr, receive_in, send_in, OpenReceive, OpenSend, number_received, IsShut, ShutForGood, AllByRecursion, none-some, same_Some, Srch, best_of, IsRoster, Member, Outcome, row_of, effect_of, is_on, item_among, channel_of, unblocked_call, Event, Trace, Call, Completion, OpenCall, Option, None, Some, is_some, ◌||◌}
 use Rattle.std.specs.Option.{option_and_then, option_map}
-use Rattle.std.proofs.lemmas.Bool.{eq-eqb, eqb-true, or_cases, true≢false}
-use Rattle.qrules.proofs.Basics.{receipt_of, names, message_item, Facts, owns, asks, closes, makes, unblocks, writes, facts_of, IsLawful, attached_connection, is_destroyed, items, open_call, after_receipt, after_write, channel_after, open_call_after, unless, after_unblock, accepted, laws_of, passes_of, item_at, item_below, item_earlier, item_found, item_newest, made_by, Passes, has_way, sent_way, goes_to_open, held_on, buffer_on}
-use Rattle.qmodel.specs.declared.call.Call.TheVariants.{Send, Receive, ReceivePulse, ChannelDestroy}
-use Rattle.qrules.proofs.Traces.Past.Channels.{closed_accepted, open_at, owned_open}
+use Rattle.std.proofs.lemmas.Bool.{or_cases, true≢false}
+use Rattle.qrules.proofs.Basics.{receipt_of, names, Facts, owns, asks, closes, makes, unblocks, writes, facts_of, IsLawful, attached_connection, is_destroyed, items, open_call, after_receipt, after_write, channel_after, open_call_after, unless, after_unblock, accepted, laws_of, passes_of, item_at, item_below, item_earlier, item_found, item_newest, made_by, Passes, held_on, buffer_on}
+use Rattle.qrules.proofs.Traces.Past.Channels.{closed_accepted, open_at}
 use Rattle.qrules.proofs.Traces.Past.Follows.{past_follows}
 use Rattle.qrules.proofs.Traces.Past.Receipts.{best_pending}
 use Rattle.qrules.proofs.Traces.Properties.Events.{each_received, made_now}
@@ -23,34 +22,19 @@ record DestroysAlone (c : Call) : Type 0 where
   makes_none : (f : Facts) (t : ℕ) → makes f t c ≡ None
 
 destroys_alone : (c : Call) (h : ℕ) → names (closes c) h ≡ true → DestroysAlone c
-destroys_alone (ChannelDestroy chid) h e = record { asks_none = λ n t h. refl; receives_none = refl; makes_none = λ f t. refl }
-destroys_alone c h e = absurd (true≢false (sym e))
+destroys_alone c h e = grind arith
 
 -- a call that destroys a channel ends each call that is blocked on it
 closing_ends : (f : Facts) (t : ℕ) (c : Call) (h u : ℕ) (o : OpenCall) → names (closes c) h ≡ true → f.open_call u ≡ Some o → is_on h o ≡ true → is_some ((row_of f t c).others u) ≡ true
-closing_ends f t (ChannelDestroy chid) h u o e is on =
-    let on_it : is_on chid o ≡ true = ap (λ k. is_on k o) (eqb-true chid h e) ∙ on in
-    rw (is, on_it) refl
-closing_ends f t c h u o e is on = absurd (true≢false (sym e))
+closing_ends f t c h u o e is on = grind arith
 
 -- a receive is on a channel of the thread's process
 own_open : (f : Facts) (t chid h : ℕ) → cond (owns f t chid) None (Some Srch) ≡ None → eqb chid h ≡ true → is_some (f.channel h) ≡ true
-own_open f t chid h r on =
-    elim (owns f t chid) as (λ b. owns f t chid ≡ b → cond b None (Some Srch) ≡ None → is_some (f.channel h) ≡ true) [
-      | true ↦ λ own _. subst (λ k. is_some (f.channel k) ≡ true) (eqb-true chid h on) (owned_open f t (f.channel chid) own)
-      | false ↦ λ own s. absurd (none-some Srch (sym s))
-    ] refl r
+own_open f t chid h r on = grind arith
 
 -- a call begins to wait on an open channel
 begins_on_open : (f : Facts) (t : ℕ) (c : Call) (b : OpenCall) (h : ℕ) → (row_of f t c).refusal ≡ None → asks f.number t (channel_of (makes f t c)) c ≡ Some b → is_on h b ≡ true → is_some (f.channel h) ≡ true
-begins_on_open f t (Send coid message reply_buffer) b h r e on =
-    let w = has_way f t coid r in
-    let made = sent_way f t coid (message_item f t) w.0 w.1 in
-    let at : w.0 ≡ h = sym (ap channel_of made) ∙ eqb-true (channel_of (makes f t (Send coid message reply_buffer))) h (ap (is_on h) (same_Some _ b e) ∙ on) in
-    subst (λ k. is_some (f.channel k) ≡ true) at (goes_to_open f t (f.connection coid) w.0 (message_item f t) (record { item = message_item f t; channel = w.0 }) w.1 made)
-begins_on_open f t (Receive chid buffer) b h r e on = own_open f t chid h r (ap (is_on h) (same_Some _ b e) ∙ on)
-begins_on_open f t (ReceivePulse chid) b h r e on = own_open f t chid h r (ap (is_on h) (same_Some _ b e) ∙ on)
-begins_on_open f t c b h r e on = absurd (none-some b e)
+begins_on_open f t c b h r e on = grind arith
 
 -- ---- what is blocked
 
@@ -59,8 +43,7 @@ abbrev pub WaitsOnOpen : Facts → Type 0
 WaitsOnOpen f = (u : ℕ) (o : OpenCall) (h : ℕ) → f.open_call u ≡ Some o → is_on h o ≡ true → is_some (f.channel h) ≡ true
 
 unblocked_on : (h : ℕ) (o : OpenCall) → is_on h (unblocked_call o) ≡ is_on h o
-unblocked_on h (InSend s) = refl
-unblocked_on h (InReceive r) = refl
+unblocked_on h o = grind arith
 
 -- the channel of a wait lasts
 lasts_on : (h : ℕ) → Lasts (is_on h)
@@ -154,9 +137,7 @@ module _ (roster : List Member) (past : Trace) (h : ℕ) where
         none_on u (InSend x) is (subst (λ j. is_on j (InSend x) ≡ true) at k.2)
 
     no_receive : (u : ℕ) (r : OpenReceive) (o : Option OpenCall) → open_call roster past u ≡ o → option_and_then receive_in o ≡ Some r → r.channel ≡ h → ⊥
-    no_receive u r None is e on = none-some r e
-    no_receive u r (Some (InSend x)) is e on = none-some r e
-    no_receive u r (Some (InReceive x)) is e on = none_on u (InReceive x) is (eq-eqb x.channel h (ap (λ (y : OpenReceive). y.channel) (same_Some x r e) ∙ on))
+    no_receive u r o is e on = grind (arith, none_on)
 
 is_shut : (roster : List Member) (e : Event) (past : Trace) (h : ℕ) → IsRoster roster → IsLawful roster (e ∷ past) → is_destroyed (e ∷ past) h ≡ true → IsShut roster (e ∷ past) e.endings h
 is_shut roster e past h r l closed =

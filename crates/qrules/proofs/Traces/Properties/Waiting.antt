@@ -1,8 +1,8 @@
 -- While a thread waits for an item of a channel, nothing that it may take is pending there.
-use Rattle.qrules.proofs.Common.{◌≡◌, ◌∙◌, ℕ, List, [], ◌∷◌, ◌++◌, refl, ap, sym, subst, cond, eqb, Bool, true, false, inl, inr, option_map, none-some, same_Some, some_pair_parts, none-may, all_append, all_filter, all_more, is_among, none_of, some_of, AllByRecursion, eqb-true, eqb-false, not-true, best_of, may_take, with_priority, without_item, Item, Kind, Any, PulseOnly, IsRoster, Member, row_of, effect_of, held_call, with_buffer, takes, unblocked_call, ReceiveRequest, newest_receiver, receipt_completion, SentItem, Trace, Call, OpenCall, Receipt, channel_of, Option, None, Some, is_some, not, filter}
-use Rattle.qrules.proofs.Basics.{receipt_of, message_item, receiver, receipt_when_sent, own_receipt, Received, names, item_sent_over, pulse_receipt, Facts, sender, threads_of, route, asks, closes, makes, sets, unblocks, writes, facts_of, IsLawful, made_on, after_receipt, after_write, is_cancelled, uncancelled_items, items_with_priority_set, open_call_after, pending_after, unreceived_items, unless, after_unblock, given_received, receipt_from, receipt_in_at, open_known, passes_of, Passes, has_way, known, sent_way}
-use Rattle.qmodel.specs.declared.call.Call.TheVariants.{Send, Receive, ReceivePulse, Pulse, Unblock, ConnectDetach}
-use Rattle.qmodel.specs.declared.open_call.OpenCall.TheVariants.{Receive as InReceive, Send as InSend}
+use Rattle.qrules.proofs.Common.{arith, ◌≡◌, ◌∙◌, ℕ, List, [], ◌∷◌, ◌++◌, refl, ap, sym, subst, cond, eqb, Bool, true, false, inl, inr, option_map, none-some, none-may, all_append, all_filter, all_more, is_among, none_of, some_of, AllByRecursion, eqb-true, eqb-false, best_of, may_take, Item, Kind, IsRoster, Member, row_of, effect_of, held_call, with_buffer, unblocked_call, ReceiveRequest, newest_receiver, SentItem, Trace, Call, OpenCall, Receipt, channel_of, Option, None, Some, is_some, not, filter}
+use Rattle.qrules.proofs.Basics.{receipt_of, message_item, receiver, receipt_when_sent, Received, item_sent_over, pulse_receipt, Facts, sender, threads_of, route, asks, makes, unblocks, writes, facts_of, IsLawful, made_on, after_receipt, after_write, is_cancelled, uncancelled_items, open_call_after, pending_after, unreceived_items, unless, after_unblock, open_known, passes_of, Passes, has_way, known}
+use Rattle.qmodel.specs.declared.call.Call.TheVariants.{Send, Pulse, Unblock, ConnectDetach}
+use Rattle.qmodel.specs.declared.open_call.OpenCall.TheVariants.{Receive as InReceive}
 use Rattle.qrules.proofs.Traces.Past.Follows.{past_follows}
 use Rattle.qrules.proofs.Traces.Past.Moves.{all_moved}
 use Rattle.qrules.proofs.Traces.Properties.Receipts.{waits_for}
@@ -13,17 +13,14 @@ use Rattle.qmodel.specs.declared.open_call.OpenReceive.{OpenReceive}
 -- ---- what a thread waits for
 
 waits_for_is : (o : OpenCall) (h : ℕ) (kind : Kind) → waits_for o ≡ Some (h, kind) → (r : OpenReceive) × (o ≡ InReceive r) × (r.channel ≡ h) × (r.kind ≡ kind)
-waits_for_is (InSend s) h kind e = absurd (none-some (h, kind) e)
-waits_for_is (InReceive r) h kind e = let p = some_pair_parts r.channel h r.kind kind e in (r, refl, p.0, p.1)
+waits_for_is o h kind e = grind arith
 
 -- a receipt changes nothing of it
 pub held_waits_for : (receipt : Receipt) (w : OpenCall) → waits_for (held_call receipt w) ≡ waits_for w
-held_waits_for receipt (InSend s) = refl
-held_waits_for receipt (InReceive r) = refl
+held_waits_for receipt w = grind arith
 
 pub buffer_waits_for : (f : List ℕ → List ℕ) (w : OpenCall) → waits_for (with_buffer f w) ≡ waits_for w
-buffer_waits_for f (InSend s) = refl
-buffer_waits_for f (InReceive r) = refl
+buffer_waits_for f w = grind arith
 
 -- where a request receives, and what
 abbrev pub place_of : ReceiveRequest → ℕ × Kind
@@ -31,10 +28,7 @@ place_of r = (r.channel, r.kind)
 
 -- a call waits for what it asks to receive
 pub waits_for_asked : (n t h : ℕ) (c : Call) (b : OpenCall) → asks n t h c ≡ Some b → option_map place_of (effect_of c).receives ≡ waits_for b
-waits_for_asked n t h (Send coid message reply_buffer) b e = ap waits_for (same_Some _ b e)
-waits_for_asked n t h (Receive chid buffer) b e = ap waits_for (same_Some _ b e)
-waits_for_asked n t h (ReceivePulse chid) b e = ap waits_for (same_Some _ b e)
-waits_for_asked n t h c b e = absurd (none-some b e)
+waits_for_asked n t h c b e = grind arith
 
 -- ---- by each call's row
 
@@ -42,17 +36,8 @@ waits_for_asked n t h c b e = absurd (none-some b e)
 abbrev BeginsWithNone : Facts → ℕ → Call → ℕ × Kind → Type 0
 BeginsWithNone f t c p = (best_of p.1 (f.pending p.0) ≡ None) × (makes f t c ≡ None)
 
-none_to_take : (f : Facts) (t : ℕ) (buffer : List ℕ) (o : Option Item) → own_receipt f t buffer o ≡ None → o ≡ None
-none_to_take f t buffer None e = refl
-none_to_take f t buffer (Some item) e = absurd (none-some _ (sym e))
-
 begins_with_none : (f : Facts) (t h : ℕ) (c : Call) (b : OpenCall) (p : ℕ × Kind) → asks f.number t h c ≡ Some b → waits_for b ≡ Some p → (row_of f t c).own ≡ None → BeginsWithNone f t c p
-begins_with_none f t h (Send coid message reply_buffer) b p e w own = absurd (none-some p (ap waits_for (same_Some _ b e) ∙ w))
-begins_with_none f t h (Receive chid buffer) b p e w own =
-    subst (BeginsWithNone f t (Receive chid buffer)) (same_Some (chid, Any) p (ap waits_for (same_Some _ b e) ∙ w)) (none_to_take f t buffer (best_of Any (f.pending chid)) own, refl)
-begins_with_none f t h (ReceivePulse chid) b p e w own =
-    subst (BeginsWithNone f t (ReceivePulse chid)) (same_Some (chid, PulseOnly) p (ap waits_for (same_Some _ b e) ∙ w)) (none_to_take f t [] (best_of PulseOnly (f.pending chid)) own, refl)
-begins_with_none f t h c b p e w own = absurd (none-some b e)
+begins_with_none f t h c b p e w own = grind arith
 
 -- an item that a thread waits for is received at once
 pub record IsReceivedAtOnce (f : Facts) (t : ℕ) (c : Call) (m : SentItem) : Type 0 where
@@ -60,14 +45,6 @@ pub record IsReceivedAtOnce (f : Facts) (t : ℕ) (c : Call) (m : SentItem) : Ty
   pub is : (receipt_of f t c) ≡ Some receipt
   pub channel : receipt.channel ≡ m.channel
   pub item : receipt.item ≡ m.item.number
-
--- the receipt of an item by the newest receiver
-delivered_receipt : (f : Facts) (sender : Option ℕ) (item : Item) (message : List ℕ) (w : Option ℕ) (h r : ℕ) (v : WaitsOn h item (f.open_call r)) → w ≡ Some h → newest_receiver f h item ≡ Some r
-    → receipt_when_sent f sender item message w (receiver f item w) ≡ Some (receipt_from h sender item.priority r (record { number = item.number; copied = (given_received item message v.receive.buffer).0 }))
-delivered_receipt f sender item message w h r v is_way is_newest =
-    let takes_it : takes item message r (f.open_call r) ≡ Some (receipt_completion item message r v.receive.number v.receive.buffer) = rw v.is_open refl in
-    ap (λ o. receipt_when_sent f sender item message o (receiver f item o)) is_way ∙ ap (receipt_when_sent f sender item message (Some h)) is_newest
-    ∙ receipt_in_at h sender item.priority (takes item message r (f.open_call r)) (receipt_completion item message r v.receive.number v.receive.buffer) (record { number = item.number; copied = (given_received item message v.receive.buffer).0 }) takes_it (given_received item message v.receive.buffer).1
 
 delivered_at_once : (f : Facts) (t : ℕ) (c : Call) (w : Option ℕ) (item : Item) (message : List ℕ) (sender : Option ℕ) (m : SentItem) (u : ℕ) (o : OpenCall) (kind : Kind) → w ≡ Some m.channel → m.item ≡ item
     → (receipt_of f t c) ≡ receipt_when_sent f sender item message w (receiver f item w) → is_among (threads_of f.roster) u ≡ true → f.open_call u ≡ Some o
@@ -77,18 +54,11 @@ delivered_at_once f t c w item message sender m u o kind is_way it receipt among
     let on : WaitsOn m.channel item (f.open_call u) = record { receive = b.0; is_open = is ∙ ap (λ x. Some x) b.1; on = b.2; may = ap (λ k. may_take k item) b.3 ∙ ap (may_take kind) (sym it) ∙ may } in
     let r = some_of (newest_receiver f m.channel item) (newest_some f m.channel item u among on) in
     let v = newest_waits f m.channel item r.0 r.1 in
-    record {
-      receipt = receipt_from m.channel sender item.priority r.0 (record { number = item.number; copied = (given_received item message v.receive.buffer).0 });
-      is = receipt ∙ delivered_receipt f sender item message w m.channel r.0 v is_way r.1;
-      channel = refl;
-      item = ap (λ x. x.number) (sym it);
-    }
+    grind arith
 
 -- what is sent over a way is the item, to its channel
 sent_is : (f : Facts) (t coid : ℕ) (item : Item) (m : SentItem) (h : ℕ) → route f t coid ≡ Some h → item_sent_over (f.connection coid) item ≡ Some m → (route f t coid ≡ Some m.channel) × (m.item ≡ item)
-sent_is f t coid item m h is_way made =
-    let same : record { item = item; channel = h } ≡ m = same_Some _ m (sym (sent_way f t coid item h is_way) ∙ made) in
-    (is_way ∙ ap (λ (x : SentItem). Some x.channel) same, ap (λ (x : SentItem). x.item) (sym same))
+sent_is f t coid item m h is_way made = grind arith
 
 received_at_once : (f : Facts) (t : ℕ) (c : Call) (m : SentItem) (u : ℕ) (o : OpenCall) (kind : Kind) → Passes f t c → makes f t c ≡ Some m
     → is_among (threads_of f.roster) u ≡ true → f.open_call u ≡ Some o → waits_for o ≡ Some (m.channel, kind) → may_take kind m.item ≡ true → IsReceivedAtOnce f t c m
@@ -108,24 +78,12 @@ received_at_once f t c m u o kind p made among is waits may = absurd (none-some 
 
 all_kept_by : (P : Item → Type 0) (p : Item → Bool) (items : List Item) → AllByRecursion (λ w. p w ≡ true → P w) items → AllByRecursion P (filter p items)
 all_kept_by P p [] all = tt
-all_kept_by P p (x ∷ items) all =
-    elim (p x) as (λ b. (b ≡ true → P x) → AllByRecursion P (cond b (x ∷ filter p items) (filter p items))) [
-      | true ↦ λ h. (h refl, all_kept_by P p items all.1)
-      | false ↦ λ h. all_kept_by P p items all.1
-    ] all.0
+all_kept_by P p (x ∷ items) all = grind (arith, all_kept_by P p items)
 
 -- what is so of each that isn't taken out is so of what is left
 all_left : (P : Item → Type 0) (o : Option Received) (h : ℕ) (items : List Item)
     → AllByRecursion (λ w. ((r : Received) → o ≡ Some r → r.channel ≡ h → eqb w.number r.item ≡ false) → P w) items → AllByRecursion P (unreceived_items o h items)
-all_left P None h items all = all_more (λ w. ((r : Received) → None ≡ Some r → r.channel ≡ h → eqb w.number r.item ≡ false) → P w) P items all (λ w k. k (λ r none. absurd (none-some r none)))
-all_left P (Some r) h items all =
-    elim (eqb r.channel h) as (λ b. eqb r.channel h ≡ b → AllByRecursion P (cond b (without_item r.item items) items)) [
-      | true ↦ λ same. all_kept_by P (λ w. not (eqb w.number r.item)) items
-          (all_more (λ w. ((q : Received) → Some r ≡ Some q → q.channel ≡ h → eqb w.number q.item ≡ false) → P w) (λ w. not (eqb w.number r.item) ≡ true → P w) items all
-          (λ w k left. k (λ q is on. subst (λ (x : Received). eqb w.number x.item ≡ false) (same_Some r q is) (not-true (eqb w.number r.item) left))))
-      | false ↦ λ other. all_more (λ w. ((q : Received) → Some r ≡ Some q → q.channel ≡ h → eqb w.number q.item ≡ false) → P w) P items all
-          (λ w k. k (λ q is on. absurd (eqb-false r.channel h other (ap (λ (x : Received). x.channel) (same_Some r q is) ∙ on))))
-    ] refl
+all_left P o h items all = grind (arith, all_kept_by, all_more)
 
 -- ---- after one more event
 
@@ -136,17 +94,7 @@ NothingFor f = (u : ℕ) (o : OpenCall) (h : ℕ) (kind : Kind) → f.open_call 
 -- what is so of all that isn't destroyed is so of what is pending afterwards
 all_after : (kind : Kind) (f : Facts) (t : ℕ) (c : Call) (h : ℕ) → AllByRecursion (λ w. may_take kind w ≡ false) (unreceived_items (receipt_of f t c) h (uncancelled_items f t c h (f.pending h ++ made_on h (makes f t c))))
     → AllByRecursion (λ w. may_take kind w ≡ false) (pending_after f t c h)
-all_after kind f t c h all =
-    let P = λ (w : Item). may_take kind w ≡ false in
-    let L = unreceived_items (receipt_of f t c) h (uncancelled_items f t c h (f.pending h ++ made_on h (makes f t c))) in
-    elim (names (closes c) h) as (λ b. AllByRecursion P (cond b [] (items_with_priority_set f h (sets c) L))) [
-      | true ↦ tt
-      | false ↦ all_moved P f h (sets c) L (λ priority x none. same_kind kind priority x ∙ none) all
-    ]
-  where
-    same_kind : (kind : Kind) (priority : ℕ) (x : Item) → may_take kind (with_priority priority x) ≡ may_take kind x
-    same_kind Any priority x = refl
-    same_kind PulseOnly priority x = refl
+all_after kind f t c h all = grind (arith, all_moved)
 
 -- the caller begins to wait: nothing was pending, and nothing is made
 caller_finds_none : (f : Facts) (t : ℕ) (c : Call) (o : OpenCall) (h : ℕ) (kind : Kind) → unless (is_some (row_of f t c).own) (after_receipt (receipt_of f t c) t (asks f.number t (channel_of (makes f t c)) c)) ≡ Some o
@@ -157,10 +105,7 @@ caller_finds_none f t c o h kind is waits =
     let k = begins_with_none f t (channel_of (makes f t c)) c b.call (h, kind) b.is (b.same ∙ waits) (none_of (row_of f t c).own x.0) in
     let P = λ (w : Item). may_take kind w ≡ false in
     let none : AllByRecursion (λ (w : Item). may_take kind w ≡ false) (f.pending h) = none-may kind (f.pending h) k.0 in
-    let Q = λ (w : Item). ((r : Received) → (receipt_of f t c) ≡ Some r → r.channel ≡ h → eqb w.number r.item ≡ false) → may_take kind w ≡ false in
-    let left = λ (w : Item). not (is_cancelled f t c h w.number) in
-    all_after kind f t c h (rw (k.1) (all_left P (receipt_of f t c) h (uncancelled_items f t c h (f.pending h ++ []))
-    (all_filter Q left (f.pending h ++ []) (all_append Q (f.pending h) [] (all_more P Q (f.pending h) none (λ w m _. m)) tt))))
+    grind (arith, all_after, all_append, all_filter, all_left, all_more)
 
 -- another thread that waits on: what it may take is received at once
 other_finds_none : (f : Facts) (t : ℕ) (c : Call) (u : ℕ) (o : OpenCall) (h : ℕ) (kind : Kind) → Passes f t c → NothingFor f → is_among (threads_of f.roster) u ≡ true → f.open_call u ≡ Some o
@@ -192,8 +137,7 @@ other_finds_none f t c u o h kind p nothing among is waits =
     ] refl))))
 
 unblocked_waits_for : (w : OpenCall) → waits_for (unblocked_call w) ≡ waits_for w
-unblocked_waits_for (InSend s) = refl
-unblocked_waits_for (InReceive r) = refl
+unblocked_waits_for w = grind arith
 
 -- what a thread waits for to receive lasts
 lasts_waits_for : Lasts waits_for

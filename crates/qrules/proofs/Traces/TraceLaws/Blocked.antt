@@ -1,10 +1,9 @@
 -- Whose the endings of an event are, and who is blocked after it.
-use Rattle.qrules.proofs.Common.{◌≡◌, ◌∙◌, ℕ, ◌+◌, List, [], ◌∷◌, length, refl, ap, sym, subst, cond, Bool, true, false, eqb, inl, inr, option_map, gets, AreApart, is_among, eqb_same, any_filter_map, any_filter_map_at, all_filter_map, cond_same, filter_map, cons_option, AllByRecursion, none-some, or-true, member_at, IsRoster, Member, completion_to, row_of, SentItem, Event, Trace, held_call, is_thread, unblocked_call, written_call, Call, Completion, OpenCall, Transfer, channel_of, Option, None, Some, is_some, ◌||◌, ◌&&◌}
-use Rattle.std.proofs.lemmas.Bool.{cases_Bool, eqb-true, eqb-false, ne_eqb, or_parts, true≢false}
-use Rattle.qrules.proofs.Basics.{receipt_of, Received, Facts, sender, threads_of, asks, makes, unblocks, writes, facts_of, IsLawful, has_completion_of, open_call, after_receipt, after_unblock, after_write, open_call_after, unless, completion_names, ends_own, laws_of, open_known, passes_of, Passes, some_map, waits_or_ends, Rises, rises, not_among, known}
+use Rattle.qrules.proofs.Common.{arith, ◌≡◌, ◌∙◌, ℕ, ◌+◌, List, [], ◌∷◌, length, refl, ap, sym, subst, cond, Bool, true, false, eqb, inl, inr, gets, AreApart, is_among, eqb_same, any_filter_map, any_filter_map_at, all_filter_map, cond_same, filter_map, AllByRecursion, or-true, member_at, IsRoster, Member, completion_to, row_of, SentItem, Event, Trace, Call, Completion, OpenCall, Transfer, channel_of, Option, Some, is_some, ◌||◌}
+use Rattle.std.proofs.lemmas.Bool.{cases_Bool, eqb-true, ne_eqb, true≢false}
+use Rattle.qrules.proofs.Basics.{receipt_of, Received, Facts, threads_of, asks, makes, facts_of, IsLawful, has_completion_of, open_call, after_receipt, after_unblock, after_write, open_call_after, unless, completion_names, ends_own, laws_of, open_known, passes_of, Passes, waits_or_ends, Rises, rises, not_among, known}
 use Rattle.qrules.proofs.Traces.Past.OpenCalls.{open_accepted, open_refused}
 use Rattle.qrules.proofs.Traces.TraceLaws.Ending.{completion_thread}
-use Rattle.qrules.proofs.Traces.TraceLaws.Unended.{asks_any}
 
 -- ---- endings by thread
 
@@ -12,27 +11,15 @@ module _ (g : ℕ → Option Completion) (names : (u : ℕ) (y : Completion) →
   -- a thread that isn't among these gets nothing
   gets_none : (ts : List ℕ) (u : ℕ) → is_among ts u ≡ false → gets (filter_map g ts) u ≡ false
   gets_none [] u h = refl
-  gets_none (v ∷ ts) u h =
-      elim (g v) as (λ o. g v ≡ o → (eqb v u || is_among ts u) ≡ false → gets (cons_option o (filter_map g ts)) u ≡ false) [
-        | None ↦ λ is e. gets_none ts u ((or_parts (eqb v u) (is_among ts u) e).1)
-        | Some y ↦ λ is e. rw (names v y is, (or_parts (eqb v u) (is_among ts u) e).0) (gets_none ts u ((or_parts (eqb v u) (is_among ts u) e).1))
-      ] refl h
+  gets_none (v ∷ ts) u h = grind (arith, gets_none ts)
 
   apart_by : (ts : List ℕ) → Rises ts → AreApart (filter_map g ts)
   apart_by [] r = tt
-  apart_by (v ∷ ts) r =
-      elim (g v) as (λ o. g v ≡ o → AreApart (cons_option o (filter_map g ts))) [
-        | None ↦ λ is. apart_by ts r.1
-        | Some y ↦ λ is. (rw (names v y is) (gets_none ts v (not_among ts v r.0)), apart_by ts r.1)
-      ] refl
+  apart_by (v ∷ ts) r = grind (arith, gets_none, not_among, apart_by ts)
 
   -- a thread of these gets just what it is given
   gets_by : (ts : List ℕ) (u : ℕ) → is_among ts u ≡ true → gets (filter_map g ts) u ≡ is_some (g u)
-  gets_by ts u among =
-      elim (g u) as (λ o. g u ≡ o → gets (filter_map g ts) u ≡ is_some o) [
-        | None ↦ λ is. any_filter_map (λ x. eqb x.thread u) g ts (λ v y e. rw (names v y e) (ne_eqb v u (λ s. none-some y (sym is ∙ ap g (sym s) ∙ e))))
-        | Some y ↦ λ is. any_filter_map_at (λ x. eqb x.thread u) g ts u y among is (rw (names u y is) (eqb_same u))
-      ] refl
+  gets_by ts u among = grind (arith, any_filter_map, any_filter_map_at)
 
 -- each completion of an event goes to a thread of its own
 pub endings_are_apart : (roster : List Member) (past : Trace) (e : Event) → IsRoster roster → IsLawful roster (e ∷ past) → AreApart e.endings
@@ -74,16 +61,13 @@ endings_go_to_blocked roster past e r l =
 -- ---- who is blocked after an event
 
 pub some_receipt : (r : Option Received) (u : ℕ) (o : Option OpenCall) → is_some (after_receipt r u o) ≡ is_some o
-some_receipt None u o = refl
-some_receipt (Some r) u o = elim (is_thread r.sender u) as (λ b. is_some (cond b (option_map (held_call r.kept) o) o) ≡ is_some o) [ true ↦ some_map (held_call r.kept) o | false ↦ refl ]
+some_receipt r u o = grind arith
 
 some_write : (f : Facts) (w : Option Transfer) (u : ℕ) (o : Option OpenCall) → is_some (after_write f w u o) ≡ is_some o
-some_write f None u o = refl
-some_write f (Some w) u o = elim (is_thread (sender f w.rcvid) u) as (λ b. is_some (cond b (option_map (written_call w.offset w.bytes) o) o) ≡ is_some o) [ true ↦ some_map (written_call w.offset w.bytes) o | false ↦ refl ]
+some_write f w u o = grind arith
 
 some_unblock : (m : Option SentItem) (w : Option ℕ) (u : ℕ) (o : Option OpenCall) → is_some (after_unblock m w u o) ≡ is_some o
-some_unblock m None u o = refl
-some_unblock m (Some v) u o = elim (eqb u v && is_some m) as (λ b. is_some (cond b (option_map unblocked_call o) o) ≡ is_some o) [ true ↦ some_map unblocked_call o | false ↦ refl ]
+some_unblock m w u o = grind arith
 
 some_unless : (b : Bool) (o : Option OpenCall) → is_some (unless b o) ≡ cond b false (is_some o)
 some_unless true o = refl
@@ -91,33 +75,18 @@ some_unless false o = refl
 
 -- the caller is blocked unless its call ended
 own_blocked : (f : Facts) (t : ℕ) (c : Call) → Passes f t c → is_some (unless (is_some (row_of f t c).own) (after_receipt (receipt_of f t c) t (asks f.number t (channel_of (makes f t c)) c))) ≡ cond (is_some (row_of f t c).own) false true
-own_blocked f t c p =
-    elim (row_of f t c).own as (λ o. (row_of f t c).own ≡ o → is_some (unless (is_some o) (after_receipt (receipt_of f t c) t (asks f.number t (channel_of (makes f t c)) c))) ≡ cond (is_some o) false true) [
-      | None ↦ λ e. some_receipt (receipt_of f t c) t (asks f.number t (channel_of (makes f t c)) c) ∙ asks_any f.number t (channel_of (makes f t c)) c ∙ waits_or_ends f t c p e
-      | Some y ↦ λ e. refl
-    ] refl
+own_blocked f t c p = grind (arith, waits_or_ends)
 
 -- of another thread than the caller, or of the caller that wasn't blocked, after a refusal
 refused_blocked : (o : Option OpenCall) (own : Option OpenCall) (t u : ℕ) → (eqb u t ≡ true → o ≡ own) → is_some own ≡ false → is_some o ≡ cond (eqb t u || false) false (eqb u t || is_some o)
-refused_blocked o own t u same idle = elim (cases_Bool (eqb u t)) [
-  | inl e ↦ rw (sym (eqb-true u t e), eqb_same u) (ap is_some (same e) ∙ idle)
-  | inr e ↦ rw (e, ne_eqb t u (λ s. eqb-false u t e (sym s))) refl
-]
+refused_blocked o own t u same idle = grind arith
 
 accepted_blocked : (f : Facts) (t : ℕ) (c : Call) (u : ℕ) → Passes f t c → is_some (open_call_after f t c u) ≡ cond (is_some (completion_to f t c u)) false (eqb u t || is_some (f.open_call u))
-accepted_blocked f t c u p = elim (cases_Bool (eqb u t)) [
-  | inl e ↦ rw (e, eqb-true u t e) (own_blocked f t c p)
-  | inr e ↦ rw e (some_unless (is_some ((row_of f t c).others u)) _ ∙ ap (λ b. cond (is_some ((row_of f t c).others u)) false b)
-      (some_unblock (makes f t c) (unblocks c) u _ ∙ some_receipt (receipt_of f t c) u _ ∙ some_write f (writes c) u (f.open_call u)))
-]
+accepted_blocked f t c u p = grind (arith, own_blocked, some_unblock, some_unless, some_write)
 
 -- no thread outside the roster is blocked
 stranger_free : (roster : List Member) (past : Trace) (u : ℕ) → IsLawful roster past → is_some (member_at roster u) ≡ false → is_some (open_call roster past u) ≡ false
-stranger_free roster past u l none =
-    elim (open_call roster past u) as (λ o. open_call roster past u ≡ o → is_some o ≡ false) [
-      | None ↦ λ is. refl
-      | Some o ↦ λ is. absurd (true≢false (sym (open_known roster past u o l is) ∙ none))
-    ] refl
+stranger_free roster past u l none = grind (arith, open_known)
 
 -- of a thread of the roster
 member_blocked : (roster : List Member) (past : Trace) (e : Event) → IsLawful roster (e ∷ past) → is_some (open_call roster past e.thread) ≡ false → (u : ℕ) → is_some (member_at roster u) ≡ true

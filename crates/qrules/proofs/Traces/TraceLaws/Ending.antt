@@ -1,14 +1,12 @@
 -- Whose calls end.
+use Rattle.std.proofs.lemmas.Bool.Decides.{nat_tests}
 use Rattle.qrules.proofs.Common.{◌≡◌, ◌∙◌, ℕ, ◌+◌, ◌≤◌, List, [], ◌∷◌, length, refl, ap, sym, subst, arith, eqb, false, inl, inr, thread_at, Some, AllByRecursion, ne_eqb, none-some, completion_to, IsRoster, Event, Trace, Call, Completion, OpenCall, all_filter_map, eqb_same, Member}
 use Rattle.qrules.proofs.Basics.{Facts, threads_of, number_of, IsLawful, facts_of, completion_names, laws_of, RowLaws, block_below, open_parts, block}
 use Rattle.qrules.proofs.Traces.Properties.Sends.{begins_now}
 
 -- an accepted call's endings go to the threads that get them
 pub completion_thread : (f : Facts) (t : ℕ) (c : Call) → RowLaws f t c → (u : ℕ) (y : Completion) → completion_to f t c u ≡ Some y → y.thread ≡ u
-completion_thread f t c laws u y e = elim (completion_names f t c u y laws e) [
-  | inl own ↦ own.names.thread ∙ sym own.thread
-  | inr other ↦ other.names.thread
-]
+completion_thread f t c laws u y e = grind (arith, nat_tests)
 
 -- ---- whose calls end
 

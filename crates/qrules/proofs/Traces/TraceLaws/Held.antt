@@ -1,7 +1,7 @@
 -- The sender of a message that is held waits in its Send.
-use Rattle.qrules.proofs.Common.{◌≡◌, ◌∙◌, ◌+◌, ℕ, List, [], ◌∷◌, length, refl, ap, sym, subst, cond, eqb, true, false, option_map, option_or, waiter, ReceivedItem, AllByRecursion, none-some, same_Some, IsRoster, Member, row_of, number_received, TakesBest, takeable, SentItem, Trace, Event, Completion, OpenCall, best_of, best-at, Option, None, Some, is_some, not, ◌&&◌}
+use Rattle.qrules.proofs.Common.{arith, ◌≡◌, ◌∙◌, ◌+◌, ℕ, List, [], ◌∷◌, length, refl, ap, sym, subst, cond, eqb, true, false, option_map, option_or, waiter, AllByRecursion, none-some, same_Some, IsRoster, Member, row_of, number_received, TakesBest, takeable, SentItem, Trace, Event, Completion, OpenCall, best_of, best-at, Option, None, Some, is_some, not, ◌&&◌}
 use Rattle.std.proofs.lemmas.Bool.{and_parts, eqb-true, not-true, or_parts, true≢false}
-use Rattle.qrules.proofs.Basics.{is_for_answer, is_send, sender, threads_of, number_of, may_wait, waits_or_ends, IsLawful, facts_of, copied_count_in, has_completion_of, is_ended, is_received, item_of, accepted_at, open_call, copied_count_among, copied_count_of, filled, item_in, ends_own, open_known, passes_of, item_accepted, item_answer, item_at, item_below, item_earlier, item_made, send_from, send_parts, sender_found, known, open_from, filled_answer, open_thread, kept, kept_number, receipt_for_answer}
+use Rattle.qrules.proofs.Basics.{is_for_answer, is_send, sender, threads_of, number_of, may_wait, waits_or_ends, IsLawful, facts_of, has_completion_of, is_ended, is_received, item_of, accepted_at, open_call, copied_count_among, copied_count_of, filled, ends_own, open_known, passes_of, item_accepted, item_answer, item_at, item_below, item_earlier, item_made, send_from, send_parts, sender_found, known, open_from, filled_answer, open_thread, kept, kept_number, receipt_for_answer}
 use Rattle.qrules.proofs.Traces.Properties.BestFirst.{best_first}
 use Rattle.qrules.proofs.Traces.Properties.Events.{outcome_of}
 use Rattle.qrules.proofs.Traces.Properties.Sends.{made_newest, made_stays}
@@ -26,15 +26,7 @@ taken_stands roster past e x i k =
 -- what is so of each item that these endings receive is so of this one
 of_received : (P : ℕ → Type 0) (X : List Completion) (i copied : ℕ) → AllByRecursion (λ x. (j : ℕ) → number_received x ≡ Some j → P j) X → copied_count_among X i ≡ Some copied → P i
 of_received P [] i copied all e = absurd (none-some copied e)
-of_received P (x ∷ X) i copied all e =
-    elim (item_in x.mark) as (λ o. item_in x.mark ≡ o → option_or (copied_count_in i o) (copied_count_among X i) ≡ Some copied → P i) [
-      | None ↦ λ is s. of_received P X i copied all.1 s
-      | Some r ↦ λ is s.
-          elim (eqb r.number i) as (λ b. eqb r.number i ≡ b → option_or (cond b (Some r.copied) None) (copied_count_among X i) ≡ Some copied → P i) [
-            | true ↦ λ same _. subst P (eqb-true r.number i same) (all.0 r.number (ap (option_map (λ (q : ReceivedItem). q.number)) is))
-            | false ↦ λ other s. of_received P X i copied all.1 s
-          ] refl s
-    ] refl e
+of_received P (x ∷ X) i copied all e = grind (arith, of_received P X)
 
 taken_made : (roster : List Member) (past : Trace) (i : ℕ) → IsRoster roster → IsLawful roster past → is_received past i ≡ true → (m : SentItem) × (item_at roster past i ≡ Some m)
 taken_made roster [] i r l e = absurd (true≢false (sym e))
@@ -54,8 +46,7 @@ taken_made roster (e ∷ past) i r l taken =
 -- ---- the call that made it, if it isn't ended, is what its thread waits in
 
 no_own : (o : Option Completion) → is_some o ≡ false → o ≡ None
-no_own None h = refl
-no_own (Some y) h = absurd (true≢false h)
+no_own o h = grind arith
 
 made_waits : (roster : List Member) (past : Trace) (i : ℕ) (m : SentItem) → IsLawful roster past → item_at roster past i ≡ Some m → is_ended past i ≡ false → (t : ℕ) × (accepted_at waiter past i ≡ Some t)
 made_waits roster [] i m l is going = absurd (none-some m is)

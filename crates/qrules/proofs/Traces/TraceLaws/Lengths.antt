@@ -1,18 +1,12 @@
 -- How long the buffers are that endings give back.
-use Rattle.qrules.proofs.Basics.{answer_same, pulse_same, sent_same, unblocked_same, asks, makes, unblocks, writes, error_finish, reply_finish, message_item, receipt_of, info_completion, Finish, ends_sender, Received, buffer_after_write, Facts, message, sender, threads_of, route, number_of, after_receipt, after_unblock, after_write, open_call_after, unless, is_accepted, with_writes, open_call, filled, with_receipt, detach_ends, IsCancelledCall, cancel_parts, sender_ends, Passes, block_asked, open_parts, Delivers, delivery_meets, receive_takes, facts_of, IsLawful, completion_names, laws_of, passes_of}
-use Rattle.qrules.proofs.Common.{◌≡◌, ℕ, ◌≤◌, List, [], ◌∷◌, length, refl, ap, sym, subst, ◌∙◌, cond, Bool, true, false, eqb, arith, inl, inr, option_map, buffer_of_open, with_buffer, held_call, is_thread, unblocked_call, written_call, AllByRecursion, none-some, same_Some, laid_count, lay_over, Errno, Srch, is_pulse, Item, Any, PulseOnly, completion_to, row_of, info_of, refusal_unless_held, is_on, receipt_completion, SentItem, Event, Trace, Call, Completion, Mark, OpenCall, Receipt, IsRoster, Member, call_at, all_filter_map, all_more, eqb_same, Transfer, buffer_in, channel_of, Option, None, Some, is_some, ◌&&◌}
+use Rattle.qrules.proofs.Basics.{answer_same, sent_same, asks, makes, unblocks, writes, reply_finish, message_item, receipt_of, Finish, ends_sender, Received, buffer_after_write, Facts, message, sender, threads_of, route, number_of, after_receipt, after_unblock, after_write, open_call_after, unless, with_writes, open_call, filled, with_receipt, Passes, block_asked, open_parts, Delivers, delivery_meets, receive_takes, facts_of, IsLawful, completion_names, laws_of, passes_of}
+use Rattle.qrules.proofs.Common.{◌≡◌, ℕ, ◌≤◌, List, [], ◌∷◌, length, refl, ap, sym, subst, ◌∙◌, cond, Bool, true, false, eqb, arith, inl, inr, buffer_of_open, with_buffer, AllByRecursion, none-some, same_Some, laid_count, lay_over, is_pulse, Item, Any, completion_to, row_of, refusal_unless_held, receipt_completion, SentItem, Event, Trace, Call, Completion, Mark, OpenCall, IsRoster, Member, call_at, all_filter_map, all_more, eqb_same, Transfer, buffer_in, channel_of, Option, None, Some, is_some}
 use Rattle.std.proofs.lemmas.Bool.{ne_eqb, true≢false}
 use Rattle.qmodel.specs.Buffers.{buffer_of}
-use Rattle.qmodel.specs.declared.call.Call.TheVariants.{Send, Receive, Reply, Error, Read, Info, ReceivePulse, Pulse, ChannelDestroy, Shutdown, Unblock, ConnectDetach}
-use Rattle.qmodel.specs.declared.call.Info.{Info as Told}
-use Rattle.qmodel.specs.declared.open_call.OpenCall.TheVariants.{Receive as InReceive, Send as InSend}
-use Rattle.qrules.proofs.Traces.Properties.Rows.Telling.{told_meets, unblock_ends}
+use Rattle.qmodel.specs.declared.call.Call.TheVariants.{Send, Receive, Reply, Read}
 use Rattle.qbase.proofs.Lengths.{lay_length}
 use Rattle.qrules.proofs.Traces.TraceLaws.Blocked.{some_receipt}
 use Rattle.qrules.proofs.Traces.Past.OpenCalls.{open_accepted, open_refused}
-use Rattle.qrules.specs.Rules.Connections as connect_detach
-use Rattle.qrules.specs.Rules.Unblock as unblock
-use Rattle.qrules.specs.Rules.Pulse as pulse
 use Rattle.qmodel.specs.declared.call.Mark.TheVariants as mark
 
 taking_length : (item : Item) (message : List ℕ) (u m : ℕ) (buffer : List ℕ) → length (receipt_completion item message u m buffer).buffer ≡ length buffer
@@ -24,48 +18,23 @@ taking_length item message u m buffer =
 
 -- ---- the call's own completion
 
-no_buffer : (n t : ℕ) (o : Option Told) (y : Completion) → option_map (info_completion n t) o ≡ Some y → length y.buffer ≡ 0
-no_buffer n t None y e = absurd (none-some y e)
-no_buffer n t (Some info_of) y e = ap (λ x. length x.buffer) (sym (same_Some _ y e))
-
 own_length : (f : Facts) (t : ℕ) (c : Call) (y : Completion) → (row_of f t c).own ≡ Some y → length y.buffer ≡ length (buffer_of c)
-own_length f t (Send coid message reply_buffer) y e = absurd (none-some y e)
 own_length f t (Receive chid buffer) y e = let k = receive_takes f t chid Any buffer y e in ap (λ x. length x.buffer) (sym k.completion) ∙ taking_length k.item _ t f.number buffer
 own_length f t (Read rcvid offset buffer) y e = ap (λ x. length x.buffer) (sym (same_Some _ y e)) ∙ lay_length buffer 0 _
-own_length f t (Info rcvid) y e = no_buffer f.number t (info_of f (sender f rcvid)) y e
-own_length f t (ReceivePulse chid) y e = let k = receive_takes f t chid PulseOnly [] y e in ap (λ x. length x.buffer) (sym k.completion) ∙ taking_length k.item _ t f.number []
-own_length f t c y e = ap (λ x. length x.buffer) (sym (same_Some _ y e))
+own_length f t c y e = grind arith
 
 -- ---- another thread's completion
 
 met_length : (f : Facts) (o : Option ℕ) (item : Item) (message : List ℕ) (u : ℕ) (y : Completion) → Delivers f o item message u y → length y.buffer ≡ length (buffer_of_open (f.open_call u))
 met_length f o item message u y k = ap (λ x. length x.buffer) (sym k.completion) ∙ taking_length item message u k.receive.number k.receive.buffer ∙ ap (λ x. length (buffer_of_open x)) (sym k.is_open)
 
-cancel_length : (is_cancelled : OpenCall → Bool) (e : Errno) (u : ℕ) (o : Option OpenCall) (y : Completion) → IsCancelledCall is_cancelled e u o y → length y.buffer ≡ length (buffer_of_open o)
-cancel_length is_cancelled e u o y k = ap (λ x. length x.buffer) (sym k.completion) ∙ ap (λ x. length (buffer_of_open x)) (sym k.is)
-
 answered_length : (f : Facts) (t rcvid : ℕ) (finish : Finish) (u : ℕ) (y : Completion) → ((b : List ℕ) → length (finish b).1 ≡ length b) → refusal_unless_held f t rcvid ≡ None → ends_sender f finish (sender f rcvid) u ≡ Some y → length y.buffer ≡ length (buffer_of_open (f.open_call u))
-answered_length f t rcvid finish u y keeps r e =
-    let k = sender_ends f t rcvid finish u y r e in
-    ap (λ x. length x.buffer) (sym k.completion) ∙ keeps k.held.send.reply_buffer ∙ ap (λ x. length (buffer_of_open x)) (sym k.held.is_open)
+answered_length f t rcvid finish u y keeps r e = grind arith
 
 ends_length : (f : Facts) (t : ℕ) (c : Call) (u : ℕ) (y : Completion) → Passes f t c → (row_of f t c).others u ≡ Some y → length y.buffer ≡ length (buffer_of_open (f.open_call u))
 ends_length f t (Send coid message reply_buffer) u y p e = met_length f (route f t coid) (message_item f t) message u y (delivery_meets f (route f t coid) (message_item f t) message u y (sym (sent_same f t coid message reply_buffer u p.row) ∙ e))
 ends_length f t (Reply rcvid status bytes) u y p e = answered_length f t rcvid (reply_finish status bytes) u y (λ b. lay_length b 0 bytes) p.row (sym (answer_same f (reply_finish status bytes) (sender f rcvid) u) ∙ e)
-ends_length f t (Error rcvid code) u y p e = answered_length f t rcvid (error_finish code) u y (λ b. refl) p.row (sym (answer_same f (error_finish code) (sender f rcvid) u) ∙ e)
-ends_length f t (Pulse coid priority code value) u y p e =
-    let k = told_meets f (pulse.pulse_over f coid priority code value) u y (sym (pulse_same f (pulse.pulse_over f coid priority code value) u) ∙ e) in met_length f (Some k.made.channel) k.made.item [] u y k.delivers
-ends_length f t (ChannelDestroy chid) u y p e = cancel_length (is_on chid) Srch u (f.open_call u) y (cancel_parts (is_on chid) Srch u (f.open_call u) y e)
-ends_length f t Shutdown u y p e = cancel_length (λ o. true) Srch u (f.open_call u) y (cancel_parts (λ o. true) Srch u (f.open_call u) y e)
-ends_length f t (Unblock thread) u y p e = elim (unblock_ends f thread u y (unblock.unblock_pulse f thread) (sym (unblocked_same f t thread u) ∙ e)) [
-  | inl cancel ↦ cancel_length _ _ u (f.open_call u) y cancel
-  | inr k ↦ met_length f (Some k.made.channel) k.made.item [] u y k.delivers
-]
-ends_length f t (ConnectDetach coid) u y p e = elim (detach_ends f coid (connect_detach.disconnect_pulse f t coid) u y e) [
-  | inl cancel ↦ cancel_length _ _ u (f.open_call u) y cancel
-  | inr s ↦ let k = told_meets f (connect_detach.disconnect_pulse f t coid) u y s in met_length f (Some k.made.channel) k.made.item [] u y k.delivers
-]
-ends_length f t c u y p e = absurd (none-some y e)
+ends_length f t c u y p e = grind arith
 
 -- ---- an event's endings
 
@@ -89,38 +58,19 @@ endings_keep_length roster past e r l =
 -- ---- what a thread waits with afterwards
 
 asked_length : (n t h : ℕ) (c : Call) → is_some (asks n t h c) ≡ true → length (buffer_of_open (asks n t h c)) ≡ length (buffer_of c)
-asked_length n t h (Send coid message reply_buffer) e = refl
-asked_length n t h (Receive chid buffer) e = refl
-asked_length n t h (ReceivePulse chid) e = refl
-asked_length n t h c e = absurd (true≢false (sym e))
-
-map_length : (k : OpenCall → OpenCall) → ((o : OpenCall) → length (buffer_in (k o)) ≡ length (buffer_in o)) → (o : Option OpenCall) → length (buffer_of_open (option_map k o)) ≡ length (buffer_of_open o)
-map_length k h None = refl
-map_length k h (Some o) = h o
-
-held_length : (receipt : Receipt) (w : OpenCall) → length (buffer_in (held_call receipt w)) ≡ length (buffer_in w)
-held_length receipt (InSend s) = refl
-held_length receipt (InReceive r) = refl
+asked_length n t h c e = grind arith
 
 written_length : (at : ℕ) (bytes : List ℕ) (w : OpenCall) → length (buffer_in (with_buffer (λ b. lay_over b at bytes) w)) ≡ length (buffer_in w)
-written_length at bytes (InSend s) = lay_length s.reply_buffer at bytes
-written_length at bytes (InReceive r) = refl
-
-unblocked_length : (w : OpenCall) → length (buffer_in (unblocked_call w)) ≡ length (buffer_in w)
-unblocked_length (InSend s) = refl
-unblocked_length (InReceive r) = refl
+written_length at bytes w = grind (arith, lay_length)
 
 receipt_length : (r : Option Received) (u : ℕ) (o : Option OpenCall) → length (buffer_of_open (after_receipt r u o)) ≡ length (buffer_of_open o)
-receipt_length None u o = refl
-receipt_length (Some r) u o = elim (is_thread r.sender u) as (λ b. length (buffer_of_open (cond b (option_map (held_call r.kept) o) o)) ≡ length (buffer_of_open o)) [ true ↦ map_length (held_call r.kept) (λ w. held_length r.kept w) o | false ↦ refl ]
+receipt_length r u o = grind arith
 
 write_length : (f : Facts) (w : Option Transfer) (u : ℕ) (o : Option OpenCall) → length (buffer_of_open (after_write f w u o)) ≡ length (buffer_of_open o)
-write_length f None u o = refl
-write_length f (Some w) u o = elim (is_thread (sender f w.rcvid) u) as (λ b. length (buffer_of_open (cond b (option_map (written_call w.offset w.bytes) o) o)) ≡ length (buffer_of_open o)) [ true ↦ map_length (written_call w.offset w.bytes) (λ v. written_length w.offset w.bytes v) o | false ↦ refl ]
+write_length f w u o = grind (arith, written_length)
 
 unblock_length : (m : Option SentItem) (w : Option ℕ) (u : ℕ) (o : Option OpenCall) → length (buffer_of_open (after_unblock m w u o)) ≡ length (buffer_of_open o)
-unblock_length m None u o = refl
-unblock_length m (Some v) u o = elim (eqb u v && is_some m) as (λ b. length (buffer_of_open (cond b (option_map unblocked_call o) o)) ≡ length (buffer_of_open o)) [ true ↦ map_length unblocked_call (λ w. unblocked_length w) o | false ↦ refl ]
+unblock_length m w u o = grind arith
 
 left_open : (b : Bool) (o : Option OpenCall) (x : OpenCall) → unless b o ≡ Some x → o ≡ Some x
 left_open true o x e = absurd (none-some x e)
@@ -157,23 +107,17 @@ open_keeps_length roster past e l idle u x is = elim (l.1.1) [
 -- ---- an open call
 
 over_length : (w : Option Transfer) (i : ℕ) (b : List ℕ) → length (buffer_after_write w i b) ≡ length b
-over_length None i b = refl
-over_length (Some w) i b = elim (eqb w.rcvid i) as (λ m. length (cond m (lay_over b w.offset w.bytes) b) ≡ length b) [ true ↦ lay_length b w.offset w.bytes | false ↦ refl ]
+over_length w i b = grind (arith, lay_length)
 
 pub writes_length : (past : Trace) (i : ℕ) (b : List ℕ) → length (with_writes past i b) ≡ length b
 writes_length [] i b = refl
-writes_length (e ∷ past) i b = elim (is_accepted e past) as (λ a. length (cond a (buffer_after_write (writes e.call) i (with_writes past i b)) (with_writes past i b)) ≡ length b) [
-  | true ↦ over_length (writes e.call) i (with_writes past i b) ∙ writes_length past i b
-  | false ↦ writes_length past i b
-]
+writes_length (e ∷ past) i b = grind (arith, over_length, writes_length past)
 
 filled_length : (past : Trace) (i : ℕ) (w : OpenCall) → length (buffer_in (with_buffer (with_writes past i) w)) ≡ length (buffer_in w)
-filled_length past i (InSend s) = writes_length past i s.reply_buffer
-filled_length past i (InReceive r) = refl
+filled_length past i w = grind (arith, writes_length)
 
 kept_length : (priority : ℕ) (unblocked : Bool) (r : Option ℕ) (o : OpenCall) → length (buffer_in (with_receipt priority unblocked r o)) ≡ length (buffer_in o)
-kept_length priority unblocked None o = refl
-kept_length priority unblocked (Some copied) o = held_length _ o
+kept_length priority unblocked r o = grind arith
 
 -- its buffer is as long as the one that it was made with
 pub open_calls_keep_length : (roster : List Member) (past : Trace) (u : ℕ) (o : OpenCall) → open_call roster past u ≡ Some o → (c : Call) × (call_at past (number_of o) ≡ Some c) × (length (buffer_in o) ≡ length (buffer_of c))

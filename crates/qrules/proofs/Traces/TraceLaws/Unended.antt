@@ -1,12 +1,11 @@
 -- A call that may wait and isn't ended is the newest blocking call of its thread.
-use Rattle.qrules.proofs.Common.{◌≡◌, ℕ, ◌+◌, List, [], ◌∷◌, length, refl, ap, sym, subst, ◌∙◌, cond, true, false, eqb, eq-eqb, waiter, channel_of, number_of, none-some, same_Some, Member, Event, Trace, Call, Shutdown, OpenCall, Option, None, Some, is_some}
-use Rattle.std.proofs.lemmas.Bool.{eqb-true, or_parts, true≢false, and_from}
-use Rattle.qrules.proofs.Basics.{may_wait, IsLawful, has_completion_of, is_accepted, is_ended, accepted_at, block, item_of, asks, blocks, call_laws}
+use Rattle.qrules.proofs.Common.{arith, ◌≡◌, ℕ, ◌+◌, List, [], ◌∷◌, length, refl, sym, subst, ◌∙◌, cond, true, false, eqb, waiter, channel_of, number_of, none-some, Member, Event, Trace, Call, OpenCall, Option, None, Some, is_some}
+use Rattle.std.proofs.lemmas.Bool.{eqb-true, or_parts}
+use Rattle.qrules.proofs.Basics.{may_wait, IsLawful, has_completion_of, is_accepted, is_ended, accepted_at, block, item_of, asks, call_laws}
 use Rattle.qrules.proofs.Traces.Properties.Messages.{block_stays}
 
 pub asks_any : (n t h : ℕ) (c : Call) → is_some (asks n t h c) ≡ may_wait c
-asks_any n t h Shutdown = refl
-asks_any n t h c = refl
+asks_any n t h c = grind arith
 
 -- ---- a call that begins to wait
 
@@ -18,15 +17,10 @@ record Begins (roster : List Member) (e : Event) (past : Trace) (t : ℕ) : Type
   pub asked : asks (length past + 1) t (channel_of (item_of roster e past)) e.call ≡ Some block
 
 waiter_waits : (e : Event) (t : ℕ) → waiter e ≡ Some t → (may_wait e.call ≡ true) × (e.thread ≡ t)
-waiter_waits e t is =
-    elim (may_wait e.call) as (λ b. cond b (Some e.thread) None ≡ Some t → (b ≡ true) × (e.thread ≡ t)) [
-      | true ↦ λ at. (refl, same_Some e.thread t at)
-      | false ↦ λ at. absurd (none-some t at)
-    ] is
+waiter_waits e t is = grind arith
 
 some_block : (o : Option OpenCall) → is_some o ≡ true → (b : OpenCall) × (o ≡ Some b)
-some_block None e = absurd (true≢false (sym e))
-some_block (Some b) e = (b, refl)
+some_block o e = grind arith
 
 begins : (roster : List Member) (e : Event) (past : Trace) (t : ℕ) → cond (is_accepted e past) (waiter e) None ≡ Some t → Begins roster e past t
 begins roster e past t is =
@@ -39,9 +33,7 @@ begins roster e past t is =
     ] refl is
 
 begun_newest : (roster : List Member) (e : Event) (past : Trace) (t : ℕ) (k : Begins roster e past t) → block roster (e ∷ past) t ≡ Some k.block
-begun_newest roster e past t k =
-    let is : blocks roster e past t ≡ true = and_from _ _ (and_from _ _ (eq-eqb e.thread t k.thread) k.accepted) (ap is_some k.asked) in
-    ap (λ b. cond b (asks (length past + 1) t (channel_of (item_of roster e past)) e.call) (block roster past t)) is ∙ k.asked
+begun_newest roster e past t k = grind arith
 
 -- ---- the newest blocking call
 

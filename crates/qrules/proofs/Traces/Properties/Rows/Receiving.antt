@@ -1,5 +1,5 @@
 -- A receive that ends in its own event takes the best item of its channel.
-use Rattle.qrules.proofs.Common.{◌≡◌, ℕ, List, refl, None, Some, none-some, same_Some, best_of, Item, Kind, receipt_completion, Completion}
+use Rattle.qrules.proofs.Common.{arith, ◌≡◌, ℕ, List, Some, best_of, Item, Kind, receipt_completion, Completion}
 use Rattle.qrules.proofs.Words.Items.{own_receipt}
 use Rattle.qrules.proofs.Words.Facts.{Facts, message}
 
@@ -9,8 +9,4 @@ pub record ReceiveTakes (f : Facts) (t chid : ℕ) (kind : Kind) (buffer : List 
   pub completion : receipt_completion item (message f item.number) t f.number buffer ≡ y
 
 pub receive_takes : (f : Facts) (t chid : ℕ) (kind : Kind) (buffer : List ℕ) (y : Completion) → own_receipt f t buffer (best_of kind (f.pending chid)) ≡ Some y → ReceiveTakes f t chid kind buffer y
-receive_takes f t chid kind buffer y e =
-    elim (best_of kind (f.pending chid)) as (λ o. best_of kind (f.pending chid) ≡ o → own_receipt f t buffer o ≡ Some y → ReceiveTakes f t chid kind buffer y) [
-      | None ↦ λ is s. absurd (none-some y s)
-      | Some item ↦ λ is s. record { item = item; best = is; completion = same_Some _ y s }
-    ] refl e
+receive_takes f t chid kind buffer y e = grind arith
