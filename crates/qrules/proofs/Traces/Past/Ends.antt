@@ -1,6 +1,7 @@
 -- What the endings of an event are of: the event's own call, or what another thread waits for.
-use Rattle.qrules.proofs.Common.{◌≡◌, ◌≢◌, ℕ, ◌+◌, ◌<◌, ◌≤◌, List, [], ◌∷◌, length, refl, ap, sym, subst, ◌∙◌, cond, arith, true, false, eqb, ◌⊎◌, inl, inr, Down, Busy, refusal_of, completion_to, Outcome, Answers, eqb_same, any_filter_map, any_filter_map_at, all_filter_map, list_any, filter_map, AllByRecursion, none-some, same_Some, and-false, member_at, Member, row_of, Trace, Call, Completion, OpenCall, None, Some, is_some}
-use Rattle.std.proofs.lemmas.Bool.{eqb-true, eq-eqb, ne_eqb}
+use Rattle.std.proofs.lemmas.Bool.Decides.{nat_tests}
+use Rattle.qrules.proofs.Common.{◌≡◌, ◌≢◌, ℕ, ◌+◌, ◌<◌, ◌≤◌, List, [], ◌∷◌, length, refl, ap, sym, subst, ◌∙◌, arith, true, false, eqb, ◌⊎◌, inl, inr, refusal_of, completion_to, Outcome, Answers, eqb_same, any_filter_map, any_filter_map_at, all_filter_map, list_any, filter_map, AllByRecursion, none-some, same_Some, and-false, member_at, Member, row_of, Trace, Call, Completion, OpenCall, None, Some, is_some}
+use Rattle.std.proofs.lemmas.Bool.{eq-eqb, ne_eqb}
 use Rattle.qrules.proofs.Words.Facts.{Facts, threads_of, number_of}
 use Rattle.qrules.proofs.Words.Lawful.{facts_of, IsLawful}
 use Rattle.qrules.proofs.Words.Past.{has_completion_of, refuses, is_ended, open_call, block}
@@ -13,15 +14,7 @@ use Rattle.qrules.proofs.Traces.Rosters.{known}
 -- ---- what an accepted call passed
 
 pub row_passes : (f : Facts) (t : ℕ) (c : Call) → refusal_of f t c ≡ None → Passes f t c
-row_passes f t c e =
-    elim (f.down) as (λ b. f.down ≡ b → cond b (Some Down) (cond (is_some (f.open_call t)) (Some Busy) (row_of f t c).refusal) ≡ None → Passes f t c) [
-      | true ↦ λ down h. absurd (none-some Down (sym h))
-      | false ↦ λ up h.
-          elim (f.open_call t) as (λ o. f.open_call t ≡ o → cond (is_some o) (Some Busy) (row_of f t c).refusal ≡ None → Passes f t c) [
-            | None ↦ λ is passed. record { up = up; idle = is; row = passed }
-            | Some w ↦ λ is passed. absurd (none-some Busy (sym passed))
-          ] refl h
-    ] refl e
+row_passes f t c e = grind arith
 
 pub passes_of : (f : Facts) (t : ℕ) (c : Call) (X : List Completion) → Outcome true f t c X → Passes f t c
 passes_of f t c X a = row_passes f t c a.0
@@ -42,11 +35,7 @@ pub record IsOther (f : Facts) (t : ℕ) (c : Call) (v : ℕ) (y : Completion) :
   pub names : IsOfOpen f v y
 
 pub completion_names : (f : Facts) (t : ℕ) (c : Call) (v : ℕ) (y : Completion) → RowLaws f t c → completion_to f t c v ≡ Some y → IsOwnOf f t c v y ⊎ IsOther f t c v y
-completion_names f t c v y laws e =
-    elim (eqb v t) as (λ b. eqb v t ≡ b → cond b (row_of f t c).own ((row_of f t c).others v) ≡ Some y → IsOwnOf f t c v y ⊎ IsOther f t c v y) [
-      | true ↦ λ h o. inl (record { thread = eqb-true v t h; is = o; names = laws.owns y o })
-      | false ↦ λ h o. inr (record { thread = h; is = o; names = laws.ends_open v y o })
-    ] refl e
+completion_names f t c v y laws e = grind (arith, nat_tests)
 
 -- a completion of another thread is of a number of the past
 pub other_below : (roster : List Member) (past : Trace) (v : ℕ) (y : Completion) → IsOfOpen (facts_of roster past) v y → y.call ≤ length past
@@ -90,10 +79,7 @@ ended_below roster (e ∷ past) i l h = rw (names_below roster past e.thread e.c
 -- a thread that waits is one of the roster
 pub block_known : (roster : List Member) (past : Trace) (u : ℕ) (b : OpenCall) → IsLawful roster past → block roster past u ≡ Some b → is_some (member_at roster u) ≡ true
 block_known roster [] u b l is = absurd (none-some b is)
-block_known roster (e ∷ past) u b l is = elim (block_cases roster e past u b is) [
-  | inl h ↦ subst (λ v. is_some (member_at roster v) ≡ true) h.thread l.1.0
-  | inr h ↦ block_known roster past u b l.0 h
-]
+block_known roster (e ∷ past) u b l is = grind (arith, block_cases roster e past u b is, block_known roster past u b l.0)
 
 pub open_known : (roster : List Member) (past : Trace) (u : ℕ) (o : OpenCall) → IsLawful roster past → open_call roster past u ≡ Some o → is_some (member_at roster u) ≡ true
 open_known roster past u o l is = let k = open_parts roster past u o is in block_known roster past u k.block l k.is

@@ -19,11 +19,7 @@ item_at roster (e ∷ past) i = cond (eqb i (length past + 1)) (item_of roster e
 
 -- an event that made an item was accepted, and its call makes it
 pub item_accepted : (roster : List Member) (e : Event) (past : Trace) (m : SentItem) → item_of roster e past ≡ Some m → (is_accepted e past ≡ true) × (makes (facts_of roster past) e.thread e.call ≡ Some m)
-item_accepted roster e past m is =
-    elim (is_accepted e past) as (λ b. cond b (makes (facts_of roster past) e.thread e.call) None ≡ Some m → (b ≡ true) × (makes (facts_of roster past) e.thread e.call ≡ Some m)) [
-      | true ↦ λ at. (refl, at)
-      | false ↦ λ at. absurd (none-some m at)
-    ] is
+item_accepted roster e past m is = grind arith
 
 -- it was made by the call of its number
 pub made_by : (roster : List Member) (e : Event) (past : Trace) (m : SentItem) → item_of roster e past ≡ Some m → MakesItem (length past + 1) e.call m
@@ -101,23 +97,14 @@ among_last (x ∷ xs) m i h same = rw (ne_eqb x.item.number i h.0) (among_last x
 -- what is found has that number
 found_number : (made : List SentItem) (i : ℕ) (m : SentItem) → item_among made i ≡ Some m → m.item.number ≡ i
 found_number [] i m is = absurd (none-some m is)
-found_number (x ∷ made) i m is =
-    elim (eqb x.item.number i) as (λ b. eqb x.item.number i ≡ b → cond b (Some x) (item_among made i) ≡ Some m → m.item.number ≡ i) [
-      | true ↦ λ same at. ap (λ (y : SentItem). y.item.number) (sym (same_Some x m at)) ∙ eqb-true _ _ same
-      | false ↦ λ other at. found_number made i m at
-    ] refl is
+found_number (x ∷ made) i m is = grind (arith, found_number made i m)
 
 -- a new event changes no earlier item
 pub found_earlier : (roster : List Member) (e : Event) (past : Trace) (i : ℕ) → i ≤ length past → item_among (items roster (e ∷ past)) i ≡ item_among (items roster past) i
-found_earlier roster e past i l = among_other (items roster past) (option_to_list (item_of roster e past)) i (
-    elim (item_of roster e past) as (λ o. item_of roster e past ≡ o → AllByRecursion (λ m. m.item.number ≢ i) (option_to_list o)) [
-      | None ↦ λ is. tt
-      | Some m ↦ λ is. let number : m.item.number ≡ length past + 1 = (made_by roster e past m is).number in ((λ same. omega arith), tt)
-    ] refl)
+found_earlier roster e past i l = grind (arith, among_other (items roster past), made_by roster e past)
 
 found_newest : (roster : List Member) (e : Event) (past : Trace) (m : SentItem) → item_of roster e past ≡ Some m → item_among (items roster (e ∷ past)) (length past + 1) ≡ Some m
-found_newest roster e past m is = rw is (among_last (items roster past) m (length past + 1)
-    (all_more (λ x. x.item.number ≤ length past) (λ x. x.item.number ≢ length past + 1) (items roster past) (items_below roster past) (λ x l same. omega arith)) (made_by roster e past m is).number)
+found_newest roster e past m is = grind (arith, among_last (items roster past) m (length past + 1), all_more, items_below roster past, made_by roster e past m is)
 
 none_among : (made : List SentItem) (i : ℕ) → AllByRecursion (λ m. m.item.number ≢ i) made → item_among made i ≡ None
 none_among [] i h = refl
@@ -154,27 +141,14 @@ priority_newest roster e past m is = found_now (e ∷ past) (items roster (e ∷
 
 -- an earlier item, where the event sets nothing for its sender
 pub priority_earlier : (roster : List Member) (e : Event) (past : Trace) (i : ℕ) → i ≤ length past → SetsNone e past i → priority_of_item roster (e ∷ past) i ≡ priority_of_item roster past i
-priority_earlier roster e past i l none =
-    ap priority_of_made (among_now (e ∷ past) (items roster (e ∷ past)) i ∙ ap (option_map (λ (m : SentItem). record { item = now (e ∷ past) m.item; channel = m.channel })) (found_earlier roster e past i l))
-    ∙ stays (item_among (items roster past) i) refl
-    ∙ ap priority_of_made (sym (among_now past (items roster past) i))
-  where
-    stays : (o : Option SentItem) → item_among (items roster past) i ≡ o
-        → priority_of_made (option_map (λ (m : SentItem). record { item = now (e ∷ past) m.item; channel = m.channel }) o) ≡ priority_of_made (option_map (λ (m : SentItem). record { item = now past m.item; channel = m.channel }) o)
-    stays None is = refl
-    stays (Some m) is =
-        let number : m.item.number ≡ i = found_number (items roster past) i m is in
-        worth_stays e past m.item (let below : m.item.number ≤ length past = omega (arith, number, l) in below) (subst (SetsNone e past) (sym number) none)
+priority_earlier roster e past i l none = grind (arith, among_now (e ∷ past) (items roster (e ∷ past)) i, found_earlier roster e past i l, among_now past (items roster past) i, found_number (items roster past) i, worth_stays e past)
 
 -- the priority of an item before the event
 pub before_earlier : (roster : List Member) (e : Event) (past : Trace) (i : ℕ) → i ≤ length past → priority_before roster past e i ≡ priority_of_item roster past i
-before_earlier roster e past i l =
-    ap priority_of_made (among_now past (items roster (e ∷ past)) i ∙ ap (option_map (λ (m : SentItem). record { item = now past m.item; channel = m.channel })) (found_earlier roster e past i l) ∙ sym (among_now past (items roster past) i))
+before_earlier roster e past i l = grind (arith, among_now past (items roster (e ∷ past)) i, found_earlier roster e past i l, among_now past (items roster past) i)
 
 pub before_newest : (roster : List Member) (e : Event) (past : Trace) (m : SentItem) → item_of roster e past ≡ Some m → priority_before roster past e m.item.number ≡ m.item.priority
-before_newest roster e past m is =
-    let number : m.item.number ≡ length past + 1 = (made_by roster e past m is).number in
-    ap (priority_before roster past e) number ∙ found_now past (items roster (e ∷ past)) (length past + 1) m (found_newest roster e past m is) ∙ worth_beyond past m.item (omega (arith, number))
+before_newest roster e past m is = grind (arith, made_by roster e past m is, found_now past (items roster (e ∷ past)) (length past + 1) m (found_newest roster e past m is), found_newest roster e past m is, worth_beyond past m.item)
 
 -- ---- the items of a channel, and those that are pending
 

@@ -1,24 +1,16 @@
 -- What was made under a number and isn't ended since: channels and connections alike.
 use Rattle.qrules.proofs.Common.{◌≡◌, ℕ, zero, suc, ◌+◌, ◌≤◌, List, [], ◌∷◌, length, refl, ap, sym, subst, ◌∙◌, cond, arith, Bool, true, false, eqb, inl, inr, Effect, none-some, member_at, Member, Outcome, Event, Trace, Call, Completion, cond_same, eqb_same, effect_of, Option, None, Some, is_some, ◌||◌}
 use Rattle.std.proofs.lemmas.Bool.{eqb-true, eqb-false, ne_eqb, or_cases, true≢false}
-use Rattle.qrules.proofs.Basics.{count_to, facts_of, IsLawful, with_event, is_accepted, accepted_at, refuses, was_done, names, put_at, one_for, accepted, refused, made_beyond, made_below}
+use Rattle.qrules.proofs.Basics.{count_to, facts_of, IsLawful, with_event, accepted_at, refuses, was_done, names, put_at, one_for, accepted, refused, made_beyond, made_below}
 
 -- what is made has a number from 1 on
 pub made_above : {A : Type 0} (make : Event → Option A) (past : Trace) (i : ℕ) (x : A) → accepted_at make past i ≡ Some x → 1 ≤ i
 made_above make [] i x e = absurd (none-some x e)
-made_above {A} make (e ∷ past) i x is =
-    elim (eqb i (length past + 1)) as (λ b. eqb i (length past + 1) ≡ b → cond b (cond (is_accepted e past) (make e) None) (accepted_at make past i) ≡ Some x → 1 ≤ i) [
-      | true ↦ λ same at. let number : i ≡ length past + 1 = eqb-true _ _ same in omega arith
-      | false ↦ λ other at. made_above make past i x at
-    ] refl is
+made_above {A} make (e ∷ past) i x is = grind (arith, made_above make past i x)
 
 -- nothing stands at the number of the next event
 late : {A : Type 0} (make : Event → Option A) (past : Trace) (i : ℕ) → cond (eqb i (length past + 1)) None (accepted_at make past i) ≡ accepted_at make past i
-late make past i =
-    elim (eqb i (length past + 1)) as (λ b. eqb i (length past + 1) ≡ b → cond b None (accepted_at make past i) ≡ accepted_at make past i) [
-      | true ↦ λ e. let same : i ≡ length past + 1 = eqb-true _ _ e in sym (made_beyond make past i (omega arith))
-      | false ↦ λ e. refl
-    ] refl
+late make past i = grind (arith, made_beyond make past i)
 
 -- a refused call makes nothing
 pub made_refused : {A : Type 0} (make : Event → Option A) (e : Event) (past : Trace) (i : ℕ) → refuses e.endings (length past + 1) ≡ true → accepted_at make (e ∷ past) i ≡ accepted_at make past i
@@ -27,11 +19,7 @@ made_refused make e past i r = rw (r, late make past i) refl
 -- an accepted one makes what it makes, under its number
 pub made_accepted : {A : Type 0} (make : Event → Option A) (e : Event) (past : Trace) (i : ℕ) → refuses e.endings (length past + 1) ≡ false
     → accepted_at make (e ∷ past) i ≡ put_at (make e) (length past + 1) (accepted_at make past) i
-made_accepted {A} make e past i r = rw r (
-    elim (make e) as (λ (o : Option A). cond (eqb i (length past + 1)) o (accepted_at make past i) ≡ put_at o (length past + 1) (accepted_at make past) i) [
-      | None ↦ late make past i
-      | Some x ↦ refl
-    ])
+made_accepted {A} make e past i r = grind (arith, late make past i)
 
 -- ---- counts
 
@@ -103,15 +91,7 @@ module _ {A : Type 0} (roster : List Member) (make : Option Member → Call → 
     pub is_made : made past i ≡ Some it
 
   pub live_parts : (past : Trace) (i : ℕ) → is_some (live past i) ≡ true → IsLive past i
-  live_parts past i e =
-      elim (is_gone past i) as (λ b. is_gone past i ≡ b → is_some (cond b None (made past i)) ≡ true → IsLive past i) [
-        | true ↦ λ gone s. absurd (true≢false (sym s))
-        | false ↦ λ standing s.
-            elim (made past i) as (λ o. made past i ≡ o → is_some o ≡ true → IsLive past i) [
-              | None ↦ λ is none. absurd (true≢false (sym none))
-              | Some x ↦ λ is some. record { standing = standing; it = x; is_made = is }
-            ] refl s
-      ] refl e
+  live_parts past i e = grind arith
 
   -- nothing stands at the number of the next event
   live_beyond : (past : Trace) → live past (length past + 1) ≡ None

@@ -1,8 +1,8 @@
 -- The messages for which an unblock pulse was made: each of them was received before.
-use Rattle.qrules.proofs.Common.{◌≡◌, ℕ, ◌+◌, ◌≤◌, List, [], ◌∷◌, length, refl, ap, sym, subst, ◌∙◌, cond, arith, Bool, true, false, eqb, inl, inr, option_map, option_to_list, option_or, and-false, or-true, or-false, Receive, Send, number_of, same_Some, Member, SentItem, Event, Trace, unblocked_call, held_call, Call, OpenCall, eqb_same, Option, None, Some, is_some, ◌&&◌, ◌||◌}
+use Rattle.qrules.proofs.Common.{◌≡◌, ℕ, ◌+◌, ◌≤◌, List, [], ◌∷◌, length, refl, ap, sym, subst, ◌∙◌, cond, arith, Bool, true, false, eqb, inl, inr, option_to_list, and-false, or-false, Send, number_of, same_Some, Member, SentItem, Event, Trace, unblocked_call, held_call, Call, OpenCall, eqb_same, Option, None, Some, is_some, ◌&&◌, ◌||◌}
 use Rattle.std.proofs.lemmas.Bool.{cases_Bool, eqb-true, ne_eqb, true≢false, or_cases}
 use Rattle.std.proofs.lemmas.List.Folds.{list_any-append}
-use Rattle.qrules.proofs.Basics.{makes, unblocks, facts_of, is_received, is_unblock_for, item_of, items, open_call, copied_count_among, copied_count_of, unblocked_among, with_receipt, after_unblock, call_laws, open_receipt, open_below, open_thread, is_unblocked, item_accepted, unblocked_among_now}
+use Rattle.qrules.proofs.Basics.{makes, unblocks, facts_of, is_received, is_unblock_for, item_of, items, open_call, copied_count_of, unblocked_among, with_receipt, after_unblock, call_laws, open_receipt, open_below, open_thread, is_unblocked, item_accepted, unblocked_among_now}
 
 -- ---- what is unblocked
 
@@ -41,10 +41,7 @@ unblocked_by roster e past i =
 
 -- what was received stays so
 received_stays : (e : Event) (past : Trace) (i : ℕ) → WasReceived past i → WasReceived (e ∷ past) i
-received_stays e past i k = let below : i ≤ length past = k.below in record { below = omega arith; taken = later (copied_count_among e.endings i) } where
-  later : (o : Option ℕ) → is_some (option_or o (copied_count_of past i)) ≡ true
-  later None = k.taken
-  later (Some r) = refl
+received_stays e past i k = grind arith
 
 pub unblocked_received : (roster : List Member) (past : Trace) (i : ℕ) → is_unblocked roster past i ≡ true → WasReceived past i
 unblocked_received roster [] i is = absurd (true≢false (sym is))
@@ -59,24 +56,15 @@ unblocked_received roster (e ∷ past) i is = elim (or_cases _ _ (sym (unblocked
 
 -- what isn't received has no unblock pulse
 pub none_unblocked : (roster : List Member) (past : Trace) (i : ℕ) → copied_count_of past i ≡ None → is_unblocked roster past i ≡ false
-none_unblocked roster past i none = elim (cases_Bool (is_unblocked roster past i)) [
-  | inl is ↦ absurd (true≢false (sym (unblocked_received roster past i is).taken ∙ ap is_some none))
-  | inr isnt ↦ isnt
-]
+none_unblocked roster past i none = grind (arith, unblocked_received roster past i)
 
 -- nor has a message to come
 pub unblocked_beyond : (roster : List Member) (past : Trace) (i : ℕ) → length past + 1 ≤ i → is_unblocked roster past i ≡ false
-unblocked_beyond roster past i above = elim (cases_Bool (is_unblocked roster past i)) [
-  | inl is ↦ let below : i ≤ length past = (unblocked_received roster past i is).below in absurd (omega arith)
-  | inr isnt ↦ isnt
-]
+unblocked_beyond roster past i above = grind (arith, unblocked_received roster past i)
 
 -- and so has the call that makes the item
 pub fresh_unblocked : (roster : List Member) (past : Trace) (t : ℕ) (c : Call) → unblocked_among (option_to_list (makes (facts_of roster past) t c)) (length past + 1) ≡ false
-fresh_unblocked roster past t c = elim (cases_Bool (unblocked_among (option_to_list (makes (facts_of roster past) t c)) (length past + 1))) [
-  | inl is ↦ let below : length past + 1 ≤ length past = (unblocked_now roster past t c (length past + 1) is).below in absurd (omega arith)
-  | inr isnt ↦ isnt
-]
+fresh_unblocked roster past t c = grind (arith, unblocked_now roster past t c (length past + 1))
 
 -- ---- an open call after an event
 
@@ -108,21 +96,13 @@ marks_it roster past t c u o is =
 
 unblocked_held : (priority copied : ℕ) (unblocked : Bool) (o : OpenCall)
     → held_call (record { priority = priority; copied = copied; unblocked = true }) o ≡ unblocked_call (held_call (record { priority = priority; copied = copied; unblocked = unblocked }) o)
-unblocked_held priority copied unblocked (Send s) = refl
-unblocked_held priority copied unblocked (Receive r) = refl
+unblocked_held priority copied unblocked o = grind arith
 
 -- what is kept of a received message with what the event makes
 marked : (unblocked x : Bool) (priority : ℕ) (r : Option ℕ) (o : OpenCall) → (x ≡ true → is_some r ≡ true)
     → with_receipt priority (unblocked || x) r o ≡ cond x (unblocked_call (with_receipt priority unblocked r o)) (with_receipt priority unblocked r o)
-marked unblocked false priority r o h = ap (λ b. with_receipt priority b r o) (or-false unblocked)
-marked unblocked true priority None o h = absurd (true≢false (sym (h refl)))
-marked unblocked true priority (Some copied) o h =
-    ap (λ b. with_receipt priority b (Some copied) o) (or-true unblocked) ∙ unblocked_held priority copied unblocked o
+marked unblocked x priority r o h = grind arith
 
 pub unblocked_after : (m : Option SentItem) (w : Option ℕ) (u : ℕ) (unblocked x : Bool) (priority : ℕ) (r : Option ℕ) (o : OpenCall) → x ≡ marks m w u → (x ≡ true → is_some r ≡ true)
     → Some (with_receipt priority (unblocked || x) r o) ≡ after_unblock m w u (Some (with_receipt priority unblocked r o))
-unblocked_after m None u unblocked x priority r o is h = ap Some (marked unblocked x priority r o h ∙ ap (λ b. cond b (unblocked_call (with_receipt priority unblocked r o)) (with_receipt priority unblocked r o)) is)
-unblocked_after m (Some v) u unblocked x priority r o is h =
-    ap Some (marked unblocked x priority r o h ∙ ap (λ b. cond b (unblocked_call (with_receipt priority unblocked r o)) (with_receipt priority unblocked r o)) is) ∙ (
-    elim (eqb u v && is_some m) as (λ b. Some (cond b (unblocked_call (with_receipt priority unblocked r o)) (with_receipt priority unblocked r o))
-    ≡ cond b (option_map unblocked_call (Some (with_receipt priority unblocked r o))) (Some (with_receipt priority unblocked r o))) [ true ↦ refl | false ↦ refl ])
+unblocked_after m w u unblocked x priority r o is h = grind arith
