@@ -1,10 +1,10 @@
 -- The items that were made: one of each number, with its channel and priority.
-use Rattle.qrules.proofs.Common.{◌≡◌, ◌≢◌, ℕ, ◌+◌, ◌≤◌, List, [], ◌∷◌, ◌++◌, map, length, refl, ap, sym, subst, ◌∙◌, cond, arith, true, false, eqb, append-nil, option_map, option_to_list, eqb_same, all_append, all_map, all_more, all_passing, number_of, AllByRecursion, same_Some, none-some, Item, is_pulse, Member, call_at, SentItem, Event, Trace, Call, OpenCall, Option, None, Some, not, filter}
-use Rattle.std.proofs.lemmas.Bool.{eqb-true, eq-eqb, ne_eqb, not-true}
+use Rattle.qrules.proofs.Common.{◌≡◌, ◌≢◌, ℕ, ◌+◌, ◌≤◌, List, [], ◌∷◌, ◌++◌, map, length, refl, ap, sym, subst, ◌∙◌, cond, arith, true, false, eqb, append-nil, option_map, option_to_list, eqb_same, all_append, all_map, all_more, all_passing, number_of, AllByRecursion, none-some, Item, is_pulse, Member, call_at, SentItem, Event, Trace, Call, OpenCall, Option, None, Some, not, filter}
+use Rattle.std.proofs.lemmas.Bool.{eqb-true, eq-eqb, ne_eqb}
 use Rattle.qrules.proofs.Words.Facts.{is_for_answer}
 use Rattle.qrules.proofs.Words.Lawful.{facts_of}
 use Rattle.qrules.proofs.Words.Past.{items_by_now, is_accepted, item_of, items, item_among, priority_before, priority_of_made, priority_of_item, is_destroyed, is_gone, pending_items, current_priority, block}
-use Rattle.qrules.proofs.Words.Effects.{asks, makes}
+use Rattle.qrules.proofs.Words.Effects.{makes}
 use Rattle.qrules.proofs.Traces.Past.Laws.{MakesItem}
 use Rattle.qrules.proofs.Traces.Calls.{call_laws}
 use Rattle.qrules.proofs.Traces.Past.Numbers.{call_below, call_earlier, call_newest, block_asked}
@@ -52,17 +52,11 @@ item_below roster past i m is = let k = item_made roster past i m is in call_bel
 
 -- whoever waits under the number of an item waits for an answer
 pub item_answer : (roster : List Member) (past : Trace) (u : ℕ) (m : SentItem) (b : OpenCall) → item_at roster past (number_of b) ≡ Some m → block roster past u ≡ Some b → is_for_answer b ≡ true
-item_answer roster past u m b at is =
-    let k = item_made roster past (number_of b) m at in
-    let a = block_asked roster past u b is in
-    k.makes_it.waits u a.channel b (subst (λ c. asks (number_of b) u a.channel c ≡ Some b) (same_Some a.call k.call (sym a.is ∙ k.is)) a.asks_it)
+item_answer roster past u m b at is = grind (arith, item_made roster past (number_of b) m at, block_asked roster past u b is)
 
 -- and the item is a message
 pub item_message : (roster : List Member) (past : Trace) (u : ℕ) (m : SentItem) (b : OpenCall) → item_at roster past (number_of b) ≡ Some m → block roster past u ≡ Some b → is_pulse m.item.what ≡ false
-item_message roster past u m b at is =
-    let k = item_made roster past (number_of b) m at in
-    let a = block_asked roster past u b is in
-    k.makes_it.message u a.channel b (subst (λ c. asks (number_of b) u a.channel c ≡ Some b) (same_Some a.call k.call (sym a.is ∙ k.is)) a.asks_it)
+item_message roster past u m b at is = grind (arith, item_made roster past (number_of b) m at, block_asked roster past u b is)
 
 -- ---- all items
 
@@ -120,11 +114,7 @@ found_there roster e past = elim (item_of roster e past) as (λ o. item_of roste
 
 pub item_found : (roster : List Member) (past : Trace) (i : ℕ) (m : SentItem) → item_at roster past i ≡ Some m → item_among (items roster past) i ≡ Some m
 item_found roster [] i m is = absurd (none-some m is)
-item_found roster (e ∷ past) i m is =
-    elim (eqb i (length past + 1)) as (λ b. eqb i (length past + 1) ≡ b → cond b (item_of roster e past) (item_at roster past i) ≡ Some m → item_among (items roster (e ∷ past)) i ≡ Some m) [
-      | true ↦ λ same at. subst (λ k. item_among (items roster (e ∷ past)) k ≡ Some m) (sym (eqb-true _ _ same)) (found_newest roster e past m at)
-      | false ↦ λ other at. found_earlier roster e past i (item_below roster past i m at) ∙ item_found roster past i m at
-    ] refl is
+item_found roster (e ∷ past) i m is = grind (arith, found_newest roster e past m, found_earlier roster e past i, item_below roster past i m, item_found roster past i m)
 
 -- ---- priorities
 
@@ -187,19 +177,11 @@ pub standing_is : (roster : List Member) (past : Trace) (h : ℕ) (item : Item) 
 standing_is roster past h item at stays = record { first = item; made = at; what = refl; stays = stays }
 
 pub staying_all : (roster : List Member) (past : Trace) (h : ℕ) → AllByRecursion (λ item. Stands roster past h item × (is_gone past item ≡ false)) (staying roster past h)
-staying_all roster past h =
-    all_more (λ item. Stands roster past h item × (not (is_gone past item) ≡ true)) (λ item. Stands roster past h item × (is_gone past item ≡ false)) (staying roster past h)
-    (all_passing (Stands roster past h) (λ item. not (is_gone past item)) (items_on roster past h) (stands_all roster past h))
-    (λ item k. (k.0, not-true (is_gone past item) k.1))
+staying_all roster past h = grind (arith, all_more, all_passing (Stands roster past h), stands_all roster past h)
 
 -- what is so of each as it is by now is so of all that is pending
 pub pending_each : (P : Item → Type 0) (roster : List Member) (past : Trace) (h : ℕ) → ((item : Item) → Stands roster past h item → is_gone past item ≡ false → P (now past item)) → AllByRecursion P (pending_items roster past h)
-pending_each P roster past h each =
-    subst (AllByRecursion P) (sym (pending_is roster past h)) (
-    elim (is_destroyed past h) as (λ b. AllByRecursion P (cond b [] (map (now past) (staying roster past h)))) [
-      | true ↦ tt
-      | false ↦ all_map P (now past) (staying roster past h) (all_more (λ item. Stands roster past h item × (is_gone past item ≡ false)) (λ item. P (now past item)) (staying roster past h) (staying_all roster past h) (λ item k. each item k.0 k.1))
-    ])
+pending_each P roster past h each = grind (arith, pending_is roster past h, all_map P (now past) (staying roster past h), all_more, staying_all roster past h)
 
 pub pending_all : (roster : List Member) (past : Trace) (h : ℕ) → AllByRecursion (IsPending roster past h) (pending_items roster past h)
 pending_all roster past h = pending_each (IsPending roster past h) roster past h (λ item at stays. record { first = item; made = at; what = refl; stays = stays })

@@ -47,13 +47,7 @@ count_less {A} p q (suc n) h above below there less =
 
 -- one more is counted at the end
 count_put : {A : Type 0} (p q : ℕ → Option A) (o : Option A) (n : ℕ) → q (n + 1) ≡ None → ((k : ℕ) → k ≤ n + 1 → p k ≡ put_at o (n + 1) q k) → count_to p (suc n) ≡ count_to q n + one_for o
-count_put {A} p q None n none put =
-    let top : p (n + 1) ≡ None = put (n + 1) (omega arith) ∙ none in
-    rw (top, count_same p q n (λ k l. put k (omega arith))) (omega arith)
-count_put {A} p q (Some x) n none put =
-    let top : p (n + 1) ≡ Some x = put (n + 1) (omega arith) ∙ ap (λ b. cond b (Some x) (q (n + 1))) (eqb_same (n + 1)) in
-    let rest : count_to p n ≡ count_to q n = count_same p q n (λ k l. let other : eqb k (n + 1) ≡ false = ne_eqb k (n + 1) (λ s. omega arith) in put k (omega arith) ∙ ap (λ b. cond b (Some x) (q k)) other) in
-    rw (top, rest) (omega arith)
+count_put {A} p q o n none put = grind (arith, count_same p q n)
 
 -- nothing is counted at the end
 count_over : {A : Type 0} (p : ℕ → Option A) (n : ℕ) → p (n + 1) ≡ None → count_to p (suc n) ≡ count_to p n
@@ -102,8 +96,7 @@ module _ {A : Type 0} (roster : List Member) (make : Option Member → Call → 
       ap (λ b. cond b None (made (e ∷ past) i)) (gone_refused e past i r) ∙ ap (cond (is_gone past i) None) (made_refused (λ e. make (member_at roster e.thread) e.call) e past i r)
 
   pub count_live_refused : (e : Event) (past : Trace) → refuses e.endings (length past + 1) ≡ true → count_to (live (e ∷ past)) (length (e ∷ past)) ≡ count_to (live past) (length past)
-  count_live_refused e past r =
-      rw (live_refused e past (length past + 1) r ∙ live_beyond past, count_same (live (e ∷ past)) (live past) (length past) (λ k l. live_refused e past k r)) (omega arith)
+  count_live_refused e past r = grind (arith, live_refused e past (length past + 1) r, live_beyond past, count_same (live (e ∷ past)) (live past) (length past), live_refused e past)
 
   -- an accepted call ends what is live, and then makes nothing
   module _ (ends_live : (past : Trace) (t : ℕ) (c : Call) (X : List Completion) → Outcome true (facts_of roster past) t c X → (i : ℕ) → names (ends (effect_of c)) i ≡ true → is_some (live past i) ≡ true)
@@ -141,12 +134,7 @@ module _ {A : Type 0} (roster : List Member) (make : Option Member → Call → 
     live_accepted past t c X i l a =
         let e : Event = record { thread = t; call = c; endings = X } in
         let r : refuses X (length past + 1) ≡ false = accepted roster past t c X a in
-        ap (λ b. cond b None (made (e ∷ past) i)) (gone_accepted e past i r)
-        ∙ ap (cond (names (ends (effect_of c)) i || is_gone past i) None) (made_accepted (λ e. make (member_at roster e.thread) e.call) e past i r)
-        ∙ (elim (names (ends (effect_of c)) i) as (λ d. cond (d || is_gone past i) None (put_at (make (member_at roster t) c) (length past + 1) (made past) i) ≡ cond d None (put_at (make (member_at roster t) c) (length past + 1) (live past) i)) [
-          | true ↦ refl
-          | false ↦ unended past i l (make (member_at roster t) c)
-        ])
+        grind (arith, gone_accepted e past i r, made_accepted (λ e. make (member_at roster e.thread) e.call) e past i r, unended past i l (make (member_at roster t) c))
 
     pub count_live_accepted : (past : Trace) (t : ℕ) (c : Call) (X : List Completion) → IsLawful roster past → Outcome true (facts_of roster past) t c X
         → count_to (live (with_event t c X past)) (length (with_event t c X past)) + one_for (ends (effect_of c)) ≡ count_to (live past) (length past) + one_for (make (member_at roster t) c)

@@ -1,7 +1,7 @@
 -- The open call of a thread: its newest blocking call, unless that is ended.
-use Rattle.qrules.proofs.Common.{◌≡◌, ℕ, ◌+◌, ◌≤◌, List, [], ◌∷◌, length, refl, ap, sym, ◌∙◌, arith, Bool, false, option_map, Receive, Send, thread_of, number_of, Member, Trace, SentItem, OpenCall, Receipt, with_buffer, held_call, channel_of, item_among, is_on, Option, None, Some, is_some, not}
+use Rattle.qrules.proofs.Common.{◌≡◌, ℕ, ◌≤◌, List, [], ◌∷◌, length, refl, ap, sym, ◌∙◌, arith, Bool, false, option_map, Receive, Send, thread_of, number_of, Member, Trace, SentItem, OpenCall, Receipt, with_buffer, held_call, channel_of, item_among, is_on, Option, None, Some, is_some, not}
 use Rattle.qmodel.specs.declared.open_call.OpenSend.{OpenSend}
-use Rattle.qrules.proofs.Words.Past.{is_received, items_by_now, call_by_now, is_ended, newest_block, unless_ended, open_call, copied_count_of, priority_of_item, unblocked_among, items, block, with_receipt, filled, item_of}
+use Rattle.qrules.proofs.Words.Past.{is_received, items_by_now, call_by_now, is_ended, newest_block, unless_ended, open_call, copied_count_of, priority_of_item, unblocked_among, items, block, with_receipt, filled}
 use Rattle.qrules.proofs.Traces.Past.Laws.{is_settled}
 use Rattle.qrules.proofs.Traces.Calls.{call_laws}
 use Rattle.qrules.proofs.Traces.Past.Numbers.{block_asked, block_below, block_fresh, block_thread}
@@ -80,10 +80,7 @@ channel_by_now past made n = ap channel_of (among_now past made n) ∙ (elim (it
 -- the search in the past finds it by the channels of the items
 newest_is : (roster : List Member) (made : List SentItem) (past : Trace) (u : ℕ) → ((n : ℕ) → n ≤ length past → channel_of (item_among made n) ≡ channel_of (item_among (items roster past) n)) → newest_block made past u ≡ block roster past u
 newest_is roster made [] u same = refl
-newest_is roster made (e ∷ past) u same =
-    let n = length past + 1 in
-    let here : channel_of (item_among made n) ≡ channel_of (item_of roster e past) = same n (omega arith) ∙ ap channel_of (found_there roster e past) in
-    rw (here, newest_is roster made past u (λ k l. same k (omega arith) ∙ ap channel_of (found_earlier roster e past k l))) refl
+newest_is roster made (e ∷ past) u same = grind (arith, found_there roster e past, found_earlier roster e past, newest_is roster made past u)
 
 pub open_is : (roster : List Member) (past : Trace) (u : ℕ) → open_call roster past u ≡ option_map (kept roster past) (unless_ended past (block roster past u))
 open_is roster past u = grind (arith, newest_is roster (items_by_now past (items roster past)) past u, channel_by_now past (items roster past), now_kept roster past, block_fresh roster past u)

@@ -1,8 +1,8 @@
 -- What is pending after one more event.
-use Rattle.qrules.proofs.Common.{◌≡◌, ℕ, ◌+◌, ◌≤◌, List, [], ◌∷◌, ◌++◌, map, length, refl, ap, sym, subst, ◌∙◌, cond, arith, Bool, true, false, eqb, inl, inr, filter-append, eqb_either, none_of, all_append, all_filter, all_more, filter_same, filter_twice, filter_all, filter_whole, any_never, AllByRecursion, option_to_list, option_or, same_Some, is_pulse, with_priority, Item, member_at, Member, Outcome, row_of, SentItem, Event, Trace, is_unread_send, Call, Completion, Option, None, Some, is_some, not, ◌&&◌, ◌||◌, filter}
-use Rattle.std.proofs.lemmas.Bool.{eqb-false, ne_eqb, or_parts}
+use Rattle.qrules.proofs.Common.{◌≡◌, ℕ, ◌+◌, ◌≤◌, List, [], ◌∷◌, ◌++◌, map, length, refl, ap, sym, ◌∙◌, cond, arith, Bool, true, false, eqb, inl, inr, filter-append, eqb_either, all_append, all_filter, all_more, filter_same, filter_twice, filter_all, filter_whole, any_never, AllByRecursion, option_to_list, option_or, same_Some, is_pulse, with_priority, Item, member_at, Member, Outcome, row_of, SentItem, Event, Trace, is_unread_send, Call, Completion, Option, None, Some, is_some, not, ◌&&◌, ◌||◌, filter}
+use Rattle.std.proofs.lemmas.Bool.{eqb-false, ne_eqb}
 use Rattle.std.proofs.lemmas.List.{map-append, append-nil}
-use Rattle.qrules.proofs.Basics.{receipt_of, Received, names, facts_of, IsLawful, with_event, has_completion_of, is_destroyed, is_ended, is_received, is_gone, items, item_of, pending_items, copied_count_of, open_call, made_on, closes, makes, sets, is_cancelled, uncancelled_items, items_with_priority_set, unreceived_items, pending_after, IsReceived, call_laws, laws_of, accepted, refused, refused_ends, ended_below, ends_own, IsPending, Stands, items_on, pending_is, stands_all, standing_is, staying, staying_all, item_at, item_below, now, refused_sets_none, worth_newest, worth_stays, open_below, threads_of, number_of}
+use Rattle.qrules.proofs.Basics.{receipt_of, Received, facts_of, IsLawful, with_event, is_destroyed, is_ended, is_gone, items, item_of, pending_items, copied_count_of, open_call, made_on, makes, sets, is_cancelled, uncancelled_items, items_with_priority_set, unreceived_items, pending_after, IsReceived, call_laws, laws_of, accepted, refused, refused_ends, ended_below, ends_own, IsPending, Stands, items_on, pending_is, stands_all, standing_is, staying, staying_all, item_at, item_below, now, refused_sets_none, worth_newest, worth_stays, open_below, threads_of, number_of}
 use Rattle.qrules.proofs.Traces.Past.Channels.{closed_accepted, closed_refused}
 use Rattle.qrules.proofs.Traces.Past.Cancels.{ended_is_cancelled}
 use Rattle.qrules.proofs.Traces.Past.Moves.{left_map, moved_append, moved_left, moved_made, moved_nothing, moved_now, moved_out, out_map, same_now}
@@ -81,13 +81,7 @@ pending_old roster past t c X h l member a =
     let both = λ (item : Item). not (is_gone past item) && (not (is_cancelled (facts_of roster past) t c h item.number) && leaves (receipt_of (facts_of roster past) t c) item) in
     filter_same stays both (items_on roster past h) (
     all_more (Stands roster past h) (λ item. stays item ≡ both item) (items_on roster past h) (stands_all roster past h) (λ item at.
-    elim (is_gone past item) as (λ b. is_gone past item ≡ b → stays item ≡ (not b && (goes_on item && leaves (receipt_of (facts_of roster past) t c) item))) [
-      | true ↦ λ e. ap not (stays_gone past t c X item e)
-      | false ↦ λ e.
-          let p = or_parts (is_received past item.number) (not (is_pulse item.what) && is_ended past item.number) e in
-          gone_now roster past t c X item (is_cancelled f t c h item.number) l member a (none_of (copied_count_of past item.number) p.0)
-          (ended_is_cancelled roster past t c X h item l a (standing_is roster past h item at e))
-    ] refl))
+    grind (arith, stays_gone past t c X item, gone_now roster past t c X item (is_cancelled f t c h item.number) l member a, ended_is_cancelled roster past t c X h item l a, standing_is roster past h item at)))
     ∙ sym (filter_twice (λ item. not (is_gone past item)) stays_on (items_on roster past h))
     ∙ sym (filter_twice goes_on (leaves (receipt_of (facts_of roster past) t c)) (staying roster past h))
 
@@ -103,13 +97,7 @@ pending_new roster past t c X h l member a =
     made_all (λ item. stays item ≡ left item) h (makes f t c) (λ m is on.
     let number : m.item.number ≡ length past + 1 = ((call_laws c).makes_one f t m is).number in
     gone_now roster past t c X m.item false l member a (receipt_beyond roster past m.item.number l (omega arith)) (
-    elim (is_pulse m.item.what) as (λ b. is_pulse m.item.what ≡ b → (not b && (has_completion_of X m.item.number || is_ended past m.item.number)) ≡ false) [
-      | true ↦ λ pulse. refl
-      | false ↦ λ message.
-          let own : has_completion_of X (length past + 1) ≡ false = ends_own roster past t c X member a ∙ ap is_some ((laws_of f t c X a).sends m is message) in
-          let ended : has_completion_of X m.item.number ≡ false = subst (λ i. has_completion_of X i ≡ false) (sym number) own in
-          rw (ended, ended_below roster past m.item.number l (omega arith)) refl
-    ] refl)))
+    grind (arith, ends_own roster past t c X member a, (laws_of f t c X a).sends m is, ended_below roster past m.item.number l))))
 
 -- ---- the receipt takes its item out of its channel
 
@@ -226,21 +214,5 @@ pub pending_accepted : (roster : List Member) (past : Trace) (t : ℕ) (c : Call
     → pending_items roster (with_event t c X past) h ≡ pending_after (facts_of roster past) t c h
 pending_accepted roster past t c X h l member a =
     let f = facts_of roster past in
-    let e : Event = record { thread = t; call = c; endings = X } in
-    let R = row_of (facts_of roster past) t c in
-    let M = made_on h (makes f t c) in
-    let S = map (now past) (staying roster past h) in
-    let after = λ (items : List Item). items_with_priority_set f h (sets c) (unreceived_items (receipt_of (facts_of roster past) t c) h (uncancelled_items f t c h (items ++ M))) in
-    pending_is roster (e ∷ past) h
-    ∙ ap (λ b. cond b [] (map (now (e ∷ past)) (staying roster (e ∷ past) h))) (closed_accepted roster e past h (accepted roster past t c X a)) ∙ (
-    elim (names (closes c) h) as (λ d. cond (d || is_destroyed past h) [] (map (now (e ∷ past)) (staying roster (e ∷ past) h)) ≡ cond d [] (after (cond (is_destroyed past h) [] S))) [
-      | true ↦ refl
-      | false ↦
-          elim (is_destroyed past h) as (λ b. is_destroyed past h ≡ b → cond b [] (map (now (e ∷ past)) (staying roster (e ∷ past) h)) ≡ after (cond b [] S)) [
-            | true ↦ λ closed. sym (
-                ap (λ l. items_with_priority_set f h (sets c) (unreceived_items (receipt_of (facts_of roster past) t c) h (uncancelled_items f t c h l))) (closed_makes roster past t c X h a closed)
-                ∙ ap (items_with_priority_set f h (sets c)) (none_out (receipt_of (facts_of roster past) t c) h) ∙ moved_nothing f h (sets c))
-            | false ↦ λ standing. now_accepted roster past t c X h l member a
-          ] refl
-    ])
-    ∙ ap (λ l. cond (names (closes c) h) [] (after l)) (sym (pending_is roster past h))
+    let closed = closed_accepted roster (record { thread = t; call = c; endings = X }) past h (accepted roster past t c X a) in
+    grind (arith, pending_is roster past h, pending_is roster (with_event t c X past) h, closed, closed_makes roster past t c X h a, none_out (receipt_of f t c) h, moved_nothing f h (sets c), now_accepted roster past t c X h l member a)
