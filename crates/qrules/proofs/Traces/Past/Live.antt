@@ -16,11 +16,6 @@ late make past i = grind (arith, made_beyond make past i)
 pub made_refused : {A : Type 0} (make : Event → Option A) (e : Event) (past : Trace) (i : ℕ) → refuses e.endings (length past + 1) ≡ true → accepted_at make (e ∷ past) i ≡ accepted_at make past i
 made_refused make e past i r = rw (r, late make past i) refl
 
--- an accepted one makes what it makes, under its number
-pub made_accepted : {A : Type 0} (make : Event → Option A) (e : Event) (past : Trace) (i : ℕ) → refuses e.endings (length past + 1) ≡ false
-    → accepted_at make (e ∷ past) i ≡ put_at (make e) (length past + 1) (accepted_at make past) i
-made_accepted {A} make e past i r = grind (arith, late make past i)
-
 -- ---- counts
 
 pub count_same : {A : Type 0} (p q : ℕ → Option A) (n : ℕ) → ((k : ℕ) → k ≤ n → p k ≡ q k) → count_to p n ≡ count_to q n
@@ -134,7 +129,7 @@ module _ {A : Type 0} (roster : List Member) (make : Option Member → Call → 
     live_accepted past t c X i l a =
         let e : Event = record { thread = t; call = c; endings = X } in
         let r : refuses X (length past + 1) ≡ false = accepted roster past t c X a in
-        grind (arith, gone_accepted e past i r, made_accepted (λ e. make (member_at roster e.thread) e.call) e past i r, unended past i l (make (member_at roster t) c))
+        grind (arith, gone_accepted e past i r, late, unended past i l (make (member_at roster t) c))
 
     pub count_live_accepted : (past : Trace) (t : ℕ) (c : Call) (X : List Completion) → IsLawful roster past → Outcome true (facts_of roster past) t c X
         → count_to (live (with_event t c X past)) (length (with_event t c X past)) + one_for (ends (effect_of c)) ≡ count_to (live past) (length past) + one_for (make (member_at roster t) c)

@@ -1,5 +1,5 @@
 -- The open calls after one more event.
-use Rattle.qrules.proofs.Common.{◌≡◌, ◌≢◌, ℕ, ◌+◌, ◌≤◌, List, ◌∷◌, length, refl, ap, sym, subst, ◌∙◌, cond, arith, Bool, true, false, eqb, ◌⊎◌, inl, inr, option_map, option_to_list, option_or, and-false, or-true, or-false, none-some, same_Some, is_pulse, Item, member_at, Member, Outcome, row_of, SentItem, Event, Trace, is_thread, Call, Completion, OpenCall, eqb_same, none_of, Transfer, channel_of, Option, None, Some, is_some, not, ◌||◌}
+use Rattle.qrules.proofs.Common.{◌≡◌, ◌≢◌, ℕ, ◌+◌, ◌≤◌, List, ◌∷◌, length, refl, ap, sym, subst, ◌∙◌, cond, arith, Bool, true, false, eqb, ◌⊎◌, inl, inr, option_map, option_to_list, option_or, and-false, or-true, or-false, none-some, same_Some, is_pulse, Item, member_at, Member, Outcome, row_of, SentItem, Event, Trace, is_thread, Call, Completion, OpenCall, eqb_same, none_of, channel_of, Option, None, Some, is_some, not, ◌||◌}
 use Rattle.std.proofs.lemmas.Bool.{cases_Bool, eqb-true, eqb-false, eq-eqb, ne_eqb, or_parts, true≢false}
 use Rattle.qrules.proofs.Basics.{receipt_of, sender_for, Received, buffer_after_write, Facts, sender, threads_of, number_of, facts_of, IsLawful, with_event, refuses, has_completion_of, is_ended, is_received, item_of, copied_count_of, priority_of_item, unless_ended, open_call, unblocked_among, block, with_receipt, filled, asks, makes, unblocks, writes, after_receipt, after_unblock, after_write, unless, open_call_after, sets_alone, IsReceived, call_laws, block_below, filled_answer, open_from, open_thread, receipt_for_answer, is_unblocked, kept, kept_number, open_is, laws_of, passes_of, accepted, refused, refused_ends, ended_below, ends_other, ends_own, block_known, item_at, item_answer, item_message, item_below, priority_earlier, priority_newest, send_parts, send_from, sender_sends, sender_found, refused_sets_none, sets_none, taken_sets_none, known}
 use Rattle.qrules.proofs.Traces.Past.Receipts.{copied_by, accepted_receipts, refused_receipts, best_pending, best_priority, receipt_beyond}
@@ -161,9 +161,6 @@ unless_none b = grind arith
 
 after_none : (r : Option Received) (u : ℕ) → after_receipt r u None ≡ None
 after_none r u = grind arith
-
-write_none : (f : Facts) (w : Option Transfer) (u : ℕ) → after_write f w u None ≡ None
-write_none f w u = grind arith
 
 pub unblock_none : (m : Option SentItem) (w : Option ℕ) (u : ℕ) → after_unblock m w u None ≡ None
 unblock_none m w u = grind arith

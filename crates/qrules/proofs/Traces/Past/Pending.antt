@@ -1,5 +1,5 @@
 -- What is pending after one more event.
-use Rattle.qrules.proofs.Common.{◌≡◌, ℕ, ◌+◌, ◌≤◌, List, [], ◌∷◌, ◌++◌, map, length, refl, ap, sym, ◌∙◌, cond, arith, Bool, true, false, eqb, inl, inr, filter-append, eqb_either, all_append, all_filter, all_more, filter_same, filter_twice, filter_all, filter_whole, any_never, AllByRecursion, option_to_list, option_or, same_Some, is_pulse, with_priority, Item, member_at, Member, Outcome, row_of, SentItem, Event, Trace, is_unread_send, Call, Completion, Option, None, Some, is_some, not, ◌&&◌, ◌||◌, filter}
+use Rattle.qrules.proofs.Common.{◌≡◌, ℕ, ◌+◌, ◌≤◌, List, [], ◌∷◌, ◌++◌, map, length, refl, ap, sym, ◌∙◌, cond, arith, Bool, true, false, eqb, inl, inr, filter-append, eqb_either, all_append, all_filter, all_more, filter_same, filter_twice, filter_all, filter_whole, any_never, AllByRecursion, option_to_list, same_Some, is_pulse, with_priority, Item, member_at, Member, Outcome, row_of, SentItem, Event, Trace, is_unread_send, Call, Completion, Option, None, Some, is_some, not, ◌&&◌, ◌||◌, filter}
 use Rattle.std.proofs.lemmas.Bool.{eqb-false, ne_eqb}
 use Rattle.std.proofs.lemmas.List.{map-append, append-nil}
 use Rattle.qrules.proofs.Basics.{receipt_of, Received, facts_of, IsLawful, with_event, is_destroyed, is_ended, is_gone, items, item_of, pending_items, copied_count_of, open_call, made_on, makes, sets, is_cancelled, uncancelled_items, items_with_priority_set, unreceived_items, pending_after, IsReceived, call_laws, laws_of, accepted, refused, refused_ends, ended_below, ends_own, IsPending, Stands, items_on, pending_is, stands_all, standing_is, staying, staying_all, item_at, item_below, now, refused_sets_none, worth_newest, worth_stays, open_below, threads_of, number_of}
@@ -53,9 +53,6 @@ pending_refused roster past t c X h a =
 abbrev leaves : Option Received → Item → Bool
 leaves o item = not (is_some (copied_by o item.number))
 
-taken_now : (x : Option ℕ) (y : Option ℕ) → y ≡ None → is_some (option_or x y) ≡ is_some x
-taken_now x y e = grind arith
-
 neither : (a b : Bool) → not (a || b) ≡ (not b && not a)
 neither a b = grind arith
 
@@ -63,7 +60,7 @@ neither a b = grind arith
 gone_now : (roster : List Member) (past : Trace) (t : ℕ) (c : Call) (X : List Completion) (item : Item) (cancel : Bool) → IsLawful roster past → is_some (member_at roster t) ≡ true → Outcome true (facts_of roster past) t c X
     → copied_count_of past item.number ≡ None → (not (is_pulse item.what) && is_ended (with_event t c X past) item.number) ≡ cancel
     → not (is_gone (with_event t c X past) item) ≡ (not cancel && leaves (receipt_of (facts_of roster past) t c) item)
-gone_now roster past t c X item cancel l member a fresh ended = grind (arith, accepted_receipts roster past t c X item.number l member a, taken_now (copied_by (receipt_of (facts_of roster past) t c) item.number) (copied_count_of past item.number) fresh, neither)
+gone_now roster past t c X item cancel l member a fresh ended = grind (arith, accepted_receipts roster past t c X item.number l member a, neither)
 
 -- what is gone stays gone
 pub stays_gone : (past : Trace) (t : ℕ) (c : Call) (X : List Completion) (item : Item) → is_gone past item ≡ true → is_gone (with_event t c X past) item ≡ true

@@ -1,5 +1,5 @@
 -- The messages for which an unblock pulse was made: each of them was received before.
-use Rattle.qrules.proofs.Common.{◌≡◌, ℕ, ◌+◌, ◌≤◌, List, [], ◌∷◌, length, refl, ap, sym, subst, ◌∙◌, cond, arith, Bool, true, false, eqb, inl, inr, option_to_list, and-false, or-false, Send, number_of, same_Some, Member, SentItem, Event, Trace, unblocked_call, held_call, Call, OpenCall, eqb_same, Option, None, Some, is_some, ◌&&◌, ◌||◌}
+use Rattle.qrules.proofs.Common.{◌≡◌, ℕ, ◌+◌, ◌≤◌, List, [], ◌∷◌, length, refl, ap, sym, subst, ◌∙◌, cond, arith, Bool, true, false, eqb, inl, inr, option_to_list, and-false, or-false, Send, number_of, same_Some, Member, SentItem, Event, Trace, unblocked_call, Call, OpenCall, eqb_same, Option, None, Some, is_some, ◌&&◌, ◌||◌}
 use Rattle.std.proofs.lemmas.Bool.{cases_Bool, eqb-true, ne_eqb, true≢false, or_cases}
 use Rattle.std.proofs.lemmas.List.Folds.{list_any-append}
 use Rattle.qrules.proofs.Basics.{makes, unblocks, facts_of, is_received, is_unblock_for, item_of, items, open_call, copied_count_of, unblocked_among, with_receipt, after_unblock, call_laws, open_receipt, open_below, open_thread, is_unblocked, item_accepted, unblocked_among_now}
@@ -93,10 +93,6 @@ marks_it roster past t c u o is =
                 ])
           ] refl)
     ] refl
-
-unblocked_held : (priority copied : ℕ) (unblocked : Bool) (o : OpenCall)
-    → held_call (record { priority = priority; copied = copied; unblocked = true }) o ≡ unblocked_call (held_call (record { priority = priority; copied = copied; unblocked = unblocked }) o)
-unblocked_held priority copied unblocked o = grind arith
 
 -- what is kept of a received message with what the event makes
 marked : (unblocked x : Bool) (priority : ℕ) (r : Option ℕ) (o : OpenCall) → (x ≡ true → is_some r ≡ true)

@@ -23,12 +23,6 @@ changed f o = with_buffer f o
 change_same : (f g : List ℕ → List ℕ) (o : OpenCall) → ((b : List ℕ) → f b ≡ g b) → changed f o ≡ changed g o
 change_same f g o h = grind arith
 
-change_twice : (f g : List ℕ → List ℕ) (o : OpenCall) → changed (λ b. f (g b)) o ≡ changed f (changed g o)
-change_twice f g o = grind arith
-
-change_none : (f : List ℕ → List ℕ) (o : OpenCall) → ((b : List ℕ) → f b ≡ b) → changed f o ≡ o
-change_none f o h = grind arith
-
 pub filled_refused : (e : Event) (past : Trace) (o : OpenCall) → refuses e.endings (length past + 1) ≡ true → filled (e ∷ past) o ≡ filled past o
 filled_refused e past o r = change_same (with_writes (e ∷ past) (number_of o)) (with_writes past (number_of o)) o (λ b. writes_refused e past (number_of o) b r)
 
@@ -36,14 +30,6 @@ pub filled_accepted : (e : Event) (past : Trace) (o : OpenCall) → refuses e.en
 filled_accepted e past o r = grind arith
 
 -- ---- with a receipt
-
--- a write and a receipt go past each other
-changed_receipt : (f : List ℕ → List ℕ) (priority : ℕ) (unblocked : Bool) (r : Option ℕ) (o : OpenCall) → with_receipt priority unblocked r (changed f o) ≡ changed f (with_receipt priority unblocked r o)
-changed_receipt f priority unblocked r o = grind arith
-
--- the call of thread u after a write, if it is written just where the sender is u
-written_after : (f : Facts) (w : Option Transfer) (u : ℕ) (o : OpenCall) → ((x : Transfer) → w ≡ Some x → is_thread (sender f x.rcvid) u ≡ eqb x.rcvid (number_of o)) → Some (changed (buffer_after_write w (number_of o)) o) ≡ after_write f w u (Some o)
-written_after f w u o h = grind arith
 
 pub receipt_written : (f : Facts) (w : Option Transfer) (u i priority : ℕ) (unblocked : Bool) (r : Option ℕ) (o : OpenCall) → number_of (with_receipt priority unblocked r o) ≡ i → ((x : Transfer) → w ≡ Some x → is_thread (sender f x.rcvid) u ≡ eqb x.rcvid i)
     → Some (with_receipt priority unblocked r (changed (buffer_after_write w i) o)) ≡ after_write f w u (Some (with_receipt priority unblocked r o))
@@ -84,4 +70,4 @@ writes_beyond roster (e ∷ past) i b l h = elim l.1.1 [
 -- a call that begins to wait has nothing written over its buffer
 pub filled_fresh : (roster : List Member) (past : Trace) (t h : ℕ) (c : Call) (X : List Completion) (o : OpenCall) → IsLawful roster past → refuses X (length past + 1) ≡ false → asks (length past + 1) t h c ≡ Some o → (number_of o) ≡ length past + 1
     → filled (with_event t c X past) o ≡ o
-filled_fresh roster past t h c X o l r asked number = grind (arith, change_none (with_writes (with_event t c X past) (number_of o)) o, writes_accepted (record { thread = t; call = c; endings = X }) past (number_of o), call_laws c, writes_beyond roster past (number_of o))
+filled_fresh roster past t h c X o l r asked number = grind (arith, writes_accepted (record { thread = t; call = c; endings = X }) past (number_of o), call_laws c, writes_beyond roster past (number_of o))
