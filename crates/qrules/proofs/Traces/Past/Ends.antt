@@ -44,13 +44,7 @@ other_below roster past v y h = let below : (number_of h.waiting) ≤ length pas
 -- no completion of an accepted call refuses it
 pub accepted : (roster : List Member) (past : Trace) (t : ℕ) (c : Call) (X : List Completion) → Outcome true (facts_of roster past) t c X → refuses X (length past + 1) ≡ false
 accepted roster past t c X a = rw (a.1) (any_filter_map _ (completion_to (facts_of roster past) t c) (threads_of roster) (λ v y e.
-    elim (completion_names (facts_of roster past) t c v y (laws_of (facts_of roster past) t c X a) e) [
-      | inl h ↦ rw (h.names.mark) (and-false _)
-      | inr h ↦
-          let below : y.call ≤ length past = other_below roster past v y h.names in
-          let other : eqb y.call (length past + 1) ≡ false = ne_eqb _ _ (λ same. omega arith) in
-          rw other refl
-    ]))
+    grind (arith, completion_names (facts_of roster past) t c v y (laws_of (facts_of roster past) t c X a) e, other_below roster past v y)))
 
 pub refused : (roster : List Member) (past : Trace) (t : ℕ) (c : Call) (X : List Completion) → Outcome false (facts_of roster past) t c X → refuses X (length past + 1) ≡ true
 refused roster past t c X a = rw (a.2, eqb_same (length past + 1)) refl
@@ -63,10 +57,7 @@ refused_ends roster past t c X i a other = let e : eqb (length past + 1) i ≡ f
 pub names_below : (roster : List Member) (past : Trace) (t : ℕ) (c : Call) (X : List Completion) (i : ℕ) → Answers (facts_of roster past) t c X → length past + 1 < i → has_completion_of X i ≡ false
 names_below roster past t c X i a l = elim a [
   | inl a ↦ rw (a.1) (any_filter_map _ (completion_to (facts_of roster past) t c) (threads_of roster) (λ v y e.
-      elim (completion_names (facts_of roster past) t c v y (laws_of (facts_of roster past) t c X a) e) [
-        | inl h ↦ ne_eqb _ _ (λ same. omega (arith, h.names.call))
-        | inr h ↦ let below : y.call ≤ length past = other_below roster past v y h.names in ne_eqb _ _ (λ same. omega arith)
-      ]))
+      grind (arith, completion_names (facts_of roster past) t c v y (laws_of (facts_of roster past) t c X a) e, other_below roster past v y)))
   | inr a ↦ refused_ends roster past t c X i a (λ same. omega arith)
 ]
 
@@ -115,11 +106,7 @@ ends_own roster past t c X member a =
     let laws = laws_of (facts_of roster past) t c X a in
     rw (a.1) (
     elim ((row_of f t c).own) as (λ z. (row_of f t c).own ≡ z → list_any (λ x. eqb x.call (length past + 1)) (filter_map (completion_to f t c) (threads_of roster)) ≡ is_some z) [
-      | None ↦ λ e. any_filter_map _ (completion_to f t c) (threads_of roster) (λ v y ev.
-          elim (completion_names f t c v y laws ev) [
-            | inl h ↦ absurd (none-some y (sym e ∙ h.is))
-            | inr h ↦ let below : y.call ≤ length past = other_below roster past v y h.names in ne_eqb _ _ (λ s. omega arith)
-          ])
+      | None ↦ λ e. any_filter_map _ (completion_to f t c) (threads_of roster) (λ v y ev. grind (arith, completion_names f t c v y laws ev, other_below roster past v y))
       | Some y ↦ λ e. any_filter_map_at _ (completion_to f t c) (threads_of roster) t y (known roster t member) (rw (eqb_same t) e) (eq-eqb _ _ (laws.owns y e).call)
     ] refl)
 
@@ -128,11 +115,6 @@ ends_own roster past t c X member a =
 pub not_ended : (roster : List Member) (past : Trace) (t : ℕ) (c : Call) (X : List Completion) → IsLawful roster past → Answers (facts_of roster past) t c X → AllByRecursion (λ x. is_ended past x.call ≡ false) X
 not_ended roster past t c X l a = elim a [
   | inl a ↦ rw (a.1) (all_filter_map (λ x. is_ended past x.call ≡ false) (completion_to (facts_of roster past) t c) (threads_of roster) (λ v y e.
-      elim (completion_names (facts_of roster past) t c v y (laws_of (facts_of roster past) t c X a) e) [
-        | inl h ↦ let number : y.call ≡ length past + 1 = h.names.call in ended_below roster past y.call l (omega arith)
-        | inr h ↦
-            let k = open_parts roster past v h.names.waiting h.names.is in
-            subst (λ i. is_ended past i ≡ false) (sym (h.names.call ∙ k.number)) k.going
-      ]))
+      grind (arith, completion_names (facts_of roster past) t c v y (laws_of (facts_of roster past) t c X a) e, ended_below roster past y.call l, open_parts roster past v)))
   | inr a ↦ rw (a.2) (ended_below roster past (length past + 1) l (omega arith), tt)
 ]

@@ -45,14 +45,8 @@ received_stays e past i k = grind arith
 
 pub unblocked_received : (roster : List Member) (past : Trace) (i : ℕ) → is_unblocked roster past i ≡ true → WasReceived past i
 unblocked_received roster [] i is = absurd (true≢false (sym is))
-unblocked_received roster (e ∷ past) i is = elim (or_cases _ _ (sym (unblocked_by roster e past i) ∙ is)) [
-  | inl before ↦ received_stays e past i (unblocked_received roster past i before)
-  | inr now ↦ received_stays e past i (
-      elim (item_of roster e past) as (λ o. item_of roster e past ≡ o → unblocked_among (option_to_list o) i ≡ true → WasReceived past i) [
-        | None ↦ λ none s. absurd (true≢false (sym s))
-        | Some m ↦ λ some s. by_item roster past e.thread e.call i m (item_accepted roster e past m some).1 (sym (or-false (is_unblock_for i m.item.what)) ∙ s)
-      ] refl now)
-]
+unblocked_received roster (e ∷ past) i is =
+    grind (arith, unblocked_by roster e past i, unblocked_received roster past i, by_item roster past e.thread e.call i, item_accepted roster e past)
 
 -- what isn't received has no unblock pulse
 pub none_unblocked : (roster : List Member) (past : Trace) (i : ℕ) → copied_count_of past i ≡ None → is_unblocked roster past i ≡ false
@@ -77,22 +71,7 @@ marks m (Some v) u = eqb u v && is_some m
 pub marks_it : (roster : List Member) (past : Trace) (t : ℕ) (c : Call) (u : ℕ) (o : OpenCall) → open_call roster past u ≡ Some o
     → unblocked_among (option_to_list (makes (facts_of roster past) t c)) (number_of o) ≡ marks (makes (facts_of roster past) t c) (unblocks c) u
 marks_it roster past t c u o is =
-    elim (makes (facts_of roster past) t c) as (λ m. makes (facts_of roster past) t c ≡ m → unblocked_among (option_to_list m) (number_of o) ≡ marks m (unblocks c) u) [
-      | None ↦ λ none. elim (unblocks c) as (λ w. false ≡ marks None w u) [ None ↦ refl | Some v ↦ sym (and-false (eqb u v)) ]
-      | Some m ↦ λ some. or-false (is_unblock_for (number_of o) m.item.what) ∙ (
-          elim (unblocks c) as (λ w. unblocks c ≡ w → is_unblock_for (number_of o) m.item.what ≡ marks (Some m) w u) [
-            | None ↦ λ none. (call_laws c).unblocks_none none (facts_of roster past) t m some (number_of o)
-            | Some v ↦ λ named.
-                let k = (call_laws c).unblocks_one v named (facts_of roster past) t m some in
-                ap (is_unblock_for (number_of o)) k.what ∙ (
-                elim (cases_Bool (eqb u v)) as (λ _. eqb k.send.number (number_of o) ≡ (eqb u v && true)) [
-                  | inl same ↦
-                      let one : Send k.send ≡ o = same_Some _ _ (sym k.is ∙ ap (open_call roster past) (sym (eqb-true u v same)) ∙ is) in
-                      ap (λ n. eqb n (number_of o)) (ap number_of one) ∙ eqb_same (number_of o) ∙ rw same refl
-                  | inr other ↦ ne_eqb k.send.number (number_of o) (λ n. true≢false (sym (eqb_same u) ∙ ap (eqb u) (open_thread roster past u v o (Send k.send) is k.is (sym n)) ∙ other)) ∙ rw other refl
-                ])
-          ] refl)
-    ] refl
+    grind (arith, (call_laws c).unblocks_none, (call_laws c).unblocks_one, open_thread roster past u)
 
 -- what is kept of a received message with what the event makes
 marked : (unblocked x : Bool) (priority : ℕ) (r : Option ℕ) (o : OpenCall) → (x ≡ true → is_some r ≡ true)

@@ -41,14 +41,7 @@ receipt_written f w u i priority unblocked r o number h = grind arith
 pub written_sender : (roster : List Member) (past : Trace) (t : ℕ) (c : Call) (X : List Completion) (u : ℕ) (o : OpenCall) (x : Transfer) → Outcome true (facts_of roster past) t c X → open_call roster past u ≡ Some o → writes c ≡ Some x
     → is_thread (sender (facts_of roster past) x.rcvid) u ≡ eqb x.rcvid (number_of o)
 written_sender roster past t c X u o x a is written =
-    let s = (laws_of (facts_of roster past) t c X a).writes_sent x written in
-    let k = sender_sends (open_call roster past) x.rcvid (threads_of roster) s.0 s.1 in
-    ap (λ v. is_thread v u) s.1 ∙ (elim (cases_Bool (eqb x.rcvid (number_of o))) as (λ _. eqb u s.0 ≡ eqb x.rcvid (number_of o)) [
-      | inl same ↦
-          let at : s.0 ≡ u = open_thread roster past s.0 u k.waiting o k.is is (k.number ∙ eqb-true _ _ same) in
-          ap (eqb u) at ∙ eqb_same u ∙ sym same
-      | inr other ↦ ne_eqb u s.0 (λ same. eqb-false x.rcvid (number_of o) other (sym k.number ∙ ap number_of (same_Some k.waiting o (sym k.is ∙ ap (open_call roster past) (sym same) ∙ is)))) ∙ sym other
-    ])
+    grind (arith, (laws_of (facts_of roster past) t c X a).writes_sent x written, sender_sends (open_call roster past) x.rcvid (threads_of roster), open_thread roster past u)
 
 -- nothing is written to a message to come
 pub writes_beyond : (roster : List Member) (past : Trace) (i : ℕ) (b : List ℕ) → IsLawful roster past → length past < i → with_writes past i b ≡ b
