@@ -1,6 +1,6 @@
 -- What the endings of an event are of: the event's own call, or what another thread waits for.
 use Rattle.std.proofs.lemmas.Bool.Decides.{nat_tests}
-use Rattle.qrules.proofs.Common.{◌≡◌, ◌≢◌, ℕ, ◌+◌, ◌<◌, ◌≤◌, List, [], ◌∷◌, length, refl, ap, sym, subst, ◌∙◌, arith, true, false, eqb, ◌⊎◌, inl, inr, refusal_of, completion_to, Outcome, Answers, eqb_same, any_filter_map, any_filter_map_at, all_filter_map, list_any, filter_map, AllByRecursion, none-some, same_Some, and-false, member_at, Member, row_of, Trace, Call, Completion, OpenCall, None, Some, is_some}
+use Rattle.qrules.proofs.Common.{◌≡◌, ◌≢◌, ℕ, ◌+◌, ◌<◌, ◌≤◌, List, [], ◌∷◌, length, refl, ap, sym, ◌∙◌, arith, true, false, eqb, ◌⊎◌, inl, inr, refusal_of, completion_to, Outcome, Answers, eqb_same, any_filter_map, any_filter_map_at, all_filter_map, list_any, filter_map, AllByRecursion, none-some, same_Some, member_at, Member, row_of, Trace, Call, Completion, OpenCall, None, Some, is_some}
 use Rattle.std.proofs.lemmas.Bool.{eq-eqb, ne_eqb}
 use Rattle.qrules.proofs.Words.Facts.{Facts, threads_of, number_of}
 use Rattle.qrules.proofs.Words.Lawful.{facts_of, IsLawful}

@@ -1,6 +1,6 @@
 -- What was made under a number and isn't ended since: channels and connections alike.
-use Rattle.qrules.proofs.Common.{◌≡◌, ℕ, zero, suc, ◌+◌, ◌≤◌, List, [], ◌∷◌, length, refl, ap, sym, subst, ◌∙◌, cond, arith, Bool, true, false, eqb, inl, inr, Effect, none-some, member_at, Member, Outcome, Event, Trace, Call, Completion, cond_same, eqb_same, effect_of, Option, None, Some, is_some, ◌||◌}
-use Rattle.std.proofs.lemmas.Bool.{eqb-true, eqb-false, ne_eqb, or_cases, true≢false}
+use Rattle.qrules.proofs.Common.{◌≡◌, ℕ, zero, suc, ◌+◌, ◌≤◌, List, [], ◌∷◌, length, refl, ap, sym, ◌∙◌, cond, arith, Bool, true, false, eqb, inl, inr, Effect, none-some, member_at, Member, Outcome, Event, Trace, Call, Completion, cond_same, eqb_same, effect_of, Option, None, Some, is_some, ◌||◌}
+use Rattle.std.proofs.lemmas.Bool.{or_cases, true≢false}
 use Rattle.qrules.proofs.Basics.{count_to, facts_of, IsLawful, with_event, accepted_at, refuses, was_done, names, put_at, one_for, accepted, refused, made_beyond, made_below}
 
 -- what is made has a number from 1 on
@@ -26,19 +26,9 @@ count_same p q (suc n) h = rw (h (n + 1) (omega arith), count_same p q n (λ k l
 pub count_less : {A : Type 0} (p q : ℕ → Option A) (n h : ℕ) → 1 ≤ h → h ≤ n → is_some (q h) ≡ true → ((k : ℕ) → k ≤ n → p k ≡ cond (eqb h k) None (q k)) → count_to p n + 1 ≡ count_to q n
 count_less p q zero h above below there less = absurd (omega arith)
 count_less {A} p q (suc n) h above below there less =
-    elim (eqb h (n + 1)) as (λ b. eqb h (n + 1) ≡ b → count_to p (suc n) + 1 ≡ count_to q (suc n)) [
-      | true ↦ λ e.
-          let last : h ≡ n + 1 = eqb-true h (n + 1) e in
-          let gone : p (n + 1) ≡ None = less (n + 1) (omega arith) ∙ ap (λ b. cond b None (q (n + 1))) e in
-          let was : is_some (q (n + 1)) ≡ true = subst (λ k. is_some (q k) ≡ true) last there in
-          let rest : count_to p n ≡ count_to q n = count_same p q n (λ k l. let other : eqb h k ≡ false = ne_eqb h k (λ s. omega arith) in less k (omega arith) ∙ ap (λ b. cond b None (q k)) other) in
-          rw (gone, was, rest) (omega arith)
-      | false ↦ λ e.
-          let other : h ≤ n = omega (arith, eqb-false h (n + 1) e) in
-          let stays : p (n + 1) ≡ q (n + 1) = less (n + 1) (omega arith) ∙ ap (λ b. cond b None (q (n + 1))) e in
-          let rest : count_to p n + 1 ≡ count_to q n = count_less p q n h above other there (λ k l. less k (omega arith)) in
-          rw stays (omega (arith, rest))
-    ] refl
+    let last : h ≡ n + 1 → count_to p n ≡ count_to q n = λ e. count_same p q n (λ k l. grind (arith, less k)) in
+    let rest : h ≤ n → count_to p n + 1 ≡ count_to q n = λ e. count_less p q n h above e there (λ k l. less k (omega arith)) in
+    grind (arith, less (n + 1), last, rest)
 
 -- one more is counted at the end
 count_put : {A : Type 0} (p q : ℕ → Option A) (o : Option A) (n : ℕ) → q (n + 1) ≡ None → ((k : ℕ) → k ≤ n + 1 → p k ≡ put_at o (n + 1) q k) → count_to p (suc n) ≡ count_to q n + one_for o
@@ -113,16 +103,7 @@ module _ {A : Type 0} (roster : List Member) (make : Option Member → Call → 
 
     -- what is made under a new number isn't ended
     unended : (past : Trace) (i : ℕ) → IsLawful roster past → (o : Option A) → cond (is_gone past i) None (put_at o (length past + 1) (made past) i) ≡ put_at o (length past + 1) (live past) i
-    unended past i l None = refl
-    unended past i l (Some x) =
-        elim (eqb i (length past + 1)) as (λ b. eqb i (length past + 1) ≡ b → cond (is_gone past i) None (cond b (Some x) (made past i)) ≡ cond b (Some x) (live past i)) [
-          | true ↦ λ here.
-              elim (is_gone past i) as (λ b. is_gone past i ≡ b → cond b None (Some x) ≡ Some x) [
-                | true ↦ λ gone. let below : i ≤ length past = gone_below past i l gone in let number : i ≡ length past + 1 = eqb-true _ _ here in absurd (omega arith)
-                | false ↦ λ standing. refl
-              ] refl
-          | false ↦ λ away. refl
-        ] refl
+    unended past i l o = grind (arith, gone_below past i l)
 
     pub live_accepted : (past : Trace) (t : ℕ) (c : Call) (X : List Completion) (i : ℕ) → IsLawful roster past → Outcome true (facts_of roster past) t c X
         → live (with_event t c X past) i ≡ cond (names (ends (effect_of c)) i) None (put_at (make (member_at roster t) c) (length past + 1) (live past) i)

@@ -1,8 +1,8 @@
 -- What is pending after one more event.
-use Rattle.qrules.proofs.Common.{◌≡◌, ℕ, ◌+◌, ◌≤◌, List, [], ◌∷◌, ◌++◌, map, length, refl, ap, sym, ◌∙◌, cond, arith, Bool, true, false, eqb, inl, inr, filter-append, eqb_either, all_append, all_filter, all_more, filter_same, filter_twice, filter_all, filter_whole, any_never, AllByRecursion, option_to_list, same_Some, is_pulse, with_priority, Item, member_at, Member, Outcome, row_of, SentItem, Event, Trace, is_unread_send, Call, Completion, Option, None, Some, is_some, not, ◌&&◌, ◌||◌, filter}
+use Rattle.qrules.proofs.Common.{◌≡◌, ℕ, ◌+◌, ◌≤◌, List, [], ◌∷◌, ◌++◌, map, length, refl, ap, sym, ◌∙◌, cond, arith, Bool, true, false, eqb, inl, inr, filter-append, eqb_either, all_append, all_filter, all_more, filter_same, filter_twice, filter_all, filter_whole, any_never, AllByRecursion, option_to_list, same_Some, is_pulse, with_priority, Item, member_at, Member, Outcome, row_of, SentItem, Event, Trace, Call, Completion, Option, None, Some, is_some, not, ◌&&◌, ◌||◌, filter}
 use Rattle.std.proofs.lemmas.Bool.{eqb-false, ne_eqb}
 use Rattle.std.proofs.lemmas.List.{map-append, append-nil}
-use Rattle.qrules.proofs.Basics.{receipt_of, Received, facts_of, IsLawful, with_event, is_destroyed, is_ended, is_gone, items, item_of, pending_items, copied_count_of, open_call, made_on, makes, sets, is_cancelled, uncancelled_items, items_with_priority_set, unreceived_items, pending_after, IsReceived, call_laws, laws_of, accepted, refused, refused_ends, ended_below, ends_own, IsPending, Stands, items_on, pending_is, stands_all, standing_is, staying, staying_all, item_at, item_below, now, refused_sets_none, worth_newest, worth_stays, open_below, threads_of, number_of}
+use Rattle.qrules.proofs.Basics.{receipt_of, Received, facts_of, IsLawful, with_event, is_destroyed, is_ended, is_gone, items, item_of, pending_items, copied_count_of, made_on, makes, sets, is_cancelled, uncancelled_items, items_with_priority_set, unreceived_items, pending_after, IsReceived, call_laws, laws_of, accepted, refused, refused_ends, ended_below, ends_own, IsPending, Stands, items_on, pending_is, stands_all, standing_is, staying, staying_all, item_at, item_below, now, refused_sets_none, worth_newest, worth_stays, open_below, threads_of}
 use Rattle.qrules.proofs.Traces.Past.Channels.{closed_accepted, closed_refused}
 use Rattle.qrules.proofs.Traces.Past.Cancels.{ended_is_cancelled}
 use Rattle.qrules.proofs.Traces.Past.Moves.{left_map, moved_append, moved_left, moved_made, moved_nothing, moved_now, moved_out, out_map, same_now}
@@ -141,14 +141,7 @@ made_uncancelled roster past t c h =
     let f = facts_of roster past in
     filter_all (λ item. not (is_cancelled f t c h item.number)) (made_on h (makes f t c)) (made_all (λ item. not (is_cancelled f t c h item.number) ≡ true) h (makes f t c) (λ m is on.
     let number : m.item.number ≡ length past + 1 = ((call_laws c).makes_one f t m is).number in
-    ap not (any_never _ (threads_of roster) (λ s.
-    elim (open_call roster past s) as (λ o. open_call roster past s ≡ o → (is_unread_send h m.item.number o && is_some ((row_of f t c).others s)) ≡ false) [
-      | None ↦ λ none. refl
-      | Some o ↦ λ some.
-          let below : (number_of o) ≤ length past = open_below roster past s o some in
-          let other : eqb (number_of o) m.item.number ≡ false = ne_eqb _ _ (λ same. omega (arith, number)) in
-          rw other refl
-    ] refl))))
+    ap not (any_never _ (threads_of roster) (λ s. grind (arith, number, open_below roster past s)))))
 
 left_made : (roster : List Member) (past : Trace) (t : ℕ) (c : Call) (h : ℕ) (items : List Item)
     → uncancelled_items (facts_of roster past) t c h (items ++ made_on h (makes (facts_of roster past) t c)) ≡ uncancelled_items (facts_of roster past) t c h items ++ made_on h (makes (facts_of roster past) t c)

@@ -1,6 +1,6 @@
 -- What the endings of an event receive: just the receipt that its row says.
-use Rattle.qrules.proofs.Common.{◌≡◌, ℕ, ◌+◌, ◌<◌, ◌≤◌, List, [], ◌∷◌, length, refl, ap, sym, ◌∙◌, cond, arith, true, false, eqb, ◌⊎◌, inl, inr, filter_map, cons_option, best_of, Item, Kind, best-at, member_at, Member, completion_to, Outcome, Answers, Trace, Call, Completion, is_among, ReceivedItem, Option, None, Some, is_some}
-use Rattle.std.proofs.lemmas.Bool.{cases_Bool, eqb-true, ne_eqb, true≢false}
+use Rattle.qrules.proofs.Common.{◌≡◌, ℕ, ◌+◌, ◌<◌, ◌≤◌, List, [], ◌∷◌, length, refl, ap, sym, ◌∙◌, cond, arith, true, false, eqb, ◌⊎◌, inl, inr, filter_map, best_of, Item, Kind, best-at, member_at, Member, completion_to, Outcome, Answers, Trace, Call, Completion, is_among, ReceivedItem, Option, None, Some, is_some}
+use Rattle.std.proofs.lemmas.Bool.{ne_eqb, true≢false}
 use Rattle.qrules.proofs.Basics.{receipt_of, Received, item_in, Facts, threads_of, facts_of, IsLawful, copied_count_in, first_among, priority_of_item, copied_count_among, copied_count_of, RowLaws, IsReceipt, IsReceived, call_laws, laws_of, completion_names, open_known, IsPending, pending_all, pending_priorities, item_below, known}
 
 -- ---- what is told of one among the endings that some threads get
@@ -14,15 +14,8 @@ pub among_one : {A : Type 0} (tell : Completion → Option A) (g : ℕ → Optio
     → (v : ℕ) (z : Completion) → is_among us v ≡ true → g v ≡ Some z → tell z ≡ Some k → first_among tell (filter_map g us) ≡ Some k
 among_one tell g [] k h v z m e q = absurd (true≢false (sym m))
 among_one tell g (u ∷ us) k h v z m e q =
-    elim (cases_Bool (eqb u v)) [
-      | inl same ↦ let at : g u ≡ Some z = ap g (eqb-true u v same) ∙ e in rw (at, q) refl
-      | inr other ↦
-          let rest : first_among tell (filter_map g us) ≡ Some k = among_one tell g us k h v z (rw other at m) e q in
-          elim (g u) as (λ o. g u ≡ o → first_among tell (cons_option o (filter_map g us)) ≡ Some k) [
-            | None ↦ λ is. rest
-            | Some y ↦ λ is. elim (h u y is) [ inl none ↦ rw none rest | inr some ↦ rw some refl ]
-          ] refl
-    ]
+    let rest : eqb u v ≡ false → first_among tell (filter_map g us) ≡ Some k = λ other. among_one tell g us k h v z (rw other at m) e q in
+    grind (arith, h u, rest)
 
 -- ---- the receipt of an accepted call
 
@@ -87,13 +80,9 @@ pub best_priority : (roster : List Member) (past : Trace) (h : ℕ) (kind : Kind
 best_priority roster past h kind item best = best-at (λ (x : Item). priority_of_item roster past x.number ≡ x.priority) kind ((facts_of roster past).pending h) item (pending_priorities roster past h) best
 
 pub received_below : (roster : List Member) (past : Trace) (t : ℕ) (c : Call) (r : Received) → IsReceived (facts_of roster past) t c r → r.item ≤ length past + 1
-received_below roster past t c r k = elim (k.source) [
-  | inl new ↦
-      let number : k.item.number ≡ length past + 1 = ((call_laws c).makes_one (facts_of roster past) t _ new.made).number in
-      omega (arith, k.number)
-  | inr old ↦
-      let below : k.item.number ≤ length past = item_below roster past k.item.number _ (best_pending roster past r.channel old.kind k.item old.best).made in
-      omega (arith, k.number)
+received_below roster past t c r k = elim k.source [
+  | inl new ↦ omega (arith, k.number, ((call_laws c).makes_one (facts_of roster past) t _ new.made).number)
+  | inr old ↦ omega (arith, k.number, item_below roster past k.item.number _ (best_pending roster past r.channel old.kind k.item old.best).made)
 ]
 
 -- an event receives its own item or one that was pending

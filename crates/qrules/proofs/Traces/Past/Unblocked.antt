@@ -1,6 +1,6 @@
 -- The messages for which an unblock pulse was made: each of them was received before.
-use Rattle.qrules.proofs.Common.{◌≡◌, ℕ, ◌+◌, ◌≤◌, List, [], ◌∷◌, length, refl, ap, sym, subst, ◌∙◌, cond, arith, Bool, true, false, eqb, inl, inr, option_to_list, and-false, or-false, Send, number_of, same_Some, Member, SentItem, Event, Trace, unblocked_call, Call, OpenCall, eqb_same, Option, None, Some, is_some, ◌&&◌, ◌||◌}
-use Rattle.std.proofs.lemmas.Bool.{cases_Bool, eqb-true, ne_eqb, true≢false, or_cases}
+use Rattle.qrules.proofs.Common.{◌≡◌, ℕ, ◌+◌, ◌≤◌, List, [], ◌∷◌, length, refl, ap, sym, subst, ◌∙◌, cond, arith, Bool, true, false, eqb, option_to_list, Send, number_of, Member, SentItem, Event, Trace, unblocked_call, Call, OpenCall, Option, None, Some, is_some, ◌&&◌, ◌||◌}
+use Rattle.std.proofs.lemmas.Bool.{eqb-true, true≢false}
 use Rattle.std.proofs.lemmas.List.Folds.{list_any-append}
 use Rattle.qrules.proofs.Basics.{makes, unblocks, facts_of, is_received, is_unblock_for, item_of, items, open_call, copied_count_of, unblocked_among, with_receipt, after_unblock, call_laws, open_receipt, open_below, open_thread, is_unblocked, item_accepted, unblocked_among_now}
 
@@ -26,11 +26,7 @@ by_item roster past t c i m made is =
     ] refl
 
 pub unblocked_now : (roster : List Member) (past : Trace) (t : ℕ) (c : Call) (i : ℕ) → unblocked_among (option_to_list (makes (facts_of roster past) t c)) i ≡ true → WasReceived past i
-unblocked_now roster past t c i e =
-    elim (makes (facts_of roster past) t c) as (λ o. makes (facts_of roster past) t c ≡ o → unblocked_among (option_to_list o) i ≡ true → WasReceived past i) [
-      | None ↦ λ none s. absurd (true≢false (sym s))
-      | Some m ↦ λ some s. by_item roster past t c i m some (sym (or-false (is_unblock_for i m.item.what)) ∙ s)
-    ] refl e
+unblocked_now roster past t c i e = grind (arith, by_item roster past t c i)
 
 -- with one more event, what that makes
 pub unblocked_by : (roster : List Member) (e : Event) (past : Trace) (i : ℕ) → is_unblocked roster (e ∷ past) i ≡ (is_unblocked roster past i || unblocked_among (option_to_list (item_of roster e past)) i)

@@ -1,5 +1,5 @@
 -- What is written over the reply buffers of messages after one more event.
-use Rattle.qrules.proofs.Common.{◌≡◌, ℕ, ◌+◌, ◌<◌, ◌≤◌, List, [], ◌∷◌, length, refl, ap, sym, ◌∙◌, arith, Bool, true, false, eqb, inl, inr, cases_Bool, eqb-true, eqb-false, ne_eqb, same_Some, Member, Outcome, with_buffer, is_thread, Event, Trace, Call, Completion, OpenCall, eqb_same, Transfer, Option, None, Some}
+use Rattle.qrules.proofs.Common.{◌≡◌, ℕ, ◌+◌, ◌<◌, ◌≤◌, List, [], ◌∷◌, length, refl, ◌∙◌, arith, Bool, true, false, eqb, inl, inr, ne_eqb, Member, Outcome, with_buffer, is_thread, Event, Trace, Call, Completion, OpenCall, Transfer, Option, None, Some}
 use Rattle.qrules.proofs.Basics.{Facts, sender, threads_of, number_of, facts_of, IsLawful, with_event, open_call, refuses, with_writes, filled, with_receipt, asks, writes, buffer_after_write, after_write, accepted, laws_of, refused, open_below, open_thread, call_laws, sender_sends}
 
 -- ---- a reply buffer
