@@ -1,8 +1,8 @@
 -- The open Send of a number.
-use Rattle.qrules.proofs.Common.{arith, ◌≡◌, ◌⊎◌, ℕ, true, false, message_in, reply_buffer_in, Send, None, Some, option_map_or, OpenCall}
-use Rattle.qrules.proofs.Words.Facts.{is_for_answer, is_held_by, sender_call}
+use Rattle.qrules.proofs.Common.{arith, ◌≡◌, ◌⊎◌, ℕ, false, message_in, reply_buffer_in, Send, None, Some, option_map_or}
+use Rattle.qrules.proofs.Words.Facts.{is_held_by, sender_call}
 use Rattle.qrules.proofs.Traces.Past.Senders.{sender_sends}
-use Rattle.qrules.specs.Facts.{holds, message, number_of, open_send, reply_buffer, sender, threads_of, Facts, OpenSend}
+use Rattle.qrules.specs.Facts.{holds, message, open_send, reply_buffer, sender, threads_of, Facts, OpenSend}
 
 -- no Send of number i is open
 pub record NoSend (f : Facts) (i : ℕ) : Type 0 where
@@ -18,11 +18,8 @@ pub record OneSend (f : Facts) (i : ℕ) : Type 0 where
   pub is : f.open_call thread ≡ Some (Send send)
   pub new : open_send f i ≡ Some send
 
-one_send : (f : Facts) (i s : ℕ) (o : OpenCall) → sender f i ≡ Some s → f.open_call s ≡ Some o → number_of o ≡ i → is_for_answer o ≡ true → OneSend f i
-one_send f i s o sent is number answer = grind arith
-
 pub send_cases : (f : Facts) (i : ℕ) → NoSend f i ⊎ OneSend f i
-send_cases f i = grind (arith, sender_sends f.open_call i (threads_of f.roster), one_send f i)
+send_cases f i = grind (arith, sender_sends f.open_call i (threads_of f.roster))
 
 -- ---- what is read of it, by the call that its sender waits in
 

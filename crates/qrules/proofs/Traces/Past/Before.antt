@@ -1,5 +1,5 @@
 -- What an open call waits for after an event, and what it waited for before.
-use Rattle.qrules.proofs.Common.{arith, ◌≡◌, ℕ, List, Bool, false, with_buffer, held_call, unblocked_call, SentItem, Call, OpenCall, Receipt, Transfer, Option, Some}
+use Rattle.qrules.proofs.Common.{arith, ◌≡◌, ℕ, List, Bool, false, with_buffer, held_call, unblocked_call, Call, OpenCall, Receipt, Option, Some}
 use Rattle.qrules.proofs.Basics.{receipt_of, Received, Facts, makes, unblocks, writes, after_receipt, after_unblock, after_write, unless}
 
 -- what is so of a wait was so of it before
@@ -13,15 +13,6 @@ pub before_receipt : {A : Type 0} (g : OpenCall → A) → ((receipt : Receipt) 
     → after_receipt r u before ≡ Some o → IsBefore g before o
 before_receipt g held r u before o e = grind arith
 
--- before a write
-pub before_write : {A : Type 0} (g : OpenCall → A) → ((b : List ℕ → List ℕ) (w : OpenCall) → g (with_buffer b w) ≡ g w) → (f : Facts) (w : Option Transfer) (u : ℕ) (before : Option OpenCall) (o : OpenCall)
-    → after_write f w u before ≡ Some o → IsBefore g before o
-before_write g buffer f w u before o e = grind arith
-
--- before an unblock pulse
-pub before_unblock : {A : Type 0} (g : OpenCall → A) → ((w : OpenCall) → g (unblocked_call w) ≡ g w) → (m : Option SentItem) (w : Option ℕ) (u : ℕ) (before : Option OpenCall) (o : OpenCall) → after_unblock m w u before ≡ Some o → IsBefore g before o
-before_unblock g unblocked m w u before o e = grind arith
-
 -- this of a wait no call changes but the one that ends it
 pub record Lasts {A : Type 0} (g : OpenCall → A) : Type 0 where
   pub held : (receipt : Receipt) (w : OpenCall) → g (held_call receipt w) ≡ g w
@@ -31,7 +22,7 @@ pub record Lasts {A : Type 0} (g : OpenCall → A) : Type 0 where
 -- before the call of another thread
 pub before_other : {A : Type 0} (g : OpenCall → A) → Lasts g → (f : Facts) (t : ℕ) (c : Call) (u : ℕ) (o : OpenCall)
     → after_unblock (makes f t c) (unblocks c) u (after_receipt (receipt_of f t c) u (after_write f (writes c) u (f.open_call u))) ≡ Some o → IsBefore g (f.open_call u) o
-before_other g lasts f t c u o e = grind (arith, before_unblock, before_receipt, before_write)
+before_other g lasts f t c u o e = grind (arith, before_receipt)
 
 pub unless_is : (b : Bool) (before : Option OpenCall) (o : OpenCall) → unless b before ≡ Some o → (b ≡ false) × (before ≡ Some o)
 unless_is b before o e = grind arith

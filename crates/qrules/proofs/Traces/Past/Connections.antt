@@ -1,13 +1,9 @@
 -- Which connections are live after one more event.
-use Rattle.qrules.proofs.Common.{arith, ◌≡◌, ℕ, ◌+◌, List, ◌∷◌, length, ap, cond, true, member_at, Connection, Member, Outcome, row_of, Event, Trace, Call, Completion, Option, None, Some, is_some}
-use Rattle.qrules.proofs.Basics.{is_own, Facts, facts_of, IsLawful, with_event, attaches, detaches, attached_connection, connection_at, live_connections, refuses, names, connection_after, one_for, passes_of}
+use Rattle.qrules.proofs.Common.{arith, ◌≡◌, ℕ, ◌+◌, List, ◌∷◌, length, ap, cond, true, member_at, Member, Outcome, row_of, Event, Trace, Call, Completion, Option, None, Some, is_some}
+use Rattle.qrules.proofs.Basics.{Facts, facts_of, IsLawful, with_event, attaches, detaches, attached_connection, connection_at, live_connections, refuses, names, connection_after, one_for, passes_of}
 use Rattle.qrules.proofs.Traces.Past.Live.{count_live_accepted, count_live_refused, live_accepted, live_parts, live_refused}
 
 -- ---- by each call's row
-
--- a connection of the thread's process is live
-own_live : (f : Facts) (t : ℕ) (o : Option Connection) → is_own f t o ≡ true → is_some o ≡ true
-own_live f t o e = grind arith
 
 -- an accepted call detaches a connection that is live
 detaches_one : (f : Facts) (t : ℕ) (c : Call) (k : ℕ) → (row_of f t c).refusal ≡ None → names (detaches c) k ≡ true → is_some (f.connection k) ≡ true

@@ -1,5 +1,5 @@
 -- What an item is worth by now, after one more event.
-use Rattle.qrules.proofs.Common.{◌≡◌, ℕ, ◌+◌, ◌<◌, ◌≤◌, List, [], ◌∷◌, map, length, refl, ap, cond, arith, true, false, eqb, option_map, is_pulse, with_priority, Item, SentItem, Event, Trace, None, Some, filter, not, ◌||◌, unwrap_or}
+use Rattle.qrules.proofs.Common.{◌≡◌, ℕ, ◌+◌, ◌<◌, ◌≤◌, List, [], ◌∷◌, map, length, refl, ap, cond, arith, false, eqb, option_map, is_pulse, with_priority, Item, SentItem, Event, Trace, None, Some, filter, not, ◌||◌, unwrap_or}
 use Rattle.qrules.proofs.Words.Effects.{sets}
 use Rattle.qrules.proofs.Words.Past.{items_by_now, is_accepted, is_gone, is_received, item_among, is_unblock_for, sender_of, priority_set_by, unblocked_among, current_priority}
 use Rattle.qrules.proofs.Traces.Past.Numbers.{made_beyond}
@@ -25,10 +25,6 @@ sets_none e past i none t = grind arith
 -- a call that is refused
 pub refused_sets_none : (e : Event) (past : Trace) (i : ℕ) → is_accepted e past ≡ false → SetsNone e past i
 refused_sets_none e past i refused t = grind arith
-
--- a message that is received
-pub taken_sets_none : (e : Event) (past : Trace) (i : ℕ) → is_received past i ≡ true → SetsNone e past i
-taken_sets_none e past i taken t = rw taken refl
 
 -- a message that isn't received is worth what is set for its sender
 pub worth_set : (e : Event) (past : Trace) (item : Item) (t : ℕ) → item.number ≤ length past → is_pulse item.what ≡ false → is_received past item.number ≡ false → sender_of past item.number ≡ Some t

@@ -1,5 +1,5 @@
 -- Each open Send goes over a live connection: a call that detaches one ends all Sends over it.
-use Rattle.qrules.proofs.Common.{arith, ◌≡◌, ℕ, List, [], ◌∷◌, ap, sym, ◌∙◌, cond, Bool, true, false, eqb, inl, inr, none-some, same_Some, member_at, Member, row_of, is_over, unblocked_call, Trace, Call, OpenCall, channel_of, Option, None, Some, is_some}
+use Rattle.qrules.proofs.Common.{arith, ◌≡◌, ℕ, List, [], ◌∷◌, ap, sym, ◌∙◌, cond, Bool, true, false, eqb, inl, inr, none-some, same_Some, member_at, Member, row_of, unblocked_call, Trace, Call, OpenCall, channel_of, Option, None, Some, is_some}
 use Rattle.std.proofs.lemmas.Bool.{true≢false}
 use Rattle.qrules.proofs.Basics.{Facts, is_for_answer, asks, attaches, detaches, makes, unblocks, writes, facts_of, IsLawful, attached_connection, connection_at, open_call, receipt_of, names, after_receipt, after_unblock, after_write, connection_after, open_call_after, put_at, unless, passes_of, refused, Passes, buffer_answer, held_for_answer}
 use Rattle.qrules.proofs.Traces.Past.Before.{Lasts, before_other, before_receipt, unless_is}
@@ -13,9 +13,6 @@ use Rattle.qrules.proofs.Traces.Properties.Sends.{buffer_over, held_over}
 -- a call that detaches a connection waits for nothing
 detaches_only : (n t h : ℕ) (c : Call) (b : OpenCall) (k : ℕ) → names (detaches c) k ≡ true → asks n t h c ≡ Some b → ⊥
 detaches_only n t h c b k d e = grind arith
-
-is_over_it : (k : ℕ) (w : OpenCall) → is_for_answer w ≡ true → eqb (over w) k ≡ true → is_over k w ≡ true
-is_over_it k w e same = grind arith
 
 -- it ends each Send over that connection
 detaching_ends : (f : Facts) (t : ℕ) (c : Call) (u : ℕ) (o : OpenCall) → f.open_call u ≡ Some o → is_for_answer o ≡ true → names (detaches c) (over o) ≡ true → is_some ((row_of f t c).others u) ≡ true

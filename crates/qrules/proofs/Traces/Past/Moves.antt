@@ -19,19 +19,15 @@ out_map r h g items same = grind (arith, filter_map_same)
 abbrev pub mover : Facts → ℕ → PriorityChange → Item → Item
 mover f h s item = cond (is_unread_send h item.number (f.open_call s.thread)) (with_priority s.priority item) item
 
--- it has its number
-pub mover_number : (f : Facts) (h : ℕ) (s : PriorityChange) (item : Item) → (mover f h s item).number ≡ item.number
-mover_number f h s item = elim (is_unread_send h item.number (f.open_call s.thread)) as (λ b. (cond b (with_priority s.priority item) item).number ≡ item.number) [ true ↦ refl | false ↦ refl ]
-
 -- and is what it was
 pub mover_what : (f : Facts) (h : ℕ) (s : PriorityChange) (item : Item) → (mover f h s item).what ≡ item.what
 mover_what f h s item = elim (is_unread_send h item.number (f.open_call s.thread)) as (λ b. (cond b (with_priority s.priority item) item).what ≡ item.what) [ true ↦ refl | false ↦ refl ]
 
 pub moved_left : (f : Facts) (t : ℕ) (c : Call) (h : ℕ) (s : Option PriorityChange) (items : List Item) → uncancelled_items f t c h (items_with_priority_set f h s items) ≡ items_with_priority_set f h s (uncancelled_items f t c h items)
-moved_left f t c h s items = grind (arith, left_map, mover_number)
+moved_left f t c h s items = grind (arith, left_map)
 
 pub moved_out : (f : Facts) (r : Option Received) (h : ℕ) (s : Option PriorityChange) (items : List Item) → unreceived_items r h (items_with_priority_set f h s items) ≡ items_with_priority_set f h s (unreceived_items r h items)
-moved_out f r h s items = grind (arith, out_map, mover_number)
+moved_out f r h s items = grind (arith, out_map)
 
 pub moved_append : (f : Facts) (h : ℕ) (s : Option PriorityChange) (xs ys : List Item) → items_with_priority_set f h s (xs ++ ys) ≡ items_with_priority_set f h s xs ++ items_with_priority_set f h s ys
 moved_append f h None xs ys = refl

@@ -1,7 +1,7 @@
 -- The open calls after one more event.
 use Rattle.qrules.proofs.Common.{◌≡◌, ◌≢◌, ℕ, ◌+◌, ◌≤◌, List, ◌∷◌, length, refl, ap, sym, subst, ◌∙◌, cond, arith, Bool, true, false, eqb, ◌⊎◌, inl, inr, option_map, option_to_list, option_or, and-false, or-true, or-false, none-some, same_Some, is_pulse, Item, member_at, Member, Outcome, row_of, SentItem, Event, Trace, is_thread, Call, Completion, OpenCall, eqb_same, none_of, channel_of, Option, None, Some, is_some, not, ◌||◌}
 use Rattle.std.proofs.lemmas.Bool.{cases_Bool, eqb-true, eqb-false, eq-eqb, ne_eqb, or_parts}
-use Rattle.qrules.proofs.Basics.{receipt_of, sender_for, Received, buffer_after_write, Facts, sender, threads_of, number_of, facts_of, IsLawful, with_event, refuses, has_completion_of, is_ended, is_received, item_of, copied_count_of, priority_of_item, unless_ended, open_call, unblocked_among, block, with_receipt, filled, asks, makes, unblocks, writes, after_receipt, after_unblock, after_write, unless, open_call_after, sets_alone, IsReceived, call_laws, block_below, filled_answer, open_from, open_thread, receipt_for_answer, is_unblocked, kept, kept_number, open_is, laws_of, passes_of, accepted, refused, refused_ends, ended_below, ends_other, ends_own, block_known, item_at, item_answer, item_message, item_below, priority_earlier, priority_newest, send_parts, send_from, sender_sends, sender_found, refused_sets_none, sets_none, taken_sets_none, known}
+use Rattle.qrules.proofs.Basics.{receipt_of, sender_for, Received, buffer_after_write, Facts, sender, threads_of, number_of, facts_of, IsLawful, with_event, refuses, has_completion_of, is_ended, is_received, item_of, copied_count_of, priority_of_item, unless_ended, open_call, unblocked_among, block, with_receipt, filled, asks, makes, unblocks, writes, after_receipt, after_unblock, after_write, unless, open_call_after, sets_alone, IsReceived, call_laws, block_below, filled_answer, open_from, open_thread, receipt_for_answer, is_unblocked, kept, kept_number, open_is, laws_of, passes_of, accepted, refused, refused_ends, ended_below, ends_other, ends_own, block_known, item_at, item_answer, item_message, item_below, priority_earlier, priority_newest, send_parts, send_from, sender_sends, sender_found, refused_sets_none, sets_none, known}
 use Rattle.qrules.proofs.Traces.Past.Receipts.{copied_by, accepted_receipts, refused_receipts, best_pending, best_priority, receipt_beyond}
 use Rattle.qrules.proofs.Traces.Past.Unblocked.{fresh_unblocked, marks, marks_it, none_unblocked, unblocked_after, unblocked_beyond, unblocked_by, unblocked_now}
 use Rattle.qrules.proofs.Traces.Past.Writes.{changed, filled_accepted, filled_fresh, filled_refused, receipt_written, written_sender}
@@ -189,7 +189,7 @@ held_priority : (roster : List Member) (past : Trace) (t : ℕ) (c : Call) (X : 
     → priority_of_item roster (with_event t c X past) i ≡ priority_of_item roster past i
 held_priority roster past t c X i below received =
     let e : Event = record { thread = t; call = c; endings = X } in
-    priority_earlier roster e past i below (grind (arith, taken_sets_none e past i, sets_none e past i, sets_alone c))
+    priority_earlier roster e past i below (grind (arith, sets_none e past i, sets_alone c))
 
 -- of another thread
 open_other : (roster : List Member) (past : Trace) (t : ℕ) (c : Call) (X : List Completion) (u : ℕ) → IsLawful roster past → is_some (member_at roster t) ≡ true → Outcome true (facts_of roster past) t c X → eqb u t ≡ false

@@ -35,10 +35,6 @@ unblocked_by roster e past i =
     ∙ list_any-append (λ m. is_unblock_for i m.item.what) (items roster past) (option_to_list (item_of roster e past))
     ∙ ap (λ b. b || unblocked_among (option_to_list (item_of roster e past)) i) (sym (unblocked_among_now past (items roster past) i))
 
--- what was received stays so
-received_stays : (e : Event) (past : Trace) (i : ℕ) → WasReceived past i → WasReceived (e ∷ past) i
-received_stays e past i k = grind arith
-
 pub unblocked_received : (roster : List Member) (past : Trace) (i : ℕ) → is_unblocked roster past i ≡ true → WasReceived past i
 unblocked_received roster [] i is = absurd (true≢false (sym is))
 unblocked_received roster (e ∷ past) i is =
