@@ -8,7 +8,7 @@ pub use Rattle.qrules.proofs.Traces.Calls.Held.{IsHeldFor, SenderEnds, answering
 pub use Rattle.qrules.proofs.Traces.Calls.PrioritySet.{sets_alone}
 pub use Rattle.qrules.proofs.Traces.Calls.Taking.{given_is, given_received, receipt_from}
 pub use Rattle.qrules.proofs.Traces.Parts.{error_finish, is_own, is_owned_by, reply_finish}
-pub use Rattle.qrules.proofs.Traces.Past.CurrentPriority.{among_now, now, refused_sets_none, sets_none, taken_sets_none, unblocked_among_now, worth_beyond, worth_newest, worth_set, worth_stays}
+pub use Rattle.qrules.proofs.Traces.Past.CurrentPriority.{among_now, now, refused_sets_none, sets_none, unblocked_among_now, worth_beyond, worth_newest, worth_set, worth_stays}
 pub use Rattle.qrules.proofs.Traces.Past.Ends.{accepted, block_known, completion_names, ended_below, ends_other, ends_own, laws_of, not_ended, open_known, other_below, passes_of, refused, refused_ends}
 pub use Rattle.qrules.proofs.Traces.Past.Items.{IsPending, Stands, before_earlier, before_newest, item_accepted, item_answer, item_at, item_below, item_earlier, item_found, item_made, item_message, item_newest, item_priority, items_on, made_by, pending_all, pending_each, pending_is, pending_priorities, priority_earlier, priority_newest, standing_is, stands_all, staying, staying_all}
 pub use Rattle.qrules.proofs.Traces.Past.Laws.{IsReceipt, IsReceived, IsSettled, Passes, RowLaws, is_settled}

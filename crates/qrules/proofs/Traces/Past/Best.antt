@@ -1,5 +1,5 @@
 -- The item that is received first among those that wait.
-use Rattle.qrules.proofs.Common.{◌≡◌, ℕ, ◌<◌, ◌≤◌, List, [], ◌∷◌, refl, sym, subst, ◌∙◌, cond, arith, true, false, option_map, best_of, first_of_two, may_take, AllByRecursion, none-some, same_Some, IsRising, Item, Kind, all_more, Option, None, Some, nat_lt}
+use Rattle.qrules.proofs.Common.{◌≡◌, ℕ, ◌<◌, ◌≤◌, List, [], ◌∷◌, refl, sym, subst, ◌∙◌, cond, arith, true, false, option_map, best_of, first_of_two, may_take, AllByRecursion, same_Some, IsRising, Item, Kind, all_more, Option, None, Some, nat_lt}
 use Rattle.std.proofs.lemmas.Bool.{ltb-true, true≢false}
 
 -- of what may be taken with the priority of x, nothing was made before x
@@ -8,8 +8,7 @@ IsEarliest kind items x = AllByRecursion (λ w. may_take kind w ≡ true → w.p
 
 -- the first of rising items
 head_earliest : (kind : Kind) (y : Item) (items : List Item) → IsRising (y ∷ items) → IsEarliest kind (y ∷ items) y
-head_earliest kind y items rising =
-    (λ _ _. omega arith, all_more (λ w. y.number < w.number) (λ w. may_take kind w ≡ true → w.priority ≡ y.priority → y.number ≤ w.number) items rising.0 (λ w later _ _. omega (arith, later)))
+head_earliest kind y items rising = grind (arith, all_more)
 
 pub best_earliest : (kind : Kind) (items : List Item) (x : Item) → IsRising items → best_of kind items ≡ Some x → IsEarliest kind items x
 best_earliest kind [] x rising best = tt
@@ -31,5 +30,4 @@ best_earliest kind (y ∷ items) x rising best =
 
 -- the item whose number this is
 pub some_number : (o : Option Item) (i : ℕ) → option_map (λ (x : Item). x.number) o ≡ Some i → (x : Item) × (o ≡ Some x) × (x.number ≡ i)
-some_number None i e = absurd (none-some i e)
-some_number (Some x) i e = (x, refl, same_Some x.number i e)
+some_number o i e = grind arith

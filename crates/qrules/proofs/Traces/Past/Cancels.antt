@@ -1,6 +1,6 @@
 -- Which of the messages that are pending a call ends by force.
-use Rattle.qrules.proofs.Common.{◌≡◌, ℕ, List, refl, ap, sym, subst, ◌∙◌, true, false, eqb, is_for_receipt, is_unread_send, Receive, Send, any_never, any_only, filter_whole, none_of, none-some, and-false, is_pulse, Item, Member, Outcome, row_of, is_on, Trace, Call, Completion, OpenCall, Option, None, Some, is_some, not, ◌&&◌, ◌||◌}
-use Rattle.std.proofs.lemmas.Bool.{eqb-true, eqb-false, eq-eqb, ne_eqb, true≢false, and_parts, or_parts, false_from_ne_true}
+use Rattle.qrules.proofs.Common.{arith, ◌≡◌, ℕ, List, refl, ap, sym, subst, ◌∙◌, true, false, eqb, is_for_receipt, is_unread_send, any_never, any_only, filter_whole, none_of, none-some, is_pulse, Item, Member, Outcome, row_of, is_on, Trace, Call, Completion, OpenCall, Option, None, Some, is_some, not, ◌&&◌}
+use Rattle.std.proofs.lemmas.Bool.{eq-eqb, ne_eqb, true≢false, or_parts, false_from_ne_true}
 use Rattle.qrules.proofs.Basics.{Facts, threads_of, number_of, is_for_answer, facts_of, IsLawful, with_event, has_completion_of, is_ended, is_received, open_call, priority_of_item, copied_count_of, sender_of, filled, with_receipt, is_cancelled, uncancelled_items, ends_other, open_known, passes_of, IsPending, item_at, item_message, IsSettled, is_settled, block_fresh, filled_answer, filled_settled, open_from, open_parts, open_thread, is_unblocked, buffer_on, buffer_number, known}
 use Rattle.qrules.proofs.Traces.Properties.Messages.{item_waits, pending_going}
 use Rattle.qrules.proofs.Traces.Properties.Sends.{block_sender, block_on}
@@ -9,19 +9,14 @@ use Rattle.qrules.proofs.Traces.Properties.Sends.{block_sender, block_on}
 
 -- a Send that isn't settled isn't received
 receipt_from : (o : OpenCall) → is_for_answer o ≡ true → is_settled o ≡ false → is_for_receipt o ≡ true
-receipt_from (Send s) e settled = ap not settled
-receipt_from (Receive r) e settled = absurd (true≢false settled)
+receipt_from o e settled = grind arith
 
 settled_read : (o : OpenCall) → is_settled o ≡ true → is_for_receipt o ≡ false
-settled_read (Send s) e = ap not e
-settled_read (Receive r) e = refl
+settled_read o e = grind arith
 
 -- an open call that isn't one
 not_unread : (h i : ℕ) (o : Option OpenCall) → IsSettled o → is_unread_send h i o ≡ false
-not_unread h i None s = refl
-not_unread h i (Some w) s =
-    let read : is_for_receipt w ≡ false = settled_read w (s w refl) in
-    elim (eqb (number_of w) i) as (λ b. (b && is_for_receipt w && is_on h w) ≡ false) [ true ↦ rw read refl | false ↦ refl ]
+not_unread h i o s = grind (arith, settled_read)
 
 -- one that is has that number
 pub record HasNumber (i : ℕ) (o : Option OpenCall) : Type 0 where
@@ -30,8 +25,7 @@ pub record HasNumber (i : ℕ) (o : Option OpenCall) : Type 0 where
   pub number : (number_of waiting) ≡ i
 
 unread_number : (h i : ℕ) (o : Option OpenCall) → is_unread_send h i o ≡ true → HasNumber i o
-unread_number h i None e = absurd (true≢false (sym e))
-unread_number h i (Some w) e = record { waiting = w; is = refl; number = eqb-true (number_of w) i (and_parts _ _ (and_parts _ _ e).0).0 }
+unread_number h i o e = grind arith
 
 -- ---- a call that ends no Send which isn't received cancels none
 
@@ -40,15 +34,10 @@ abbrev pub EndsSettled : Facts → ℕ → Call → Type 0
 EndsSettled f t c = (u : ℕ) (y : Completion) → (row_of f t c).others u ≡ Some y → IsSettled (f.open_call u)
 
 none_is_cancelled : (f : Facts) (t : ℕ) (c : Call) → EndsSettled f t c → (h i : ℕ) → is_cancelled f t c h i ≡ false
-none_is_cancelled f t c settled h i = any_never _ (threads_of f.roster) (λ s.
-    elim ((row_of f t c).others s) as (λ y. (row_of f t c).others s ≡ y → (is_unread_send h i (f.open_call s) && is_some y) ≡ false) [
-      | None ↦ λ e. and-false _
-      | Some y ↦ λ e. rw (not_unread h i (f.open_call s) (settled s y e)) refl
-    ] refl)
+none_is_cancelled f t c settled h i = any_never _ (threads_of f.roster) (λ s. grind (arith, settled s, not_unread h i (f.open_call s)))
 
 pub none_cancelled : (f : Facts) (t : ℕ) (c : Call) → EndsSettled f t c → (h : ℕ) (items : List Item) → uncancelled_items f t c h items ≡ items
-none_cancelled f t c settled h items =
-    filter_whole (λ item. not (is_cancelled f t c h item.number)) items (λ item. ap not (none_is_cancelled f t c settled h item.number))
+none_cancelled f t c settled h items = grind (arith, filter_whole, none_is_cancelled f t c settled h)
 
 -- ---- the Send of a pending message
 
@@ -86,9 +75,7 @@ sent_by roster past h item l p message =
 -- no other thread's open call is the Send of that number
 pub unread_elsewhere : (roster : List Member) (past : Trace) (h i s : ℕ) (waiting : OpenCall) (v : ℕ) → open_call roster past s ≡ Some waiting → (number_of waiting) ≡ i → eqb v s ≡ false
     → is_unread_send h i (open_call roster past v) ≡ false
-unread_elsewhere roster past h i s waiting v is number differs = false_from_ne_true _ (λ e.
-    let n = unread_number h i (open_call roster past v) e in
-    eqb-false v s differs (open_thread roster past v s n.waiting waiting n.is is (n.number ∙ sym number)))
+unread_elsewhere roster past h i s waiting v is number differs = grind (arith, unread_number, open_thread)
 
 -- the Send of a pending message exactly where it is cancelled
 ends_sent : (roster : List Member) (past : Trace) (t : ℕ) (c : Call) (X : List Completion) (h : ℕ) (item : Item) → IsLawful roster past → Outcome true (facts_of roster past) t c X → IsPending roster past h item → is_pulse item.what ≡ false
@@ -115,18 +102,9 @@ pulse_unread roster past h item v p pulse = false_from_ne_true _ (λ e.
     true≢false (sym pulse ∙ sym (ap is_pulse p.what) ∙ item_message roster past v (record { item = p.first; channel = h }) k.block made k.is))
 
 no_pulse_is_cancelled : (roster : List Member) (past : Trace) (t : ℕ) (c : Call) (h : ℕ) (item : Item) → IsPending roster past h item → is_pulse item.what ≡ true → is_cancelled (facts_of roster past) t c h item.number ≡ false
-no_pulse_is_cancelled roster past t c h item p pulse =
-    let f = facts_of roster past in
-    any_never (λ v. is_unread_send h item.number (f.open_call v) && is_some ((row_of f t c).others v)) (threads_of roster) (λ v.
-    ap (λ b. b && is_some ((row_of f t c).others v)) (pulse_unread roster past h item v p pulse))
+no_pulse_is_cancelled roster past t c h item p pulse = any_never _ (threads_of roster) (λ v. grind (arith, pulse_unread roster past h item v p pulse))
 
 -- a pending item goes by a completion exactly where it is cancelled
 pub ended_is_cancelled : (roster : List Member) (past : Trace) (t : ℕ) (c : Call) (X : List Completion) (h : ℕ) (item : Item) → IsLawful roster past → Outcome true (facts_of roster past) t c X → IsPending roster past h item
     → (not (is_pulse item.what) && is_ended (with_event t c X past) item.number) ≡ is_cancelled (facts_of roster past) t c h item.number
-ended_is_cancelled roster past t c X h item l a p =
-    elim (is_pulse item.what) as (λ b. is_pulse item.what ≡ b → (not b && (has_completion_of X item.number || is_ended past item.number)) ≡ is_cancelled (facts_of roster past) t c h item.number) [
-      | true ↦ λ pulse. sym (no_pulse_is_cancelled roster past t c h item p pulse)
-      | false ↦ λ message.
-          let going : is_ended past item.number ≡ false = pending_going roster past h item p message in
-          rw (going, ends_sent roster past t c X h item l a p message) (elim (is_cancelled (facts_of roster past) t c h item.number) as (λ b. (b || false) ≡ b) [ true ↦ refl | false ↦ refl ])
-    ] refl
+ended_is_cancelled roster past t c X h item l a p = grind (arith, no_pulse_is_cancelled roster past t c h item p, pending_going roster past h item p, ends_sent roster past t c X h item l a p)

@@ -1,30 +1,21 @@
 -- Which channels are open after one more event.
-use Rattle.qrules.proofs.Common.{◌≡◌, ℕ, ◌+◌, List, ◌∷◌, length, refl, sym, subst, cond, true, false, ChannelCreate, ChannelDestroy, none-some, Inval, member_at, Member, Outcome, row_of, OpenChannel, Event, Trace, Call, Completion, Option, None, Some, is_some, ◌||◌}
-use Rattle.std.proofs.lemmas.Bool.{eqb-true, true≢false}
-use Rattle.qrules.proofs.Basics.{Facts, owns, is_owned_by, facts_of, IsLawful, with_event, closes, creates, channel_at, is_destroyed, open_channels, refuses, names, channel_after, one_for, passes_of}
+use Rattle.qrules.proofs.Common.{arith, ◌≡◌, ℕ, ◌+◌, List, ◌∷◌, length, true, false, member_at, Member, Outcome, row_of, OpenChannel, Event, Trace, Call, Completion, Option, None, Some, is_some, ◌||◌}
+use Rattle.qrules.proofs.Basics.{Facts, is_owned_by, facts_of, IsLawful, with_event, closes, creates, channel_at, is_destroyed, open_channels, refuses, names, channel_after, one_for, passes_of}
 use Rattle.qrules.proofs.Traces.Past.Live.{IsLive, count_live_accepted, count_live_refused, gone_accepted, gone_refused, live_accepted, live_parts, live_refused}
 
 -- ---- by each call's row
 
 -- a channel of the thread's process is open
 pub owned_open : (f : Facts) (t : ℕ) (o : Option OpenChannel) → is_owned_by f t o ≡ true → is_some o ≡ true
-owned_open f t None e = absurd (true≢false (sym e))
-owned_open f t (Some c) e = refl
+owned_open f t o e = grind arith
 
 -- an accepted call destroys a channel that is open
 pub closes_open : (f : Facts) (t : ℕ) (c : Call) (h : ℕ) → (row_of f t c).refusal ≡ None → names (closes c) h ≡ true → is_some (f.channel h) ≡ true
-closes_open f t (ChannelDestroy chid) h r e =
-    elim (owns f t chid) as (λ b. owns f t chid ≡ b → cond b None (Some Inval) ≡ None → is_some (f.channel h) ≡ true) [
-      | true ↦ λ own _. subst (λ k. is_some (f.channel k) ≡ true) (eqb-true chid h e) (owned_open f t (f.channel chid) own)
-      | false ↦ λ own s. absurd (none-some Inval (sym s))
-    ] refl r
-closes_open f t c h r e = absurd (true≢false (sym e))
+closes_open f t c h r e = grind arith
 
 -- and creates none
 pub closes_alone : (m : Option Member) (c : Call) (h : ℕ) → closes c ≡ Some h → creates m c ≡ None
-closes_alone None c h e = refl
-closes_alone (Some m) (ChannelCreate flags) h e = absurd (none-some h e)
-closes_alone (Some m) c h e = refl
+closes_alone m c h e = grind arith
 
 -- ---- the channels after one more event
 

@@ -1,30 +1,17 @@
 -- Which connections are live after one more event.
-use Rattle.qrules.proofs.Common.{◌≡◌, ℕ, ◌+◌, List, ◌∷◌, length, refl, ap, sym, subst, cond, true, false, ConnectAttach, ConnectDetach, none-some, Inval, member_at, Connection, Member, Outcome, row_of, disconnect_pulse, refusal_if_full_for, Event, Trace, Call, Completion, Option, None, Some, is_some}
-use Rattle.std.proofs.lemmas.Bool.{eqb-true, true≢false}
-use Rattle.qrules.proofs.Basics.{is_own, Facts, facts_of, IsLawful, with_event, attaches, detaches, attached_connection, connection_at, live_connections, refuses, names, connection_after, one_for, passes_of}
+use Rattle.qrules.proofs.Common.{arith, ◌≡◌, ℕ, ◌+◌, List, ◌∷◌, length, ap, cond, true, member_at, Member, Outcome, row_of, Event, Trace, Call, Completion, Option, None, Some, is_some}
+use Rattle.qrules.proofs.Basics.{Facts, facts_of, IsLawful, with_event, attaches, detaches, attached_connection, connection_at, live_connections, refuses, names, connection_after, one_for, passes_of}
 use Rattle.qrules.proofs.Traces.Past.Live.{count_live_accepted, count_live_refused, live_accepted, live_parts, live_refused}
 
 -- ---- by each call's row
 
--- a connection of the thread's process is live
-own_live : (f : Facts) (t : ℕ) (o : Option Connection) → is_own f t o ≡ true → is_some o ≡ true
-own_live f t None e = absurd (true≢false (sym e))
-own_live f t (Some c) e = refl
-
 -- an accepted call detaches a connection that is live
 detaches_one : (f : Facts) (t : ℕ) (c : Call) (k : ℕ) → (row_of f t c).refusal ≡ None → names (detaches c) k ≡ true → is_some (f.connection k) ≡ true
-detaches_one f t (ConnectDetach coid) k r e =
-    elim (is_own f t (f.connection coid)) as (λ b. is_own f t (f.connection coid) ≡ b → cond b (refusal_if_full_for f (disconnect_pulse f t coid)) (Some Inval) ≡ None → is_some (f.connection k) ≡ true) [
-      | true ↦ λ own _. subst (λ j. is_some (f.connection j) ≡ true) (eqb-true coid k e) (own_live f t (f.connection coid) own)
-      | false ↦ λ own s. absurd (none-some Inval (sym s))
-    ] refl r
-detaches_one f t c k r e = absurd (true≢false (sym e))
+detaches_one f t c k r e = grind arith
 
 -- and attaches none
 detaches_alone : (m : Option Member) (c : Call) (k : ℕ) → detaches c ≡ Some k → attaches m c ≡ None
-detaches_alone None c k e = refl
-detaches_alone (Some m) (ConnectAttach chid) k e = absurd (none-some k e)
-detaches_alone (Some m) c k e = refl
+detaches_alone m c k e = grind arith
 
 -- ---- the connections after one more event
 

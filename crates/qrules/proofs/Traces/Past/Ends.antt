@@ -1,6 +1,7 @@
 -- What the endings of an event are of: the event's own call, or what another thread waits for.
-use Rattle.qrules.proofs.Common.{◌≡◌, ◌≢◌, ℕ, ◌+◌, ◌<◌, ◌≤◌, List, [], ◌∷◌, length, refl, ap, sym, subst, ◌∙◌, cond, arith, true, false, eqb, ◌⊎◌, inl, inr, Down, Busy, refusal_of, completion_to, Outcome, Answers, eqb_same, any_filter_map, any_filter_map_at, all_filter_map, list_any, filter_map, AllByRecursion, none-some, same_Some, and-false, member_at, Member, row_of, Trace, Call, Completion, OpenCall, None, Some, is_some}
-use Rattle.std.proofs.lemmas.Bool.{eqb-true, eq-eqb, ne_eqb}
+use Rattle.std.proofs.lemmas.Bool.Decides.{nat_tests}
+use Rattle.qrules.proofs.Common.{◌≡◌, ◌≢◌, ℕ, ◌+◌, ◌<◌, ◌≤◌, List, [], ◌∷◌, length, refl, ap, sym, ◌∙◌, arith, true, false, eqb, ◌⊎◌, inl, inr, refusal_of, completion_to, Outcome, Answers, eqb_same, any_filter_map, any_filter_map_at, all_filter_map, list_any, filter_map, AllByRecursion, none-some, same_Some, member_at, Member, row_of, Trace, Call, Completion, OpenCall, None, Some, is_some}
+use Rattle.std.proofs.lemmas.Bool.{eq-eqb, ne_eqb}
 use Rattle.qrules.proofs.Words.Facts.{Facts, threads_of, number_of}
 use Rattle.qrules.proofs.Words.Lawful.{facts_of, IsLawful}
 use Rattle.qrules.proofs.Words.Past.{has_completion_of, refuses, is_ended, open_call, block}
@@ -13,15 +14,7 @@ use Rattle.qrules.proofs.Traces.Rosters.{known}
 -- ---- what an accepted call passed
 
 pub row_passes : (f : Facts) (t : ℕ) (c : Call) → refusal_of f t c ≡ None → Passes f t c
-row_passes f t c e =
-    elim (f.down) as (λ b. f.down ≡ b → cond b (Some Down) (cond (is_some (f.open_call t)) (Some Busy) (row_of f t c).refusal) ≡ None → Passes f t c) [
-      | true ↦ λ down h. absurd (none-some Down (sym h))
-      | false ↦ λ up h.
-          elim (f.open_call t) as (λ o. f.open_call t ≡ o → cond (is_some o) (Some Busy) (row_of f t c).refusal ≡ None → Passes f t c) [
-            | None ↦ λ is passed. record { up = up; idle = is; row = passed }
-            | Some w ↦ λ is passed. absurd (none-some Busy (sym passed))
-          ] refl h
-    ] refl e
+row_passes f t c e = grind arith
 
 pub passes_of : (f : Facts) (t : ℕ) (c : Call) (X : List Completion) → Outcome true f t c X → Passes f t c
 passes_of f t c X a = row_passes f t c a.0
@@ -42,11 +35,7 @@ pub record IsOther (f : Facts) (t : ℕ) (c : Call) (v : ℕ) (y : Completion) :
   pub names : IsOfOpen f v y
 
 pub completion_names : (f : Facts) (t : ℕ) (c : Call) (v : ℕ) (y : Completion) → RowLaws f t c → completion_to f t c v ≡ Some y → IsOwnOf f t c v y ⊎ IsOther f t c v y
-completion_names f t c v y laws e =
-    elim (eqb v t) as (λ b. eqb v t ≡ b → cond b (row_of f t c).own ((row_of f t c).others v) ≡ Some y → IsOwnOf f t c v y ⊎ IsOther f t c v y) [
-      | true ↦ λ h o. inl (record { thread = eqb-true v t h; is = o; names = laws.owns y o })
-      | false ↦ λ h o. inr (record { thread = h; is = o; names = laws.ends_open v y o })
-    ] refl e
+completion_names f t c v y laws e = grind (arith, nat_tests)
 
 -- a completion of another thread is of a number of the past
 pub other_below : (roster : List Member) (past : Trace) (v : ℕ) (y : Completion) → IsOfOpen (facts_of roster past) v y → y.call ≤ length past
@@ -55,13 +44,7 @@ other_below roster past v y h = let below : (number_of h.waiting) ≤ length pas
 -- no completion of an accepted call refuses it
 pub accepted : (roster : List Member) (past : Trace) (t : ℕ) (c : Call) (X : List Completion) → Outcome true (facts_of roster past) t c X → refuses X (length past + 1) ≡ false
 accepted roster past t c X a = rw (a.1) (any_filter_map _ (completion_to (facts_of roster past) t c) (threads_of roster) (λ v y e.
-    elim (completion_names (facts_of roster past) t c v y (laws_of (facts_of roster past) t c X a) e) [
-      | inl h ↦ rw (h.names.mark) (and-false _)
-      | inr h ↦
-          let below : y.call ≤ length past = other_below roster past v y h.names in
-          let other : eqb y.call (length past + 1) ≡ false = ne_eqb _ _ (λ same. omega arith) in
-          rw other refl
-    ]))
+    grind (arith, completion_names (facts_of roster past) t c v y (laws_of (facts_of roster past) t c X a) e, other_below roster past v y)))
 
 pub refused : (roster : List Member) (past : Trace) (t : ℕ) (c : Call) (X : List Completion) → Outcome false (facts_of roster past) t c X → refuses X (length past + 1) ≡ true
 refused roster past t c X a = rw (a.2, eqb_same (length past + 1)) refl
@@ -74,10 +57,7 @@ refused_ends roster past t c X i a other = let e : eqb (length past + 1) i ≡ f
 pub names_below : (roster : List Member) (past : Trace) (t : ℕ) (c : Call) (X : List Completion) (i : ℕ) → Answers (facts_of roster past) t c X → length past + 1 < i → has_completion_of X i ≡ false
 names_below roster past t c X i a l = elim a [
   | inl a ↦ rw (a.1) (any_filter_map _ (completion_to (facts_of roster past) t c) (threads_of roster) (λ v y e.
-      elim (completion_names (facts_of roster past) t c v y (laws_of (facts_of roster past) t c X a) e) [
-        | inl h ↦ ne_eqb _ _ (λ same. omega (arith, h.names.call))
-        | inr h ↦ let below : y.call ≤ length past = other_below roster past v y h.names in ne_eqb _ _ (λ same. omega arith)
-      ]))
+      grind (arith, completion_names (facts_of roster past) t c v y (laws_of (facts_of roster past) t c X a) e, other_below roster past v y)))
   | inr a ↦ refused_ends roster past t c X i a (λ same. omega arith)
 ]
 
@@ -90,10 +70,7 @@ ended_below roster (e ∷ past) i l h = rw (names_below roster past e.thread e.c
 -- a thread that waits is one of the roster
 pub block_known : (roster : List Member) (past : Trace) (u : ℕ) (b : OpenCall) → IsLawful roster past → block roster past u ≡ Some b → is_some (member_at roster u) ≡ true
 block_known roster [] u b l is = absurd (none-some b is)
-block_known roster (e ∷ past) u b l is = elim (block_cases roster e past u b is) [
-  | inl h ↦ subst (λ v. is_some (member_at roster v) ≡ true) h.thread l.1.0
-  | inr h ↦ block_known roster past u b l.0 h
-]
+block_known roster (e ∷ past) u b l is = grind (arith, block_cases roster e past u b is, block_known roster past u b l.0)
 
 pub open_known : (roster : List Member) (past : Trace) (u : ℕ) (o : OpenCall) → IsLawful roster past → open_call roster past u ≡ Some o → is_some (member_at roster u) ≡ true
 open_known roster past u o l is = let k = open_parts roster past u o is in block_known roster past u k.block l k.is
@@ -129,11 +106,7 @@ ends_own roster past t c X member a =
     let laws = laws_of (facts_of roster past) t c X a in
     rw (a.1) (
     elim ((row_of f t c).own) as (λ z. (row_of f t c).own ≡ z → list_any (λ x. eqb x.call (length past + 1)) (filter_map (completion_to f t c) (threads_of roster)) ≡ is_some z) [
-      | None ↦ λ e. any_filter_map _ (completion_to f t c) (threads_of roster) (λ v y ev.
-          elim (completion_names f t c v y laws ev) [
-            | inl h ↦ absurd (none-some y (sym e ∙ h.is))
-            | inr h ↦ let below : y.call ≤ length past = other_below roster past v y h.names in ne_eqb _ _ (λ s. omega arith)
-          ])
+      | None ↦ λ e. any_filter_map _ (completion_to f t c) (threads_of roster) (λ v y ev. grind (arith, completion_names f t c v y laws ev, other_below roster past v y))
       | Some y ↦ λ e. any_filter_map_at _ (completion_to f t c) (threads_of roster) t y (known roster t member) (rw (eqb_same t) e) (eq-eqb _ _ (laws.owns y e).call)
     ] refl)
 
@@ -142,11 +115,6 @@ ends_own roster past t c X member a =
 pub not_ended : (roster : List Member) (past : Trace) (t : ℕ) (c : Call) (X : List Completion) → IsLawful roster past → Answers (facts_of roster past) t c X → AllByRecursion (λ x. is_ended past x.call ≡ false) X
 not_ended roster past t c X l a = elim a [
   | inl a ↦ rw (a.1) (all_filter_map (λ x. is_ended past x.call ≡ false) (completion_to (facts_of roster past) t c) (threads_of roster) (λ v y e.
-      elim (completion_names (facts_of roster past) t c v y (laws_of (facts_of roster past) t c X a) e) [
-        | inl h ↦ let number : y.call ≡ length past + 1 = h.names.call in ended_below roster past y.call l (omega arith)
-        | inr h ↦
-            let k = open_parts roster past v h.names.waiting h.names.is in
-            subst (λ i. is_ended past i ≡ false) (sym (h.names.call ∙ k.number)) k.going
-      ]))
+      grind (arith, completion_names (facts_of roster past) t c v y (laws_of (facts_of roster past) t c X a) e, ended_below roster past y.call l, open_parts roster past v)))
   | inr a ↦ rw (a.2) (ended_below roster past (length past + 1) l (omega arith), tt)
 ]

@@ -1,5 +1,5 @@
 -- The facts after one more event are those that its row says.
-use Rattle.qrules.proofs.Common.{◌≡◌, ℕ, ◌+◌, List, length, refl, arith, Bool, true, false, member_at, IsRoster, Member, Outcome, Event, Trace, Call, Completion, is_some}
+use Rattle.qrules.proofs.Common.{◌≡◌, ℕ, ◌+◌, List, length, arith, Bool, true, false, member_at, IsRoster, Member, Outcome, Event, Trace, Call, Completion, is_some}
 use Rattle.qrules.proofs.Basics.{facts_of, IsLawful, with_event, refuses, Follows, accepted, refused}
 use Rattle.qrules.proofs.Traces.Past.Channels.{channel_accepted, channel_refused, open_channels_accepted, open_channels_refused}
 use Rattle.qrules.proofs.Traces.Past.Connections.{connection_accepted, connection_refused, live_connections_accepted, live_connections_refused}
@@ -11,32 +11,9 @@ pub past_follows : (accept : Bool) (roster : List Member) (past : Trace) (t : �
     → IsRoster roster → IsLawful roster past → is_some (member_at roster t) ≡ true → Outcome accept (facts_of roster past) t c X
     → Follows (facts_of roster past) t c accept (facts_of roster (with_event t c X past))
 past_follows true roster past t c X rising l member a =
-    let e : Event = record { thread = t; call = c; endings = X } in
     let r : refuses X (length past + 1) ≡ false = accepted roster past t c X a in
-    record {
-      roster = refl;
-      number = omega arith;
-      down = rw r refl;
-      channel = λ h. channel_accepted roster past t c X h l a;
-      open_channels = open_channels_accepted roster past t c X l a;
-      connection = λ k. connection_accepted roster past t c X k l a;
-      live_connections = live_connections_accepted roster past t c X l a;
-      open_call = λ u. open_accepted roster past t c X u l member a;
-      pending = λ h. pending_accepted roster past t c X h l member a;
-      priority = λ u. priority_accepted roster past t c X u l member a;
-    }
+    grind (arith, r, channel_accepted roster past t c X, open_channels_accepted roster past t c X l a, connection_accepted roster past t c X, live_connections_accepted roster past t c X l a, open_accepted roster past t c X, pending_accepted roster past t c X, priority_accepted roster past t c X)
 past_follows false roster past t c X rising l member a =
     let e : Event = record { thread = t; call = c; endings = X } in
     let r : refuses X (length past + 1) ≡ true = refused roster past t c X a in
-    record {
-      roster = refl;
-      number = omega arith;
-      down = rw r refl;
-      channel = λ h. channel_refused roster e past h r;
-      open_channels = omega (arith, open_channels_refused roster e past r);
-      connection = λ k. connection_refused roster e past k r;
-      live_connections = omega (arith, live_connections_refused roster e past r);
-      open_call = λ u. open_refused roster past t c X u a;
-      pending = λ h. pending_refused roster past t c X h a;
-      priority = λ u. priority_refused roster past t c X u a;
-    }
+    grind (arith, r, channel_refused roster e past, open_channels_refused roster e past r, connection_refused roster e past, live_connections_refused roster e past r, open_refused roster past t c X, pending_refused roster past t c X, priority_refused roster past t c X)

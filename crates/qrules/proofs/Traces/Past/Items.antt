@@ -1,10 +1,10 @@
 -- The items that were made: one of each number, with its channel and priority.
-use Rattle.qrules.proofs.Common.{◌≡◌, ◌≢◌, ℕ, ◌+◌, ◌≤◌, List, [], ◌∷◌, ◌++◌, map, length, refl, ap, sym, subst, ◌∙◌, cond, arith, true, false, eqb, append-nil, option_map, option_to_list, eqb_same, all_append, all_map, all_more, all_passing, number_of, AllByRecursion, same_Some, none-some, Item, is_pulse, Member, call_at, SentItem, Event, Trace, Call, OpenCall, Option, None, Some, not, filter}
-use Rattle.std.proofs.lemmas.Bool.{eqb-true, eq-eqb, ne_eqb, not-true}
+use Rattle.qrules.proofs.Common.{◌≡◌, ◌≢◌, ℕ, ◌+◌, ◌≤◌, List, [], ◌∷◌, ◌++◌, map, length, refl, ap, sym, subst, ◌∙◌, cond, arith, true, false, eqb, append-nil, option_map, option_to_list, eqb_same, all_append, all_map, all_more, all_passing, number_of, AllByRecursion, none-some, Item, is_pulse, Member, call_at, SentItem, Event, Trace, Call, OpenCall, Option, None, Some, not, filter}
+use Rattle.std.proofs.lemmas.Bool.{eqb-true, eq-eqb, ne_eqb}
 use Rattle.qrules.proofs.Words.Facts.{is_for_answer}
 use Rattle.qrules.proofs.Words.Lawful.{facts_of}
 use Rattle.qrules.proofs.Words.Past.{items_by_now, is_accepted, item_of, items, item_among, priority_before, priority_of_made, priority_of_item, is_destroyed, is_gone, pending_items, current_priority, block}
-use Rattle.qrules.proofs.Words.Effects.{asks, makes}
+use Rattle.qrules.proofs.Words.Effects.{makes}
 use Rattle.qrules.proofs.Traces.Past.Laws.{MakesItem}
 use Rattle.qrules.proofs.Traces.Calls.{call_laws}
 use Rattle.qrules.proofs.Traces.Past.Numbers.{call_below, call_earlier, call_newest, block_asked}
@@ -19,11 +19,7 @@ item_at roster (e ∷ past) i = cond (eqb i (length past + 1)) (item_of roster e
 
 -- an event that made an item was accepted, and its call makes it
 pub item_accepted : (roster : List Member) (e : Event) (past : Trace) (m : SentItem) → item_of roster e past ≡ Some m → (is_accepted e past ≡ true) × (makes (facts_of roster past) e.thread e.call ≡ Some m)
-item_accepted roster e past m is =
-    elim (is_accepted e past) as (λ b. cond b (makes (facts_of roster past) e.thread e.call) None ≡ Some m → (b ≡ true) × (makes (facts_of roster past) e.thread e.call ≡ Some m)) [
-      | true ↦ λ at. (refl, at)
-      | false ↦ λ at. absurd (none-some m at)
-    ] is
+item_accepted roster e past m is = grind arith
 
 -- it was made by the call of its number
 pub made_by : (roster : List Member) (e : Event) (past : Trace) (m : SentItem) → item_of roster e past ≡ Some m → MakesItem (length past + 1) e.call m
@@ -56,17 +52,11 @@ item_below roster past i m is = let k = item_made roster past i m is in call_bel
 
 -- whoever waits under the number of an item waits for an answer
 pub item_answer : (roster : List Member) (past : Trace) (u : ℕ) (m : SentItem) (b : OpenCall) → item_at roster past (number_of b) ≡ Some m → block roster past u ≡ Some b → is_for_answer b ≡ true
-item_answer roster past u m b at is =
-    let k = item_made roster past (number_of b) m at in
-    let a = block_asked roster past u b is in
-    k.makes_it.waits u a.channel b (subst (λ c. asks (number_of b) u a.channel c ≡ Some b) (same_Some a.call k.call (sym a.is ∙ k.is)) a.asks_it)
+item_answer roster past u m b at is = grind (arith, item_made roster past (number_of b) m at, block_asked roster past u b is)
 
 -- and the item is a message
 pub item_message : (roster : List Member) (past : Trace) (u : ℕ) (m : SentItem) (b : OpenCall) → item_at roster past (number_of b) ≡ Some m → block roster past u ≡ Some b → is_pulse m.item.what ≡ false
-item_message roster past u m b at is =
-    let k = item_made roster past (number_of b) m at in
-    let a = block_asked roster past u b is in
-    k.makes_it.message u a.channel b (subst (λ c. asks (number_of b) u a.channel c ≡ Some b) (same_Some a.call k.call (sym a.is ∙ k.is)) a.asks_it)
+item_message roster past u m b at is = grind (arith, item_made roster past (number_of b) m at, block_asked roster past u b is)
 
 -- ---- all items
 
@@ -101,23 +91,14 @@ among_last (x ∷ xs) m i h same = rw (ne_eqb x.item.number i h.0) (among_last x
 -- what is found has that number
 found_number : (made : List SentItem) (i : ℕ) (m : SentItem) → item_among made i ≡ Some m → m.item.number ≡ i
 found_number [] i m is = absurd (none-some m is)
-found_number (x ∷ made) i m is =
-    elim (eqb x.item.number i) as (λ b. eqb x.item.number i ≡ b → cond b (Some x) (item_among made i) ≡ Some m → m.item.number ≡ i) [
-      | true ↦ λ same at. ap (λ (y : SentItem). y.item.number) (sym (same_Some x m at)) ∙ eqb-true _ _ same
-      | false ↦ λ other at. found_number made i m at
-    ] refl is
+found_number (x ∷ made) i m is = grind (arith, found_number made i m)
 
 -- a new event changes no earlier item
 pub found_earlier : (roster : List Member) (e : Event) (past : Trace) (i : ℕ) → i ≤ length past → item_among (items roster (e ∷ past)) i ≡ item_among (items roster past) i
-found_earlier roster e past i l = among_other (items roster past) (option_to_list (item_of roster e past)) i (
-    elim (item_of roster e past) as (λ o. item_of roster e past ≡ o → AllByRecursion (λ m. m.item.number ≢ i) (option_to_list o)) [
-      | None ↦ λ is. tt
-      | Some m ↦ λ is. let number : m.item.number ≡ length past + 1 = (made_by roster e past m is).number in ((λ same. omega arith), tt)
-    ] refl)
+found_earlier roster e past i l = grind (arith, among_other (items roster past), made_by roster e past)
 
 found_newest : (roster : List Member) (e : Event) (past : Trace) (m : SentItem) → item_of roster e past ≡ Some m → item_among (items roster (e ∷ past)) (length past + 1) ≡ Some m
-found_newest roster e past m is = rw is (among_last (items roster past) m (length past + 1)
-    (all_more (λ x. x.item.number ≤ length past) (λ x. x.item.number ≢ length past + 1) (items roster past) (items_below roster past) (λ x l same. omega arith)) (made_by roster e past m is).number)
+found_newest roster e past m is = grind (arith, among_last (items roster past) m (length past + 1), all_more, items_below roster past, made_by roster e past m is)
 
 none_among : (made : List SentItem) (i : ℕ) → AllByRecursion (λ m. m.item.number ≢ i) made → item_among made i ≡ None
 none_among [] i h = refl
@@ -133,11 +114,7 @@ found_there roster e past = elim (item_of roster e past) as (λ o. item_of roste
 
 pub item_found : (roster : List Member) (past : Trace) (i : ℕ) (m : SentItem) → item_at roster past i ≡ Some m → item_among (items roster past) i ≡ Some m
 item_found roster [] i m is = absurd (none-some m is)
-item_found roster (e ∷ past) i m is =
-    elim (eqb i (length past + 1)) as (λ b. eqb i (length past + 1) ≡ b → cond b (item_of roster e past) (item_at roster past i) ≡ Some m → item_among (items roster (e ∷ past)) i ≡ Some m) [
-      | true ↦ λ same at. subst (λ k. item_among (items roster (e ∷ past)) k ≡ Some m) (sym (eqb-true _ _ same)) (found_newest roster e past m at)
-      | false ↦ λ other at. found_earlier roster e past i (item_below roster past i m at) ∙ item_found roster past i m at
-    ] refl is
+item_found roster (e ∷ past) i m is = grind (arith, found_newest roster e past m, found_earlier roster e past i, item_below roster past i m, item_found roster past i m)
 
 -- ---- priorities
 
@@ -154,27 +131,14 @@ priority_newest roster e past m is = found_now (e ∷ past) (items roster (e ∷
 
 -- an earlier item, where the event sets nothing for its sender
 pub priority_earlier : (roster : List Member) (e : Event) (past : Trace) (i : ℕ) → i ≤ length past → SetsNone e past i → priority_of_item roster (e ∷ past) i ≡ priority_of_item roster past i
-priority_earlier roster e past i l none =
-    ap priority_of_made (among_now (e ∷ past) (items roster (e ∷ past)) i ∙ ap (option_map (λ (m : SentItem). record { item = now (e ∷ past) m.item; channel = m.channel })) (found_earlier roster e past i l))
-    ∙ stays (item_among (items roster past) i) refl
-    ∙ ap priority_of_made (sym (among_now past (items roster past) i))
-  where
-    stays : (o : Option SentItem) → item_among (items roster past) i ≡ o
-        → priority_of_made (option_map (λ (m : SentItem). record { item = now (e ∷ past) m.item; channel = m.channel }) o) ≡ priority_of_made (option_map (λ (m : SentItem). record { item = now past m.item; channel = m.channel }) o)
-    stays None is = refl
-    stays (Some m) is =
-        let number : m.item.number ≡ i = found_number (items roster past) i m is in
-        worth_stays e past m.item (let below : m.item.number ≤ length past = omega (arith, number, l) in below) (subst (SetsNone e past) (sym number) none)
+priority_earlier roster e past i l none = grind (arith, among_now (e ∷ past) (items roster (e ∷ past)) i, found_earlier roster e past i l, among_now past (items roster past) i, found_number (items roster past) i, worth_stays e past)
 
 -- the priority of an item before the event
 pub before_earlier : (roster : List Member) (e : Event) (past : Trace) (i : ℕ) → i ≤ length past → priority_before roster past e i ≡ priority_of_item roster past i
-before_earlier roster e past i l =
-    ap priority_of_made (among_now past (items roster (e ∷ past)) i ∙ ap (option_map (λ (m : SentItem). record { item = now past m.item; channel = m.channel })) (found_earlier roster e past i l) ∙ sym (among_now past (items roster past) i))
+before_earlier roster e past i l = grind (arith, among_now past (items roster (e ∷ past)) i, found_earlier roster e past i l, among_now past (items roster past) i)
 
 pub before_newest : (roster : List Member) (e : Event) (past : Trace) (m : SentItem) → item_of roster e past ≡ Some m → priority_before roster past e m.item.number ≡ m.item.priority
-before_newest roster e past m is =
-    let number : m.item.number ≡ length past + 1 = (made_by roster e past m is).number in
-    ap (priority_before roster past e) number ∙ found_now past (items roster (e ∷ past)) (length past + 1) m (found_newest roster e past m is) ∙ worth_beyond past m.item (omega (arith, number))
+before_newest roster e past m is = grind (arith, made_by roster e past m is, found_now past (items roster (e ∷ past)) (length past + 1) m (found_newest roster e past m is), found_newest roster e past m is, worth_beyond past m.item)
 
 -- ---- the items of a channel, and those that are pending
 
@@ -213,19 +177,11 @@ pub standing_is : (roster : List Member) (past : Trace) (h : ℕ) (item : Item) 
 standing_is roster past h item at stays = record { first = item; made = at; what = refl; stays = stays }
 
 pub staying_all : (roster : List Member) (past : Trace) (h : ℕ) → AllByRecursion (λ item. Stands roster past h item × (is_gone past item ≡ false)) (staying roster past h)
-staying_all roster past h =
-    all_more (λ item. Stands roster past h item × (not (is_gone past item) ≡ true)) (λ item. Stands roster past h item × (is_gone past item ≡ false)) (staying roster past h)
-    (all_passing (Stands roster past h) (λ item. not (is_gone past item)) (items_on roster past h) (stands_all roster past h))
-    (λ item k. (k.0, not-true (is_gone past item) k.1))
+staying_all roster past h = grind (arith, all_more, all_passing (Stands roster past h), stands_all roster past h)
 
 -- what is so of each as it is by now is so of all that is pending
 pub pending_each : (P : Item → Type 0) (roster : List Member) (past : Trace) (h : ℕ) → ((item : Item) → Stands roster past h item → is_gone past item ≡ false → P (now past item)) → AllByRecursion P (pending_items roster past h)
-pending_each P roster past h each =
-    subst (AllByRecursion P) (sym (pending_is roster past h)) (
-    elim (is_destroyed past h) as (λ b. AllByRecursion P (cond b [] (map (now past) (staying roster past h)))) [
-      | true ↦ tt
-      | false ↦ all_map P (now past) (staying roster past h) (all_more (λ item. Stands roster past h item × (is_gone past item ≡ false)) (λ item. P (now past item)) (staying roster past h) (staying_all roster past h) (λ item k. each item k.0 k.1))
-    ])
+pending_each P roster past h each = grind (arith, pending_is roster past h, all_map P (now past) (staying roster past h), all_more, staying_all roster past h)
 
 pub pending_all : (roster : List Member) (past : Trace) (h : ℕ) → AllByRecursion (IsPending roster past h) (pending_items roster past h)
 pending_all roster past h = pending_each (IsPending roster past h) roster past h (λ item at stays. record { first = item; made = at; what = refl; stays = stays })

@@ -1,37 +1,20 @@
 -- What was made under a number and isn't ended since: channels and connections alike.
-use Rattle.qrules.proofs.Common.{◌≡◌, ℕ, zero, suc, ◌+◌, ◌≤◌, List, [], ◌∷◌, length, refl, ap, sym, subst, ◌∙◌, cond, arith, Bool, true, false, eqb, inl, inr, Effect, none-some, member_at, Member, Outcome, Event, Trace, Call, Completion, cond_same, eqb_same, effect_of, Option, None, Some, is_some, ◌||◌}
-use Rattle.std.proofs.lemmas.Bool.{eqb-true, eqb-false, ne_eqb, or_cases, true≢false}
-use Rattle.qrules.proofs.Basics.{count_to, facts_of, IsLawful, with_event, is_accepted, accepted_at, refuses, was_done, names, put_at, one_for, accepted, refused, made_beyond, made_below}
+use Rattle.qrules.proofs.Common.{◌≡◌, ℕ, zero, suc, ◌+◌, ◌≤◌, List, [], ◌∷◌, length, refl, ap, sym, ◌∙◌, cond, arith, Bool, true, false, eqb, inl, inr, Effect, none-some, member_at, Member, Outcome, Event, Trace, Call, Completion, cond_same, eqb_same, effect_of, Option, None, Some, is_some, ◌||◌}
+use Rattle.std.proofs.lemmas.Bool.{or_cases, true≢false}
+use Rattle.qrules.proofs.Basics.{count_to, facts_of, IsLawful, with_event, accepted_at, refuses, was_done, names, put_at, one_for, accepted, refused, made_beyond, made_below}
 
 -- what is made has a number from 1 on
 pub made_above : {A : Type 0} (make : Event → Option A) (past : Trace) (i : ℕ) (x : A) → accepted_at make past i ≡ Some x → 1 ≤ i
 made_above make [] i x e = absurd (none-some x e)
-made_above {A} make (e ∷ past) i x is =
-    elim (eqb i (length past + 1)) as (λ b. eqb i (length past + 1) ≡ b → cond b (cond (is_accepted e past) (make e) None) (accepted_at make past i) ≡ Some x → 1 ≤ i) [
-      | true ↦ λ same at. let number : i ≡ length past + 1 = eqb-true _ _ same in omega arith
-      | false ↦ λ other at. made_above make past i x at
-    ] refl is
+made_above {A} make (e ∷ past) i x is = grind (arith, made_above make past i x)
 
 -- nothing stands at the number of the next event
 late : {A : Type 0} (make : Event → Option A) (past : Trace) (i : ℕ) → cond (eqb i (length past + 1)) None (accepted_at make past i) ≡ accepted_at make past i
-late make past i =
-    elim (eqb i (length past + 1)) as (λ b. eqb i (length past + 1) ≡ b → cond b None (accepted_at make past i) ≡ accepted_at make past i) [
-      | true ↦ λ e. let same : i ≡ length past + 1 = eqb-true _ _ e in sym (made_beyond make past i (omega arith))
-      | false ↦ λ e. refl
-    ] refl
+late make past i = grind (arith, made_beyond make past i)
 
 -- a refused call makes nothing
 pub made_refused : {A : Type 0} (make : Event → Option A) (e : Event) (past : Trace) (i : ℕ) → refuses e.endings (length past + 1) ≡ true → accepted_at make (e ∷ past) i ≡ accepted_at make past i
 made_refused make e past i r = rw (r, late make past i) refl
-
--- an accepted one makes what it makes, under its number
-pub made_accepted : {A : Type 0} (make : Event → Option A) (e : Event) (past : Trace) (i : ℕ) → refuses e.endings (length past + 1) ≡ false
-    → accepted_at make (e ∷ past) i ≡ put_at (make e) (length past + 1) (accepted_at make past) i
-made_accepted {A} make e past i r = rw r (
-    elim (make e) as (λ (o : Option A). cond (eqb i (length past + 1)) o (accepted_at make past i) ≡ put_at o (length past + 1) (accepted_at make past) i) [
-      | None ↦ late make past i
-      | Some x ↦ refl
-    ])
 
 -- ---- counts
 
@@ -43,29 +26,13 @@ count_same p q (suc n) h = rw (h (n + 1) (omega arith), count_same p q n (λ k l
 pub count_less : {A : Type 0} (p q : ℕ → Option A) (n h : ℕ) → 1 ≤ h → h ≤ n → is_some (q h) ≡ true → ((k : ℕ) → k ≤ n → p k ≡ cond (eqb h k) None (q k)) → count_to p n + 1 ≡ count_to q n
 count_less p q zero h above below there less = absurd (omega arith)
 count_less {A} p q (suc n) h above below there less =
-    elim (eqb h (n + 1)) as (λ b. eqb h (n + 1) ≡ b → count_to p (suc n) + 1 ≡ count_to q (suc n)) [
-      | true ↦ λ e.
-          let last : h ≡ n + 1 = eqb-true h (n + 1) e in
-          let gone : p (n + 1) ≡ None = less (n + 1) (omega arith) ∙ ap (λ b. cond b None (q (n + 1))) e in
-          let was : is_some (q (n + 1)) ≡ true = subst (λ k. is_some (q k) ≡ true) last there in
-          let rest : count_to p n ≡ count_to q n = count_same p q n (λ k l. let other : eqb h k ≡ false = ne_eqb h k (λ s. omega arith) in less k (omega arith) ∙ ap (λ b. cond b None (q k)) other) in
-          rw (gone, was, rest) (omega arith)
-      | false ↦ λ e.
-          let other : h ≤ n = omega (arith, eqb-false h (n + 1) e) in
-          let stays : p (n + 1) ≡ q (n + 1) = less (n + 1) (omega arith) ∙ ap (λ b. cond b None (q (n + 1))) e in
-          let rest : count_to p n + 1 ≡ count_to q n = count_less p q n h above other there (λ k l. less k (omega arith)) in
-          rw stays (omega (arith, rest))
-    ] refl
+    let last : h ≡ n + 1 → count_to p n ≡ count_to q n = λ e. count_same p q n (λ k l. grind (arith, less k)) in
+    let rest : h ≤ n → count_to p n + 1 ≡ count_to q n = λ e. count_less p q n h above e there (λ k l. less k (omega arith)) in
+    grind (arith, less (n + 1), last, rest)
 
 -- one more is counted at the end
 count_put : {A : Type 0} (p q : ℕ → Option A) (o : Option A) (n : ℕ) → q (n + 1) ≡ None → ((k : ℕ) → k ≤ n + 1 → p k ≡ put_at o (n + 1) q k) → count_to p (suc n) ≡ count_to q n + one_for o
-count_put {A} p q None n none put =
-    let top : p (n + 1) ≡ None = put (n + 1) (omega arith) ∙ none in
-    rw (top, count_same p q n (λ k l. put k (omega arith))) (omega arith)
-count_put {A} p q (Some x) n none put =
-    let top : p (n + 1) ≡ Some x = put (n + 1) (omega arith) ∙ ap (λ b. cond b (Some x) (q (n + 1))) (eqb_same (n + 1)) in
-    let rest : count_to p n ≡ count_to q n = count_same p q n (λ k l. let other : eqb k (n + 1) ≡ false = ne_eqb k (n + 1) (λ s. omega arith) in put k (omega arith) ∙ ap (λ b. cond b (Some x) (q k)) other) in
-    rw (top, rest) (omega arith)
+count_put {A} p q o n none put = grind (arith, count_same p q n)
 
 -- nothing is counted at the end
 count_over : {A : Type 0} (p : ℕ → Option A) (n : ℕ) → p (n + 1) ≡ None → count_to p (suc n) ≡ count_to p n
@@ -103,15 +70,7 @@ module _ {A : Type 0} (roster : List Member) (make : Option Member → Call → 
     pub is_made : made past i ≡ Some it
 
   pub live_parts : (past : Trace) (i : ℕ) → is_some (live past i) ≡ true → IsLive past i
-  live_parts past i e =
-      elim (is_gone past i) as (λ b. is_gone past i ≡ b → is_some (cond b None (made past i)) ≡ true → IsLive past i) [
-        | true ↦ λ gone s. absurd (true≢false (sym s))
-        | false ↦ λ standing s.
-            elim (made past i) as (λ o. made past i ≡ o → is_some o ≡ true → IsLive past i) [
-              | None ↦ λ is none. absurd (true≢false (sym none))
-              | Some x ↦ λ is some. record { standing = standing; it = x; is_made = is }
-            ] refl s
-      ] refl e
+  live_parts past i e = grind arith
 
   -- nothing stands at the number of the next event
   live_beyond : (past : Trace) → live past (length past + 1) ≡ None
@@ -122,8 +81,7 @@ module _ {A : Type 0} (roster : List Member) (make : Option Member → Call → 
       ap (λ b. cond b None (made (e ∷ past) i)) (gone_refused e past i r) ∙ ap (cond (is_gone past i) None) (made_refused (λ e. make (member_at roster e.thread) e.call) e past i r)
 
   pub count_live_refused : (e : Event) (past : Trace) → refuses e.endings (length past + 1) ≡ true → count_to (live (e ∷ past)) (length (e ∷ past)) ≡ count_to (live past) (length past)
-  count_live_refused e past r =
-      rw (live_refused e past (length past + 1) r ∙ live_beyond past, count_same (live (e ∷ past)) (live past) (length past) (λ k l. live_refused e past k r)) (omega arith)
+  count_live_refused e past r = grind (arith, live_refused e past (length past + 1) r, live_beyond past, count_same (live (e ∷ past)) (live past) (length past), live_refused e past)
 
   -- an accepted call ends what is live, and then makes nothing
   module _ (ends_live : (past : Trace) (t : ℕ) (c : Call) (X : List Completion) → Outcome true (facts_of roster past) t c X → (i : ℕ) → names (ends (effect_of c)) i ≡ true → is_some (live past i) ≡ true)
@@ -145,28 +103,14 @@ module _ {A : Type 0} (roster : List Member) (make : Option Member → Call → 
 
     -- what is made under a new number isn't ended
     unended : (past : Trace) (i : ℕ) → IsLawful roster past → (o : Option A) → cond (is_gone past i) None (put_at o (length past + 1) (made past) i) ≡ put_at o (length past + 1) (live past) i
-    unended past i l None = refl
-    unended past i l (Some x) =
-        elim (eqb i (length past + 1)) as (λ b. eqb i (length past + 1) ≡ b → cond (is_gone past i) None (cond b (Some x) (made past i)) ≡ cond b (Some x) (live past i)) [
-          | true ↦ λ here.
-              elim (is_gone past i) as (λ b. is_gone past i ≡ b → cond b None (Some x) ≡ Some x) [
-                | true ↦ λ gone. let below : i ≤ length past = gone_below past i l gone in let number : i ≡ length past + 1 = eqb-true _ _ here in absurd (omega arith)
-                | false ↦ λ standing. refl
-              ] refl
-          | false ↦ λ away. refl
-        ] refl
+    unended past i l o = grind (arith, gone_below past i l)
 
     pub live_accepted : (past : Trace) (t : ℕ) (c : Call) (X : List Completion) (i : ℕ) → IsLawful roster past → Outcome true (facts_of roster past) t c X
         → live (with_event t c X past) i ≡ cond (names (ends (effect_of c)) i) None (put_at (make (member_at roster t) c) (length past + 1) (live past) i)
     live_accepted past t c X i l a =
         let e : Event = record { thread = t; call = c; endings = X } in
         let r : refuses X (length past + 1) ≡ false = accepted roster past t c X a in
-        ap (λ b. cond b None (made (e ∷ past) i)) (gone_accepted e past i r)
-        ∙ ap (cond (names (ends (effect_of c)) i || is_gone past i) None) (made_accepted (λ e. make (member_at roster e.thread) e.call) e past i r)
-        ∙ (elim (names (ends (effect_of c)) i) as (λ d. cond (d || is_gone past i) None (put_at (make (member_at roster t) c) (length past + 1) (made past) i) ≡ cond d None (put_at (make (member_at roster t) c) (length past + 1) (live past) i)) [
-          | true ↦ refl
-          | false ↦ unended past i l (make (member_at roster t) c)
-        ])
+        grind (arith, gone_accepted e past i r, late, unended past i l (make (member_at roster t) c))
 
     pub count_live_accepted : (past : Trace) (t : ℕ) (c : Call) (X : List Completion) → IsLawful roster past → Outcome true (facts_of roster past) t c X
         → count_to (live (with_event t c X past)) (length (with_event t c X past)) + one_for (ends (effect_of c)) ≡ count_to (live past) (length past) + one_for (make (member_at roster t) c)

@@ -1,6 +1,6 @@
 -- Each open Send goes over a live connection: a call that detaches one ends all Sends over it.
-use Rattle.qrules.proofs.Common.{◌≡◌, ℕ, List, [], ◌∷◌, refl, ap, sym, ◌∙◌, cond, Bool, true, false, eqb, inl, inr, Receive, Send, none-some, same_Some, member_at, Member, row_of, is_over, unblocked_call, Trace, Call, ConnectDetach, OpenCall, channel_of, Option, None, Some, is_some}
-use Rattle.std.proofs.lemmas.Bool.{eqb-true, eq-eqb, true≢false}
+use Rattle.qrules.proofs.Common.{arith, ◌≡◌, ℕ, List, [], ◌∷◌, ap, sym, ◌∙◌, cond, Bool, true, false, eqb, inl, inr, none-some, same_Some, member_at, Member, row_of, unblocked_call, Trace, Call, OpenCall, channel_of, Option, None, Some, is_some}
+use Rattle.std.proofs.lemmas.Bool.{true≢false}
 use Rattle.qrules.proofs.Basics.{Facts, is_for_answer, asks, attaches, detaches, makes, unblocks, writes, facts_of, IsLawful, attached_connection, connection_at, open_call, receipt_of, names, after_receipt, after_unblock, after_write, connection_after, open_call_after, put_at, unless, passes_of, refused, Passes, buffer_answer, held_for_answer}
 use Rattle.qrules.proofs.Traces.Past.Before.{Lasts, before_other, before_receipt, unless_is}
 use Rattle.qrules.proofs.Traces.Past.Connections.{connection_accepted, connection_refused, live_attached}
@@ -12,41 +12,29 @@ use Rattle.qrules.proofs.Traces.Properties.Sends.{buffer_over, held_over}
 
 -- a call that detaches a connection waits for nothing
 detaches_only : (n t h : ℕ) (c : Call) (b : OpenCall) (k : ℕ) → names (detaches c) k ≡ true → asks n t h c ≡ Some b → ⊥
-detaches_only n t h (ConnectDetach coid) b k d e = none-some b e
-detaches_only n t h c b k d e = absurd (true≢false (sym d))
-
-is_over_it : (k : ℕ) (w : OpenCall) → is_for_answer w ≡ true → eqb (over w) k ≡ true → is_over k w ≡ true
-is_over_it k (Send s) e same = same
-is_over_it k (Receive r) e same = absurd (true≢false (sym e))
+detaches_only n t h c b k d e = grind arith
 
 -- it ends each Send over that connection
 detaching_ends : (f : Facts) (t : ℕ) (c : Call) (u : ℕ) (o : OpenCall) → f.open_call u ≡ Some o → is_for_answer o ≡ true → names (detaches c) (over o) ≡ true → is_some ((row_of f t c).others u) ≡ true
-detaching_ends f t (ConnectDetach coid) u o is answer d =
-    let over_it : is_over coid o ≡ true = is_over_it coid o answer (eq-eqb (over o) coid (sym (eqb-true coid (over o) d))) in
-    rw (is, over_it) refl
-detaching_ends f t c u o is answer d = absurd (true≢false (sym d))
+detaching_ends f t c u o is answer d = grind arith
 
 -- ---- what lasts of a wait
 
 unblocked_over : (w : OpenCall) → over (unblocked_call w) ≡ over w
-unblocked_over (Send s) = refl
-unblocked_over (Receive r) = refl
+unblocked_over w = grind arith
 
 lasts_over : Lasts over
 lasts_over = record { held = held_over; buffer = buffer_over; unblocked = unblocked_over }
 
 unblocked_answer : (w : OpenCall) → is_for_answer (unblocked_call w) ≡ is_for_answer w
-unblocked_answer (Send s) = refl
-unblocked_answer (Receive r) = refl
+unblocked_answer w = grind arith
 
 lasts_answer : Lasts is_for_answer
 lasts_answer = record { held = held_for_answer; buffer = buffer_answer; unblocked = unblocked_answer }
 
 -- what is there stays, unless it is taken away
 pub stays_open : {A : Type 0} (d : Bool) (o : Option A) (n : ℕ) (at : ℕ → Option A) (h : ℕ) → is_some (at h) ≡ true → (d ≡ true → ⊥) → is_some (cond d None (put_at o n at h)) ≡ true
-stays_open true o n at h e never = absurd (never refl)
-stays_open false None n at h e never = e
-stays_open {A} false (Some x) n at h e never = elim (eqb h n) as (λ b. is_some (cond {A = Option A} b (Some x) (at h)) ≡ true) [ true ↦ refl | false ↦ e ]
+stays_open {A} o n at h e never q7 = grind arith
 
 -- ---- after one more event
 

@@ -1,72 +1,48 @@
 -- A pending message that moves as the priority of its sender is set.
-use Rattle.qrules.proofs.Common.{◌≡◌, ℕ, ◌≤◌, List, [], ◌∷◌, ◌++◌, map, length, refl, ap, sym, ◌∙◌, cond, Bool, true, false, eqb, inl, inr, AllByRecursion, map-append, is_pulse, with_priority, without_item, Item, Member, Outcome, is_unread_send, Event, Trace, Call, Completion, all_map, all_more, PriorityChange, Option, None, Some, filter, not, unwrap_or}
-use Rattle.std.proofs.lemmas.Bool.{eqb-true, eq-eqb, or_parts}
-use Rattle.qrules.proofs.Basics.{Facts, number_of, makes, sets, IsLawful, facts_of, with_event, is_gone, is_received, made_on, priority_set_by, current_priority, Received, is_cancelled, uncancelled_items, items_with_priority_set, unreceived_items, sets_alone, accepted, Stands, item_below, standing_is, now, sets_none, worth_set, worth_stays}
+use Rattle.qrules.proofs.Common.{arith, ◌≡◌, ℕ, List, [], ◌∷◌, ◌++◌, map, refl, ap, ◌∙◌, cond, Bool, true, false, AllByRecursion, map-append, with_priority, Item, Member, Outcome, is_unread_send, Event, Trace, Call, Completion, all_map, all_more, PriorityChange, Option, None, Some, filter, not}
+use Rattle.qrules.proofs.Basics.{Facts, makes, sets, IsLawful, facts_of, with_event, is_gone, made_on, current_priority, Received, is_cancelled, uncancelled_items, items_with_priority_set, unreceived_items, accepted, Stands, item_below, standing_is, now, sets_none, worth_set, worth_stays}
 use Rattle.qrules.proofs.Traces.Past.Cancels.{pulse_unread, sent_by, unread_elsewhere}
 
 -- ---- items that are changed in their priority alone
 
 filter_map_same : (p : Item → Bool) (g : Item → Item) (items : List Item) → ((x : Item) → p (g x) ≡ p x) → filter p (map g items) ≡ map g (filter p items)
 filter_map_same p g [] same = refl
-filter_map_same p g (x ∷ items) same =
-    rw (same x) (
-    elim (p x) as (λ b. cond b (g x ∷ filter p (map g items)) (filter p (map g items)) ≡ map g (cond b (x ∷ filter p items) (filter p items))) [
-      | true ↦ ap (λ l. g x ∷ l) (filter_map_same p g items same)
-      | false ↦ filter_map_same p g items same
-    ])
+filter_map_same p g (x ∷ items) same = grind (arith, filter_map_same p g items same)
 
 pub left_map : (f : Facts) (t : ℕ) (c : Call) (h : ℕ) (g : Item → Item) (items : List Item) → ((x : Item) → (g x).number ≡ x.number) → uncancelled_items f t c h (map g items) ≡ map g (uncancelled_items f t c h items)
 left_map f t c h g items same = filter_map_same (λ item. not (is_cancelled f t c h item.number)) g items (λ x. ap (λ i. not (is_cancelled f t c h i)) (same x))
 
 pub out_map : (r : Option Received) (h : ℕ) (g : Item → Item) (items : List Item) → ((x : Item) → (g x).number ≡ x.number) → unreceived_items r h (map g items) ≡ map g (unreceived_items r h items)
-out_map None h g items same = refl
-out_map (Some r) h g items same =
-    elim (eqb r.channel h) as (λ b. cond b (without_item r.item (map g items)) (map g items) ≡ map g (cond b (without_item r.item items) items)) [
-      | true ↦ filter_map_same (λ item. not (eqb item.number r.item)) g items (λ x. ap (λ i. not (eqb i r.item)) (same x))
-      | false ↦ refl
-    ]
+out_map r h g items same = grind (arith, filter_map_same)
 
 -- what becomes of one item where a priority is set
 abbrev pub mover : Facts → ℕ → PriorityChange → Item → Item
 mover f h s item = cond (is_unread_send h item.number (f.open_call s.thread)) (with_priority s.priority item) item
-
--- it has its number
-pub mover_number : (f : Facts) (h : ℕ) (s : PriorityChange) (item : Item) → (mover f h s item).number ≡ item.number
-mover_number f h s item = elim (is_unread_send h item.number (f.open_call s.thread)) as (λ b. (cond b (with_priority s.priority item) item).number ≡ item.number) [ true ↦ refl | false ↦ refl ]
 
 -- and is what it was
 pub mover_what : (f : Facts) (h : ℕ) (s : PriorityChange) (item : Item) → (mover f h s item).what ≡ item.what
 mover_what f h s item = elim (is_unread_send h item.number (f.open_call s.thread)) as (λ b. (cond b (with_priority s.priority item) item).what ≡ item.what) [ true ↦ refl | false ↦ refl ]
 
 pub moved_left : (f : Facts) (t : ℕ) (c : Call) (h : ℕ) (s : Option PriorityChange) (items : List Item) → uncancelled_items f t c h (items_with_priority_set f h s items) ≡ items_with_priority_set f h s (uncancelled_items f t c h items)
-moved_left f t c h None items = refl
-moved_left f t c h (Some s) items = left_map f t c h (mover f h s) items (mover_number f h s)
+moved_left f t c h s items = grind (arith, left_map)
 
 pub moved_out : (f : Facts) (r : Option Received) (h : ℕ) (s : Option PriorityChange) (items : List Item) → unreceived_items r h (items_with_priority_set f h s items) ≡ items_with_priority_set f h s (unreceived_items r h items)
-moved_out f r h None items = refl
-moved_out f r h (Some s) items = out_map r h (mover f h s) items (mover_number f h s)
+moved_out f r h s items = grind (arith, out_map)
 
 pub moved_append : (f : Facts) (h : ℕ) (s : Option PriorityChange) (xs ys : List Item) → items_with_priority_set f h s (xs ++ ys) ≡ items_with_priority_set f h s xs ++ items_with_priority_set f h s ys
 moved_append f h None xs ys = refl
 moved_append f h (Some s) xs ys = map-append (mover f h s) xs ys
 
 pub moved_nothing : (f : Facts) (h : ℕ) (s : Option PriorityChange) → items_with_priority_set f h s [] ≡ []
-moved_nothing f h None = refl
-moved_nothing f h (Some s) = refl
+moved_nothing f h s = grind arith
 
 -- what the call makes doesn't move by it
 pub moved_made : (f : Facts) (t : ℕ) (c : Call) (h : ℕ) → items_with_priority_set f h (sets c) (made_on h (makes f t c)) ≡ made_on h (makes f t c)
-moved_made f t c h = elim (sets_alone c) [
-  | inl none ↦ ap (λ s. items_with_priority_set f h s (made_on h (makes f t c))) none
-  | inr alone ↦ ap (λ o. items_with_priority_set f h (sets c) (made_on h o)) (alone.makes_none f t) ∙ moved_nothing f h (sets c) ∙ ap (made_on h) (sym (alone.makes_none f t))
-]
+moved_made f t c h = grind arith
 
 -- what is so of items whatever their priority is so of those that moved
 pub all_moved : (P : Item → Type 0) (f : Facts) (h : ℕ) (s : Option PriorityChange) (items : List Item) → ((priority : ℕ) (x : Item) → P x → P (with_priority priority x)) → AllByRecursion P items → AllByRecursion P (items_with_priority_set f h s items)
-all_moved P f h None items any all = all
-all_moved P f h (Some s) items any all =
-    all_map P (mover f h s) items (all_more P (λ item. P (mover f h s item)) items all (λ item p.
-    elim (is_unread_send h item.number (f.open_call s.thread)) as (λ b. P (cond b (with_priority s.priority item) item)) [ true ↦ any s.priority item p | false ↦ p ]))
+all_moved P f h s items any all = grind (arith, all_map, all_more)
 
 -- ---- what is pending moves so
 
@@ -74,33 +50,9 @@ all_moved P f h (Some s) items any all =
 moved_one : (roster : List Member) (past : Trace) (t : ℕ) (c : Call) (X : List Completion) (h : ℕ) (s : PriorityChange) (item : Item) → IsLawful roster past → Outcome true (facts_of roster past) t c X → sets c ≡ Some s
     → Stands roster past h item → is_gone past item ≡ false → now (with_event t c X past) item ≡ mover (facts_of roster past) h s (now past item)
 moved_one roster past t c X h s item l a set at stays =
-    let f = facts_of roster past in
     let e : Event = record { thread = t; call = c; endings = X } in
     let p = standing_is roster past h item at stays in
-    elim (is_pulse item.what) as (λ b. is_pulse item.what ≡ b → now (e ∷ past) item ≡ mover f h s (now past item)) [
-      | true ↦ λ pulse.
-          let still : current_priority (e ∷ past) item ≡ current_priority past item = rw pulse refl in
-          let unmoved : is_unread_send h item.number (f.open_call s.thread) ≡ false = pulse_unread roster past h item s.thread p pulse in
-          ap (λ q. with_priority q item) still ∙ rw unmoved refl
-      | false ↦ λ message.
-          let k = sent_by roster past h item l p message in
-          let below : item.number ≤ length past = item_below roster past item.number _ at in
-          let unread : is_received past item.number ≡ false = (or_parts _ _ stays).0 in
-          let set_it : priority_set_by e past k.sender ≡ cond (eqb s.thread k.sender) (Some s.priority) None = rw (accepted roster past t c X a, set) refl in
-          let is_worth : current_priority (e ∷ past) item ≡ unwrap_or (cond (eqb s.thread k.sender) (Some s.priority) None) (current_priority past item) =
-          worth_set e past item k.sender below message unread k.sent ∙ ap (λ o. unwrap_or o (current_priority past item)) set_it in
-          ap (λ q. with_priority q item) is_worth ∙ (
-          elim (eqb s.thread k.sender) as (λ b. eqb s.thread k.sender ≡ b → with_priority (unwrap_or (cond b (Some s.priority) None) (current_priority past item)) item ≡ mover f h s (now past item)) [
-            | true ↦ λ same.
-                let number : eqb (number_of k.waiting) item.number ≡ true = eq-eqb _ _ k.number in
-                let waits : is_unread_send h item.number (f.open_call s.thread) ≡ true =
-                ap (λ u. is_unread_send h item.number (f.open_call u)) (eqb-true s.thread k.sender same) ∙ rw (k.is_open, number, k.unread, k.on) refl in
-                rw waits refl
-            | false ↦ λ other.
-                let waits : is_unread_send h item.number (f.open_call s.thread) ≡ false = unread_elsewhere roster past h item.number k.sender k.waiting s.thread k.is_open k.number other in
-                rw waits refl
-          ] refl)
-    ] refl
+    grind (arith, pulse_unread roster past h item s.thread p, sent_by roster past h item l p, item_below roster past item.number, worth_set e past item, accepted roster past t c X a, unread_elsewhere roster past h item.number)
 
 pub map_same : (g k : Item → Item) (items : List Item) → AllByRecursion (λ x. g x ≡ k x) items → map g items ≡ map k items
 map_same g k [] same = refl
@@ -113,9 +65,7 @@ map_twice g k (x ∷ items) = ap (λ l. g (k x) ∷ l) (map_twice g k items)
 -- items of the channel that are not gone, as they are where nothing is set
 pub same_now : (roster : List Member) (e : Event) (past : Trace) (h : ℕ) (items : List Item) → AllByRecursion (λ item. Stands roster past h item × (is_gone past item ≡ false)) items
     → ((item : Item) → Stands roster past h item → current_priority (e ∷ past) item ≡ current_priority past item) → map (now (e ∷ past)) items ≡ map (now past) items
-same_now roster e past h items all same =
-    map_same (now (e ∷ past)) (now past) items
-    (all_more (λ item. Stands roster past h item × (is_gone past item ≡ false)) (λ item. now (e ∷ past) item ≡ now past item) items all (λ item k. ap (λ q. with_priority q item) (same item k.0)))
+same_now roster e past h items all same = grind (arith, map_same (now (e ∷ past)) (now past) items, all_more)
 
 -- as they are after an accepted event
 pub moved_now : (roster : List Member) (past : Trace) (t : ℕ) (c : Call) (X : List Completion) (h : ℕ) (items : List Item) → IsLawful roster past → Outcome true (facts_of roster past) t c X

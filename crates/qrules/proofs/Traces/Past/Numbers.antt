@@ -1,5 +1,5 @@
 -- Numbers of events and of what they begin and make: none is beyond the length of the trace, and each is one event's.
-use Rattle.qrules.proofs.Common.{◌≡◌, ℕ, ◌+◌, ◌<◌, ◌≤◌, List, [], ◌∷◌, length, refl, sym, subst, ◌∙◌, cond, arith, Bool, true, false, eqb, ◌⊎◌, inl, inr, number_of, eqb-true, ne_eqb, and_parts, none-some, Member, call_at, Event, Trace, Call, OpenCall, eqb_same, channel_of, Option, None, Some, is_some, not, ◌&&◌}
+use Rattle.qrules.proofs.Common.{◌≡◌, ℕ, ◌+◌, ◌<◌, ◌≤◌, List, [], ◌∷◌, length, refl, sym, subst, ◌∙◌, arith, Bool, true, false, eqb, ◌⊎◌, inl, inr, number_of, eqb-true, ne_eqb, and_parts, none-some, Member, call_at, Event, Trace, Call, OpenCall, eqb_same, channel_of, Option, None, Some, is_some, not, ◌&&◌}
 use Rattle.qrules.proofs.Words.Past.{is_accepted, accepted_at, block, item_of}
 use Rattle.qrules.proofs.Words.Facts.{is_for_answer}
 use Rattle.qrules.proofs.Words.Effects.{asks}
@@ -11,27 +11,17 @@ use Rattle.qrules.proofs.Traces.Calls.{call_laws}
 -- nothing is made by an event to come
 pub made_beyond : {A : Type 0} (make : Event → Option A) (past : Trace) (i : ℕ) → length past < i → accepted_at make past i ≡ None
 made_beyond make [] i l = refl
-made_beyond make (e ∷ past) i l =
-    let other : eqb i (length past + 1) ≡ false = ne_eqb i (length past + 1) (λ same. omega arith) in
-    rw other (made_beyond make past i (omega arith))
+made_beyond make (e ∷ past) i l = grind (arith, made_beyond make past i)
 
 -- what is made has the number of an event
 pub made_below : {A : Type 0} (make : Event → Option A) (past : Trace) (i : ℕ) (x : A) → accepted_at make past i ≡ Some x → i ≤ length past
 made_below make [] i x e = absurd (none-some x e)
-made_below {A} make (e ∷ past) i x is =
-    elim (eqb i (length past + 1)) as (λ b. eqb i (length past + 1) ≡ b → cond b (cond (is_accepted e past) (make e) None) (accepted_at make past i) ≡ Some x → i ≤ length (e ∷ past)) [
-      | true ↦ λ same at. let number : i ≡ length past + 1 = eqb-true _ _ same in omega arith
-      | false ↦ λ other at. let below : i ≤ length past = made_below make past i x at in omega arith
-    ] refl is
+made_below {A} make (e ∷ past) i x is = grind (arith, made_below make past i x)
 
 -- the call of a number is one of an event
 pub call_below : (past : Trace) (i : ℕ) (c : Call) → call_at past i ≡ Some c → i ≤ length past
 call_below [] i c e = absurd (none-some c e)
-call_below (e ∷ past) i c is =
-    elim (eqb i (length past + 1)) as (λ b. eqb i (length past + 1) ≡ b → cond b (Some e.call) (call_at past i) ≡ Some c → i ≤ length (e ∷ past)) [
-      | true ↦ λ same at. let number : i ≡ length past + 1 = eqb-true _ _ same in omega arith
-      | false ↦ λ other at. let below : i ≤ length past = call_below past i c at in omega arith
-    ] refl is
+call_below (e ∷ past) i c is = grind (arith, call_below past i c)
 
 -- an earlier call keeps its number
 pub call_earlier : (e : Event) (past : Trace) (i : ℕ) → i ≤ length past → call_at (e ∷ past) i ≡ call_at past i
@@ -56,11 +46,7 @@ pub record IsNewest (roster : List Member) (e : Event) (past : Trace) (u : ℕ) 
   pub asked : asks (length past + 1) u (channel_of (item_of roster e past)) e.call ≡ Some b
 
 pub block_cases : (roster : List Member) (e : Event) (past : Trace) (u : ℕ) (b : OpenCall) → block roster (e ∷ past) u ≡ Some b → IsNewest roster e past u b ⊎ (block roster past u ≡ Some b)
-block_cases roster e past u b is =
-    elim (blocks roster e past u) as (λ t. blocks roster e past u ≡ t → cond t (asks (length past + 1) u (channel_of (item_of roster e past)) e.call) (block roster past u) ≡ Some b → IsNewest roster e past u b ⊎ (block roster past u ≡ Some b)) [
-      | true ↦ λ h at. inl (record { thread = blocks_thread roster e past u h; accepted = (and_parts _ _ (and_parts _ _ h).0).1; asked = at })
-      | false ↦ λ h at. inr at
-    ] refl is
+block_cases roster e past u b is = grind arith
 
 -- the call that asked for what it waits for, under its number
 pub record Asked (past : Trace) (u : ℕ) (b : OpenCall) : Type 0 where
@@ -91,19 +77,4 @@ block_fresh roster past u b is = let a = block_asked roster past u b is in ((cal
 -- a number is of one thread
 pub block_thread : (roster : List Member) (past : Trace) (u v : ℕ) (b d : OpenCall) → block roster past u ≡ Some b → block roster past v ≡ Some d → number_of b ≡ number_of d → u ≡ v
 block_thread roster [] u v b d x y same = absurd (none-some b x)
-block_thread roster (e ∷ past) u v b d x y same =
-    elim (block_cases roster e past u b x) [
-      | inl hu ↦
-          let number : number_of b ≡ length past + 1 = ((call_laws e.call).asks_one _ _ _ b hu.asked).number in
-          elim (block_cases roster e past v d y) [
-            | inl hv ↦ sym hu.thread ∙ hv.thread
-            | inr hv ↦ let below : number_of d ≤ length past = block_below roster past v d hv in absurd (omega arith)
-          ]
-      | inr hu ↦
-          elim (block_cases roster e past v d y) [
-            | inl hv ↦
-                let number : number_of d ≡ length past + 1 = ((call_laws e.call).asks_one _ _ _ d hv.asked).number in
-                let below : number_of b ≤ length past = block_below roster past u b hu in absurd (omega arith)
-            | inr hv ↦ block_thread roster past u v b d hu hv same
-          ]
-    ]
+block_thread roster (e ∷ past) u v b d x y same = grind (arith, block_cases roster e past u b x, call_laws e.call, block_cases roster e past v d y, block_below roster past v d, block_below roster past u b, block_thread roster past u v b d)

@@ -1,8 +1,7 @@
 -- The open call of a thread: its newest blocking call, unless that is ended.
-use Rattle.qrules.proofs.Common.{◌≡◌, ℕ, ◌+◌, ◌≤◌, List, [], ◌∷◌, length, refl, ap, sym, subst, ◌∙◌, cond, arith, Bool, true, false, option_map, Receive, Send, thread_of, number_of, same_Some, none-some, Member, Trace, SentItem, OpenCall, Receipt, with_buffer, held_call, channel_of, item_among, none_of, is_on, Option, None, Some, is_some, not}
-use Rattle.qrules.proofs.Traces.Past.Waits.{some_map}
+use Rattle.qrules.proofs.Common.{◌≡◌, ℕ, ◌≤◌, List, [], ◌∷◌, length, refl, ap, sym, ◌∙◌, arith, Bool, false, option_map, Receive, Send, thread_of, number_of, Member, Trace, SentItem, OpenCall, Receipt, with_buffer, held_call, channel_of, item_among, is_on, Option, None, Some, is_some, not}
 use Rattle.qmodel.specs.declared.open_call.OpenSend.{OpenSend}
-use Rattle.qrules.proofs.Words.Past.{is_received, items_by_now, call_by_now, is_ended, newest_block, unless_ended, open_call, copied_count_of, priority_of_item, unblocked_among, items, block, with_receipt, filled, with_writes, item_of}
+use Rattle.qrules.proofs.Words.Past.{is_received, items_by_now, call_by_now, is_ended, newest_block, unless_ended, open_call, copied_count_of, priority_of_item, unblocked_among, items, block, with_receipt, filled}
 use Rattle.qrules.proofs.Traces.Past.Laws.{is_settled}
 use Rattle.qrules.proofs.Traces.Calls.{call_laws}
 use Rattle.qrules.proofs.Traces.Past.Numbers.{block_asked, block_below, block_fresh, block_thread}
@@ -13,51 +12,40 @@ use Rattle.qrules.proofs.Words.Facts.{is_for_answer}
 -- ---- open calls
 
 pub held_number : (receipt : Receipt) (o : OpenCall) → number_of (held_call receipt o) ≡ number_of o
-held_number receipt (Send s) = refl
-held_number receipt (Receive r) = refl
+held_number receipt o = grind arith
 
 -- a receipt changes no number
 pub receipt_number : (priority : ℕ) (unblocked : Bool) (r : Option ℕ) (b : OpenCall) → number_of (with_receipt priority unblocked r b) ≡ number_of b
-receipt_number priority unblocked None b = refl
-receipt_number priority unblocked (Some copied) b = held_number _ b
+receipt_number priority unblocked r b = grind arith
 
 pub buffer_number : (f : List ℕ → List ℕ) (o : OpenCall) → number_of (with_buffer f o) ≡ number_of o
-buffer_number f (Send s) = refl
-buffer_number f (Receive r) = refl
+buffer_number f o = grind arith
 
 pub held_thread : (receipt : Receipt) (o : OpenCall) → thread_of (held_call receipt o) ≡ thread_of o
-held_thread receipt (Send s) = refl
-held_thread receipt (Receive r) = refl
+held_thread receipt o = grind arith
 
 pub buffer_thread : (f : List ℕ → List ℕ) (o : OpenCall) → thread_of (with_buffer f o) ≡ thread_of o
-buffer_thread f (Send s) = refl
-buffer_thread f (Receive r) = refl
+buffer_thread f o = grind arith
 
 pub held_for_answer : (receipt : Receipt) (o : OpenCall) → is_for_answer (held_call receipt o) ≡ is_for_answer o
-held_for_answer receipt (Send s) = refl
-held_for_answer receipt (Receive r) = refl
+held_for_answer receipt o = grind arith
 
 -- a receipt doesn't change what is waited for
 pub receipt_for_answer : (priority : ℕ) (unblocked : Bool) (r : Option ℕ) (b : OpenCall) → is_for_answer (with_receipt priority unblocked r b) ≡ is_for_answer b
-receipt_for_answer priority unblocked None b = refl
-receipt_for_answer priority unblocked (Some copied) b = held_for_answer _ b
+receipt_for_answer priority unblocked r b = grind arith
 
 -- what is written changes no more than the reply buffer
 pub buffer_answer : (f : List ℕ → List ℕ) (o : OpenCall) → is_for_answer (with_buffer f o) ≡ is_for_answer o
-buffer_answer f (Send s) = refl
-buffer_answer f (Receive r) = refl
+buffer_answer f o = grind arith
 
 pub buffer_settled : (f : List ℕ → List ℕ) (o : OpenCall) → is_settled (with_buffer f o) ≡ is_settled o
-buffer_settled f (Send s) = refl
-buffer_settled f (Receive r) = refl
+buffer_settled f o = grind arith
 
 pub held_on : (h : ℕ) (receipt : Receipt) (o : OpenCall) → is_on h (held_call receipt o) ≡ is_on h o
-held_on h receipt (Send s) = refl
-held_on h receipt (Receive r) = refl
+held_on h receipt o = grind arith
 
 pub buffer_on : (h : ℕ) (f : List ℕ → List ℕ) (o : OpenCall) → is_on h (with_buffer f o) ≡ is_on h o
-buffer_on h f (Send s) = refl
-buffer_on h f (Receive r) = refl
+buffer_on h f o = grind arith
 
 pub filled_answer : (past : Trace) (b : OpenCall) → is_for_answer (filled past b) ≡ is_for_answer b
 filled_answer past b = buffer_answer _ b
@@ -77,22 +65,13 @@ pub kept_number : (roster : List Member) (past : Trace) (b : OpenCall) → numbe
 kept_number roster past b = receipt_number _ _ _ (filled past b) ∙ buffer_number _ b
 
 pub kept_thread : (roster : List Member) (past : Trace) (b : OpenCall) → thread_of (kept roster past b) ≡ thread_of b
-kept_thread roster past b = elim (copied_count_of past (number_of b)) as (λ r. thread_of (with_receipt (priority_of_item roster past (number_of b)) (is_unblocked roster past (number_of b)) r (filled past b)) ≡ thread_of b) [
-  | None ↦ buffer_thread _ b
-  | Some copied ↦ held_thread _ (filled past b) ∙ buffer_thread _ b
-]
+kept_thread roster past b = grind arith
 
 -- ---- the open call, by the newest blocking call
 
 -- a call without a receipt, as it is by now
 now_kept : (roster : List Member) (past : Trace) (b : OpenCall) → is_settled b ≡ not (is_for_answer b) → call_by_now past (items_by_now past (items roster past)) b ≡ kept roster past b
-now_kept roster past (Receive r) fresh = elim (copied_count_of past r.number) as (λ c. Receive r ≡ with_receipt (priority_of_item roster past r.number) (is_unblocked roster past r.number) c (Receive r)) [ None ↦ refl | Some copied ↦ refl ]
-now_kept roster past (Send s) fresh =
-    elim (copied_count_of past s.number) as (λ c. Send (record s { reply_buffer = with_writes past s.number s.reply_buffer; receipt = option_map (λ n. record { priority = priority_of_item roster past s.number; copied = n; unblocked = is_unblocked roster past s.number }) c })
-    ≡ with_receipt (priority_of_item roster past s.number) (is_unblocked roster past s.number) c (Send (record s { reply_buffer = with_writes past s.number s.reply_buffer }))) [
-      | None ↦ ap (λ (r : Option Receipt). Send (record s { reply_buffer = with_writes past s.number s.reply_buffer; receipt = r })) (sym (none_of s.receipt fresh))
-      | Some copied ↦ refl
-    ]
+now_kept roster past b fresh = grind arith
 
 -- items as they are by now are on the channels on which they were made
 channel_by_now : (past : Trace) (made : List SentItem) (n : ℕ) → channel_of (item_among (items_by_now past made) n) ≡ channel_of (item_among made n)
@@ -101,22 +80,10 @@ channel_by_now past made n = ap channel_of (among_now past made n) ∙ (elim (it
 -- the search in the past finds it by the channels of the items
 newest_is : (roster : List Member) (made : List SentItem) (past : Trace) (u : ℕ) → ((n : ℕ) → n ≤ length past → channel_of (item_among made n) ≡ channel_of (item_among (items roster past) n)) → newest_block made past u ≡ block roster past u
 newest_is roster made [] u same = refl
-newest_is roster made (e ∷ past) u same =
-    let n = length past + 1 in
-    let here : channel_of (item_among made n) ≡ channel_of (item_of roster e past) = same n (omega arith) ∙ ap channel_of (found_there roster e past) in
-    rw (here, newest_is roster made past u (λ k l. same k (omega arith) ∙ ap channel_of (found_earlier roster e past k l))) refl
+newest_is roster made (e ∷ past) u same = grind (arith, found_there roster e past, found_earlier roster e past, newest_is roster made past u)
 
 pub open_is : (roster : List Member) (past : Trace) (u : ℕ) → open_call roster past u ≡ option_map (kept roster past) (unless_ended past (block roster past u))
-open_is roster past u =
-    let made = items_by_now past (items roster past) in
-    ap (λ o. option_map (call_by_now past made) (unless_ended past o)) (newest_is roster made past u (λ n l. channel_by_now past (items roster past) n))
-    ∙ (elim (block roster past u) as (λ o. block roster past u ≡ o → option_map (call_by_now past made) (unless_ended past o) ≡ option_map (kept roster past) (unless_ended past o)) [
-      | None ↦ λ is. refl
-      | Some b ↦ λ is. elim (is_ended past (number_of b)) as (λ d. option_map (call_by_now past made) (cond d None (Some b)) ≡ option_map (kept roster past) (cond d None (Some b))) [
-        | true ↦ refl
-        | false ↦ ap Some (now_kept roster past b (block_fresh roster past u b is))
-      ]
-    ] refl)
+open_is roster past u = grind (arith, newest_is roster (items_by_now past (items roster past)) past u, channel_by_now past (items roster past), now_kept roster past, block_fresh roster past u)
 
 abbrev newest_of : List Member → Trace → ℕ → Option OpenCall
 newest_of roster past u = block roster past u
@@ -130,17 +97,7 @@ pub record IsOpen (roster : List Member) (past : Trace) (u : ℕ) (o : OpenCall)
   pub number : number_of o ≡ number_of block
 
 pub open_parts : (roster : List Member) (past : Trace) (u : ℕ) (o : OpenCall) → open_call roster past u ≡ Some o → IsOpen roster past u o
-open_parts roster past u o is =
-    elim (block roster past u) as (λ n. block roster past u ≡ n → option_map (kept roster past) (unless_ended past n) ≡ Some o → IsOpen roster past u o) [
-      | None ↦ λ e at. absurd (none-some o at)
-      | Some b ↦ λ e.
-          elim (is_ended past (number_of b)) as (λ d. is_ended past (number_of b) ≡ d → option_map (kept roster past) (cond d None (Some b)) ≡ Some o → IsOpen roster past u o) [
-            | true ↦ λ h at. absurd (none-some o at)
-            | false ↦ λ h at.
-                let same : o ≡ kept roster past b = sym (same_Some (kept roster past b) o at) in
-                record { block = b; is = e; going = h; same = same; number = ap number_of same ∙ kept_number roster past b }
-          ] refl
-    ] refl (sym (open_is roster past u) ∙ is)
+open_parts roster past u o is = grind (arith, kept_number, open_is)
 
 pub open_below : (roster : List Member) (past : Trace) (u : ℕ) (o : OpenCall) → open_call roster past u ≡ Some o → number_of o ≤ length past
 open_below roster past u o is = let k = open_parts roster past u o is in let below : number_of k.block ≤ length past = block_below roster past u k.block k.is in omega (arith, k.number)
@@ -171,9 +128,7 @@ TellsReceipt past (Send s) = is_received past s.number ≡ is_some s.receipt
 TellsReceipt past (Receive r) = Unit {0}
 
 by_now : (past : Trace) (made : List SentItem) (o : Option OpenCall) (x : OpenCall) → option_map (call_by_now past made) o ≡ Some x → TellsReceipt past x
-by_now past made None x e = absurd (none-some x e)
-by_now past made (Some (Send s)) x e = subst (TellsReceipt past) (same_Some _ x e) (sym (some_map _ (copied_count_of past s.number)))
-by_now past made (Some (Receive r)) x e = subst (TellsReceipt past) (same_Some _ x e) tt
+by_now past made o x e = grind arith
 
 pub open_receipt : (roster : List Member) (past : Trace) (u : ℕ) (s : OpenSend) → open_call roster past u ≡ Some (Send s) → is_received past s.number ≡ is_some s.receipt
 open_receipt roster past u s is = by_now past _ _ (Send s) is

@@ -1,11 +1,10 @@
 -- The open calls after one more event.
-use Rattle.qrules.proofs.Common.{◌≡◌, ◌≢◌, ℕ, ◌+◌, ◌≤◌, List, ◌∷◌, length, refl, ap, sym, subst, ◌∙◌, cond, arith, Bool, true, false, eqb, ◌⊎◌, inl, inr, option_map, option_to_list, option_or, and-false, or-true, or-false, none-some, same_Some, is_pulse, Item, member_at, Member, Outcome, row_of, SentItem, Event, Trace, held_call, is_thread, unblocked_call, written_call, Call, Completion, OpenCall, eqb_same, none_of, Transfer, channel_of, Option, None, Some, is_some, not, ◌||◌, ◌&&◌}
-use Rattle.std.proofs.lemmas.Bool.{cases_Bool, eqb-true, eqb-false, eq-eqb, ne_eqb, or_parts, true≢false}
-use Rattle.qrules.proofs.Basics.{receipt_of, sender_for, Received, buffer_after_write, Facts, sender, threads_of, number_of, facts_of, IsLawful, with_event, refuses, has_completion_of, is_ended, is_received, item_of, copied_count_of, priority_of_item, unless_ended, open_call, unblocked_among, block, with_receipt, filled, asks, makes, unblocks, writes, after_receipt, after_unblock, after_write, unless, open_call_after, sets_alone, IsReceived, call_laws, block_below, filled_answer, open_from, open_thread, receipt_for_answer, is_unblocked, kept, kept_number, open_is, laws_of, passes_of, accepted, refused, refused_ends, ended_below, ends_other, ends_own, block_known, item_at, item_answer, item_message, item_below, priority_earlier, priority_newest, send_parts, send_from, sender_sends, sender_found, refused_sets_none, sets_none, taken_sets_none, known}
+use Rattle.qrules.proofs.Common.{◌≡◌, ◌≢◌, ℕ, ◌+◌, ◌≤◌, List, ◌∷◌, length, refl, ap, sym, subst, ◌∙◌, cond, arith, Bool, true, false, eqb, ◌⊎◌, inl, inr, option_map, option_to_list, option_or, and-false, or-true, or-false, none-some, same_Some, is_pulse, Item, member_at, Member, Outcome, row_of, SentItem, Event, Trace, is_thread, Call, Completion, OpenCall, eqb_same, none_of, channel_of, Option, None, Some, is_some, not, ◌||◌}
+use Rattle.std.proofs.lemmas.Bool.{cases_Bool, eqb-true, eqb-false, eq-eqb, ne_eqb, or_parts}
+use Rattle.qrules.proofs.Basics.{receipt_of, sender_for, Received, buffer_after_write, Facts, sender, threads_of, number_of, facts_of, IsLawful, with_event, refuses, has_completion_of, is_ended, is_received, item_of, copied_count_of, priority_of_item, unless_ended, open_call, unblocked_among, block, with_receipt, filled, asks, makes, unblocks, writes, after_receipt, after_unblock, after_write, unless, open_call_after, sets_alone, IsReceived, call_laws, block_below, filled_answer, open_from, open_thread, receipt_for_answer, is_unblocked, kept, kept_number, open_is, laws_of, passes_of, accepted, refused, refused_ends, ended_below, ends_other, ends_own, block_known, item_at, item_answer, item_message, item_below, priority_earlier, priority_newest, send_parts, send_from, sender_sends, sender_found, refused_sets_none, sets_none, known}
 use Rattle.qrules.proofs.Traces.Past.Receipts.{copied_by, accepted_receipts, refused_receipts, best_pending, best_priority, receipt_beyond}
 use Rattle.qrules.proofs.Traces.Past.Unblocked.{fresh_unblocked, marks, marks_it, none_unblocked, unblocked_after, unblocked_beyond, unblocked_by, unblocked_now}
 use Rattle.qrules.proofs.Traces.Past.Writes.{changed, filled_accepted, filled_fresh, filled_refused, receipt_written, written_sender}
-use Rattle.qmodel.specs.declared.call.Call.TheVariants.{Send as CallSend}
 
 -- ---- a receipt, and the thread that waits for its answer
 
@@ -25,12 +24,7 @@ pub record IsOthers (r : Received) (u i : ℕ) : Type 0 where
 -- what thread u keeps of the receipt of item i in this event or before is what the row's receipt leaves it
 kept_after : (o : Option Received) (u i priority : ℕ) (unblocked : Bool) (before : Option ℕ) (b : OpenCall) → ((r : Received) → o ≡ Some r → IsIts r u i priority unblocked before ⊎ IsOthers r u i)
     → Some (with_receipt priority unblocked (option_or (copied_by o i) before) b) ≡ after_receipt o u (Some (with_receipt priority unblocked before b))
-kept_after None u i priority unblocked before b h = refl
-kept_after (Some r) u i priority unblocked before b h = elim (h r refl) [
-  | inl k ↦ rw (k.item, k.sender, k.first) (ap (λ p. Some (held_call (record { priority = p; copied = r.kept.copied; unblocked = unblocked }) b)) (sym k.priority_is)
-      ∙ ap (λ x. Some (held_call (record { priority = r.kept.priority; copied = r.kept.copied; unblocked = x }) b)) (sym k.unblocked_is))
-  | inr k ↦ rw (k.item, k.sender) refl
-]
+kept_after o u i priority unblocked before b h = grind arith
 
 -- no other thread is found to have sent what thread u has not
 not_sender : (f : Facts) (i u : ℕ) → ((o : OpenCall) → f.open_call u ≡ Some o → (number_of o) ≢ i) → is_thread (sender f i) u ≡ false
@@ -93,8 +87,7 @@ other_holds roster past t c u b r l other is going k =
 
 -- on whatever channel it is, a call that waits has its thread to wait
 asks_same : (n t h k : ℕ) (c : Call) → option_map (λ o. t) (asks n t h c) ≡ option_map (λ o. t) (asks n t k c)
-asks_same n t h k (CallSend coid message reply_buffer) = refl
-asks_same n t h k c = refl
+asks_same n t h k c = grind arith
 
 -- the call itself, where it begins to wait, and the receipt of the row
 own_holds : (roster : List Member) (past : Trace) (t h : ℕ) (c : Call) (X : List Completion) (o : OpenCall) (r : Received) → IsLawful roster past → Outcome true (facts_of roster past) t c X
@@ -164,58 +157,39 @@ open_refused roster past t c X u a =
 -- ---- after an accepted call
 
 unless_none : (b : Bool) → unless b None ≡ None
-unless_none true = refl
-unless_none false = refl
+unless_none b = grind arith
 
 after_none : (r : Option Received) (u : ℕ) → after_receipt r u None ≡ None
-after_none None u = refl
-after_none (Some r) u = elim (is_thread r.sender u) as (λ b. cond b (option_map (held_call r.kept) None) None ≡ None) [ true ↦ refl | false ↦ refl ]
-
-write_none : (f : Facts) (w : Option Transfer) (u : ℕ) → after_write f w u None ≡ None
-write_none f None u = refl
-write_none f (Some w) u = elim (is_thread (sender f w.rcvid) u) as (λ b. cond b (option_map (written_call w.offset w.bytes) None) None ≡ None) [ true ↦ refl | false ↦ refl ]
+after_none r u = grind arith
 
 pub unblock_none : (m : Option SentItem) (w : Option ℕ) (u : ℕ) → after_unblock m w u None ≡ None
-unblock_none m None u = refl
-unblock_none m (Some v) u = elim (eqb u v && is_some m) as (λ b. cond b (option_map unblocked_call None) None ≡ None) [ true ↦ refl | false ↦ refl ]
+unblock_none m w u = grind arith
 
 -- what another thread waits for, unless its call ends
 abbrev other_after : Facts → ℕ → Call → ℕ → Option OpenCall → Option OpenCall
 other_after f t c u o = after_unblock (makes f t c) (unblocks c) u (after_receipt (receipt_of f t c) u (after_write f (writes c) u o))
 
 other_none : (f : Facts) (t : ℕ) (c : Call) (u : ℕ) → other_after f t c u None ≡ None
-other_none f t c u =
-    ap (λ o. after_unblock (makes f t c) (unblocks c) u (after_receipt (receipt_of f t c) u o)) (write_none f (writes c) u) ∙ ap (after_unblock (makes f t c) (unblocks c) u) (after_none (receipt_of f t c) u)
-    ∙ unblock_none (makes f t c) (unblocks c) u
+other_none f t c u = grind arith
 
 some_later : (x y : Option ℕ) → is_some y ≡ true → is_some (option_or x y) ≡ true
-some_later None y e = e
-some_later (Some x) y e = refl
+some_later x y e = grind arith
 
 -- the priority counts only where the message was received
 receipt_priority : (p q : ℕ) (unblocked : Bool) (r : Option ℕ) (b : OpenCall) → ((copied : ℕ) → r ≡ Some copied → p ≡ q) → with_receipt p unblocked r b ≡ with_receipt q unblocked r b
-receipt_priority p q unblocked None b same = refl
-receipt_priority p q unblocked (Some copied) b same = ap (λ i. with_receipt i unblocked (Some copied) b) (same copied refl)
+receipt_priority p q unblocked r b same = grind arith
 
 -- a message that is received by now was so before, or the call receives it
 received_before : (roster : List Member) (past : Trace) (t : ℕ) (c : Call) (i copied : ℕ) → option_or (copied_by (receipt_of (facts_of roster past) t c) i) (copied_count_of past i) ≡ Some copied
     → (is_received past i ≡ true) ⊎ (is_some (receipt_of (facts_of roster past) t c) ≡ true)
-received_before roster past t c i copied is =
-    elim ((receipt_of (facts_of roster past) t c)) as (λ o. option_or (copied_by o i) (copied_count_of past i) ≡ Some copied → (is_received past i ≡ true) ⊎ (is_some o ≡ true)) [
-      | None ↦ λ s. inl (ap is_some s)
-      | Some r ↦ λ s. inr refl
-    ] is
+received_before roster past t c i copied is = grind arith
 
 -- then no priority that is set is the message's
 held_priority : (roster : List Member) (past : Trace) (t : ℕ) (c : Call) (X : List Completion) (i : ℕ) → i ≤ length past → (is_received past i ≡ true) ⊎ (is_some (receipt_of (facts_of roster past) t c) ≡ true)
     → priority_of_item roster (with_event t c X past) i ≡ priority_of_item roster past i
-held_priority roster past t c X i below received = priority_earlier roster (record { thread = t; call = c; endings = X }) past i below (elim received [
-  | inl taken ↦ taken_sets_none (record { thread = t; call = c; endings = X }) past i taken
-  | inr some ↦ elim (sets_alone c) [
-    | inl none ↦ sets_none (record { thread = t; call = c; endings = X }) past i none
-    | inr alone ↦ absurd (true≢false (sym some ∙ ap is_some (alone.receives_none (facts_of roster past) t)))
-  ]
-])
+held_priority roster past t c X i below received =
+    let e : Event = record { thread = t; call = c; endings = X } in
+    priority_earlier roster e past i below (grind (arith, sets_none e past i, sets_alone c))
 
 -- of another thread
 open_other : (roster : List Member) (past : Trace) (t : ℕ) (c : Call) (X : List Completion) (u : ℕ) → IsLawful roster past → is_some (member_at roster t) ≡ true → Outcome true (facts_of roster past) t c X → eqb u t ≡ false
@@ -261,12 +235,7 @@ open_other roster past t c X u l member a other =
 
 -- a call that has ended stays ended
 still : (roster : List Member) (e : Event) (past : Trace) (o : Option OpenCall) → option_map (kept roster past) (unless_ended past o) ≡ None → option_map (kept roster (e ∷ past)) (unless_ended (e ∷ past) o) ≡ None
-still roster e past None h = refl
-still roster e past (Some b) h =
-    elim (is_ended past (number_of b)) as (λ d. option_map (kept roster past) (cond d None (Some b)) ≡ None → option_map (kept roster (e ∷ past)) (cond (has_completion_of e.endings (number_of b) || d) None (Some b)) ≡ None) [
-      | true ↦ λ h. rw (or-true (has_completion_of e.endings (number_of b))) refl
-      | false ↦ λ h. absurd (none-some _ (sym h))
-    ] h
+still roster e past o h = grind arith
 
 -- of the caller: it waits for what it asks
 caller_after : (roster : List Member) (past : Trace) (t : ℕ) (c : Call) (X : List Completion) → IsLawful roster past → is_some (member_at roster t) ≡ true → Outcome true (facts_of roster past) t c X

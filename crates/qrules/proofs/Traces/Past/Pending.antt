@@ -1,8 +1,8 @@
 -- What is pending after one more event.
-use Rattle.qrules.proofs.Common.{◌≡◌, ℕ, ◌+◌, ◌≤◌, List, [], ◌∷◌, ◌++◌, map, length, refl, ap, sym, subst, ◌∙◌, cond, arith, Bool, true, false, eqb, inl, inr, filter-append, filter_agree, cond_same, eqb_either, none_of, all_append, all_filter, all_more, filter_same, filter_twice, filter_all, filter_whole, any_never, AllByRecursion, option_to_list, option_or, same_Some, is_pulse, with_priority, without_item, Item, member_at, Member, Outcome, row_of, SentItem, Event, Trace, is_unread_send, Call, Completion, Option, None, Some, is_some, not, ◌&&◌, ◌||◌, filter}
-use Rattle.std.proofs.lemmas.Bool.{eqb-true, eqb-false, ne_eqb, true≢false, or_parts, or_cases, or_left, or_right, and_parts, and_from}
+use Rattle.qrules.proofs.Common.{◌≡◌, ℕ, ◌+◌, ◌≤◌, List, [], ◌∷◌, ◌++◌, map, length, refl, ap, sym, ◌∙◌, cond, arith, Bool, true, false, eqb, inl, inr, filter-append, eqb_either, all_append, all_filter, all_more, filter_same, filter_twice, filter_all, filter_whole, any_never, AllByRecursion, option_to_list, same_Some, is_pulse, with_priority, Item, member_at, Member, Outcome, row_of, SentItem, Event, Trace, Call, Completion, Option, None, Some, is_some, not, ◌&&◌, ◌||◌, filter}
+use Rattle.std.proofs.lemmas.Bool.{eqb-false, ne_eqb}
 use Rattle.std.proofs.lemmas.List.{map-append, append-nil}
-use Rattle.qrules.proofs.Basics.{receipt_of, Received, names, facts_of, IsLawful, with_event, channel_at, has_completion_of, is_destroyed, is_ended, is_received, is_gone, items, item_of, pending_items, copied_count_among, copied_count_of, open_call, made_on, closes, makes, sets, is_cancelled, uncancelled_items, items_with_priority_set, unreceived_items, pending_after, IsReceived, call_laws, laws_of, accepted, refused, refused_ends, ended_below, ends_own, IsPending, Stands, items_on, pending_is, stands_all, standing_is, staying, staying_all, item_at, item_below, now, refused_sets_none, worth_newest, worth_stays, open_below, threads_of, number_of}
+use Rattle.qrules.proofs.Basics.{receipt_of, Received, facts_of, IsLawful, with_event, is_destroyed, is_ended, is_gone, items, item_of, pending_items, copied_count_of, made_on, makes, sets, is_cancelled, uncancelled_items, items_with_priority_set, unreceived_items, pending_after, IsReceived, call_laws, laws_of, accepted, refused, refused_ends, ended_below, ends_own, IsPending, Stands, items_on, pending_is, stands_all, standing_is, staying, staying_all, item_at, item_below, now, refused_sets_none, worth_newest, worth_stays, open_below, threads_of}
 use Rattle.qrules.proofs.Traces.Past.Channels.{closed_accepted, closed_refused}
 use Rattle.qrules.proofs.Traces.Past.Cancels.{ended_is_cancelled}
 use Rattle.qrules.proofs.Traces.Past.Moves.{left_map, moved_append, moved_left, moved_made, moved_nothing, moved_now, moved_out, out_map, same_now}
@@ -11,8 +11,7 @@ use Rattle.qrules.proofs.Traces.Past.Receipts.{copied_by, accepted_receipts, ref
 -- ---- the items of a channel
 
 made_list : (o : Option SentItem) (h : ℕ) → map (λ m. m.item) (filter (λ m. eqb m.channel h) (option_to_list o)) ≡ made_on h o
-made_list None h = refl
-made_list (Some m) h = elim (eqb m.channel h) as (λ b. map (λ m. m.item) (cond b (m ∷ []) []) ≡ cond b (m.item ∷ []) []) [ true ↦ refl | false ↦ refl ]
+made_list o h = grind arith
 
 -- those of the past, and the one that an event makes
 pub items_more : (roster : List Member) (e : Event) (past : Trace) (h : ℕ) → items_on roster (e ∷ past) h ≡ items_on roster past h ++ made_on h (item_of roster e past)
@@ -23,12 +22,7 @@ items_more roster e past h =
 
 -- of what an event makes on a channel
 pub made_all : (P : Item → Type 0) (h : ℕ) (o : Option SentItem) → ((m : SentItem) → o ≡ Some m → m.channel ≡ h → P m.item) → AllByRecursion P (made_on h o)
-made_all P h None all = tt
-made_all P h (Some m) all =
-    elim (eqb m.channel h) as (λ b. eqb m.channel h ≡ b → AllByRecursion P (cond b (m.item ∷ []) [])) [
-      | true ↦ λ e. (all m refl (eqb-true m.channel h e), tt)
-      | false ↦ λ e. tt
-    ] refl
+made_all P h o all = grind arith
 
 -- ---- after a refused call
 
@@ -59,40 +53,18 @@ pending_refused roster past t c X h a =
 abbrev leaves : Option Received → Item → Bool
 leaves o item = not (is_some (copied_by o item.number))
 
-taken_now : (x : Option ℕ) (y : Option ℕ) → y ≡ None → is_some (option_or x y) ≡ is_some x
-taken_now None y e = ap is_some e
-taken_now (Some k) y e = refl
-
 neither : (a b : Bool) → not (a || b) ≡ (not b && not a)
-neither true true = refl
-neither true false = refl
-neither false true = refl
-neither false false = refl
+neither a b = grind arith
 
 -- an item that wasn't received is gone exactly where this event receives it, or ends its Send
 gone_now : (roster : List Member) (past : Trace) (t : ℕ) (c : Call) (X : List Completion) (item : Item) (cancel : Bool) → IsLawful roster past → is_some (member_at roster t) ≡ true → Outcome true (facts_of roster past) t c X
     → copied_count_of past item.number ≡ None → (not (is_pulse item.what) && is_ended (with_event t c X past) item.number) ≡ cancel
     → not (is_gone (with_event t c X past) item) ≡ (not cancel && leaves (receipt_of (facts_of roster past) t c) item)
-gone_now roster past t c X item cancel l member a fresh ended =
-    let taken : is_received (with_event t c X past) item.number ≡ is_some (copied_by (receipt_of (facts_of roster past) t c) item.number) =
-    ap (λ r. is_some (option_or r (copied_count_of past item.number))) (accepted_receipts roster past t c X item.number l member a)
-    ∙ taken_now (copied_by (receipt_of (facts_of roster past) t c) item.number) (copied_count_of past item.number) fresh in
-    ap (λ b. not (is_received (with_event t c X past) item.number || b)) ended
-    ∙ ap (λ b. not (b || cancel)) taken
-    ∙ neither (is_some (copied_by (receipt_of (facts_of roster past) t c) item.number)) cancel
+gone_now roster past t c X item cancel l member a fresh ended = grind (arith, accepted_receipts roster past t c X item.number l member a, neither)
 
 -- what is gone stays gone
 pub stays_gone : (past : Trace) (t : ℕ) (c : Call) (X : List Completion) (item : Item) → is_gone past item ≡ true → is_gone (with_event t c X past) item ≡ true
-stays_gone past t c X item e =
-    let ended_now = is_ended (with_event t c X past) item.number in
-    elim (or_cases (is_received past item.number) (not (is_pulse item.what) && is_ended past item.number) e) [
-      | inl taken ↦ or_left (is_received (with_event t c X past) item.number) (not (is_pulse item.what) && ended_now) (
-          elim (copied_count_among X item.number) as (λ r. is_some (option_or r (copied_count_of past item.number)) ≡ true) [ None ↦ taken | Some k ↦ refl ])
-      | inr ended ↦
-          let p = and_parts (not (is_pulse item.what)) (is_ended past item.number) ended in
-          or_right (is_received (with_event t c X past) item.number) (not (is_pulse item.what) && ended_now)
-          (and_from (not (is_pulse item.what)) ended_now p.0 (or_right (has_completion_of X item.number) (is_ended past item.number) p.1))
-    ]
+stays_gone past t c X item e = grind arith
 
 -- of what stood on the channel, what was pending, isn't cancelled and isn't received
 pending_old : (roster : List Member) (past : Trace) (t : ℕ) (c : Call) (X : List Completion) (h : ℕ) → IsLawful roster past → is_some (member_at roster t) ≡ true → Outcome true (facts_of roster past) t c X
@@ -106,13 +78,7 @@ pending_old roster past t c X h l member a =
     let both = λ (item : Item). not (is_gone past item) && (not (is_cancelled (facts_of roster past) t c h item.number) && leaves (receipt_of (facts_of roster past) t c) item) in
     filter_same stays both (items_on roster past h) (
     all_more (Stands roster past h) (λ item. stays item ≡ both item) (items_on roster past h) (stands_all roster past h) (λ item at.
-    elim (is_gone past item) as (λ b. is_gone past item ≡ b → stays item ≡ (not b && (goes_on item && leaves (receipt_of (facts_of roster past) t c) item))) [
-      | true ↦ λ e. ap not (stays_gone past t c X item e)
-      | false ↦ λ e.
-          let p = or_parts (is_received past item.number) (not (is_pulse item.what) && is_ended past item.number) e in
-          gone_now roster past t c X item (is_cancelled f t c h item.number) l member a (none_of (copied_count_of past item.number) p.0)
-          (ended_is_cancelled roster past t c X h item l a (standing_is roster past h item at e))
-    ] refl))
+    grind (arith, stays_gone past t c X item, gone_now roster past t c X item (is_cancelled f t c h item.number) l member a, ended_is_cancelled roster past t c X h item l a, standing_is roster past h item at)))
     ∙ sym (filter_twice (λ item. not (is_gone past item)) stays_on (items_on roster past h))
     ∙ sym (filter_twice goes_on (leaves (receipt_of (facts_of roster past) t c)) (staying roster past h))
 
@@ -128,13 +94,7 @@ pending_new roster past t c X h l member a =
     made_all (λ item. stays item ≡ left item) h (makes f t c) (λ m is on.
     let number : m.item.number ≡ length past + 1 = ((call_laws c).makes_one f t m is).number in
     gone_now roster past t c X m.item false l member a (receipt_beyond roster past m.item.number l (omega arith)) (
-    elim (is_pulse m.item.what) as (λ b. is_pulse m.item.what ≡ b → (not b && (has_completion_of X m.item.number || is_ended past m.item.number)) ≡ false) [
-      | true ↦ λ pulse. refl
-      | false ↦ λ message.
-          let own : has_completion_of X (length past + 1) ≡ false = ends_own roster past t c X member a ∙ ap is_some ((laws_of f t c X a).sends m is message) in
-          let ended : has_completion_of X m.item.number ≡ false = subst (λ i. has_completion_of X i ≡ false) (sym number) own in
-          rw (ended, ended_below roster past m.item.number l (omega arith)) refl
-    ] refl)))
+    grind (arith, ends_own roster past t c X member a, (laws_of f t c X a).sends m is, ended_below roster past m.item.number l))))
 
 -- ---- the receipt takes its item out of its channel
 
@@ -165,33 +125,15 @@ elsewhere roster past t c X h r L all a k other =
 
 taken_from : (o : Option Received) (h : ℕ) (L : List Item) → ((r : Received) → o ≡ Some r → eqb r.channel h ≡ false → AllByRecursion (λ item. eqb r.item item.number ≡ false) L)
     → unreceived_items o h L ≡ filter (leaves o) L
-taken_from None h L other = sym (filter_whole (leaves None) L (λ item. refl))
-taken_from (Some r) h L other =
-    elim (eqb r.channel h) as (λ b. eqb r.channel h ≡ b → cond b (without_item r.item L) L ≡ filter (leaves (Some r)) L) [
-      | true ↦ λ e. filter_agree (λ item. not (eqb item.number r.item)) (leaves (Some r)) (λ item.
-          ap not (eqb_either item.number r.item) ∙ elim (eqb r.item item.number) as (λ b. not b ≡ not (is_some (cond b (Some r.kept.copied) None))) [ true ↦ refl | false ↦ refl ]) L
-      | false ↦ λ e. sym (filter_all (leaves (Some r)) L (all_more (λ item. eqb r.item item.number ≡ false) (λ item. leaves (Some r) item ≡ true) L (other r refl e) (λ item d. rw d refl)))
-    ] refl
+taken_from o h L other = grind (arith, filter_whole, eqb_either, filter_all, all_more)
 
 -- an accepted call makes nothing for a channel that is destroyed
 closed_makes : (roster : List Member) (past : Trace) (t : ℕ) (c : Call) (X : List Completion) (h : ℕ) → Outcome true (facts_of roster past) t c X → is_destroyed past h ≡ true
     → made_on h (makes (facts_of roster past) t c) ≡ []
-closed_makes roster past t c X h a closed =
-    let f = facts_of roster past in
-    elim (makes f t c) as (λ o. makes f t c ≡ o → made_on h o ≡ []) [
-      | None ↦ λ e. refl
-      | Some m ↦ λ e.
-          elim (eqb m.channel h) as (λ b. eqb m.channel h ≡ b → cond b (m.item ∷ []) [] ≡ []) [
-            | true ↦ λ on.
-                let none : channel_at roster past m.channel ≡ None = rw (eqb-true m.channel h on, closed) refl in
-                absurd (true≢false (sym ((laws_of f t c X a).makes_open m e) ∙ ap is_some none))
-            | false ↦ λ off. refl
-          ] refl
-    ] refl
+closed_makes roster past t c X h a closed = grind arith
 
 none_out : (o : Option Received) (h : ℕ) → unreceived_items o h [] ≡ []
-none_out None h = refl
-none_out (Some r) h = cond_same (eqb r.channel h) []
+none_out o h = grind arith
 
 -- the item that a call makes isn't a message whose Send it ends: that has an earlier number
 made_uncancelled : (roster : List Member) (past : Trace) (t : ℕ) (c : Call) (h : ℕ) → uncancelled_items (facts_of roster past) t c h (made_on h (makes (facts_of roster past) t c)) ≡ made_on h (makes (facts_of roster past) t c)
@@ -199,14 +141,7 @@ made_uncancelled roster past t c h =
     let f = facts_of roster past in
     filter_all (λ item. not (is_cancelled f t c h item.number)) (made_on h (makes f t c)) (made_all (λ item. not (is_cancelled f t c h item.number) ≡ true) h (makes f t c) (λ m is on.
     let number : m.item.number ≡ length past + 1 = ((call_laws c).makes_one f t m is).number in
-    ap not (any_never _ (threads_of roster) (λ s.
-    elim (open_call roster past s) as (λ o. open_call roster past s ≡ o → (is_unread_send h m.item.number o && is_some ((row_of f t c).others s)) ≡ false) [
-      | None ↦ λ none. refl
-      | Some o ↦ λ some.
-          let below : (number_of o) ≤ length past = open_below roster past s o some in
-          let other : eqb (number_of o) m.item.number ≡ false = ne_eqb _ _ (λ same. omega (arith, number)) in
-          rw other refl
-    ] refl))))
+    ap not (any_never _ (threads_of roster) (λ s. grind (arith, number, open_below roster past s)))))
 
 left_made : (roster : List Member) (past : Trace) (t : ℕ) (c : Call) (h : ℕ) (items : List Item)
     → uncancelled_items (facts_of roster past) t c h (items ++ made_on h (makes (facts_of roster past) t c)) ≡ uncancelled_items (facts_of roster past) t c h items ++ made_on h (makes (facts_of roster past) t c)
@@ -269,21 +204,5 @@ pub pending_accepted : (roster : List Member) (past : Trace) (t : ℕ) (c : Call
     → pending_items roster (with_event t c X past) h ≡ pending_after (facts_of roster past) t c h
 pending_accepted roster past t c X h l member a =
     let f = facts_of roster past in
-    let e : Event = record { thread = t; call = c; endings = X } in
-    let R = row_of (facts_of roster past) t c in
-    let M = made_on h (makes f t c) in
-    let S = map (now past) (staying roster past h) in
-    let after = λ (items : List Item). items_with_priority_set f h (sets c) (unreceived_items (receipt_of (facts_of roster past) t c) h (uncancelled_items f t c h (items ++ M))) in
-    pending_is roster (e ∷ past) h
-    ∙ ap (λ b. cond b [] (map (now (e ∷ past)) (staying roster (e ∷ past) h))) (closed_accepted roster e past h (accepted roster past t c X a)) ∙ (
-    elim (names (closes c) h) as (λ d. cond (d || is_destroyed past h) [] (map (now (e ∷ past)) (staying roster (e ∷ past) h)) ≡ cond d [] (after (cond (is_destroyed past h) [] S))) [
-      | true ↦ refl
-      | false ↦
-          elim (is_destroyed past h) as (λ b. is_destroyed past h ≡ b → cond b [] (map (now (e ∷ past)) (staying roster (e ∷ past) h)) ≡ after (cond b [] S)) [
-            | true ↦ λ closed. sym (
-                ap (λ l. items_with_priority_set f h (sets c) (unreceived_items (receipt_of (facts_of roster past) t c) h (uncancelled_items f t c h l))) (closed_makes roster past t c X h a closed)
-                ∙ ap (items_with_priority_set f h (sets c)) (none_out (receipt_of (facts_of roster past) t c) h) ∙ moved_nothing f h (sets c))
-            | false ↦ λ standing. now_accepted roster past t c X h l member a
-          ] refl
-    ])
-    ∙ ap (λ l. cond (names (closes c) h) [] (after l)) (sym (pending_is roster past h))
+    let closed = closed_accepted roster (record { thread = t; call = c; endings = X }) past h (accepted roster past t c X a) in
+    grind (arith, pending_is roster past h, pending_is roster (with_event t c X past) h, closed, closed_makes roster past t c X h a, none_out (receipt_of f t c) h, moved_nothing f h (sets c), now_accepted roster past t c X h l member a)

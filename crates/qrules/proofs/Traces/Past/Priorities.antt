@@ -1,6 +1,6 @@
 -- The priorities of the threads after one more event: what it sets, and what a receiver takes.
-use Rattle.qrules.proofs.Common.{◌≡◌, ℕ, ◌+◌, List, ◌∷◌, length, refl, ap, sym, subst, ◌∙◌, cond, arith, Bool, true, false, eqb, ◌⊎◌, inl, inr, option_map, option_or, filter_map, none-some, Item, member_at, Member, completion_to, Outcome, SentItem, Event, Trace, Call, Completion, ReceivedItem, Option, None, Some, is_some, not, option_and_then, unwrap_or}
-use Rattle.qrules.proofs.Basics.{receipt_of, Received, item_in, priority_set_for, threads_of, facts_of, IsLawful, with_event, items_by_now, carried_priority, channel_at, first_among, priority_from_completion, item_of, items, item_among, priority_of_thread, refuses, current_priority, sets, priority_taken, priority_after, accepted, completion_names, laws_of, refused, item_at, item_below, item_earlier, item_found, item_newest, item_priority, RowLaws, IsReceipt, IsReceived, call_laws, among_now, now, worth_beyond, known}
+use Rattle.qrules.proofs.Common.{◌≡◌, ℕ, ◌+◌, List, ◌∷◌, length, refl, ap, sym, subst, ◌∙◌, cond, arith, true, false, eqb, ◌⊎◌, inl, inr, option_map, option_or, filter_map, none-some, Item, member_at, Member, completion_to, Outcome, SentItem, Event, Trace, Call, Completion, ReceivedItem, Option, None, Some, is_some, not, option_and_then, unwrap_or}
+use Rattle.qrules.proofs.Basics.{receipt_of, Received, item_in, priority_set_for, threads_of, facts_of, IsLawful, with_event, items_by_now, carried_priority, channel_at, first_among, priority_from_completion, item_of, items, item_among, priority_of_thread, refuses, current_priority, sets, priority_taken, priority_after, accepted, completion_names, laws_of, item_at, item_below, item_earlier, item_found, item_newest, item_priority, RowLaws, IsReceipt, IsReceived, call_laws, among_now, now, worth_beyond, known}
 use Rattle.qrules.proofs.Traces.Past.Receipts.{among_none, among_one, best_pending, best_priority, completion_receives, given_known}
 
 -- the item that is received is among those that were made, and what it is worth
@@ -34,10 +34,7 @@ received_at roster past t c X r k a =
 
 -- a completion is of the thread that gets it
 pub completion_thread : (roster : List Member) (past : Trace) (t : ℕ) (c : Call) (v : ℕ) (y : Completion) → RowLaws (facts_of roster past) t c → completion_to (facts_of roster past) t c v ≡ Some y → y.thread ≡ v
-completion_thread roster past t c v y laws e = elim (completion_names (facts_of roster past) t c v y laws e) [
-  | inl h ↦ h.names.thread ∙ sym h.thread
-  | inr h ↦ h.names.thread
-]
+completion_thread roster past t c v y laws e = grind (arith, completion_names (facts_of roster past) t c v y laws e)
 
 module _ (roster : List Member) (past : Trace) (t : ℕ) (c : Call) (X : List Completion) (u : ℕ) (l : IsLawful roster past) (member : is_some (member_at roster t) ≡ true) (a : Outcome true (facts_of roster past) t c X) where
   -- the priority that an item carries to its receiver
@@ -66,13 +63,7 @@ module _ (roster : List Member) (past : Trace) (t : ℕ) (c : Call) (X : List Co
       ∙ ap (λ o. priority_taken (facts_of roster past) o u) (sym k.is)
 
   none_or_it : (v : ℕ) (y : Completion) → completion_to (facts_of roster past) t c v ≡ Some y → (priority_from_completion carries u y ≡ None) ⊎ (priority_from_completion carries u y ≡ priority_taken (facts_of roster past) (receipt_of (facts_of roster past) t c) u)
-  none_or_it v y e = elim (item_in y.mark) as (λ o. item_in y.mark ≡ o → (priority_from_completion carries u y ≡ None) ⊎ (priority_from_completion carries u y ≡ priority_taken (facts_of roster past) (receipt_of (facts_of roster past) t c) u)) [
-    | None ↦ λ m. inl (ap (λ o. cond (eqb y.thread u) (option_and_then (λ r. carries r.number) o) None) m ∙ nothing (eqb y.thread u))
-    | Some q ↦ λ m. inr (gives v y q e m)
-  ] refl where
-    nothing : (b : Bool) → cond {A = Option ℕ} b None None ≡ None
-    nothing true = refl
-    nothing false = refl
+  none_or_it v y e = grind (arith, gives v y)
 
   given_accepted : first_among (priority_from_completion carries u) X ≡ priority_taken (facts_of roster past) (receipt_of (facts_of roster past) t c) u
   given_accepted = ap (first_among (priority_from_completion carries u)) (a.1) ∙ by (priority_taken (facts_of roster past) (receipt_of (facts_of roster past) t c) u) refl where
@@ -95,10 +86,4 @@ module _ (roster : List Member) (past : Trace) (t : ℕ) (c : Call) (X : List Co
 -- a refused call changes no priority
 pub priority_refused : (roster : List Member) (past : Trace) (t : ℕ) (c : Call) (X : List Completion) (u : ℕ) → Outcome false (facts_of roster past) t c X
     → priority_of_thread roster (with_event t c X past) u ≡ priority_of_thread roster past u
-priority_refused roster past t c X u a =
-    ap (λ b. unwrap_or (option_or (cond (not b) (priority_set_for (sets c) u) None) (first_among (priority_from_completion (λ i. carried_priority (channel_at roster past) (item_among (items_by_now past (items roster (with_event t c X past))) i)) u) X)) (priority_of_thread roster past u)) (refused roster past t c X a)
-    ∙ ap (λ Y. unwrap_or (first_among (priority_from_completion (λ i. carried_priority (channel_at roster past) (item_among (items_by_now past (items roster (with_event t c X past))) i)) u) Y) (priority_of_thread roster past u)) (a.2)
-    ∙ nothing (eqb t u) where
-      nothing : (b : Bool) → unwrap_or (option_or (cond b None None) None) (priority_of_thread roster past u) ≡ priority_of_thread roster past u
-      nothing true = refl
-      nothing false = refl
+priority_refused roster past t c X u a = grind arith

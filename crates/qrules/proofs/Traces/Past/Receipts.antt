@@ -1,40 +1,26 @@
 -- What the endings of an event receive: just the receipt that its row says.
-use Rattle.qrules.proofs.Common.{◌≡◌, ℕ, ◌+◌, ◌<◌, ◌≤◌, List, [], ◌∷◌, length, refl, ap, sym, subst, ◌∙◌, cond, arith, true, false, eqb, ◌⊎◌, inl, inr, filter_map, cons_option, best_of, Item, Kind, best-at, member_at, Member, completion_to, Outcome, Answers, Trace, Call, Completion, is_among, ReceivedItem, Option, None, Some, is_some}
-use Rattle.std.proofs.lemmas.Bool.{cases_Bool, eqb-true, ne_eqb, true≢false}
+use Rattle.qrules.proofs.Common.{◌≡◌, ℕ, ◌+◌, ◌<◌, ◌≤◌, List, [], ◌∷◌, length, refl, ap, sym, ◌∙◌, cond, arith, true, false, eqb, ◌⊎◌, inl, inr, filter_map, best_of, Item, Kind, best-at, member_at, Member, completion_to, Outcome, Answers, Trace, Call, Completion, is_among, ReceivedItem, Option, None, Some, is_some}
+use Rattle.std.proofs.lemmas.Bool.{ne_eqb, true≢false}
 use Rattle.qrules.proofs.Basics.{receipt_of, Received, item_in, Facts, threads_of, facts_of, IsLawful, copied_count_in, first_among, priority_of_item, copied_count_among, copied_count_of, RowLaws, IsReceipt, IsReceived, call_laws, laws_of, completion_names, open_known, IsPending, pending_all, pending_priorities, item_below, known}
 
 -- ---- what is told of one among the endings that some threads get
 
 pub among_none : {A : Type 0} (tell : Completion → Option A) (g : ℕ → Option Completion) (us : List ℕ) → ((u : ℕ) (y : Completion) → g u ≡ Some y → tell y ≡ None) → first_among tell (filter_map g us) ≡ None
 among_none tell g [] h = refl
-among_none tell g (u ∷ us) h =
-    elim (g u) as (λ o. g u ≡ o → first_among tell (cons_option o (filter_map g us)) ≡ None) [
-      | None ↦ λ e. among_none tell g us h
-      | Some y ↦ λ e. rw (h u y e) (among_none tell g us h)
-    ] refl
+among_none tell g (u ∷ us) h = grind (arith, among_none tell g us h)
 
 -- nothing else is told of any, and it is told of one
 pub among_one : {A : Type 0} (tell : Completion → Option A) (g : ℕ → Option Completion) (us : List ℕ) (k : A) → ((u : ℕ) (y : Completion) → g u ≡ Some y → (tell y ≡ None) ⊎ (tell y ≡ Some k))
     → (v : ℕ) (z : Completion) → is_among us v ≡ true → g v ≡ Some z → tell z ≡ Some k → first_among tell (filter_map g us) ≡ Some k
 among_one tell g [] k h v z m e q = absurd (true≢false (sym m))
 among_one tell g (u ∷ us) k h v z m e q =
-    elim (cases_Bool (eqb u v)) [
-      | inl same ↦ let at : g u ≡ Some z = ap g (eqb-true u v same) ∙ e in rw (at, q) refl
-      | inr other ↦
-          let rest : first_among tell (filter_map g us) ≡ Some k = among_one tell g us k h v z (rw other at m) e q in
-          elim (g u) as (λ o. g u ≡ o → first_among tell (cons_option o (filter_map g us)) ≡ Some k) [
-            | None ↦ λ is. rest
-            | Some y ↦ λ is. elim (h u y is) [ inl none ↦ rw none rest | inr some ↦ rw some refl ]
-          ] refl
-    ]
+    let rest : eqb u v ≡ false → first_among tell (filter_map g us) ≡ Some k = λ other. among_one tell g us k h v z (rw other at m) e q in
+    grind (arith, h u, rest)
 
 -- ---- the receipt of an accepted call
 
 pub completion_receives : (f : Facts) (t : ℕ) (c : Call) (v : ℕ) (y : Completion) (p : ReceivedItem) → RowLaws f t c → completion_to f t c v ≡ Some y → item_in y.mark ≡ Some p → IsReceipt (receipt_of f t c) v p
-completion_receives f t c v y p laws e m = elim (completion_names f t c v y laws e) [
-  | inl h ↦ subst (λ u. IsReceipt (receipt_of f t c) u p) (sym h.thread) (laws.own_receives y p h.is m)
-  | inr h ↦ laws.ends_receives v y p h.is m
-]
+completion_receives f t c v y p laws e m = grind arith
 
 -- how many bytes this receipt copies of item i, if it is of it
 abbrev pub copied_by : Option Received → ℕ → Option ℕ
@@ -42,8 +28,7 @@ copied_by None i = None
 copied_by (Some r) i = cond (eqb r.item i) (Some r.kept.copied) None
 
 same_copied : (f : Facts) (t : ℕ) (c : Call) (v : ℕ) (p : ReceivedItem) (i : ℕ) → IsReceipt (receipt_of f t c) v p → copied_count_in i (Some p) ≡ copied_by (receipt_of f t c) i
-same_copied f t c v p i k =
-    ap (λ n. cond (eqb n i) (Some p.copied) None) k.item ∙ ap (λ n. cond (eqb k.receipt.item i) (Some n) None) k.copied ∙ ap (λ o. copied_by o i) (sym k.is)
+same_copied f t c v p i k = grind arith
 
 -- what a completion copies of item i is what the row's receipt does
 completion_copies : (f : Facts) (t : ℕ) (c : Call) (v : ℕ) (y : Completion) (i : ℕ) → RowLaws f t c → completion_to f t c v ≡ Some y
@@ -57,10 +42,7 @@ completion_copies f t c v y i laws e =
 -- the one that the row says is given to a thread of the roster
 pub given_known : (roster : List Member) (past : Trace) (t : ℕ) (c : Call) (v : ℕ) (y : Completion) → IsLawful roster past → is_some (member_at roster t) ≡ true → RowLaws (facts_of roster past) t c
     → completion_to (facts_of roster past) t c v ≡ Some y → is_some (member_at roster v) ≡ true
-given_known roster past t c v y l member laws e = elim (completion_names (facts_of roster past) t c v y laws e) [
-  | inl h ↦ subst (λ u. is_some (member_at roster u) ≡ true) (sym h.thread) member
-  | inr h ↦ open_known roster past v h.names.waiting l h.names.is
-]
+given_known roster past t c v y l member laws e = grind (arith, completion_names (facts_of roster past) t c v y laws e, open_known roster past v)
 
 pub accepted_receipts : (roster : List Member) (past : Trace) (t : ℕ) (c : Call) (X : List Completion) (i : ℕ) → IsLawful roster past → is_some (member_at roster t) ≡ true
     → Outcome true (facts_of roster past) t c X → copied_count_among X i ≡ copied_by (receipt_of (facts_of roster past) t c) i
@@ -98,13 +80,9 @@ pub best_priority : (roster : List Member) (past : Trace) (h : ℕ) (kind : Kind
 best_priority roster past h kind item best = best-at (λ (x : Item). priority_of_item roster past x.number ≡ x.priority) kind ((facts_of roster past).pending h) item (pending_priorities roster past h) best
 
 pub received_below : (roster : List Member) (past : Trace) (t : ℕ) (c : Call) (r : Received) → IsReceived (facts_of roster past) t c r → r.item ≤ length past + 1
-received_below roster past t c r k = elim (k.source) [
-  | inl new ↦
-      let number : k.item.number ≡ length past + 1 = ((call_laws c).makes_one (facts_of roster past) t _ new.made).number in
-      omega (arith, k.number)
-  | inr old ↦
-      let below : k.item.number ≤ length past = item_below roster past k.item.number _ (best_pending roster past r.channel old.kind k.item old.best).made in
-      omega (arith, k.number)
+received_below roster past t c r k = elim k.source [
+  | inl new ↦ omega (arith, k.number, ((call_laws c).makes_one (facts_of roster past) t _ new.made).number)
+  | inr old ↦ omega (arith, k.number, item_below roster past k.item.number _ (best_pending roster past r.channel old.kind k.item old.best).made)
 ]
 
 -- an event receives its own item or one that was pending

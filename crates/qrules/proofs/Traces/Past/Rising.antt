@@ -1,8 +1,8 @@
 -- The items of a channel stand in rising number.
-use Rattle.qrules.proofs.Common.{◌≡◌, ℕ, ◌+◌, ◌<◌, ◌≤◌, List, [], ◌∷◌, ◌++◌, map, length, refl, sym, subst, cond, arith, true, false, eqb, AllByRecursion, IsRising, Item, Member, SentItem, Event, Trace, all_map, all_more, Option, None, Some, not}
+use Rattle.qrules.proofs.Common.{◌≡◌, ℕ, ◌+◌, ◌<◌, ◌≤◌, List, [], ◌∷◌, ◌++◌, map, length, refl, sym, subst, cond, arith, true, false, eqb, AllByRecursion, IsRising, Item, Member, SentItem, Event, Trace, all_map, all_more, Option, None, Some}
 use Rattle.std.proofs.lemmas.List.{append-nil}
 use Rattle.qqueue.proofs.RisingLaws.{IsRising-push, IsRising-filter}
-use Rattle.qrules.proofs.Basics.{is_destroyed, is_gone, item_of, pending_items, made_on, IsPending, Stands, items_on, stands_all, staying, pending_all, pending_is, item_below, made_by, now}
+use Rattle.qrules.proofs.Basics.{item_of, pending_items, made_on, IsPending, Stands, items_on, stands_all, staying, pending_all, pending_is, item_below, made_by, now}
 use Rattle.qrules.proofs.Traces.Past.Pending.{items_more}
 
 -- rising items, and one that is made after them
@@ -28,14 +28,8 @@ now_rises past (x ∷ items) rising = (all_map (λ y. x.number < y.number) (now 
 
 -- what is pending rises
 pub pending_rises : (roster : List Member) (past : Trace) (h : ℕ) → IsRising (pending_items roster past h)
-pending_rises roster past h = subst IsRising (sym (pending_is roster past h)) (elim (is_destroyed past h) as (λ b. IsRising (cond b [] (map (now past) (staying roster past h)))) [
-  | true ↦ tt
-  | false ↦ now_rises past (staying roster past h) (IsRising-filter (λ item. not (is_gone past item)) (items_on roster past h) (items_rise roster past h))
-])
+pending_rises roster past h = grind (arith, pending_is roster past h, now_rises past (staying roster past h), IsRising-filter, items_rise roster past h)
 
 -- and so it does with the item that the next event makes
 pub takeable_rises : (roster : List Member) (e : Event) (past : Trace) (h : ℕ) → IsRising (pending_items roster past h ++ made_on h (item_of roster e past))
-takeable_rises roster e past h = rising_made (pending_items roster past h) h (item_of roster e past) (pending_rises roster past h) (λ m is.
-    let number : m.item.number ≡ length past + 1 = (made_by roster e past m is).number in
-    all_more (IsPending roster past h) (λ y. y.number < m.item.number) (pending_items roster past h) (pending_all roster past h) (λ y at.
-    let below : y.number ≤ length past = item_below roster past y.number _ at.made in omega arith))
+takeable_rises roster e past h = grind (arith, rising_made (pending_items roster past h) h (item_of roster e past) (pending_rises roster past h), pending_rises roster past h, made_by roster e past, all_more (IsPending roster past h), pending_all roster past h, item_below roster past)

@@ -1,8 +1,8 @@
 -- The messages for which an unblock pulse was made: each of them was received before.
-use Rattle.qrules.proofs.Common.{◌≡◌, ℕ, ◌+◌, ◌≤◌, List, [], ◌∷◌, length, refl, ap, sym, subst, ◌∙◌, cond, arith, Bool, true, false, eqb, inl, inr, option_map, option_to_list, option_or, and-false, or-true, or-false, Receive, Send, number_of, same_Some, Member, SentItem, Event, Trace, unblocked_call, held_call, Call, OpenCall, eqb_same, Option, None, Some, is_some, ◌&&◌, ◌||◌}
-use Rattle.std.proofs.lemmas.Bool.{cases_Bool, eqb-true, ne_eqb, true≢false, or_cases}
+use Rattle.qrules.proofs.Common.{◌≡◌, ℕ, ◌+◌, ◌≤◌, List, [], ◌∷◌, length, refl, ap, sym, subst, ◌∙◌, cond, arith, Bool, true, false, eqb, option_to_list, Send, number_of, Member, SentItem, Event, Trace, unblocked_call, Call, OpenCall, Option, None, Some, is_some, ◌&&◌, ◌||◌}
+use Rattle.std.proofs.lemmas.Bool.{eqb-true, true≢false}
 use Rattle.std.proofs.lemmas.List.Folds.{list_any-append}
-use Rattle.qrules.proofs.Basics.{makes, unblocks, facts_of, is_received, is_unblock_for, item_of, items, open_call, copied_count_among, copied_count_of, unblocked_among, with_receipt, after_unblock, call_laws, open_receipt, open_below, open_thread, is_unblocked, item_accepted, unblocked_among_now}
+use Rattle.qrules.proofs.Basics.{makes, unblocks, facts_of, is_received, is_unblock_for, item_of, items, open_call, copied_count_of, unblocked_among, with_receipt, after_unblock, call_laws, open_receipt, open_below, open_thread, is_unblocked, item_accepted, unblocked_among_now}
 
 -- ---- what is unblocked
 
@@ -26,11 +26,7 @@ by_item roster past t c i m made is =
     ] refl
 
 pub unblocked_now : (roster : List Member) (past : Trace) (t : ℕ) (c : Call) (i : ℕ) → unblocked_among (option_to_list (makes (facts_of roster past) t c)) i ≡ true → WasReceived past i
-unblocked_now roster past t c i e =
-    elim (makes (facts_of roster past) t c) as (λ o. makes (facts_of roster past) t c ≡ o → unblocked_among (option_to_list o) i ≡ true → WasReceived past i) [
-      | None ↦ λ none s. absurd (true≢false (sym s))
-      | Some m ↦ λ some s. by_item roster past t c i m some (sym (or-false (is_unblock_for i m.item.what)) ∙ s)
-    ] refl e
+unblocked_now roster past t c i e = grind (arith, by_item roster past t c i)
 
 -- with one more event, what that makes
 pub unblocked_by : (roster : List Member) (e : Event) (past : Trace) (i : ℕ) → is_unblocked roster (e ∷ past) i ≡ (is_unblocked roster past i || unblocked_among (option_to_list (item_of roster e past)) i)
@@ -39,44 +35,22 @@ unblocked_by roster e past i =
     ∙ list_any-append (λ m. is_unblock_for i m.item.what) (items roster past) (option_to_list (item_of roster e past))
     ∙ ap (λ b. b || unblocked_among (option_to_list (item_of roster e past)) i) (sym (unblocked_among_now past (items roster past) i))
 
--- what was received stays so
-received_stays : (e : Event) (past : Trace) (i : ℕ) → WasReceived past i → WasReceived (e ∷ past) i
-received_stays e past i k = let below : i ≤ length past = k.below in record { below = omega arith; taken = later (copied_count_among e.endings i) } where
-  later : (o : Option ℕ) → is_some (option_or o (copied_count_of past i)) ≡ true
-  later None = k.taken
-  later (Some r) = refl
-
 pub unblocked_received : (roster : List Member) (past : Trace) (i : ℕ) → is_unblocked roster past i ≡ true → WasReceived past i
 unblocked_received roster [] i is = absurd (true≢false (sym is))
-unblocked_received roster (e ∷ past) i is = elim (or_cases _ _ (sym (unblocked_by roster e past i) ∙ is)) [
-  | inl before ↦ received_stays e past i (unblocked_received roster past i before)
-  | inr now ↦ received_stays e past i (
-      elim (item_of roster e past) as (λ o. item_of roster e past ≡ o → unblocked_among (option_to_list o) i ≡ true → WasReceived past i) [
-        | None ↦ λ none s. absurd (true≢false (sym s))
-        | Some m ↦ λ some s. by_item roster past e.thread e.call i m (item_accepted roster e past m some).1 (sym (or-false (is_unblock_for i m.item.what)) ∙ s)
-      ] refl now)
-]
+unblocked_received roster (e ∷ past) i is =
+    grind (arith, unblocked_by roster e past i, unblocked_received roster past i, by_item roster past e.thread e.call i, item_accepted roster e past)
 
 -- what isn't received has no unblock pulse
 pub none_unblocked : (roster : List Member) (past : Trace) (i : ℕ) → copied_count_of past i ≡ None → is_unblocked roster past i ≡ false
-none_unblocked roster past i none = elim (cases_Bool (is_unblocked roster past i)) [
-  | inl is ↦ absurd (true≢false (sym (unblocked_received roster past i is).taken ∙ ap is_some none))
-  | inr isnt ↦ isnt
-]
+none_unblocked roster past i none = grind (arith, unblocked_received roster past i)
 
 -- nor has a message to come
 pub unblocked_beyond : (roster : List Member) (past : Trace) (i : ℕ) → length past + 1 ≤ i → is_unblocked roster past i ≡ false
-unblocked_beyond roster past i above = elim (cases_Bool (is_unblocked roster past i)) [
-  | inl is ↦ let below : i ≤ length past = (unblocked_received roster past i is).below in absurd (omega arith)
-  | inr isnt ↦ isnt
-]
+unblocked_beyond roster past i above = grind (arith, unblocked_received roster past i)
 
 -- and so has the call that makes the item
 pub fresh_unblocked : (roster : List Member) (past : Trace) (t : ℕ) (c : Call) → unblocked_among (option_to_list (makes (facts_of roster past) t c)) (length past + 1) ≡ false
-fresh_unblocked roster past t c = elim (cases_Bool (unblocked_among (option_to_list (makes (facts_of roster past) t c)) (length past + 1))) [
-  | inl is ↦ let below : length past + 1 ≤ length past = (unblocked_now roster past t c (length past + 1) is).below in absurd (omega arith)
-  | inr isnt ↦ isnt
-]
+fresh_unblocked roster past t c = grind (arith, unblocked_now roster past t c (length past + 1))
 
 -- ---- an open call after an event
 
@@ -89,40 +63,13 @@ marks m (Some v) u = eqb u v && is_some m
 pub marks_it : (roster : List Member) (past : Trace) (t : ℕ) (c : Call) (u : ℕ) (o : OpenCall) → open_call roster past u ≡ Some o
     → unblocked_among (option_to_list (makes (facts_of roster past) t c)) (number_of o) ≡ marks (makes (facts_of roster past) t c) (unblocks c) u
 marks_it roster past t c u o is =
-    elim (makes (facts_of roster past) t c) as (λ m. makes (facts_of roster past) t c ≡ m → unblocked_among (option_to_list m) (number_of o) ≡ marks m (unblocks c) u) [
-      | None ↦ λ none. elim (unblocks c) as (λ w. false ≡ marks None w u) [ None ↦ refl | Some v ↦ sym (and-false (eqb u v)) ]
-      | Some m ↦ λ some. or-false (is_unblock_for (number_of o) m.item.what) ∙ (
-          elim (unblocks c) as (λ w. unblocks c ≡ w → is_unblock_for (number_of o) m.item.what ≡ marks (Some m) w u) [
-            | None ↦ λ none. (call_laws c).unblocks_none none (facts_of roster past) t m some (number_of o)
-            | Some v ↦ λ named.
-                let k = (call_laws c).unblocks_one v named (facts_of roster past) t m some in
-                ap (is_unblock_for (number_of o)) k.what ∙ (
-                elim (cases_Bool (eqb u v)) as (λ _. eqb k.send.number (number_of o) ≡ (eqb u v && true)) [
-                  | inl same ↦
-                      let one : Send k.send ≡ o = same_Some _ _ (sym k.is ∙ ap (open_call roster past) (sym (eqb-true u v same)) ∙ is) in
-                      ap (λ n. eqb n (number_of o)) (ap number_of one) ∙ eqb_same (number_of o) ∙ rw same refl
-                  | inr other ↦ ne_eqb k.send.number (number_of o) (λ n. true≢false (sym (eqb_same u) ∙ ap (eqb u) (open_thread roster past u v o (Send k.send) is k.is (sym n)) ∙ other)) ∙ rw other refl
-                ])
-          ] refl)
-    ] refl
-
-unblocked_held : (priority copied : ℕ) (unblocked : Bool) (o : OpenCall)
-    → held_call (record { priority = priority; copied = copied; unblocked = true }) o ≡ unblocked_call (held_call (record { priority = priority; copied = copied; unblocked = unblocked }) o)
-unblocked_held priority copied unblocked (Send s) = refl
-unblocked_held priority copied unblocked (Receive r) = refl
+    grind (arith, (call_laws c).unblocks_none, (call_laws c).unblocks_one, open_thread roster past u)
 
 -- what is kept of a received message with what the event makes
 marked : (unblocked x : Bool) (priority : ℕ) (r : Option ℕ) (o : OpenCall) → (x ≡ true → is_some r ≡ true)
     → with_receipt priority (unblocked || x) r o ≡ cond x (unblocked_call (with_receipt priority unblocked r o)) (with_receipt priority unblocked r o)
-marked unblocked false priority r o h = ap (λ b. with_receipt priority b r o) (or-false unblocked)
-marked unblocked true priority None o h = absurd (true≢false (sym (h refl)))
-marked unblocked true priority (Some copied) o h =
-    ap (λ b. with_receipt priority b (Some copied) o) (or-true unblocked) ∙ unblocked_held priority copied unblocked o
+marked unblocked x priority r o h = grind arith
 
 pub unblocked_after : (m : Option SentItem) (w : Option ℕ) (u : ℕ) (unblocked x : Bool) (priority : ℕ) (r : Option ℕ) (o : OpenCall) → x ≡ marks m w u → (x ≡ true → is_some r ≡ true)
     → Some (with_receipt priority (unblocked || x) r o) ≡ after_unblock m w u (Some (with_receipt priority unblocked r o))
-unblocked_after m None u unblocked x priority r o is h = ap Some (marked unblocked x priority r o h ∙ ap (λ b. cond b (unblocked_call (with_receipt priority unblocked r o)) (with_receipt priority unblocked r o)) is)
-unblocked_after m (Some v) u unblocked x priority r o is h =
-    ap Some (marked unblocked x priority r o h ∙ ap (λ b. cond b (unblocked_call (with_receipt priority unblocked r o)) (with_receipt priority unblocked r o)) is) ∙ (
-    elim (eqb u v && is_some m) as (λ b. Some (cond b (unblocked_call (with_receipt priority unblocked r o)) (with_receipt priority unblocked r o))
-    ≡ cond b (option_map unblocked_call (Some (with_receipt priority unblocked r o))) (Some (with_receipt priority unblocked r o))) [ true ↦ refl | false ↦ refl ])
+unblocked_after m w u unblocked x priority r o is h = grind arith

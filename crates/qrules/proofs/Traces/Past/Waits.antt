@@ -1,8 +1,7 @@
 -- A call that is accepted ends in its own event, or its thread waits.
-use Rattle.qrules.proofs.Common.{◌≡◌, ◌∙◌, ℕ, List, [], ◌∷◌, refl, ap, sym, cond, eqb, true, false, Bool, option_map, sender_among, none-some, same_Some, or-true, member_at, row_of, effect_of, info_of, Call, OpenCall, eqb_same, is_among, some_of, Option, None, Some, is_some, ◌||◌}
-use Rattle.std.proofs.lemmas.Bool.{true≢false}
-use Rattle.qrules.proofs.Words.Facts.{Facts, is_send, sender, threads_of}
-use Rattle.qmodel.specs.declared.call.Call.TheVariants.{Send, Receive, Info, ReceivePulse}
+use Rattle.qrules.proofs.Common.{arith, ◌≡◌, ℕ, List, [], ◌∷◌, refl, true, Bool, option_map, sender_among, none-some, member_at, row_of, effect_of, info_of, Call, OpenCall, is_among, some_of, Option, None, Some, is_some, ◌||◌}
+use Rattle.qrules.proofs.Words.Facts.{Facts, sender, threads_of}
+use Rattle.qmodel.specs.declared.call.Call.TheVariants.{Info}
 use Rattle.qrules.proofs.Traces.Calls.Held.{has_sender, held_for}
 use Rattle.qrules.proofs.Traces.Past.Laws.{Passes}
 use Rattle.qrules.proofs.Traces.Rosters.{among_member}
@@ -12,11 +11,7 @@ use Rattle.qrules.proofs.Traces.Rosters.{among_member}
 -- who sent is one of these threads
 sender_is_among : (open_call : ℕ → Option OpenCall) (i : ℕ) (us : List ℕ) (s : ℕ) → sender_among open_call i us ≡ Some s → is_among us s ≡ true
 sender_is_among open_call i [] s e = absurd (none-some s e)
-sender_is_among open_call i (u ∷ us) s e =
-    elim (is_send i (open_call u)) as (λ b. cond b (Some u) (sender_among open_call i us) ≡ Some s → (eqb u s || is_among us s) ≡ true) [
-      | true ↦ λ at. rw (same_Some u s at, eqb_same s) refl
-      | false ↦ λ at. rw (sender_is_among open_call i us s at) (or-true (eqb u s))
-    ] e
+sender_is_among open_call i (u ∷ us) s e = grind (arith, sender_is_among open_call i us s)
 
 -- an accepted Info tells something
 info_tells : (f : Facts) (t rcvid : ℕ) → Passes f t (Info rcvid) → is_some (info_of f (sender f rcvid)) ≡ true
@@ -29,16 +24,11 @@ info_tells f t rcvid p =
 -- ---- by each call's row
 
 pub some_map : {A B : Type 0} (k : A → B) (o : Option A) → is_some (option_map k o) ≡ is_some o
-some_map k None = refl
-some_map k (Some x) = refl
+some_map k o = grind arith
 
 -- the call may wait
 abbrev pub may_wait : Call → Bool
 may_wait c = is_some (effect_of c).sends || is_some (effect_of c).receives
 
 pub waits_or_ends : (f : Facts) (t : ℕ) (c : Call) → Passes f t c → (row_of f t c).own ≡ None → may_wait c ≡ true
-waits_or_ends f t (Send coid message reply_buffer) p e = refl
-waits_or_ends f t (Receive chid buffer) p e = refl
-waits_or_ends f t (Info rcvid) p e = absurd (true≢false (sym (some_map _ (info_of f (sender f rcvid)) ∙ info_tells f t rcvid p) ∙ ap is_some e))
-waits_or_ends f t (ReceivePulse chid) p e = refl
-waits_or_ends f t c p e = absurd (none-some _ (sym e))
+waits_or_ends f t c p e = grind (arith, some_map, info_tells f t)

@@ -1,6 +1,6 @@
 -- What is written over the reply buffers of messages after one more event.
-use Rattle.qrules.proofs.Common.{◌≡◌, ℕ, ◌+◌, ◌<◌, ◌≤◌, List, [], ◌∷◌, length, refl, ap, sym, ◌∙◌, cond, arith, Bool, true, false, eqb, inl, inr, Receive, Send, cases_Bool, eqb-true, eqb-false, ne_eqb, same_Some, lay_over, Member, Outcome, with_buffer, is_thread, written_call, Event, Trace, Call, Completion, OpenCall, eqb_same, Transfer, Option, None, Some}
-use Rattle.qrules.proofs.Basics.{Facts, sender, threads_of, number_of, facts_of, IsLawful, with_event, is_accepted, open_call, refuses, with_writes, filled, with_receipt, asks, writes, buffer_after_write, after_write, accepted, laws_of, refused, open_below, open_thread, call_laws, sender_sends}
+use Rattle.qrules.proofs.Common.{◌≡◌, ℕ, ◌+◌, ◌<◌, ◌≤◌, List, [], ◌∷◌, length, refl, ◌∙◌, arith, Bool, true, false, eqb, inl, inr, ne_eqb, Member, Outcome, with_buffer, is_thread, Event, Trace, Call, Completion, OpenCall, Transfer, Option, None, Some}
+use Rattle.qrules.proofs.Basics.{Facts, sender, threads_of, number_of, facts_of, IsLawful, with_event, open_call, refuses, with_writes, filled, with_receipt, asks, writes, buffer_after_write, after_write, accepted, laws_of, refused, open_below, open_thread, call_laws, sender_sends}
 
 -- ---- a reply buffer
 
@@ -12,10 +12,7 @@ writes_accepted e past i b r = rw r refl
 
 -- a call that writes nothing leaves it
 pub writes_nothing : (e : Event) (past : Trace) (i : ℕ) (b : List ℕ) → writes e.call ≡ None → with_writes (e ∷ past) i b ≡ with_writes past i b
-writes_nothing e past i b none = elim (is_accepted e past) as (λ t. cond t (buffer_after_write (writes e.call) i (with_writes past i b)) (with_writes past i b) ≡ with_writes past i b) [
-  | true ↦ ap (λ w. buffer_after_write w i (with_writes past i b)) none
-  | false ↦ refl
-]
+writes_nothing e past i b none = grind arith
 
 -- ---- an open call
 
@@ -24,46 +21,19 @@ abbrev pub changed : (List ℕ → List ℕ) → OpenCall → OpenCall
 changed f o = with_buffer f o
 
 change_same : (f g : List ℕ → List ℕ) (o : OpenCall) → ((b : List ℕ) → f b ≡ g b) → changed f o ≡ changed g o
-change_same f g (Send s) h = ap (λ b. Send (record s { reply_buffer = b })) (h s.reply_buffer)
-change_same f g (Receive r) h = refl
-
-change_twice : (f g : List ℕ → List ℕ) (o : OpenCall) → changed (λ b. f (g b)) o ≡ changed f (changed g o)
-change_twice f g (Send s) = refl
-change_twice f g (Receive r) = refl
-
-change_none : (f : List ℕ → List ℕ) (o : OpenCall) → ((b : List ℕ) → f b ≡ b) → changed f o ≡ o
-change_none f (Send s) h = ap (λ b. Send (record s { reply_buffer = b })) (h s.reply_buffer)
-change_none f (Receive r) h = refl
+change_same f g o h = grind arith
 
 pub filled_refused : (e : Event) (past : Trace) (o : OpenCall) → refuses e.endings (length past + 1) ≡ true → filled (e ∷ past) o ≡ filled past o
 filled_refused e past o r = change_same (with_writes (e ∷ past) (number_of o)) (with_writes past (number_of o)) o (λ b. writes_refused e past (number_of o) b r)
 
 pub filled_accepted : (e : Event) (past : Trace) (o : OpenCall) → refuses e.endings (length past + 1) ≡ false → filled (e ∷ past) o ≡ changed (buffer_after_write (writes e.call) (number_of o)) (filled past o)
-filled_accepted e past o r =
-    change_same (with_writes (e ∷ past) (number_of o)) (λ b. buffer_after_write (writes e.call) (number_of o) (with_writes past (number_of o) b)) o (λ b. writes_accepted e past (number_of o) b r)
-    ∙ change_twice (buffer_after_write (writes e.call) (number_of o)) (with_writes past (number_of o)) o
+filled_accepted e past o r = grind arith
 
 -- ---- with a receipt
 
--- a write and a receipt go past each other
-changed_receipt : (f : List ℕ → List ℕ) (priority : ℕ) (unblocked : Bool) (r : Option ℕ) (o : OpenCall) → with_receipt priority unblocked r (changed f o) ≡ changed f (with_receipt priority unblocked r o)
-changed_receipt f priority unblocked None o = refl
-changed_receipt f priority unblocked (Some copied) (Send s) = refl
-changed_receipt f priority unblocked (Some copied) (Receive r) = refl
-
--- the call of thread u after a write, if it is written just where the sender is u
-written_after : (f : Facts) (w : Option Transfer) (u : ℕ) (o : OpenCall) → ((x : Transfer) → w ≡ Some x → is_thread (sender f x.rcvid) u ≡ eqb x.rcvid (number_of o)) → Some (changed (buffer_after_write w (number_of o)) o) ≡ after_write f w u (Some o)
-written_after f None u o h = ap (λ x. Some x) (change_none (λ b. b) o (λ b. refl))
-written_after f (Some x) u o h = rw (h x refl) (elim (eqb x.rcvid (number_of o)) as (λ t. Some (changed (λ b. cond t (lay_over b x.offset x.bytes) b) o) ≡ cond t (Some (written_call x.offset x.bytes o)) (Some o)) [
-  | true ↦ refl
-  | false ↦ ap (λ y. Some y) (change_none (λ b. b) o (λ b. refl))
-])
-
 pub receipt_written : (f : Facts) (w : Option Transfer) (u i priority : ℕ) (unblocked : Bool) (r : Option ℕ) (o : OpenCall) → number_of (with_receipt priority unblocked r o) ≡ i → ((x : Transfer) → w ≡ Some x → is_thread (sender f x.rcvid) u ≡ eqb x.rcvid i)
     → Some (with_receipt priority unblocked r (changed (buffer_after_write w i) o)) ≡ after_write f w u (Some (with_receipt priority unblocked r o))
-receipt_written f w u i priority unblocked r o number h =
-    ap (λ x. Some x) (changed_receipt (buffer_after_write w i) priority unblocked r o ∙ ap (λ i. changed (buffer_after_write w i) (with_receipt priority unblocked r o)) (sym number))
-    ∙ written_after f w u (with_receipt priority unblocked r o) (λ x is. h x is ∙ ap (eqb x.rcvid) (sym number))
+receipt_written f w u i priority unblocked r o number h = grind arith
 
 -- ---- whose buffer is written
 
@@ -71,14 +41,7 @@ receipt_written f w u i priority unblocked r o number h =
 pub written_sender : (roster : List Member) (past : Trace) (t : ℕ) (c : Call) (X : List Completion) (u : ℕ) (o : OpenCall) (x : Transfer) → Outcome true (facts_of roster past) t c X → open_call roster past u ≡ Some o → writes c ≡ Some x
     → is_thread (sender (facts_of roster past) x.rcvid) u ≡ eqb x.rcvid (number_of o)
 written_sender roster past t c X u o x a is written =
-    let s = (laws_of (facts_of roster past) t c X a).writes_sent x written in
-    let k = sender_sends (open_call roster past) x.rcvid (threads_of roster) s.0 s.1 in
-    ap (λ v. is_thread v u) s.1 ∙ (elim (cases_Bool (eqb x.rcvid (number_of o))) as (λ _. eqb u s.0 ≡ eqb x.rcvid (number_of o)) [
-      | inl same ↦
-          let at : s.0 ≡ u = open_thread roster past s.0 u k.waiting o k.is is (k.number ∙ eqb-true _ _ same) in
-          ap (eqb u) at ∙ eqb_same u ∙ sym same
-      | inr other ↦ ne_eqb u s.0 (λ same. eqb-false x.rcvid (number_of o) other (sym k.number ∙ ap number_of (same_Some k.waiting o (sym k.is ∙ ap (open_call roster past) (sym same) ∙ is)))) ∙ sym other
-    ])
+    grind (arith, (laws_of (facts_of roster past) t c X a).writes_sent x written, sender_sends (open_call roster past) x.rcvid (threads_of roster), open_thread roster past u)
 
 -- nothing is written to a message to come
 pub writes_beyond : (roster : List Member) (past : Trace) (i : ℕ) (b : List ℕ) → IsLawful roster past → length past < i → with_writes past i b ≡ b
@@ -100,7 +63,4 @@ writes_beyond roster (e ∷ past) i b l h = elim l.1.1 [
 -- a call that begins to wait has nothing written over its buffer
 pub filled_fresh : (roster : List Member) (past : Trace) (t h : ℕ) (c : Call) (X : List Completion) (o : OpenCall) → IsLawful roster past → refuses X (length past + 1) ≡ false → asks (length past + 1) t h c ≡ Some o → (number_of o) ≡ length past + 1
     → filled (with_event t c X past) o ≡ o
-filled_fresh roster past t h c X o l r asked number =
-    change_none (with_writes (with_event t c X past) (number_of o)) o (λ b.
-    writes_accepted (record { thread = t; call = c; endings = X }) past (number_of o) b r ∙ ap (λ w. buffer_after_write w (number_of o) (with_writes past (number_of o) b)) ((call_laws c).waits_write (length past + 1) t h o asked)
-    ∙ writes_beyond roster past (number_of o) b l (omega (arith, number)))
+filled_fresh roster past t h c X o l r asked number = grind (arith, writes_accepted (record { thread = t; call = c; endings = X }) past (number_of o), call_laws c, writes_beyond roster past (number_of o))
