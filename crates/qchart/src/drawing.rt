@@ -80,8 +80,8 @@ pub fn chart_of(names: Context<'_>, script: Script, view: &View) -> Result<Chart
     let mut run = Run::new(alloc, &roster, calls)?;
     let mut history = History::new(alloc);
     let rows = rows_of(names, &mut run, &mut history, script.calls, view.bytes)?;
-    let waits = waits(alloc, run.kernel(), &history)?;
-    let deadlocks = deadlocks(alloc, run.kernel(), waits.as_slice())?;
+    let waits = waits(alloc, run.kernel(), &history, &[])?;
+    let deadlocks = deadlocks(alloc, run.kernel(), waits.as_slice(), &[])?;
     let lifelines = by_process(script.roster)?;
     let blocked = Vec::new(alloc);
     Ok(Chart {

@@ -16,7 +16,8 @@ pub struct Wait {
     pub message: u64,
     /// The process of the channel; each of its threads may receive and answer the message.
     pub server: ProcessNo,
-    /// The thread that it waits for: the one that received the message, or else the first of the process.
+    /// The thread that it waits for: the one that received the message, or else the first of the process that may still
+    /// receive it.
     pub on: ThreadNo,
     /// Whether the message is received.
     pub is_held: bool,
@@ -67,11 +68,16 @@ impl Deadlock {
 }
 
 /// Returns the threads whose messages aren't answered, in rising number. The kernel and the history are those after the
-/// same calls.
-pub fn waits(alloc: Global, kernel: &Kernel, history: &History) -> Result<Vec<Wait>, AllocError> {
+/// same calls; the threads in `ended` make no call any more.
+pub fn waits(
+    alloc: Global,
+    kernel: &Kernel,
+    history: &History,
+    ended: &[ThreadNo],
+) -> Result<Vec<Wait>, AllocError> {
     let mut waits = Vec::new(alloc);
     for blocked in &kernel.blocked(alloc)? {
-        if let Some(wait) = wait_of(kernel, history, blocked) {
+        if let Some(wait) = wait_of(kernel, history, blocked, ended) {
             waits.push(wait)?;
         }
     }
@@ -79,40 +85,54 @@ pub fn waits(alloc: Global, kernel: &Kernel, history: &History) -> Result<Vec<Wa
 }
 
 /// Returns the wait of a blocked thread, if it is blocked in a send.
-fn wait_of(kernel: &Kernel, history: &History, blocked: &Blocked) -> Option<Wait> {
+fn wait_of(
+    kernel: &Kernel,
+    history: &History,
+    blocked: &Blocked,
+    ended: &[ThreadNo],
+) -> Option<Wait> {
     let (chid, is_held) = match blocked.state {
         ThreadState::SendBlocked(chid) => (chid, false),
         ThreadState::ReplyBlocked(chid) => (chid, true),
         _ => return None,
     };
     let server = kernel.channels().get(chid)?.owner;
-    let mut threads = kernel.threads().iter();
-    let first = threads.find(|thread| thread.member.process == server)?;
+    let members = kernel.threads().iter().map(|thread| thread.member);
+    let mut of = members.filter(|member| member.process == server);
+    let mut receivers = of.clone().filter(|member| !ended.contains(&member.thread));
+    let first = receivers.next().or(of.next())?;
     let on = history.receiver_of(blocked.number);
     Some(Wait {
         thread: blocked.thread,
         message: blocked.number,
         server,
-        on: on.unwrap_or(first.member.thread),
+        on: on.unwrap_or(first.thread),
         is_held,
-        has_others: threads.any(|thread| thread.member.process == server),
+        has_others: receivers.next().is_some(),
     })
 }
 
-/// Returns whether each thread of a process is among these waits.
-fn is_blocked(kernel: &Kernel, waits: &[Wait], process: ProcessNo) -> bool {
-    let threads = kernel.threads().iter();
-    let mut of = threads.filter(|thread| thread.member.process == process);
-    of.all(|thread| waits.iter().any(|wait| wait.thread == thread.member.thread))
+/// Returns whether each thread of a process has ended or is among these waits.
+fn is_blocked(kernel: &Kernel, waits: &[Wait], process: ProcessNo, ended: &[ThreadNo]) -> bool {
+    let members = kernel.threads().iter().map(|thread| thread.member);
+    let mut of = members.filter(|member| member.process == process);
+    of.all(|member| {
+        ended.contains(&member.thread) || waits.iter().any(|wait| wait.thread == member.thread)
+    })
 }
 
-/// Returns the waits that nobody can end any more: each is for a process whose threads are all in such a wait.
-fn hopeless(alloc: Global, kernel: &Kernel, waits: &[Wait]) -> Result<Vec<Wait>, AllocError> {
+/// Returns the waits that nobody can end any more: each is for a process whose threads have ended or are in such a wait.
+fn hopeless(
+    alloc: Global,
+    kernel: &Kernel,
+    waits: &[Wait],
+    ended: &[ThreadNo],
+) -> Result<Vec<Wait>, AllocError> {
     let mut left = Vec::from_slice(alloc, waits)?;
     for _ in 0..waits.len() {
         let mut next = Vec::new(alloc);
         for wait in &left {
-            if is_blocked(kernel, left.as_slice(), wait.server) {
+            if is_blocked(kernel, left.as_slice(), wait.server, ended) {
                 next.push(*wait)?;
             }
         }
@@ -139,13 +159,14 @@ fn circle_from(alloc: Global, waits: &[Wait], first: Wait) -> Result<Option<Dead
 }
 
 /// Returns the circles among these waits, in the order of their least threads. No thread in them can be answered, even
-/// if a process has several threads.
+/// if a process has several threads; the threads in `ended` make no call any more.
 pub fn deadlocks(
     alloc: Global,
     kernel: &Kernel,
     waits: &[Wait],
+    ended: &[ThreadNo],
 ) -> Result<Vec<Deadlock>, AllocError> {
-    let hopeless = hopeless(alloc, kernel, waits)?;
+    let hopeless = hopeless(alloc, kernel, waits, ended)?;
     let mut deadlocks = Vec::new(alloc);
     for wait in &hopeless {
         if let Some(deadlock) = circle_from(alloc, hopeless.as_slice(), *wait)? {
