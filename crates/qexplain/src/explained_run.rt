@@ -58,12 +58,12 @@ impl ExplainedRun {
     /// Returns who waits for whom now, a line for each thread, and then the circles in words.
     pub fn wait_words(&self, names: Context<'_>) -> Result<Vec<String>, AllocError> {
         let kernel = self.run.kernel();
-        let waits = waits(names.alloc, kernel, &self.history)?;
+        let waits = waits(names.alloc, kernel, &self.history, &[])?;
         let mut words = Vec::new(names.alloc);
         for wait in &waits {
             words.push(wait.words(names)?)?;
         }
-        for deadlock in &deadlocks(names.alloc, kernel, waits.as_slice())? {
+        for deadlock in &deadlocks(names.alloc, kernel, waits.as_slice(), &[])? {
             words.push(deadlock.words(names)?)?;
         }
         Ok(words)

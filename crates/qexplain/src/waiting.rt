@@ -97,16 +97,18 @@ fn wait_of(
         _ => return None,
     };
     let server = kernel.channels().get(chid)?.owner;
-    let members = kernel.threads().iter().map(|thread| thread.member);
-    let mut of = members.filter(|member| member.process == server);
-    let mut receivers = of.clone().filter(|member| !ended.contains(&member.thread));
-    let first = receivers.next().or(of.next())?;
+    let (threads, more) = (kernel.threads().iter(), kernel.threads().iter());
+    let mut members = threads.filter(|thread| thread.member.process == server);
+    let mut receivers = more.filter(|thread| {
+        thread.member.process == server && !ended.contains(&thread.member.thread)
+    });
+    let first = receivers.next().or(members.next())?;
     let on = history.receiver_of(blocked.number);
     Some(Wait {
         thread: blocked.thread,
         message: blocked.number,
         server,
-        on: on.unwrap_or(first.thread),
+        on: on.unwrap_or(first.member.thread),
         is_held,
         has_others: receivers.next().is_some(),
     })
@@ -114,10 +116,11 @@ fn wait_of(
 
 /// Returns whether each thread of a process has ended or is among these waits.
 fn is_blocked(kernel: &Kernel, waits: &[Wait], process: ProcessNo, ended: &[ThreadNo]) -> bool {
-    let members = kernel.threads().iter().map(|thread| thread.member);
-    let mut of = members.filter(|member| member.process == process);
-    of.all(|member| {
-        ended.contains(&member.thread) || waits.iter().any(|wait| wait.thread == member.thread)
+    let threads = kernel.threads().iter();
+    let mut of = threads.filter(|thread| thread.member.process == process);
+    of.all(|thread| {
+        let thread = thread.member.thread;
+        ended.contains(&thread) || waits.iter().any(|wait| wait.thread == thread)
     })
 }
 
