@@ -1,7 +1,7 @@
 -- What an item is worth by now, after one more event.
-use Rattle.qrules.proofs.Common.{◌≡◌, ℕ, ◌+◌, ◌<◌, ◌≤◌, List, [], ◌∷◌, map, length, refl, ap, cond, arith, false, eqb, option_map, is_pulse, with_priority, Item, SentItem, Event, Trace, None, Some, filter, not, ◌||◌, unwrap_or}
+use Rattle.qrules.proofs.Common.{◌≡◌, ℕ, ◌+◌, ◌<◌, ◌≤◌, List, [], ◌∷◌, map, length, refl, ap, ◌∙◌, cond, arith, true, false, eqb, option_map, option_or, ne_eqb, is_pulse, with_priority, Item, SentItem, Event, Trace, eqb_same, Option, None, Some, filter, not, ◌||◌, option_and_then, unwrap_or}
 use Rattle.qrules.proofs.Words.Effects.{sets}
-use Rattle.qrules.proofs.Words.Past.{items_by_now, is_accepted, is_gone, is_received, item_among, is_unblock_for, sender_of, priority_set_by, unblocked_among, current_priority}
+use Rattle.qrules.proofs.Words.Past.{items_by_now, is_accepted, is_gone, is_received, item_among, is_unblock_for, sender_of, priority_set_by, priority_set_since, unblocked_among, current_priority}
 use Rattle.qrules.proofs.Traces.Past.Numbers.{made_beyond}
 
 -- ---- one item
@@ -10,13 +10,27 @@ use Rattle.qrules.proofs.Traces.Past.Numbers.{made_beyond}
 abbrev pub now : Trace → Item → Item
 now past item = with_priority (current_priority past item) item
 
+-- an earlier message has its sender still
+sender_earlier : (e : Event) (past : Trace) (i : ℕ) → i ≤ length past → sender_of (e ∷ past) i ≡ sender_of past i
+sender_earlier e past i l = let other : eqb i (length past + 1) ≡ false = ne_eqb _ _ (λ same. omega arith) in rw other refl
+
+-- what an event changes of what was set since
+set_earlier : (e : Event) (past : Trace) (i t : ℕ) → i ≤ length past → priority_set_since (e ∷ past) i t ≡ option_or (cond (is_received past i) None (priority_set_by e past t)) (priority_set_since past i t)
+set_earlier e past i t l = let other : eqb i (length past + 1) ≡ false = ne_eqb _ _ (λ same. omega arith) in rw other refl
+
 -- nothing is set for a sender by an event that sets nothing, nor by any once the message is received
 abbrev pub SetsNone : Event → Trace → ℕ → Type 0
 SetsNone e past i = (t : ℕ) → cond (is_received past i) None (priority_set_by e past t) ≡ None
 
+same_since : (e : Event) (past : Trace) (i : ℕ) → i ≤ length past → SetsNone e past i → (o : Option ℕ) → option_and_then (priority_set_since (e ∷ past) i) o ≡ option_and_then (priority_set_since past i) o
+same_since e past i l none None = refl
+same_since e past i l none (Some t) = set_earlier e past i t l ∙ ap (λ p. option_or p (priority_set_since past i t)) (none t)
+
 -- then it is worth what it was
 pub worth_stays : (e : Event) (past : Trace) (item : Item) → item.number ≤ length past → SetsNone e past item.number → current_priority (e ∷ past) item ≡ current_priority past item
-worth_stays e past item l none = grind arith
+worth_stays e past item l none =
+    ap (λ o. cond (is_pulse item.what) item.priority (unwrap_or (option_and_then (priority_set_since (e ∷ past) item.number) o) item.priority)) (sender_earlier e past item.number l)
+    ∙ ap (λ o. cond (is_pulse item.what) item.priority (unwrap_or o item.priority)) (same_since e past item.number l none (sender_of past item.number))
 
 -- a call that sets no priority
 pub sets_none : (e : Event) (past : Trace) (i : ℕ) → sets e.call ≡ None → SetsNone e past i
@@ -37,7 +51,17 @@ worth_beyond past item l = grind (arith, made_beyond)
 
 -- and so it is when it was just made
 pub worth_newest : (e : Event) (past : Trace) (item : Item) → item.number ≡ length past + 1 → current_priority (e ∷ past) item ≡ item.priority
-worth_newest e past item number = grind arith
+worth_newest e past item number =
+    elim (is_pulse item.what) as (λ b. cond b item.priority (unwrap_or (option_and_then (priority_set_since (e ∷ past) item.number) (sender_of (e ∷ past) item.number)) item.priority) ≡ item.priority) [
+      | true ↦ refl
+      | false ↦ ap (λ o. unwrap_or o item.priority) (none (sender_of (e ∷ past) item.number))
+    ]
+  where
+    none : (o : Option ℕ) → option_and_then (priority_set_since (e ∷ past) item.number) o ≡ None
+    none None = refl
+    none (Some t) =
+        ap (λ i. cond (eqb i (length past + 1)) None (option_or (cond (is_received past item.number) None (priority_set_by e past t)) (priority_set_since past item.number t))) number
+        ∙ ap (λ b. cond b None (option_or (cond (is_received past item.number) None (priority_set_by e past t)) (priority_set_since past item.number t))) (eqb_same (length past + 1))
 
 -- ---- lists of items
 
