@@ -1,12 +1,9 @@
 -- The handle owns what a box at the same types owns.
-use Rattle.balsaeuchre_c.proofs.Common.{Bx, RattleType, bare, dnil, impl, no, tnil}
-use mathlib.Core.List.{[], ◌∷◌}
-use mathlib.Core.Path.{refl}
+use Rattle.balsaeuchre_c.proofs.Common.{Bx, RattleType, [], bare, dnil, impl, no, refl, tcons, tnil, ◌∷◌}
+use Rattle.std_heap.specs.contracts.GlobalAllocator.TheImpl.{dict, ghosts}
 use denote.Param.{arg, layout}
 use denote.Param.Laws.{arg_laws}
-use mir.Syntax.{tcons}
 use Rattle.std_heap.specs.contracts.Global as Heap
-use Rattle.std_heap.specs.contracts.GlobalAllocator.TheImpl.{ghosts, dict}
 use Rattle.std_heap.proofs.Global.TheLaws as heap
 use Rattle.balsaeuchre_c.specs.contracts.session.Session as Home
 use Rattle.balsaeuchre_c.proofs.session.Session.TheLaws as home

@@ -1,12 +1,14 @@
 -- The laws of the endings of one event.
-use Rattle.qlaws.proofs.Common.{AllByRecursion, Completion, Event, Member, RiseByThread, SentItem, TakesBest, Trace, accepted, all_more, and_from, best_first, completion_to, connection_of, cons_option, ended_below, ends_own, eq-eqb, eqb_same, filter_map, has_completion_of, is_accepted, is_ended, item_at, item_over, items, keep_length, laws_of, list_any, made_newest, may_wait, none-some, none_of, number_received, option_map, or_parts, passes_of, past_follows, row_of, shut_for_good, taken_stands, threads_of, true≢false, waiter, waits_or_ends, ◌<◌, inl, inr, ◌≡◌, ◌∙◌, ℕ, ◌+◌, List, [], ◌∷◌, length, refl, ap, sym, eqb, subst, Bool, true, false, Option, arith, not}
+use Rattle.qlaws.proofs.Common.{AllByRecursion, Completion, Event, Member, RiseByThread, SentItem, TakesBest, Trace, accepted, all_more, and_from, best_first, completion_to, cons_option, ended_below, ends_own, eq-eqb, filter_map, has_completion_of, is_accepted, is_ended, item_at, item_over, items, laws_of, list_any, made_newest, none-some, none_of, number_received, option_map, or_parts, passes_of, past_follows, row_of, shut_for_good, taken_stands, threads_of, waiter, waits_or_ends, ◌<◌, inl, inr, ◌≡◌, ◌∙◌, ℕ, ◌+◌, List, [], ◌∷◌, length, refl, ap, sym, eqb, subst, Bool, true, false, Option, arith}
 use Rattle.std.specs.Prelude.{None, Some, option_map, ◌&&◌}
 use Rattle.qrules.proofs.Words.Lawful as old
 use Rattle.qrules.proofs.Traces.TraceLaws.Blocked as blocked
 use Rattle.qrules.proofs.Traces.TraceLaws.Ending.{completion_thread, endings_name_own_calls as names}
 use Rattle.qrules.proofs.Traces.TraceLaws.Refused.{only_counted}
+pub use Rattle.qrules.proofs.Traces.TraceLaws.Lengths.{endings_keep_length}
 use Rattle.qlaws.proofs.OpenCallLaws.{open_is_unended}
 use Rattle.qrules.proofs.Traces.Rosters.{Rises, rises}
+use Rattle.std.proofs.lemmas.Bool.Decides.{nat_tests}
 use Rattle.std.proofs.lemmas.List.Folds.{list_any-append}
 use Rattle.qlaws.specs.Endings
 
@@ -19,20 +21,16 @@ given_above g n (u ∷ ts) names above = grind (arith, names u, given_above g n 
 
 given_rise : (g : ℕ → Option Completion) (ts : List ℕ) → ((u : ℕ) (y : Completion) → g u ≡ Some y → y.thread ≡ u) → Rises ts → RiseByThread (filter_map g ts)
 given_rise g [] names r = tt
-given_rise g (u ∷ ts) names r =
-    elim (g u) as (λ o. g u ≡ o → RiseByThread (cons_option o (filter_map g ts))) [
-      | None ↦ λ is. given_rise g ts names r.1
-      | Some y ↦ λ is. (subst (λ k. AllByRecursion (λ (z : Completion). k < z.thread) (filter_map g ts)) (sym (names u y is)) (given_above g u ts names r.0), given_rise g ts names r.1)
-    ] refl
+given_rise g (u ∷ ts) names r = elim (g u) as (λ o. g u ≡ o → RiseByThread (cons_option o (filter_map g ts))) [
+  | None ↦ λ is. given_rise g ts names r.1
+  | Some y ↦ λ is. (subst (λ k. AllByRecursion (λ (z : Completion). k < z.thread) (filter_map g ts)) (sym (names u y is)) (given_above g u ts names r.0), given_rise g ts names r.1)
+] refl
 
 pub endings_rise_by_thread : Endings.EndingsRiseByThread
-endings_rise_by_thread roster past e r lawful =
-    let l = lawful in
-    let f = old.facts_of roster past in
-    elim (l.1.1) [
-      | inl a ↦ subst RiseByThread (sym a.1) (given_rise (completion_to f e.thread e.call) (threads_of roster) (completion_thread f e.thread e.call (laws_of f e.thread e.call e.endings a)) (rises roster r))
-      | inr a ↦ subst RiseByThread (sym a.2) (tt, tt)
-    ]
+endings_rise_by_thread roster past e r l = elim (l.1.1) [
+  | inl a ↦ let f = old.facts_of roster past in subst RiseByThread (sym a.1) (given_rise (completion_to f e.thread e.call) (threads_of roster) (completion_thread f e.thread e.call (laws_of f e.thread e.call e.endings a)) (rises roster r))
+  | inr a ↦ subst RiseByThread (sym a.2) (tt, tt)
+]
 
 pub endings_go_to_blocked : Endings.EndingsGoToBlocked
 endings_go_to_blocked roster past e r l =
@@ -41,44 +39,23 @@ endings_go_to_blocked roster past e r l =
 -- ---- who waits afterwards
 
 -- a call that doesn't end in its own event is accepted, and may wait
-record Waits (e : Event) (past : Trace) : Type 0 where
-  pub accepted : is_accepted e past ≡ true
-  pub waits : waiter e ≡ Some e.thread
-
-waits : (roster : List Member) (past : Trace) (e : Event) → old.IsLawful roster (e ∷ past) → has_completion_of e.endings (length past + 1) ≡ false → Waits e past
-waits roster past e l none =
-    let f = old.facts_of roster past in
-    elim (l.1.1) [
-      | inl a ↦
-          let own = none_of (row_of f e.thread e.call).own (sym (ends_own roster past e.thread e.call e.endings l.1.0 a) ∙ none) in
-          let may : may_wait e.call ≡ true = waits_or_ends f e.thread e.call (passes_of f e.thread e.call e.endings a) own in
-          record { accepted = rw (accepted roster past e.thread e.call e.endings a) refl; waits = rw may refl }
-      | inr a ↦
-          let own : has_completion_of e.endings (length past + 1) ≡ true = rw (a.2, eqb_same (length past + 1)) refl in
-          absurd (true≢false (sym own ∙ none))
-    ]
+waits : (roster : List Member) (past : Trace) (e : Event) → old.IsLawful roster (e ∷ past) → has_completion_of e.endings (length past + 1) ≡ false → (is_accepted e past ≡ true) × (waiter e ≡ Some e.thread)
+waits roster past e l none = elim (l.1.1) [
+  | inl a ↦
+      let f = old.facts_of roster past in
+      let own = none_of (row_of f e.thread e.call).own (sym (ends_own roster past e.thread e.call e.endings l.1.0 a) ∙ none) in
+      (rw (accepted roster past e.thread e.call e.endings a) refl, rw (waits_or_ends f e.thread e.call (passes_of f e.thread e.call e.endings a) own) refl)
+  | inr a ↦ absurd (grind (arith, nat_tests, a.2, none))
+]
 
 pub ends_or_waits : Endings.EndsOrWaits
-ends_or_waits roster past e r lawful = let l = lawful in (
-  λ none.
-      let w = waits roster past e l none in
-      let going : is_ended (e ∷ past) (length past + 1) ≡ false = rw (none, ended_below roster past (length past + 1) l.0 (omega arith)) refl in
-      (open_is_unended roster (e ∷ past) r lawful e.thread (length past + 1)).1 (record { waits = made_newest waiter e past w.accepted ∙ w.waits; going = going }),
-  λ is.
-      let u = (open_is_unended roster (e ∷ past) r lawful e.thread (length past + 1)).0 is in
-      (or_parts (has_completion_of e.endings (length past + 1)) (is_ended past (length past + 1)) u.going).0,
-)
-
--- ---- their buffers
-
-pub endings_keep_length : Endings.EndingsKeepLength
-endings_keep_length roster past e r l =
-    all_more _ _ e.endings (keep_length roster past e r l) (λ x same. same)
+ends_or_waits roster past e r l =
+    let tells = open_is_unended roster (e ∷ past) r l e.thread (length past + 1) in (
+      λ none. let w = waits roster past e l none in tells.1 (record { waits = made_newest waiter e past w.0 ∙ w.1; going = rw (none, ended_below roster past (length past + 1) l.0 (omega arith)) refl }),
+      λ is. (or_parts (has_completion_of e.endings (length past + 1)) (is_ended past (length past + 1)) (tells.0 is).going).0,
+    )
 
 -- ---- what they receive
-
-sent_to : (roster : List Member) (past : Trace) (i : ℕ) (m : SentItem) → item_at roster past i ≡ Some m → (k : ℕ) → connection_of past i ≡ Some k → Endings.LeadsTo roster past k m.channel
-sent_to roster past i m is k over = let w = item_over roster past i k m is over in ap (option_map (λ c. c.channel)) w.is ∙ ap Some (sym w.channel)
 
 -- it is among the items
 among_items : (p : SentItem → Bool) (roster : List Member) (past : Trace) (i : ℕ) (m : SentItem) → item_at roster past i ≡ Some m → p m ≡ true → list_any p (items roster past) ≡ true
@@ -92,7 +69,7 @@ was_sent roster past e x i k =
       request = k.request;
       call = k.call;
       made = among_items (λ m. (eqb m.item.number i) && (eqb m.channel k.request.channel)) roster (e ∷ past) i s.0 s.1 (and_from _ _ (eq-eqb s.0.item.number i s.2) (eq-eqb s.0.channel k.request.channel s.3));
-      sent = λ k over. subst (Endings.LeadsTo roster (e ∷ past) k) s.3 (sent_to roster (e ∷ past) i s.0 s.1 k over);
+      sent = λ k over. let w = item_over roster (e ∷ past) i k s.0 s.1 over in subst (Endings.LeadsTo roster (e ∷ past) k) s.3 (ap (option_map (λ c. c.channel)) w.is ∙ ap Some (sym w.channel));
     }
 
 pub received_was_sent : Endings.ReceivedWasSent
@@ -110,9 +87,8 @@ nothing_from_destroyed roster past e r l = all_for _ _ e.endings (λ h closed. (
 -- ---- refusals
 
 pub refused_changes_nothing : Endings.RefusedChangesNothing
-refused_changes_nothing roster past e r lawful is =
-    let l = lawful in
+refused_changes_nothing roster past e r l is =
     elim (l.1.1) [
-      | inl a ↦ absurd (true≢false (sym (ap not (accepted roster past e.thread e.call e.endings a)) ∙ is))
+      | inl a ↦ absurd (grind (arith, accepted roster past e.thread e.call e.endings a, is))
       | inr a ↦ only_counted _ _ e.thread e.call (past_follows false roster past e.thread e.call e.endings r l.0 l.1.0 a)
     ]

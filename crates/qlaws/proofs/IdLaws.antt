@@ -1,28 +1,16 @@
 -- The laws of ids: of the channels that are open, and of the connections that are live.
-use Rattle.qlaws.proofs.Common.{Again, AllByRecursion, Answers, Any, Bool, Call, Completion, Effect, Event, Facts, IsRoster, Item, Kind, List, Member, Passes, PulseOnly, Srch, Trace, [], all_append, all_filter_map, all_more, ap, arith, attached_connection, attaches, channel_at, completion_of, completion_to, cond, connection_at, count_to, created_channel, creates, detaches, endings_of, eqb, error_finish, false, info_completion, inl, inr, is_number, is_on, length, length-append, ltb-true, member_at, nat_tests, message, message_item, names, none-some, one_for, or-true, passes_of, past_follows, refl, reply_finish, route, row_of, same_Some, sender, subst, sym, threads_of, true, was_done, ℕ, ◌++◌, ◌+◌, ◌<◌, ◌∙◌, ◌∷◌, ◌≡◌, ◌≤◌}
-use Rattle.qrules.proofs.Traces.Rows.{answer_same, pulse_same, sent_same, unblocked_same}
-use Rattle.std.specs.Prelude.{pos, Option, None, Some, is_some, nat_lt, option_map}
-use Rattle.std.specs.Ordering.{int_eq}
-use Rattle.qrules.specs.Rules.Connections as connect_detach
-use Rattle.qrules.specs.Rules.Held.{info_of}
-use Rattle.qrules.specs.Rules.Pulse as pulse
-use Rattle.qrules.specs.Rules.Unblock as unblock
+use Rattle.qlaws.proofs.Common.{AllByRecursion, Answers, Bool, Call, Completion, Effect, Event, Facts, IsRoster, List, Member, Trace, [], all_append, all_filter_map, all_more, ap, arith, attached_connection, attaches, channel_at, completion_of, completion_to, cond, connection_at, count_to, created_channel, creates, detaches, endings_of, eqb, false, inl, inr, is_number, length, length-append, member_at, nat_tests, names, none-some, one_for, or-true, passes_of, past_follows, refl, row_of, subst, sym, threads_of, true, was_done, ℕ, ◌++◌, ◌+◌, ◌∙◌, ◌∷◌, ◌≡◌, ◌≤◌}
+use Rattle.qrules.proofs.Traces.Rows.{unblocked_same}
+use Rattle.std.specs.Prelude.{Option, None, Some, is_some}
 use Rattle.qrules.proofs.Words.Lawful as old
 use Rattle.qrules.proofs.Words.Past as past_of
 use Rattle.qmodel.specs.declared.call.Call.TheVariants as calls
-use Rattle.qmodel.specs.declared.call.Info.{Info as Told}
 use Rattle.qmodel.specs.declared.call.Mark.{Mark}
 use Rattle.qmodel.specs.declared.call.Mark.TheVariants as mark
 use Rattle.qrules.proofs.Traces.Calls.Cancelling.{cancel_parts}
-use Rattle.qrules.proofs.Traces.Calls.ConnectDetach.{detach_ends}
-use Rattle.qrules.proofs.Traces.Calls.Held.{sender_ends}
-use Rattle.qrules.proofs.Traces.Calls.Taking.{given_is}
 use Rattle.qrules.proofs.Traces.Past.Channels.{closes_alone, closes_open}
 use Rattle.qrules.proofs.Traces.Past.Live.{count_less, gone_below, live, live_parts, made_above}
 use Rattle.qrules.proofs.Traces.Past.Numbers.{made_below}
-use Rattle.qrules.proofs.Traces.Properties.Rows.Delivering.{delivery_meets, Delivers}
-use Rattle.qrules.proofs.Traces.Properties.Rows.Receiving.{receive_takes, ReceiveTakes}
-use Rattle.qrules.proofs.Traces.Properties.Rows.Telling.{told_meets, unblock_ends}
 use Rattle.qrules.specs.Lawful.{IsLawful}
 use Rattle.qlaws.specs.Ids as laws
 
@@ -61,17 +49,14 @@ module _ {A : Type 0} where
   counted at n within [] different there = omega arith
   counted at n within (h ∷ ids) different there =
       let range = within h there.0 in
-      let less : count_to (λ i. cond (eqb h i) None (at i)) n + 1 ≡ count_to at n = count_less (λ i. cond (eqb h i) None (at i)) at n h range.0 range.1 there.0 (λ i _. refl) in
-      let rest : length ids ≤ count_to (λ i. cond (eqb h i) None (at i)) n =
-      counted (λ i. cond (eqb h i) None (at i)) n (λ i is. within i (grind arith)) ids different.1 (still_there at h ids different.0 there.1) in
-      omega (arith, less, rest)
+      let but : ℕ → Option A = λ i. cond (eqb h i) None (at i) in
+      omega (arith, count_less but at n h range.0 range.1 there.0 (λ i _. refl), counted but n (λ i is. within i (grind arith)) ids different.1 (still_there at h ids different.0 there.1))
 
   at_most : (roster : List Member) (make : Option Member → Call → Option A) (ends : Effect → Option ℕ) (past : Trace) (n : ℕ) → count_to (live roster make ends past) (length past) ≤ n → laws.AtMost n (live roster make ends past)
   at_most roster make ends past n few ids different there =
       let made = λ (e : Event). make (member_at roster e.thread) e.call in
-      let all : length ids ≤ count_to (live roster make ends past) (length past) =
-      counted (live roster make ends past) (length past) (λ i is. let k = live_parts roster make ends past i is in (made_above made past i k.it k.is_made, made_below made past i k.it k.is_made)) ids different there in
-      omega (arith, few, all)
+      let there_is = live roster make ends past in
+      omega (arith, few, counted there_is (length past) (λ i is. let k = live_parts roster make ends past i is in (made_above made past i k.it k.is_made, made_below made past i k.it k.is_made)) ids different there)
 
 pub channels_are_limited : laws.ChannelsAreLimited
 channels_are_limited roster past r l =
@@ -89,51 +74,17 @@ id_in (mark.Channel h) = Some h
 id_in (mark.Connection k) = Some k
 id_in other = None
 
-module _ (i : ℕ) {P : Type 0} where
-  no_id : (x y : Completion) → x ≡ y → id_in x.mark ≡ None → id_in y.mark ≡ Some i → P
-  no_id x y same none e = absurd (none-some i (sym none ∙ ap (λ z. id_in z.mark) same ∙ e))
-
-  takes_no_id : (f : Facts) (t chid : ℕ) (kind : Kind) (buffer : List ℕ) (y : Completion) → ReceiveTakes f t chid kind buffer y → id_in y.mark ≡ Some i → P
-  takes_no_id f t chid kind buffer y r = no_id _ y r.completion (given_is id_in None (λ i n. refl) r.item (message f r.item.number) buffer refl)
-
-  met_no_id : (f : Facts) (o : Option ℕ) (item : Item) (sent : List ℕ) (u : ℕ) (y : Completion) → Delivers f o item sent u y → id_in y.mark ≡ Some i → P
-  met_no_id f o item sent u y s = no_id _ y s.completion (given_is id_in None (λ i n. refl) item sent s.receive.buffer refl)
-
-  told_no_id : (n t : ℕ) (o : Option Told) (y : Completion) → option_map (info_completion n t) o ≡ Some y → id_in y.mark ≡ Some i → P
-  told_no_id n t None y e is = absurd (none-some y e)
-  told_no_id n t (Some told) y e is = no_id _ y (same_Some _ y e) refl is
-
-  ends_no_id : (f : Facts) (t : ℕ) (c : Call) (u : ℕ) (y : Completion) → Passes f t c → (row_of f t c).others u ≡ Some y → id_in y.mark ≡ Some i → P
-  ends_no_id f t (calls.Send coid message reply_buffer) u y p e is = met_no_id f (route f t coid) (message_item f t) message u y (delivery_meets f (route f t coid) (message_item f t) message u y (sym (sent_same f t coid message reply_buffer u p.row) ∙ e)) is
-  ends_no_id f t (calls.Pulse coid level code value) u y p e is = let k = told_meets f (pulse.pulse_over f coid level code value) u y (sym (pulse_same f (pulse.pulse_over f coid level code value) u) ∙ e) in met_no_id f (Some k.made.channel) k.made.item [] u y k.delivers is
-  ends_no_id f t (calls.Reply rcvid status bytes) u y p e is = no_id _ y (sender_ends f t rcvid (reply_finish status bytes) u y p.row (sym (answer_same f (reply_finish status bytes) (sender f rcvid) u) ∙ e)).completion refl is
-  ends_no_id f t (calls.Error rcvid code) u y p e is =
-      no_id _ y (sender_ends f t rcvid (error_finish code) u y p.row (sym (answer_same f (error_finish code) (sender f rcvid) u) ∙ e)).completion (elim (int_eq code (pos 0)) as (λ b. id_in (cond b (mark.Replied (pos 0) 0) (mark.Errored code)) ≡ None) [ true ↦ refl | false ↦ refl ]) is
-  ends_no_id f t (calls.ChannelDestroy chid) u y p e is = no_id _ y (cancel_parts (is_on chid) Srch u (f.open_call u) y e).completion refl is
-  ends_no_id f t calls.Shutdown u y p e is = no_id _ y (cancel_parts (λ wait. true) Srch u (f.open_call u) y e).completion refl is
-  ends_no_id f t (calls.Unblock thread) u y p e is = elim (unblock_ends f thread u y (unblock.unblock_pulse f thread) (sym (unblocked_same f t thread u) ∙ e)) [
-    | inl cancel ↦ no_id _ y cancel.completion refl is
-    | inr k ↦ met_no_id f (Some k.made.channel) k.made.item [] u y k.delivers is
-  ]
-  ends_no_id f t (calls.ConnectDetach coid) u y p e is = elim (detach_ends f coid (connect_detach.disconnect_pulse f t coid) u y e) [
-    | inl cancel ↦ no_id _ y cancel.completion refl is
-    | inr s ↦ let k = told_meets f (connect_detach.disconnect_pulse f t coid) u y s in met_no_id f (Some k.made.channel) k.made.item [] u y k.delivers is
-  ]
-  ends_no_id f t c u y p e is = absurd (none-some y e)
+ends_no_id : (f : Facts) (t : ℕ) (c : Call) (i u : ℕ) (y : Completion) → (row_of f t c).others u ≡ Some y → id_in y.mark ≡ Some i → ⊥
+ends_no_id f t (calls.Unblock thread) i u y e is = grind (arith, unblocked_same, cancel_parts)
+ends_no_id f t c i u y e is = grind arith
 
 own_id : (f : Facts) (t : ℕ) (c : Call) (i : ℕ) (y : Completion) → (row_of f t c).own ≡ Some y → id_in y.mark ≡ Some i → f.number ≡ i
-own_id f t (calls.ChannelCreate flags) i y e is = same_Some _ i (ap (λ z. id_in z.mark) (same_Some _ y e) ∙ is)
-own_id f t (calls.ConnectAttach chid) i y e is = same_Some _ i (ap (λ z. id_in z.mark) (same_Some _ y e) ∙ is)
-own_id f t (calls.Send coid message reply_buffer) i y e is = absurd (none-some y e)
-own_id f t (calls.Receive chid buffer) i y e is = takes_no_id i f t chid Any buffer y (receive_takes f t chid Any buffer y e) is
-own_id f t (calls.ReceivePulse chid) i y e is = takes_no_id i f t chid PulseOnly [] y (receive_takes f t chid PulseOnly [] y e) is
-own_id f t (calls.Info rcvid) i y e is = told_no_id i f.number t (info_of f (sender f rcvid)) y e is
-own_id f t c i y e is = no_id i _ y (same_Some _ y e) refl is
+own_id f t c i y e is = grind arith
 
 ids_given : (f : Facts) (t : ℕ) (c : Call) (X : List Completion) (i : ℕ) → Answers f t c X → AllByRecursion (λ x. id_in x.mark ≡ Some i → f.number ≡ i) X
 ids_given f t c X i (inl a) = subst (AllByRecursion (λ x. id_in x.mark ≡ Some i → f.number ≡ i)) (sym a.1) (all_filter_map (λ x. id_in x.mark ≡ Some i → f.number ≡ i) (completion_to f t c) (threads_of f.roster) (λ u y is id. elim (completion_of f t c u y is) [
   | inl h ↦ own_id f t c i y h.1 id
-  | inr h ↦ ends_no_id i f t c u y (passes_of f t c X a) h.1 id
+  | inr h ↦ absurd (ends_no_id f t c i u y h.1 id)
 ]))
 ids_given f t c X i (inr a) = subst (AllByRecursion (λ x. id_in x.mark ≡ Some i → f.number ≡ i)) (sym a.2) ((λ id. absurd (none-some i id)), tt)
 

@@ -1,7 +1,5 @@
 pub mod Common
 pub mod Lists
-pub mod Waits
-pub mod Newest
 pub mod OpenCallLaws
 pub mod EndingLaws
 pub mod PendingLaws

@@ -1,17 +1,16 @@
 -- The laws of the calls that threads wait in.
-use Rattle.qlaws.proofs.Common.{Call, IsRoster, Member, None, OldFacts, Option, Receive, Send, Some, Trace, accepted_at, arith, and-true, begins_now, block, eqb-true, eqb_same, false_from_ne_true, held_sender, is_down, is_received, is_some, item_of, kept_number, made_newest, made_stays, may_wait, none-some, not, open_call, open_call_after, open_calls_keep_length, open_from, open_on, open_parts, open_receipt, option_map_or, or-false, passes_of, past_follows, same_Some, shuts_down, true≢false, waits_on_open, ◌&&◌, ◌||◌}
-use Rattle.std.proofs.Common.{◌+◌, ◌≡◌, ◌∙◌, ℕ, List, [], ◌∷◌, length, refl, ap, sym, subst, true, false, inl, inr, option_map}
+use Rattle.qlaws.proofs.Common.{AllByRecursion, Call, IsRoster, List, Member, None, OldFacts, Option, Receive, Send, Some, Trace, [], accepted_at, all_filter_map, and-true, ap, arith, begins_now, block, eqb-true, eqb_same, false, false_from_ne_true, held_sender, inl, inr, is_down, is_received, is_some, item_of, kept_number, length, made_newest, made_stays, may_wait, none-some, not, open_call, open_call_after, open_calls_keep_length, open_from, open_on, open_parts, open_receipt, option_map, option_map_or, passes_of, past_follows, refl, same_Some, shuts_down, subst, sym, true, true≢false, waits_on_open, ℕ, ◌&&◌, ◌+◌, ◌∙◌, ◌∷◌, ◌≡◌, ◌≤◌, Bool, SentItem, filter_map, is_among, nat_tests, newest_receiver, option_and_then, or-true, wait_for}
 use Rattle.qrules.proofs.Words.Lawful as old
 use Rattle.qrules.proofs.Traces.TraceLaws.Unended.{asks_any, unended_newest}
 use Rattle.qrules.specs.Past.{waiter, is_ended, channel_of}
 use Rattle.qrules.proofs.Traces.Past.LiveSends.{over_attached}
 use Rattle.qrules.proofs.Traces.Properties.Waiting.{nothing_for}
-use Rattle.qlaws.proofs.Newest as newest
-use Rattle.qrules.specs.Facts.{open_send, OpenSend, OpenCall, number_of}
+use Rattle.std.specs.Prelude.{find}
+use Rattle.qrules.proofs.Traces.Properties.Receivers.{any_after, newest_parts, newest_there, newest_waits, waiting_on}
+use Rattle.qrules.specs.Facts.{open_receives, open_send, open_sends, receive_of, send_of, threads_of, Facts, OpenReceive, OpenSend, OpenCall, number_of}
 use Rattle.qrules.specs.Lawful.{facts_of}
 use Rattle.qrules.proofs.Messages.{send_cases}
 use Rattle.qlaws.specs.OpenCalls as laws
-use Rattle.qlaws.proofs.Waits.{all_receives, all_sends}
 
 -- ---- at most one for each thread
 
@@ -27,21 +26,19 @@ block_began roster (e ∷ past) u b is = elim (begins_now roster e past u b is) 
 ]
 
 pub at_most_one_open : laws.AtMostOneOpen
-at_most_one_open roster past r lawful t i j first second =
-    let l = lawful in
+at_most_one_open roster past r l t i j first second =
     let k = unended_newest roster past t i l first.waits first.going in
     let m = unended_newest roster past t j l second.waits second.going in
     sym k.number ∙ ap number_of (same_Some k.block m.block (sym k.is ∙ m.is)) ∙ m.number
 
 unended_open : (roster : List Member) (past : Trace) (t i : ℕ) → option_map number_of (open_call roster past t) ≡ Some i → laws.IsUnended past t i
-unended_open roster past t i is =
-    elim (open_call roster past t) as (λ o. open_call roster past t ≡ o → option_map number_of o ≡ Some i → laws.IsUnended past t i) [
-      | None ↦ λ e at. absurd (none-some i at)
-      | Some o ↦ λ e at.
-          let k = open_parts roster past t o e in
-          let number : (number_of k.block) ≡ i = sym k.number ∙ same_Some (number_of o) i at in
-          record { waits = subst (λ j. accepted_at waiter past j ≡ Some t) number (block_began roster past t k.block k.is); going = subst (λ j. is_ended past j ≡ false) number k.going }
-    ] refl is
+unended_open roster past t i is = elim (open_call roster past t) as (λ o. open_call roster past t ≡ o → option_map number_of o ≡ Some i → laws.IsUnended past t i) [
+  | None ↦ λ e at. absurd (none-some i at)
+  | Some o ↦ λ e at.
+      let k = open_parts roster past t o e in
+      let number : (number_of k.block) ≡ i = sym k.number ∙ same_Some (number_of o) i at in
+      record { waits = subst (λ j. accepted_at waiter past j ≡ Some t) number (block_began roster past t k.block k.is); going = subst (λ j. is_ended past j ≡ false) number k.going }
+] refl is
 
 open_unended : (roster : List Member) (past : Trace) (t i : ℕ) → old.IsLawful roster past → laws.IsUnended past t i → option_map number_of (open_call roster past t) ≡ Some i
 open_unended roster past t i l u =
@@ -54,9 +51,15 @@ open_is_unended roster past r l t i = (unended_open roster past t i, open_unende
 
 -- ---- Sends
 
+-- what is so of the Send that any thread waits in, is so of all open Sends
+all_sends : (f : Facts) (P : OpenSend → Type 0) → ((u : ℕ) (s : OpenSend) → f.open_call u ≡ Some (Send s) → P s) → AllByRecursion P (open_sends f)
+all_sends f P h = all_filter_map P (send_of f) (threads_of f.roster) (λ u s e. h u s (grind arith))
+
+all_receives : (f : Facts) (P : OpenReceive → Type 0) → ((u : ℕ) (r : OpenReceive) → f.open_call u ≡ Some (Receive r) → P r) → AllByRecursion P (open_receives f)
+all_receives f P h = all_filter_map P (receive_of f) (threads_of f.roster) (λ u r e. h u r (grind arith))
+
 pub open_sends_are_routed : laws.OpenSendsAreRouted
-open_sends_are_routed roster past r lawful =
-    let l = lawful in
+open_sends_are_routed roster past r l =
     all_sends (facts_of roster past) _ (λ u s is.
     let c = open_on roster past u (Send s) l is refl in
     record {
@@ -83,11 +86,45 @@ held_is_open_send roster past r l i =
 
 -- ---- receives
 
+module _ (f : Facts) (m : SentItem) where
+  -- the number of a thread's receive that may take the item
+  abbrev waits : ℕ → Option ℕ
+  waits v = option_and_then (wait_for m.channel m.item) (f.open_call v)
+
+  -- what the threads' open calls wait for, and what their receives may take
+  none_may : (ts : List ℕ) → ((v : ℕ) → is_among ts v ≡ true → waits v ≡ None) → AllByRecursion (λ r. laws.may_receive m r ≡ false) (filter_map (receive_of f) ts)
+  none_may [] h = tt
+  none_may (t ∷ ts) h = grind (arith, h t (rw (eqb_same t) refl), none_may ts (λ v among. h v (rw among (or-true _))))
+
+  all_before : (n : ℕ) (ts : List ℕ) → any_after waits n ts ≡ false → AllByRecursion (λ s. laws.may_receive m s ≡ true → s.number ≤ n) (filter_map (receive_of f) ts)
+  all_before n [] h = tt
+  all_before n (t ∷ ts) h = grind (arith, nat_tests, all_before n ts)
+
+  last_waits : (u : ℕ) → newest_receiver f m.channel m.item ≡ Some u → laws.IsNewest f m u
+  last_waits u e =
+      let n = newest_parts f.open_call m.channel m.item (threads_of f.roster) u e in
+      let w = newest_waits f m.channel m.item u e in
+      let last = all_before w.receive.number (threads_of f.roster) (grind (arith, waiting_on m.channel m.item (f.open_call u) w, n.1.waits, n.1.last)) in
+      record { receive = w.receive; is_open = rw (w.is_open) refl; may = rw (w.on, eqb_same m.channel) w.may; last = last }
+
+  nobody_may : newest_receiver f m.channel m.item ≡ None → AllByRecursion (λ r. laws.may_receive m r ≡ false) (open_receives f)
+  nobody_may e = none_may (threads_of f.roster) (λ v among. elim (waits v) as (λ o. waits v ≡ o → o ≡ None) [
+    | None ↦ λ is. refl
+    | Some k ↦ λ is. absurd (true≢false (sym (newest_there f m.channel m.item v k among is) ∙ ap is_some e))
+  ] refl)
+
+  idle : (p : ℕ → Bool) (ts : List ℕ) → AllByRecursion (λ r. laws.may_receive m r ≡ false) (filter_map (receive_of f) ts) → find (λ u. option_map_or p (waits u) false) ts ≡ None
+  idle p [] all = refl
+  idle p (t ∷ ts) all = grind (arith, idle p ts)
+
+  nobody_takes : AllByRecursion (λ r. laws.may_receive m r ≡ false) (open_receives f) → newest_receiver f m.channel m.item ≡ None
+  nobody_takes h = idle _ (threads_of f.roster) h
+
 pub newest_is_last : laws.NewestIsLast
-newest_is_last roster past r l m t e = newest.newest_is_last (facts_of roster past) m t e
+newest_is_last roster past r l = last_waits (facts_of roster past)
 
 pub none_is_newest : laws.NoneIsNewest
-none_is_newest roster past r l m = (newest.nobody_may (facts_of roster past) m, newest.nobody_takes (facts_of roster past) m)
+none_is_newest roster past r l m = (nobody_may (facts_of roster past) m, nobody_takes (facts_of roster past) m)
 
 pub nothing_pending_for_waiting : laws.NothingPendingForWaiting
 nothing_pending_for_waiting roster past r l =
@@ -116,8 +153,7 @@ none_open roster (e ∷ past) r l down u =
     elim (l.1.1) [
       | inl a ↦
           let k = past_follows true roster past e.thread e.call e.endings r l.0 l.1.0 a in
-          let up : f.down ≡ false = (passes_of f e.thread e.call e.endings a).up in
-          k.open_call u ∙ shut_out f e.thread e.call u (sym (or-false (shuts_down e.call)) ∙ ap (λ b. shuts_down e.call || b) (sym up) ∙ sym k.down ∙ down)
+          k.open_call u ∙ shut_out f e.thread e.call u (grind (arith, (passes_of f e.thread e.call e.endings a).up, k.down, down))
       | inr a ↦
           let k = past_follows false roster past e.thread e.call e.endings r l.0 l.1.0 a in
           k.open_call u ∙ none_open roster past r l.0 (sym k.down ∙ down) u

@@ -1,20 +1,15 @@
 -- A pending message has the priority that its sender has by now.
-use Rattle.qlaws.proofs.Common.{Call, Completion, Facts, IsLawful, Item, List, Member, None, OpenCall, Option, Outcome, Received, SentItem, Some, Stands, TakesOne, Trace, [], ap, arith, cond, current_priority, eqb, eqb-true, facts_of, false, false_from_ne_true, inl, inr, is_accepted, is_accepted_by, is_fixed, is_for_receipt, is_gone, is_pulse, is_received, is_refused_by, item_accepted, item_at, item_below, item_newest, item_of, laws_of, length, makes, none-some, option_or, or_parts, outcome_of, passes_of, pending_each, priority_of_thread, priority_set_for, priority_taken, receipt_of, refl, refused_sets_none, same_Some, sender_of, sent_by, sets, standing_is, stays_gone, subst, sym, takes_one, thread_of_send, true, true≢false, unwrap_or, waits_for, worth_newest, worth_set, worth_stays, ℕ, ◌+◌, ◌∙◌, ◌∷◌, ◌≡◌, ◌≤◌}
-use Rattle.qbase.proofs.Lists.{or_none}
+use Rattle.qlaws.proofs.Common.{Call, Completion, Facts, IsLawful, Item, List, Member, None, OpenCall, Outcome, SentItem, Some, Stands, TakesOne, Trace, [], ap, arith, current_priority, eqb, eqb-true, facts_of, false, false_from_ne_true, inl, inr, is_accepted_by, is_for_receipt, is_gone, is_pulse, is_received, is_refused_by, item_accepted, item_at, item_below, item_newest, item_of, laws_of, length, makes, none-some, or_parts, outcome_of, passes_of, pending_each, priority_of_thread, priority_taken, receipt_of, refl, refused_sets_none, same_Some, sender_of, sent_by, sets, standing_is, stays_gone, sym, takes_one, thread_of_send, true, true≢false, worth_newest, worth_set, worth_stays, ℕ, ◌+◌, ◌∙◌, ◌∷◌, ◌≡◌, ◌≤◌}
+use Rattle.std.proofs.lemmas.Bool.Decides.{nat_tests}
 use Rattle.qlaws.specs.Pending as laws
 use Rattle.qrules.proofs.Traces.Past.Priorities.{priority_accepted, priority_refused}
 
 -- a thread that takes nothing takes no priority
 none_taken : (f : Facts) (t : ℕ) (c : Call) (X : List Completion) (u : ℕ) → Outcome true f t c X → ((y : Completion) (i : ℕ) → TakesOne f t c u y i → ⊥) → priority_taken f (receipt_of f t c) u ≡ None
-none_taken f t c X u a never = by (receipt_of f t c) refl where
-  by : (o : Option Received) → (receipt_of f t c) ≡ o → priority_taken f o u ≡ None
-  by None is = refl
-  by (Some r) is =
-      let k = (laws_of f t c X a).receives r is in
-      elim (eqb r.by u) as (λ b. eqb r.by u ≡ b → cond b (cond (is_fixed (f.channel r.channel)) None (Some r.kept.priority)) None ≡ None) [
-        | true ↦ λ same. absurd (never k.given r.item (subst (λ v. TakesOne f t c v k.given r.item) (eqb-true r.by u same) (takes_one f t c r.by k.given (record { number = r.item; copied = r.kept.copied }) (passes_of f t c X a).row k.is_given k.mark)))
-        | false ↦ λ other. refl
-      ] refl
+none_taken f t c X u a never = elim (receipt_of f t c) as (λ o. receipt_of f t c ≡ o → priority_taken f o u ≡ None) [
+  | None ↦ λ is. refl
+  | Some r ↦ λ is. let k = (laws_of f t c X a).receives r is in grind (arith, nat_tests, never k.given r.item, takes_one f t c r.by k.given (record { number = r.item; copied = r.kept.copied }) (passes_of f t c X a).row k.is_given k.mark)
+] refl
 
 -- a thread that waits for the receipt of its message takes nothing
 sender_takes_none : (f : Facts) (t : ℕ) (c : Call) (u : ℕ) (o : OpenCall) → f.open_call t ≡ None → f.open_call u ≡ Some o → is_for_receipt o ≡ true → (y : Completion) (i : ℕ) → TakesOne f t c u y i → ⊥
@@ -24,12 +19,7 @@ sender_takes_none f t c u o idle is unread y i k = elim k [
 ]
 
 -- a message has its sender's priority as it is sent
-pub record IsSentAs (f : Facts) (u : ℕ) (c : Call) (t : ℕ) (m : SentItem) : Type 0 where
-  pub same : u ≡ t
-  pub priority : m.item.priority ≡ f.priority u
-  pub none : sets c ≡ None
-
-sent_as : (f : Facts) (u : ℕ) (c : Call) (t : ℕ) (m : SentItem) → thread_of_send u c ≡ Some t → makes f u c ≡ Some m → IsSentAs f u c t m
+sent_as : (f : Facts) (u : ℕ) (c : Call) (t : ℕ) (m : SentItem) → thread_of_send u c ≡ Some t → makes f u c ≡ Some m → (u ≡ t) × (m.item.priority ≡ f.priority u) × (sets c ≡ None)
 sent_as f u c t m s e = grind arith
 
 -- a message that isn't gone is worth what its sender's priority is
@@ -43,43 +33,28 @@ is_senders roster (e ∷ past) l h item t at stays message sent =
           let number : item.number ≡ length past + 1 = eqb-true _ _ same in
           let here : item_of roster e past ≡ Some (record { item = item; channel = h }) = sym (item_newest roster e past) ∙ ap (item_at roster (e ∷ past)) (sym number) ∙ at in
           let k = item_accepted roster e past _ here in
-          let by : thread_of_send e.thread e.call ≡ Some t =
-          ap (λ b. cond b (thread_of_send e.thread e.call) None) (sym k.0) ∙ ap (λ b. cond b (cond (is_accepted e past) (thread_of_send e.thread e.call) None) (sender_of past item.number)) (sym same) ∙ sent in
-          let a : Outcome true (facts_of roster past) e.thread e.call e.endings = outcome_of roster e past l.1.1 k.0 in
-          let s = sent_as f e.thread e.call t _ by k.1 in
-          let taken : priority_taken (facts_of roster past) (receipt_of (facts_of roster past) e.thread e.call) e.thread ≡ None =
-          none_taken (facts_of roster past) e.thread e.call e.endings e.thread a (λ y i x. elim x [
+          let a : Outcome true f e.thread e.call e.endings = outcome_of roster e past l.1.1 k.0 in
+          let s = sent_as f e.thread e.call t _ (rw (same, k.0) at sent) k.1 in
+          let taken : priority_taken f (receipt_of f e.thread e.call) e.thread ≡ None =
+          none_taken f e.thread e.call e.endings e.thread a (λ y i x. elim x [
             | inl p ↦ none-some _ (sym p.makes_none ∙ k.1)
-            | inr m ↦ none-some m.waiting (sym (passes_of (facts_of roster past) e.thread e.call e.endings a).idle ∙ m.is_open)
+            | inr m ↦ none-some m.waiting (sym (passes_of f e.thread e.call e.endings a).idle ∙ m.is_open)
           ]) in
-          worth_newest e past item number ∙ s.priority
-          ∙ ap (λ o. unwrap_or (option_or (priority_set_for o e.thread) None) (priority_of_thread roster past e.thread)) (sym s.none)
-          ∙ ap (λ o. unwrap_or (option_or (priority_set_for (sets e.call) e.thread) o) (priority_of_thread roster past e.thread)) (sym taken)
-          ∙ sym (priority_accepted roster past e.thread e.call e.endings e.thread l.0 l.1.0 a)
-          ∙ ap (priority_of_thread roster (e ∷ past)) s.same
+          grind (arith, s, taken, priority_accepted roster past e.thread e.call e.endings e.thread l.0 l.1.0 a, worth_newest e past item number)
       | false ↦ λ other.
-          let was : item_at roster past item.number ≡ Some (record { item = item; channel = h }) = ap (λ b. cond b (item_of roster e past) (item_at roster past item.number)) (sym other) ∙ at in
-          let by : sender_of past item.number ≡ Some t = ap (λ b. cond b (cond (is_accepted e past) (thread_of_send e.thread e.call) None) (sender_of past item.number)) (sym other) ∙ sent in
+          let was : item_at roster past item.number ≡ Some (record { item = item; channel = h }) = rw other at at in
+          let by : sender_of past item.number ≡ Some t = rw other at sent in
           let going : is_gone past item ≡ false = false_from_ne_true _ (λ gone. true≢false (sym (stays_gone past e.thread e.call e.endings item gone) ∙ stays)) in
           let below : item.number ≤ length past = item_below roster past item.number _ was in
-          let unread : is_received past item.number ≡ false = (or_parts _ _ going).0 in
           let earlier : current_priority past item ≡ priority_of_thread roster past t = is_senders roster past l.0 h item t was going message by in
           let s = sent_by roster past h item l.0 (standing_is roster past h item was going) message in
           let sender : s.sender ≡ t = same_Some s.sender t (sym s.sent ∙ by) in
           elim (l.1.1) as (λ _. current_priority (e ∷ past) item ≡ priority_of_thread roster (e ∷ past) t) [
             | inl a ↦
-                let taken : priority_taken (facts_of roster past) (receipt_of (facts_of roster past) e.thread e.call) t ≡ None =
-                none_taken (facts_of roster past) e.thread e.call e.endings t a
-                (sender_takes_none (facts_of roster past) e.thread e.call t s.waiting (passes_of (facts_of roster past) e.thread e.call e.endings a).idle (ap (λ v. (facts_of roster past).open_call v) (sym sender) ∙ s.is_open) s.unread) in
-                worth_set e past item t below message unread by
-                ∙ ap (λ b. unwrap_or (cond b (priority_set_for (sets e.call) t) None) (current_priority past item)) (is_accepted_by roster e past a)
-                ∙ ap (unwrap_or (priority_set_for (sets e.call) t)) earlier
-                ∙ sym (ap (λ o. unwrap_or o (priority_of_thread roster past t)) (or_none (priority_set_for (sets e.call) t)))
-                ∙ ap (λ o. unwrap_or (option_or (priority_set_for (sets e.call) t) o) (priority_of_thread roster past t)) (sym taken)
-                ∙ sym (priority_accepted roster past e.thread e.call e.endings t l.0 l.1.0 a)
-            | inr a ↦
-                worth_stays e past item below (refused_sets_none e past item.number (is_refused_by roster e past a)) ∙ earlier
-                ∙ sym (priority_refused roster past e.thread e.call e.endings t a)
+                let taken : priority_taken f (receipt_of f e.thread e.call) t ≡ None =
+                none_taken f e.thread e.call e.endings t a (sender_takes_none f e.thread e.call t s.waiting (passes_of f e.thread e.call e.endings a).idle (ap (λ v. f.open_call v) (sym sender) ∙ s.is_open) s.unread) in
+                grind (arith, worth_set e past item t below message (or_parts (is_received past item.number) _ going).0 by, is_accepted_by roster e past a, earlier, taken, priority_accepted roster past e.thread e.call e.endings t l.0 l.1.0 a)
+            | inr a ↦ grind (arith, worth_stays e past item below (refused_sets_none e past item.number (is_refused_by roster e past a)), earlier, priority_refused roster past e.thread e.call e.endings t a)
           ]
     ] refl
 

@@ -29,7 +29,7 @@ pub use Rattle.qscript.specs.declared.printing.printer.Printer.{Printer}
 pub use Rattle.qstate.specs.Kept.{members_of}
 pub use Rattle.qtables.specs.Members.{IsRoster, join_refusal, member_at, with_member}
 pub use Rattle.qtables.specs.declared.member.Member.{Member}
-pub use Rattle.std.proofs.Common.{Bool, Err, IsTrue, List, None, Ok, Option, Result, Some, [], add-one, ap, append-nil, append_assoc, arith, codes, cond, decimal, drop, false, get_or, inl, inr, is_some, length, length-append, length-drop, length-take, map, nat_le, nat_lt, negsuc, not, pos, position, refl, slice_get, slice_index, string_bytes, subst, suc, sym, take, true, vec_len, zero, ℕ, ℤ, ◌%◌, ◌&&◌, ◌*◌, ◌++◌, ◌+◌, ◌-◌, ◌/◌, ◌<◌, ◌==◌, ◌^◌, ◌||◌, ◌∙◌, ◌∷◌, ◌≡◌, ◌≢◌, ◌≤◌}
+pub use Rattle.std.proofs.Common.{Bool, Err, IsTrue, List, None, Ok, Option, Result, Some, [], add-one, add-zero, ap, append-nil, append_assoc, arith, codes, cond, decimal, drop, false, get_or, inl, inr, is_some, length, length-append, length-drop, length-take, map, nat_le, nat_lt, negsuc, not, pos, position, refl, slice_get, slice_index, string_bytes, subst, suc, sym, take, true, vec_len, zero, ℕ, ℤ, ◌%◌, ◌&&◌, ◌*◌, ◌++◌, ◌+◌, ◌-◌, ◌/◌, ◌<◌, ◌==◌, ◌^◌, ◌||◌, ◌∙◌, ◌∷◌, ◌≡◌, ◌≢◌, ◌≤◌}
 pub use Rattle.std.proofs.lemmas.Bool.{and_parts, cases_Bool, eqb-false, le-leb, le-ltb, leb-false, leb-true, lt-leb, lt-ltb, ltb-false, ltb-true, ne_eqb, or_right}
 pub use Rattle.std.proofs.lemmas.Fmt.{decimal_nonempty, digits_decimal, digits_value-decimal, length-decimal-le}
 pub use Rattle.std.proofs.lemmas.List.{get_or_past, length-map, map-append, take_all, take_more}

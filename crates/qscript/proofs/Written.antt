@@ -1,5 +1,4 @@
 -- Scripts that are written.
-pub mod Calls
 pub mod Words
 pub mod Numbers
 pub mod Bytes

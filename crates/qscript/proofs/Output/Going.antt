@@ -1,5 +1,7 @@
 -- The lines of one event more.
-use Rattle.qscript.proofs.Common.{Bool, Call, Completion, Event, HasPrinted, List, None, Printer, Run, Some, [], add-one, ap, append-nil, arith, call_by, cond, ended_text, event_text, false, flat_map, get_or, get_or_past, is_shown, leb-false, leb-true, length, length-append, length-map, map, map-append, nat_le, option_map, refl, shows_at, shows_buffer, shows_own, slice_get, string_bytes, suc, sym, take, texts_from, true, with_more, zero, ℕ, ◌&&◌, ◌++◌, ◌+◌, ◌-◌, ◌∙◌, ◌∷◌, ◌≡◌, ◌≤◌}
+use Rattle.qscript.proofs.Common.{Bool, Call, Completion, Event, HasPrinted, List, Printer, Run, Some, [], append-nil, arith, call_by, ended_text, event_text, false, flat_map, get_or, get_or_past, inl, inr, is_shown, length, length-append, length-map, map, map-append, option_map, refl, shows_at, shows_buffer, shows_own, slice_get, string_bytes, suc, sym, take, take_more, texts_from, with_more, zero, ℕ, ◌++◌, ◌+◌, ◌-◌, ◌∙◌, ◌∷◌, ◌≡◌}
+use Rattle.std.proofs.lemmas.Bool.Decides.{nat_tests}
+use Rattle.std.proofs.lemmas.Option.{slice_get_cases}
 use Rattle.qscript.proofs.Output.Extended.{same_texts, texts_both}
 
 -- ---- whether a buffer is printed
@@ -9,23 +11,9 @@ shown_same [] k = refl
 shown_same (e ∷ es) zero = refl
 shown_same (e ∷ es) (suc k) = shown_same es k
 
-past_all : (es : List Event) (k : ℕ) → length es ≤ k → get_or (map shows_own es) k false ≡ false
-past_all es k h = get_or_past (map shows_own es) k false (omega (arith, h, length-map es shows_own))
-
 -- up to the newest event it is the list that tells it
 shows_same : (run : Run) (event number : ℕ) → event + 1 ≡ run.first + length run.events → is_shown (call_by run event number) ≡ shows_at run.first (map shows_own run.events) number
-shows_same run event number h =
-    elim (nat_le run.first number) as (λ a. nat_le run.first number ≡ a
-    → is_shown (cond (a && nat_le number event) (option_map (λ (e : Event). e.call) (slice_get run.events (number - run.first))) None)
-    ≡ (a && get_or (map shows_own run.events) (number - run.first) false)) [
-      | false ↦ λ low. refl
-      | true ↦ λ low. elim (nat_le number event) as (λ b. nat_le number event ≡ b
-          → is_shown (cond b (option_map (λ (e : Event). e.call) (slice_get run.events (number - run.first))) None)
-          ≡ get_or (map shows_own run.events) (number - run.first) false) [
-            | false ↦ λ high. sym (past_all run.events (number - run.first) (omega (arith, h, leb-true run.first number low, leb-false number event high)))
-            | true ↦ λ high. shown_same run.events (number - run.first)
-          ] refl
-    ] refl
+shows_same run event number h = grind (arith, nat_tests, shown_same run.events (number - run.first), get_or_past (map shows_own run.events) (number - run.first) false, length-map run.events shows_own)
 
 -- ---- one event more
 
@@ -59,14 +47,9 @@ printed_more run e p q shows endings event told h number own ended first shown a
 -- ---- the events of a trace
 
 -- the event at a place, with its call and its endings
-next_at : (es : List Event) (k : ℕ) (call : Call) (endings : List Completion) → option_map (λ (e : Event). e.call) (slice_get es k) ≡ Some call → option_map (λ (e : Event). e.endings) (slice_get es k) ≡ Some endings
-    → (e : Event) × (take (suc k) es ≡ take k es ++ e ∷ []) × (e.call ≡ call) × (e.endings ≡ endings)
-next_at [] k call endings h i = cc
-next_at (e ∷ es) zero call endings h i = (e, refl, (cc), (cc))
-next_at (e ∷ es) (suc k) call endings h i =
-    let more = next_at es k call endings h i in
-    (more.0, ap (λ xs. e ∷ xs) more.1, more.2, more.3)
-
 pub next_taken : (es : List Event) (k : ℕ) (call : Call) (endings : List Completion) → option_map (λ (e : Event). e.call) (slice_get es k) ≡ Some call → option_map (λ (e : Event). e.endings) (slice_get es k) ≡ Some endings
     → (e : Event) × (take (k + 1) es ≡ take k es ++ e ∷ []) × (e.call ≡ call) × (e.endings ≡ endings)
-next_taken es k call endings h i = rw add-one (next_at es k call endings h i)
+next_taken es k call endings h i = elim (slice_get_cases es k).1 [
+  | inl x ↦ (x.0, rw (take_more es k x.0 x.1, x.3) refl, grind (arith, x.2), grind (arith, x.2))
+  | inr past ↦ absurd (grind (arith, past.1))
+]

@@ -1,16 +1,13 @@
 -- Numbers that are written, read again.
-use Rattle.qscript.proofs.Common.{Ok, Some, arith, decimal, decimal_nonempty, digits_decimal, digits_value-decimal, le-leb, length, length-decimal-le, lt-ltb, ltb-true, nat_le, nat_lt, negsuc, own, pos, refl, suc, true, ℕ, ℤ, ◌<◌, ◌^◌, ◌≡◌, ◌≤◌}
+use Rattle.qscript.proofs.Common.{Ok, Some, arith, decimal, decimal_nonempty, digits_decimal, digits_value-decimal, le-leb, length, length-decimal-le, lt-ltb, ltb-true, negsuc, own, pos, refl, suc, true, ℕ, ℤ, ◌<◌, ◌^◌, ◌≡◌, ◌≤◌}
 use Rattle.std.specs.Fmt.{signed_decimal}
 use Rattle.qreading.specs.Reading.Number.{digits_of, number_of, priority_of, signed_of, is_within, integer_of}
-use Rattle.qscript.proofs.Written.Words.{IsWord, number_word, first_digit_not}
+use Rattle.qscript.proofs.Written.Words.{is_word, number_word, first_digit_not}
 
 -- the digits of a number
-pub digits_back : (n : ℕ) → n < 2 ^ 64 → digits_of (decimal n) ≡ Some n
+digits_back : (n : ℕ) → n < 2 ^ 64 → digits_of (decimal n) ≡ Some n
 unfolding digits_of
-digits_back n h =
-    let some : nat_lt 0 (length (decimal n)) ≡ true = lt-ltb 0 (length (decimal n)) (decimal_nonempty n h) in
-    let few : nat_le (length (decimal n)) 20 ≡ true = le-leb (length (decimal n)) 20 (length-decimal-le 20 n (omega arith) (omega (arith, h)) h) in
-    rw (some, few, digits_decimal own n h, digits_value-decimal own n h) refl
+digits_back n h = rw (lt-ltb 0 (length (decimal n)) (decimal_nonempty n h), le-leb (length (decimal n)) 20 (length-decimal-le 20 n (omega arith) (omega (arith, h)) h), digits_decimal own n h, digits_value-decimal own n h) refl
 
 -- a number below a limit
 pub number_back : (limit n : ℕ) → n < limit → n < 2 ^ 64 → number_of limit (decimal n) ≡ Ok n
@@ -23,18 +20,16 @@ unfolding priority_of
 priority_back n low high = rw (number_back 256 n (omega (arith, high)) (omega (arith, high)), le-leb 1 n low, le-leb n 255 high) refl
 
 -- a signed number
-pub signed_word : (z : ℤ) (limit : ℕ) → is_within limit z ≡ true → limit ≤ 2 ^ 63 → IsWord (signed_decimal z)
+pub signed_word : (z : ℤ) (limit : ℕ) → is_within limit z ≡ true → limit ≤ 2 ^ 63 → is_word (signed_decimal z) ≡ true
 signed_word (pos n) limit h few = number_word n (omega (arith, ltb-true n limit h))
-signed_word (negsuc n) limit h few = (omega arith, ((omega arith, omega arith), (number_word (suc n) (omega (arith, ltb-true n limit h))).1))
+signed_word (negsuc n) limit h few = grind (arith, number_word (suc n) (omega (arith, ltb-true n limit h)))
 
 signed_back : (z : ℤ) (limit : ℕ) → is_within limit z ≡ true → limit ≤ 2 ^ 63 → signed_of (signed_decimal z) ≡ Some z
 unfolding signed_of
 signed_back (pos n) limit h few =
     let small : n < 2 ^ 64 = omega (arith, ltb-true n limit h) in
     rw (first_digit_not n 45 small (omega arith) (omega arith), digits_back n small) refl
-signed_back (negsuc n) limit h few =
-    let small : suc n < 2 ^ 64 = omega (arith, ltb-true n limit h) in
-    rw (digits_back (suc n) small) refl
+signed_back (negsuc n) limit h few = rw (digits_back (suc n) (omega (arith, ltb-true n limit h))) refl
 
 pub integer_back : (limit : ℕ) (z : ℤ) → is_within limit z ≡ true → limit ≤ 2 ^ 63 → integer_of limit (signed_decimal z) ≡ Ok z
 unfolding integer_of

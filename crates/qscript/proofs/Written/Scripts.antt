@@ -1,40 +1,34 @@
 -- Scripts that are written, read again.
-use Rattle.qscript.proofs.Common.{All, All-cons, All-nil, AllByRecursion, Call, Event, IsTypedMember, IsWritable, List, MayStand, Member, Ok, ScriptsAreRead, Stands, [], and_parts, ap, append-nil, append_assoc, arith, call_line, event_call, false, flat_map, is_text, length, length-append, list_all, lt-leb, map, member_line, nat_lt, ne_eqb, not_long, refl, slice_index, stands_first, stands_last, stands_more, subst, suc, sym, true, zero, ℕ, ◌++◌, ◌+◌, ◌-◌, ◌<◌, ◌==◌, ◌∙◌, ◌∷◌, ◌≡◌}
+use Rattle.qscript.proofs.Common.{All, All-cons, All-nil, AllByRecursion, Call, Event, IsTypedMember, IsWritable, List, MayStand, Member, Ok, ScriptsAreRead, Stands, [], add-zero, ap, append-nil, append_assoc, arith, call_line, cons_option, event_call, false, flat_map, is_text, length, length-append, list_all, lt-leb, map, member_line, nat_lt, not_long, refl, slice_index, stands_first, stands_last, stands_more, suc, true, zero, ℕ, ◌++◌, ◌+◌, ◌-◌, ◌<◌, ◌==◌, ◌∙◌, ◌∷◌, ◌≡◌}
+use Rattle.std.proofs.lemmas.Bool.Decides.{nat_tests}
+use Rattle.qreading.specs.declared.reading.line.Line.{Line}
 use Rattle.qreading.specs.declared.reading.line.Line.TheVariants as lines
 use Rattle.qreading.specs.Reading.Lines.{lines_of, is_newline, without_return}
-use Rattle.qreading.specs.Reading.Meaning.{is_in, line_behind, line_with}
+use Rattle.qreading.specs.Reading.Meaning.{call_in, is_in, line_behind, line_with, member_in}
 use Rattle.qscript.specs.Writing.Text.{member_text, call_text, script_text}
 use Rattle.qreading.proofs.Texts.Lines.{lines_at, lines_none}
 use Rattle.qscript.proofs.Written.Reading.{call_read, call_line_text, member_read, member_line_text}
 
 -- ---- a line of text, and its end
 
--- a byte of a text is neither a line end nor a carriage return
-no_end : (b : ℕ) → is_text b ≡ true → (b == 10) ≡ false
-no_end b h = ne_eqb b 10 (λ e. let bad : is_text 10 ≡ true = subst (λ c. is_text c ≡ true) e h in cc)
-
-no_return : (b : ℕ) → is_text b ≡ true → (b == 13) ≡ false
-no_return b h = ne_eqb b 13 (λ e. let bad : is_text 13 ≡ true = subst (λ c. is_text c ≡ true) e h in cc)
-
+-- no byte of a text is a line end
 no_ends : (line : List ℕ) → list_all is_text line ≡ true → All (λ b. is_newline b ≡ false) line
 no_ends [] h = All-nil (λ b. is_newline b ≡ false)
-no_ends (x ∷ xs) h =
-    let p = and_parts (is_text x) (list_all is_text xs) h in
-    All-cons (λ b. is_newline b ≡ false) x xs (no_end x p.0) (no_ends xs p.1)
+no_ends (x ∷ xs) h = All-cons (λ b. is_newline b ≡ false) x xs (grind (arith, nat_tests)) (no_ends xs (grind arith))
 
+-- and none is a carriage return
 no_return_at : (line : List ℕ) (k : ℕ) → list_all is_text line ≡ true → (slice_index line k == 13) ≡ false
 no_return_at [] k h = refl
-no_return_at (x ∷ xs) zero h = no_return x (and_parts (is_text x) (list_all is_text xs) h).0
-no_return_at (x ∷ xs) (suc k) h = no_return_at xs k (and_parts (is_text x) (list_all is_text xs) h).1
+no_return_at (x ∷ xs) zero h = grind (arith, nat_tests)
+no_return_at (x ∷ xs) (suc k) h = grind (arith, no_return_at xs k)
 
-whole : (line : List ℕ) → list_all is_text line ≡ true → without_return line ≡ line
-whole line h = rw (no_return_at line (length line - 1) h) refl
-
-line_first : (line after : List ℕ) → list_all is_text line ≡ true → lines_of (line ++ 10 ∷ after) ≡ line ∷ lines_of after
-line_first line after h = lines_at line 10 after (no_ends line h) refl ∙ ap (λ l. l ∷ lines_of after) (whole line h)
-
-less : (line after : List ℕ) → length after < length (line ++ 10 ∷ after)
-less line after = simp length-append (omega arith)
+-- what stands behind a line, where the line says this
+line_stands : (text line after : List ℕ) (n : ℕ) (roster : List Member) (cs : List (ℕ × Call)) (l : Line) → list_all is_text line ≡ true → line_with roster cs line ≡ Ok l
+    → Stands text ((line ++ 10 ∷ []) ++ after) n roster cs → Stands text after (n + 1) (roster ++ cons_option (member_in (Ok l)) []) (cs ++ cons_option (call_in (Ok l)) [])
+line_stands text line after n roster cs l h said s =
+    let whole : without_return line ≡ line = rw (no_return_at line (length line - 1) h) refl in
+    let first = lines_at line 10 after (no_ends line h) refl ∙ ap (λ l. l ∷ lines_of after) whole in
+    stands_more text (line ++ 10 ∷ after) after line n roster cs (rw append_assoc at s) first (simp length-append (omega arith)) l said
 
 -- ---- calls
 
@@ -45,18 +39,11 @@ call_with roster cs e h = rw (call_read (nat_lt 0 (length cs)) e.thread e.call h
 
 calls_stand : (text : List ℕ) (roster : List Member) (events : List Event) (n : ℕ) (cs : List (ℕ × Call)) → AllByRecursion (IsWritable roster) events
     → Stands text (flat_map call_text events) n roster cs → Stands text [] (n + length events) roster (cs ++ map event_call events)
-calls_stand text roster [] n cs h s = subst (λ k. Stands text [] k roster (cs ++ [])) (omega arith) (subst (λ xs. Stands text [] n roster xs) (sym (append-nil cs)) s)
+calls_stand text roster [] n cs h s = rw (add-zero, append-nil) s
 calls_stand text roster (e ∷ events) n cs h s =
-    let line = call_line e.thread e.call in
-    let after = flat_map call_text events in
-    let split : call_text e ++ after ≡ line ++ 10 ∷ after = append_assoc line (10 ∷ []) after in
-    let here : Stands text (line ++ 10 ∷ after) n roster cs = subst (λ t. Stands text t n roster cs) split s in
-    let said : line_with roster cs line ≡ Ok (lines.Call e.thread e.call) = call_with roster cs e h.0 in
-    let next = stands_more text (line ++ 10 ∷ after) after line n roster cs here (line_first line after (call_line_text e.thread e.call h.0.1 h.0.2)) (less line after) (lines.Call e.thread e.call) said in
-    let kept : Stands text after (n + 1) roster (cs ++ event_call e ∷ []) = subst (λ ms. Stands text after (n + 1) ms (cs ++ event_call e ∷ [])) (append-nil roster) next in
-    let rest = calls_stand text roster events (n + 1) (cs ++ event_call e ∷ []) h.1 kept in
-    subst (λ k. Stands text [] k roster (cs ++ map event_call (e ∷ events))) (omega arith)
-    (subst (λ xs. Stands text [] (n + 1 + length events) roster xs) (append_assoc cs (event_call e ∷ []) (map event_call events)) rest)
+    let next = line_stands text (call_line e.thread e.call) (flat_map call_text events) n roster cs (lines.Call e.thread e.call) (call_line_text e.thread e.call h.0.1 h.0.2) (call_with roster cs e h.0) s in
+    let place : n + 1 + length events ≡ n + length (e ∷ events) = omega arith in
+    rw (append_assoc cs (event_call e ∷ []) (map event_call events), place) at (calls_stand text roster events (n + 1) (cs ++ event_call e ∷ []) h.1 (rw (append-nil roster) at next))
 
 -- ---- threads
 
@@ -67,18 +54,12 @@ member_with before m new few h = rw (member_read m h, new, lt-leb 64 (length bef
 
 members_stand : (text back : List ℕ) (before members : List Member) (n : ℕ) → MayStand before members → AllByRecursion IsTypedMember members
     → Stands text (flat_map member_text members ++ back) n before [] → Stands text back (n + length members) (before ++ members) []
-members_stand text back before [] n may h s = subst (λ k. Stands text back k (before ++ []) []) (omega arith) (subst (λ ms. Stands text back n ms []) (sym (append-nil before)) s)
+members_stand text back before [] n may h s = rw (add-zero, append-nil) s
 members_stand text back before (m ∷ members) n may h s =
-    let line = member_line m in
-    let after = flat_map member_text members ++ back in
-    let split : (member_text m ++ flat_map member_text members) ++ back ≡ line ++ 10 ∷ after =
-    append_assoc (member_text m) (flat_map member_text members) back ∙ append_assoc line (10 ∷ []) after in
-    let here : Stands text (line ++ 10 ∷ after) n before [] = subst (λ t. Stands text t n before []) split s in
-    let next : Stands text after (n + 1) (before ++ m ∷ []) [] =
-    stands_more text (line ++ 10 ∷ after) after line n before [] here (line_first line after (member_line_text m h.0)) (less line after) (lines.Roster m) (member_with before m may.0 may.1 h.0) in
-    let rest = members_stand text back (before ++ m ∷ []) members (n + 1) may.2 h.1 next in
-    subst (λ k. Stands text back k (before ++ m ∷ members) []) (omega arith)
-    (subst (λ ms. Stands text back (n + 1 + length members) ms []) (append_assoc before (m ∷ []) members) rest)
+    let here = rw (append_assoc (member_text m) (flat_map member_text members) back) at s in
+    let next = line_stands text (member_line m) (flat_map member_text members ++ back) n before [] (lines.Roster m) (member_line_text m h.0) (member_with before m may.0 may.1 h.0) here in
+    let place : n + 1 + length members ≡ n + length (m ∷ members) = omega arith in
+    rw (append_assoc before (m ∷ []) members, place) at (members_stand text back (before ++ m ∷ []) members (n + 1) may.2 h.1 next)
 
 -- ---- the script
 

@@ -1,6 +1,5 @@
-use Rattle.balsaeuchre_c.proofs.Common.{Done, ap, arith, length, refl, ℕ}
-use Rattle.balsaeuchre_c.proofs.Tellings.{told-more, told-all}
-use Rattle.std.proofs.lemmas.Option.{slice_get_read}
+use Rattle.balsaeuchre_c.proofs.Common.{arith, common_steps, refl, slice_get_read, take, ◌≡◌}
+use Rattle.balsaeuchre_c.proofs.Tellings.{told-more}
 use Rattle.balsaeuchre_c.proofs.telling.tell.Goals as goal
 
 pub loop-place-preserved : goal.loop-place-preserved
@@ -10,7 +9,4 @@ loop-place-preserved c =
     (slice_get_read c.args.endings.now _ c.loop-place.place c.index-endings-place.result refl (omega arith) c.index-endings-place.is) (omega arith) (rw (c.lay-written.ensures.count, c.told_front-told.ensures) at c.of.ensures))
 
 pub returns : goal.returns
-returns c =
-    let done : ℕ → Done = λ n. record { endings = length c.args.endings.now; bytes = c.loop-place.start; call = n } in
-    told-all c.args.kernel.now c.args.endings.now c.args.rows.now c.loop-place.rows c.args.bytes.now c.loop-place.bytes c.loop-place.place c.loop-place.start _ c.loop-place.invariant (omega arith)
-    (ap done c.made.ensures.value)
+returns c = let n = c.loop-place.place in let whole : take n c.args.endings.now ≡ c.args.endings.now = grind (arith, common_steps) in grind arith

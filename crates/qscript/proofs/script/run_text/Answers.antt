@@ -1,5 +1,5 @@
-use Rattle.qscript.proofs.Common.{AllJoin, StandsAt, [], ap, arith, roster_with, subst, sym, ◌∙◌}
-use Rattle.qkernel.proofs.Traces.{stands_made, stands_roster}
+use Rattle.qscript.proofs.Common.{AllJoin, StandsAt, [], ap, roster_with, subst, sym, ◌∙◌}
+use Rattle.qkernel.proofs.Traces.{stands_roster}
 use Rattle.qscript.proofs.OneText.{text_of_calls}
 use Rattle.qscript.proofs.script.run_text.Goals as goal
 
@@ -8,12 +8,6 @@ make_calls-requires-clause-known c =
     let members : AllJoin [] c.as_slice.result.now = subst (AllJoin []) (sym c.as_slice.ensures.value) c.requires.members in
     let roster = c.roster_with_all-roster.ensures members ∙ ap (roster_with []) c.as_slice.ensures.value in
     rw (stands_roster _ _ [] c.in_ok-run.ensures.stands, roster) c.requires.callers
-
-pub make_calls-requires-clause-limit : goal.make_calls-requires-clause-limit
-make_calls-requires-clause-limit c = let made = stands_made _ _ [] c.in_ok-run.ensures.stands in omega (arith, made, c.requires.few)
-
-pub make_calls-requires-clause-begun : goal.make_calls-requires-clause-begun
-make_calls-requires-clause-begun c = c.in_ok-run.ensures.begun
 
 pub returns-clause-ok : goal.returns-clause-ok
 returns-clause-ok c =

@@ -1,31 +1,21 @@
 -- `get_mut` lends the kernel, and the handle follows it.
-use Rattle.balsaeuchre_c.proofs.Common.{ !, B, Calls, D, Env, Fml, Fun, GName, Goes-spent_ref, Lft, Logic, Loops, Memory, R, RattleType, Routine, SProp, Share, Stays, Tables, Ura, Val, WpFn, WpFn-mono, addr, alloc_all, at_ret, await, bare, block_ptr, blocks, box_in, box_out, by, done, drop, emp, ends_at, ent, enter, entered, env, exec, first, fjoin, fld, flft, fpack, frame, free_all, fsep, fsplit, fsplit3, fst∗, ftrue, get, group, handle, id⊢, join, keep, later, load, look_at, look_in, move, mut_ref_to, named, no, nothing, of_opd, opens, owns, pass_all, pick, plain, qed, raw, returns, rewrite, says, sem, sep, sets, sets_last, some, split, stay_dropped, stop, sub, suffices, through, token, triple_of, use1, via, vptr, walk_Meets, walk_of, walked, whole, word, τ, ‵, ◌$◌, ◌∵◌, ◌⊛◌}
-use mathlib.Core.Path.{◌≡◌, refl, sym}
-use mathlib.Core.List.{List, [], ◌∷◌}
-use Prim.Native.Nat.{ℕ}
-use base.Fraction.{full_share}
-use contract.Running.{tables, tables_of}
-use denote.Memory.{part_at, part_of, raw_all, mem, cell_at}
-use denote.Ref.{MutRef, mut_vals, mut_Tells}
-use denote.Triple.Entry.{on_entry}
-use denote.Follow.{follows, Part, lends_Part}
-use Rattle.std_alloc.proofs.VecSteps.Shapes.{after}
-use Rattle.balsaeuchre_c.specs.declared.session.Session.{Session}
-use Rattle.balsaeuchre_c.specs.contracts.session.Session as Held
-use Rattle.balsaeuchre_c.proofs.session.Session.TheLaws as held
-use Rattle.balsaeuchre_c.specs.contracts.handle.Handle as Handle
-use Rattle.balsaeuchre_c.specs.Lending.{with_session}
+use Rattle.balsaeuchre_c.proofs.Common.{ !, B, Calls, D, Env, Fml, Fun, GName, Goes-spent_ref, Lft, List, Logic, Loops, Memory, R, Routine, SProp, Share, Stays, Tables, Ura, Val, WpFn, WpFn-mono, [], addr, alloc_all, at_ret, await, bare, block_ptr, blocks, box_in, box_out, by, done, emp, ends_at, ent, enter, entered, env, exec, first, fjoin, fld, flft, fpack, frame, free_all, fsep, fsplit, fsplit3, fst∗, ftrue, full_share, get, group, handle, id⊢, join, keep, later, load, look_at, look_in, move, mut_ref_to, named, no, nothing, of_opd, opens, owns, pass_all, pick, plain, qed, raw, refl, returns, rewrite, says, sem, sep, sets, sets_last, some, split, stay_dropped, stop, sub, suffices, sym, tables, tables_of, through, token, triple_of, use1, via, vptr, walk_Meets, walk_of, walked, whole, word, τ, ‵, ℕ, ◌$◌, ◌∵◌, ◌∷◌, ◌≡◌, ◌⊛◌}
 use Rattle.balsaeuchre_c.proofs.AsBox.{E}
-use Rattle.balsaeuchre_c.specs.contracts.handle.Handle.get_mut as F
+use Rattle.balsaeuchre_c.specs.Lending.{with_session}
+use Rattle.balsaeuchre_c.specs.contracts.handle.Handle.{the_row as Hd}
 use Rattle.balsaeuchre_c.specs.contracts.handle.Handle.get_mut.Key.{name as #self}
+use Rattle.balsaeuchre_c.specs.contracts.session.Session.{the_row as K}
+use Rattle.balsaeuchre_c.specs.declared.session.Session.{Session}
+use Rattle.std_alloc.proofs.VecSteps.Shapes.{after}
+use denote.Follow.{Part, follows, lends_Part}
+use denote.Memory.{cell_at, mem, part_at, part_of, raw_all}
+use denote.Ref.{MutRef, mut_Tells, mut_vals}
+use denote.Triple.Entry.{on_entry}
+use types.Kit.{drop}
+use Rattle.balsaeuchre_c.proofs.session.Session.TheLaws as held
+use Rattle.balsaeuchre_c.specs.contracts.handle.Handle.get_mut as F
 use Rattle.balsaeuchre_c.proofs.handle.Handle.get_mut.Statement as stated
 use Rattle.balsaeuchre_c.proofs.handle.Handle.get_mut.Code as code
-
-abbrev Hd : RattleType
-Hd = Handle.the_row
-
-abbrev K : RattleType
-K = Held.the_row
 
 abbrev stayed : Stays (F.ended).signature.params (F.ended).kept
 stayed = (stay_dropped (mut_ref_to (0 ∷ []) tt (plain (λ _. Hd))) no, tt)
@@ -64,31 +54,25 @@ module _ {M : Type 1} {𝓤 : Ura M} (𝓛 : Logic 𝓤) (at_mem : Memory → SP
         suffices ! _ (ends_at 𝓛 F.ended stayed (F.clauses 𝓛 at_mem run) bound (vptr b o) (record { ref_ptr = (b, o); ghost_name = γ'; now = h.session }) (tt, tt) (tt, tt)) $
         nothing ! $ nothing ! $ fjoin ! $ join ! $ nothing ! $ move ! (2 ∷ 0 ∷ []) $ join ! $ join ! $ frame ! $ says ! refl $ done !
 
-  module _ (C : Calls 𝓤 H) (Λ : Loops 𝓤 H) where
-    walk : ent 𝓤 (on_entry 𝓛 F.signature (κ, tt) (q, tt) (record { ref_ptr = (rb, ro); ghost_name = γ; now = h }, tt) (vptr rb ro ∷ [], tt)) (WpFn 𝓤 H C Λ code.function (vptr rb ro ∷ []) Post)
-    walk =
-        qed 𝓛 ((‵ (flft κ q) ⊛ ‵ ftrue) ∷ ‵ (owns (MutRef (named 0) κ Hd ∷ []) (record { ref_ptr = (rb, ro); ghost_name = γ; now = h }, tt) (vptr rb ro ∷ [], tt)) ∷ []) ∵
-        enter ! C Λ code.function (vptr rb ro ∷ []) _ $
-        alloc_all ! (λ l. pass_all ! refl ((tt, tt), tt) $
-        let En : Env 𝓤 H = env code.function.locals l in
-        move ! (1 ∷ []) $ fsplit ! $ fsplit3 ! $ drop ! $ move ! (3 ∷ []) $ split ! $ move ! (2 ∷ 3 ∷ 0 ∷ []) $
-        opens ! tt Hd {h = h} rb ro (λ vs. move ! (1 ∷ []) $ use1 𝓛 (‵ ((B E).own_val (v h.session) vs)) (id⊢ 𝓤 _) $ box_out E ! (v h.session) vs (λ b o hv at_b ws fa.
-        move ! (1 ∷ 2 ∷ []) $ fjoin ! $ move ! (1 ∷ []) $ rewrite ! 2 (λ (us : List Val). ‵ (cell_at full_share Hd.mir us rb ro)) ws refl $
-        rewrite ! 0 (λ (P : Fml). ‵ P) (sym (as_param h.session b o)) refl $
-        first ! $ blocks ! $
-        sets ! (of_opd ! (load ! (through ! refl (fld ! refl (stop !))) (look_in ! 2 (sub ! 0 refl (whole !))))) refl (tt, tt) $
-        sets ! (of_opd ! (get ! refl)) refl (tt, tt) $
-        sets_last ! (addr ! (through ! refl (stop !))) refl (tt, tt) $
-        exec ! C Λ En (after 1 code.function.body) (at_ret En Post) $
-        sets ! (of_opd ! (get ! refl)) refl (tt, tt) $
-        move ! (1 ∷ 2 ∷ []) $ fjoin ! $ move ! (2 ∷ 3 ∷ 4 ∷ 1 ∷ 0 ∷ []) $ group ! 5 $
-        use1 𝓛 (later (some (λ (γ' : GName). raw (Part 𝓛 Hd K (with_session h) (named 0) κ q rb ro b o γ (sem 𝓛 (Rest b o hv)) (back b o hv at_b) h.session γ'))))
-        (lends_Part 𝓛 Hd K (with_session h) (named 0) κ q rb ro b o γ (sem 𝓛 (Rest b o hv)) (back b o hv at_b) (Hd.coded.code h) (Hd.coded.code h) h.session) $ await ! tt $ pick ! (λ γ'.
-        returns ! (look_at ! 0 refl) $ free_all ! refl $
-        keep ! (0 ∷ []) $ by ! (exits b o hv γ')))))
-
-  delivers : (𝓣 : Tables 𝓤 H) → ent 𝓤 (on_entry 𝓛 F.signature (κ, tt) (q, tt) (record { ref_ptr = (rb, ro); ghost_name = γ; now = h }, tt) (vptr rb ro ∷ [], tt)) (WpFn 𝓤 H 𝓣.C 𝓣.Λ code.function (vptr rb ro ∷ []) Post)
-  delivers 𝓣 = walk 𝓣.C 𝓣.Λ
+  walk : (C : Calls 𝓤 H) (Λ : Loops 𝓤 H) → ent 𝓤 (on_entry 𝓛 F.signature (κ, tt) (q, tt) (record { ref_ptr = (rb, ro); ghost_name = γ; now = h }, tt) (vptr rb ro ∷ [], tt)) (WpFn 𝓤 H C Λ code.function (vptr rb ro ∷ []) Post)
+  walk C Λ =
+      qed 𝓛 ((‵ (flft κ q) ⊛ ‵ ftrue) ∷ ‵ (owns (MutRef (named 0) κ Hd ∷ []) (record { ref_ptr = (rb, ro); ghost_name = γ; now = h }, tt) (vptr rb ro ∷ [], tt)) ∷ []) ∵
+      enter ! C Λ code.function (vptr rb ro ∷ []) _ $
+      alloc_all ! (λ l. pass_all ! refl ((tt, tt), tt) $
+      let En : Env 𝓤 H = env code.function.locals l in
+      move ! (1 ∷ []) $ fsplit ! $ fsplit3 ! $ drop ! $ move ! (3 ∷ []) $ split ! $ move ! (2 ∷ 3 ∷ 0 ∷ []) $
+      opens ! tt Hd {h = h} rb ro (λ vs. move ! (1 ∷ []) $ use1 𝓛 (‵ ((B E).own_val (v h.session) vs)) (id⊢ 𝓤 _) $ box_out E ! (v h.session) vs (λ b o hv at_b ws fa.
+      move ! (1 ∷ 2 ∷ []) $ fjoin ! $ move ! (1 ∷ []) $ rewrite ! 2 (λ (us : List Val). ‵ (cell_at full_share Hd.mir us rb ro)) ws refl $
+      rewrite ! 0 (λ (P : Fml). ‵ P) (sym (as_param h.session b o)) refl $
+      first ! $ blocks ! $ sets ! (of_opd ! (load ! (through ! refl (fld ! refl (stop !))) (look_in ! 2 (sub ! 0 refl (whole !))))) refl (tt, tt) $
+      sets ! (of_opd ! (get ! refl)) refl (tt, tt) $ sets_last ! (addr ! (through ! refl (stop !))) refl (tt, tt) $
+      exec ! C Λ En (after 1 code.function.body) (at_ret En Post) $
+      sets ! (of_opd ! (get ! refl)) refl (tt, tt) $
+      move ! (1 ∷ 2 ∷ []) $ fjoin ! $ move ! (2 ∷ 3 ∷ 4 ∷ 1 ∷ 0 ∷ []) $ group ! 5 $
+      use1 𝓛 (later (some (λ (γ' : GName). raw (Part 𝓛 Hd K (with_session h) (named 0) κ q rb ro b o γ (sem 𝓛 (Rest b o hv)) (back b o hv at_b) h.session γ'))))
+      (lends_Part 𝓛 Hd K (with_session h) (named 0) κ q rb ro b o γ (sem 𝓛 (Rest b o hv)) (back b o hv at_b) (Hd.coded.code h) (Hd.coded.code h) h.session) $ await ! tt $ pick ! (λ γ'.
+      returns ! (look_at ! 0 refl) $ free_all ! refl $
+      keep ! (0 ∷ []) $ by ! (exits b o hv γ')))))
 
 pub get_mut_spec : {M : Type 1} → stated.statement M
 unfolding tables_of

@@ -1,29 +1,19 @@
 -- `into_box` hands what the handle owns to `from_raw`.
-use Rattle.balsaeuchre_c.proofs.Common.{ !, B, Body, Contract, D, Fun, Goes-dropped, Item, Logic, Memory, P, R, Routine, SProp, Stays, Tables, Triple, Ura, Val, WT, WpFn, WpFn-mono, alloc_all, and_then, args, assign, at_ret, await, block_ptr, blocks, box_in, box_out, box_owns, box_ty, box_typed, by, calls_at_last, copy, done, drop, emp, ends_at, ent, enter, entered, env, exec, fact, feq_i, first, fjoin, fld, flft, fm_of, free_all, fsep, fsplit, ftrue, get, get_in, has_ty, heard, id⊢, join, keep, lands_last, later, look_at, move, no_more, nothing, of_opd, only, pass_all, pick, place, plain, qed, raw, return, returns, rewrite, rv_opd, says, seq, sets, some, split, split3, stay_dropped, stop, sub, suffices, token, triple_of, use1, vptr, walk_Meets, walk_of, whole, word, yes, ‵, ◌$◌, ◌∵◌, ◌⊑◌, ◌⊛◌}
-use mathlib.Core.Path.{◌≡◌, refl, sym, subst, ap}
-use mathlib.Core.List.{List, [], ◌∷◌, ◌++◌}
-use base.Fraction.{full_share}
-use contract.BorrowLft.{⊑_static}
-use contract.Monad.{fact_i}
-use contract.Running.{tables, tables_of}
-use denote.Param.NoDrop.{glues}
-use lib.Dec.{T}
-use types.Kit.{use0}
-use types.Tokens.{lft_new}
+use Rattle.balsaeuchre_c.proofs.Common.{ !, B, Contract, D, Fun, Goes-dropped, List, Logic, Memory, P, R, Routine, SProp, Stays, T, Tables, Triple, Ura, Val, WT, WpFn, WpFn-mono, [], alloc_all, and_then, ap, args, assign, at_ret, await, block_ptr, blocks, box_in, box_out, box_owns, box_ty, box_typed, by, calls_at_last, copy, done, emp, ends_at, ent, enter, entered, env, exec, fact, fact_i, feq_i, first, fjoin, fld, flft, fm_of, free_all, fsep, fsplit, ftrue, full_share, get, get_in, has_ty, heard, id⊢, join, keep, lands_last, later, look_at, move, no_more, nothing, of_opd, only, pass_all, pick, place, plain, qed, raw, refl, return, returns, rewrite, rv_opd, says, seq, sets, some, split, split3, stay_dropped, stop, sub, subst, suffices, sym, tables, tables_of, token, triple_of, use1, vptr, walk_Meets, walk_of, whole, word, yes, ‵, ⊑_static, ◌$◌, ◌++◌, ◌∵◌, ◌∷◌, ◌≡◌, ◌⊑◌, ◌⊛◌}
+use Rattle.balsaeuchre_c.proofs.AsBox.{E}
+use Rattle.balsaeuchre_c.proofs.Destruct++none.drop.Code.{code as no_drop}
+use Rattle.balsaeuchre_c.specs.contracts.handle.Handle.into_box.Key.{name as #self}
 use Rattle.std_heap.proofs.GlobalAllocator.TheImpl.Met.{passed}
+use denote.Param.NoDrop.{glues}
+use types.Kit.{Item, drop, use0}
+use types.Tokens.{lft_new}
 use Rattle.std_alloc.specs.contracts.boxed.Box.from_raw as Fr
 use Rattle.std_alloc.proofs.boxed.Box.from_raw.Symbol as raw_sym
 use Rattle.std_alloc.proofs.boxed.Box.from_raw.Met as raw_met
-use Rattle.balsaeuchre_c.proofs.AsBox.{E}
-use Rattle.balsaeuchre_c.proofs.Destruct++none.drop.Code.{code as no_drop}
 use Rattle.balsaeuchre_c.specs.contracts.handle.Handle as Handle
 use Rattle.balsaeuchre_c.specs.contracts.handle.Handle.into_box as F
-use Rattle.balsaeuchre_c.specs.contracts.handle.Handle.into_box.Key.{name as #self}
 use Rattle.balsaeuchre_c.proofs.handle.Handle.into_box.Statement as stated
 use Rattle.balsaeuchre_c.proofs.handle.Handle.into_box.Code as code
-
-abbrev rest : Body
-rest = seq (assign (place 0 []) (rv_opd (copy (place 4 [])))) return
 
 abbrev stayed : Stays (F.ended).signature.params (F.ended).kept
 stayed = (stay_dropped (plain (λ _. Handle.the_row)) yes, tt)
@@ -60,7 +50,7 @@ module _ {M : Type 1} {𝓤 : Ura M} (𝓛 : Logic 𝓤) (at_mem : Memory → SP
       await ! tt $ pick ! (λ r. split ! $ move ! (1 ∷ []) $ pick ! (λ _. split3 ! $ drop ! $ heard ! (r.value ≡ x) (λ same. drop ! $ split ! $ drop ! $
       box_out E ! r (u ∷ []) (λ b' o' hw e' wu fw. box_in E ! r b' o' r.value e' refl $ rewrite ! 0 (λ (us : List Val). ‵ ((B E).own_val r us)) (sym wu) refl $
       let typed : T (has_ty (box_ty E) u) × WT u = subst (λ (s : Val). T (has_ty (box_ty E) s) × WT s) (sym (ap only wu)) (box_typed E hw b' o' fw) in
-      lands_last ! refl typed $ exec ! 𝓣.C 𝓣.Λ (env code.function.locals ls) rest (at_ret (env code.function.locals ls) Post) $
+      lands_last ! refl typed $ exec ! 𝓣.C 𝓣.Λ (env code.function.locals ls) (seq (assign (place 0 []) (rv_opd (copy (place 4 [])))) return) (at_ret (env code.function.locals ls) Post) $
       sets ! (of_opd ! (get ! refl)) refl typed $ returns ! (look_at ! 0 refl) $ free_all ! refl $ keep ! (0 ∷ []) $
       suffices ! _ (ends_at 𝓛 F.ended stayed (F.clauses 𝓛 at_mem run) z u r (tt, tt) (tt, tt)) $ says ! same $
       nothing ! $ nothing ! $ fjoin ! $ join ! $ nothing ! $ join ! $ done !)))))))))))

@@ -1,7 +1,14 @@
-use Rattle.qscript.proofs.Common.{ap, append-nil, arith, string_bytes, sym, ◌++◌, ◌∙◌}
-use Rattle.hex.specs.Hex.{encode_with}
-use Rattle.qscript.proofs.Output.Digits.{pushed_more}
+use Rattle.qscript.proofs.Common.{List, [], add-one, ap, append-nil, append_assoc, arith, length, refl, slice_index, string_bytes, suc, sym, take, zero, ℕ, ◌%◌, ◌++◌, ◌/◌, ◌<◌, ◌∙◌, ◌∷◌, ◌≡◌}
+use Rattle.hex.specs.Hex.{lower_digits, encode_with}
 use Rattle.qscript.proofs.printing.buffer.push_digits.Goals as goal
+
+-- the digits of one byte more
+digits_more : (t xs : List ℕ) (k : ℕ) → k < length xs
+    → encode_with t (take (suc k) xs) ≡ encode_with t (take k xs) ++ slice_index t (slice_index xs k / 16) ∷ slice_index t (slice_index xs k % 16) ∷ []
+unfolding encode_with
+digits_more t [] k h = absurd (omega arith)
+digits_more t (x ∷ xs) zero h = refl
+digits_more t (x ∷ xs) (suc k) h = ap (λ ds. slice_index t (x / 16) ∷ slice_index t (x % 16) ∷ ds) (digits_more t xs k (omega arith))
 
 pub bytes-init : goal.bytes-init
 unfolding encode_with
@@ -11,4 +18,4 @@ pub bytes-preserved : goal.bytes-preserved
 bytes-preserved c =
     let high = c.in_ok-push.ensures.bytes ∙ ap (λ ds. string_bytes c.bytes.out ++ ds) c.digit.ensures in
     let low = c.in_ok-push-2.ensures.bytes ∙ ap (λ ds. string_bytes c.push.new.self ++ ds) c.digit-in-bytes.ensures in
-    pushed_more c.args.bytes.now c.bytes.byte-index (string_bytes c.args.out.now) _ _ _ (omega arith) c.bytes.invariant high low
+    rw (low, high, c.bytes.invariant, add-one, digits_more lower_digits c.args.bytes.now c.bytes.byte-index (omega arith), append_assoc, append_assoc)

@@ -1,4 +1,4 @@
-use Rattle.qscript.proofs.Common.{AnswersAtTraces, subst, sym, ◌+◌, ◌∙◌, ◌≡◌}
+use Rattle.qscript.proofs.Common.{AnswersAtTraces, subst, sym, ◌∙◌}
 use Rattle.qscript.specs.declared.run.Run.{Run}
 use Rattle.qscript.proofs.Making.{made_more}
 use Rattle.qscript.proofs.run.Run.make.Goals as goal
