@@ -5,18 +5,20 @@ usage: bench/explore.py [PROGRAM]
 
 Explores the example `clients.design` with more clients, with and without symmetry; five clients that a timer unblocks
 each; and four philosophers with four forks. Nothing is wrong in these designs. Of each this prints the moments, the
-processor seconds and the peak of the memory in MB. PROGRAM is crates/qdemo/out/qdemo if none is given. It wants GNU
-time.
+least, median and greatest processor seconds of five runs, and the peak of the memory in MB. PROGRAM is
+crates/qdemo/out/qdemo if none is given. It wants GNU time.
 """
 
 import os
 import re
+import statistics
 import subprocess
 import sys
 import tempfile
 
 TOP = os.path.dirname(os.path.dirname(os.path.abspath(__file__)))
 CLIENTS = os.path.join(TOP, "crates/qdemo/data/designs/clients.design")
+RUNS = 5
 SIZES = [(9, True), (20, True), (60, True), (6, False), (7, False), (8, False)]
 
 TIMERS = """thread server fs 10
@@ -106,10 +108,11 @@ def main():
         sys.exit(f"{program}: no such program")
     designs = [(f"{n} clients" + ("" if equal else ", no symmetry"), clients(n), equal) for n, equal in SIZES]
     designs += [("5 clients with timers", TIMERS, True), ("4 philosophers", philosophers(4), True)]
-    print(f"{'design':24} {'moments':>9} {'s':>7} {'MB':>6}")
+    print(f"{'design':24} {'moments':>9} {'least':>7} {'median':>7} {'most':>7} {'MB':>6}")
     for name, text, symmetry in designs:
-        moments, seconds, megabytes = explore(program, text, symmetry)
-        print(f"{name:24} {moments:>9} {seconds:>7.2f} {megabytes:>6.1f}", flush=True)
+        moments, seconds, megabytes = zip(*[explore(program, text, symmetry) for _ in range(RUNS)])
+        spread = f"{min(seconds):>7.2f} {statistics.median(seconds):>7.2f} {max(seconds):>7.2f}"
+        print(f"{name:24} {moments[0]:>9} {spread} {max(megabytes):>6.1f}", flush=True)
 
 
 if __name__ == "__main__":
