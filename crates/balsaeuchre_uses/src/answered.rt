@@ -11,9 +11,10 @@ ghost use Rattle.balsaeuchre.specs.Naming.{AreParts};
 ghost use Rattle.balsaeuchre.specs.Results.{answer_in};
 ghost use Rattle.balsaeuchre_uses.specs.Answered.{is_sent, ToldAfterAnswer};
 
+use crate::three_callers::three_callers;
 use crate::two_threads::serve;
 use balsaeuchre::calls::{
-    Answer, CallError, Caller, Calls, Endpoint, KernelPort, PortCaller, Result, State,
+    Answer, CallError, Calls, Endpoint, KernelPort, PortCaller, Result, State,
 };
 use balsaeuchre::laws::in_real_time;
 use balsaeuchre::shared::{Kept, Log, Parts, Seen, Shared, Tie};
@@ -103,7 +104,24 @@ fn ask_and_look<K: Tie + Send + Sync, L: Log + Send + Sync, R: Threads + Wait + 
     heard
 }
 
-/// Opens the kernel, starts the three threads, and waits for them.
+/// Starts the three threads, and waits for them.
+fn run_all<K: Tie + Send + Sync, R: Threads + Wait + Sync>(
+    rt: &R,
+    server: &mut PortCaller<K, Kept<K>, R>,
+    client: &mut PortCaller<K, Kept<K>, R>,
+    other: &mut PortCaller<K, Kept<K>, R>,
+) -> Result<(Answer, State)> {
+    let chid = server.channel_create(ChannelFlags::DISCONNECT)?;
+    let (served, heard) = join(
+        rt,
+        || server.run(|server| serve(server, chid)),
+        || ask_and_look(client, other, chid),
+    );
+    served?;
+    heard
+}
+
+/// Opens the kernel, and runs the three threads.
 fn run<K: Tie + Send + Sync, R: Threads + Wait + Sync>(
     rt: &R,
     alloc: Global,
@@ -111,21 +129,9 @@ fn run<K: Tie + Send + Sync, R: Threads + Wait + Sync>(
 ) -> Result<(Answer, State)>
     requires named { AreParts K.names K.name K.parts parts }
 {
-    let (shared, mut ports) = Shared::<K, Kept<K>>::open(parts)?;
-    let (Some(third), Some(second), Some(first)) = (ports.pop(), ports.pop(), ports.pop()) else {
-        return Err(CallError::Unexpected);
-    };
-    let mut server = Caller::of(first, &shared, rt, alloc);
-    let mut client = Caller::of(second, &shared, rt, alloc);
-    let mut other = Caller::of(third, &shared, rt, alloc);
-    let chid = server.channel_create(ChannelFlags::DISCONNECT)?;
-    let (served, heard) = join(
-        rt,
-        || server.run(|server| serve(server, chid)),
-        || ask_and_look(&mut client, &mut other, chid),
-    );
-    served?;
-    heard
+    let (shared, ports) = Shared::<K, Kept<K>>::open(parts)?;
+    let (mut server, mut client, mut other) = three_callers(ports, &shared, rt, alloc)?;
+    run_all(rt, &mut server, &mut client, &mut other)
 }
 
 /// Lets one client tell another of its answer. Returns the answer, and the first client's state as the other saw it.

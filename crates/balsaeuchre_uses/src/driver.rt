@@ -3,6 +3,7 @@
 
 ghost use Rattle.balsaeuchre.specs.Naming.{AreParts};
 
+use crate::three_callers::three_callers;
 use balsaeuchre::calls::{CallError, Caller, Calls, Endpoint, Received, Result};
 use balsaeuchre::shared::{Kept, Parts, Shared, Tie};
 use balsaeuchre::{ChannelFlags, ChannelId, Priority, ProcessNo, Roster, ThreadNo, What};
@@ -78,7 +79,27 @@ fn use_device<D: Endpoint + Send, C: Endpoint + Send, R: Threads + Wait + Sync>(
     told.and(got)
 }
 
-/// Opens the kernel, starts the three threads, and waits for them.
+/// Starts the three threads, and waits for them.
+fn run_all<E: Endpoint + Send, R: Threads + Wait + Sync>(
+    rt: &R,
+    driver: &mut Caller<E, R>,
+    device: &mut Caller<E, R>,
+    client: &mut Caller<E, R>,
+    values: &[i32],
+) -> Result<()> {
+    let chid = driver.channel_create(ChannelFlags::DISCONNECT)?;
+    let (drove, done) = join(
+        rt,
+        || {
+            let drove = drive(driver, chid);
+            driver.or_shutdown(drove)
+        },
+        || use_device(rt, device, client, chid, values),
+    );
+    drove.and(done)
+}
+
+/// Opens the kernel, and runs the three threads.
 fn run<K: Tie + Send + Sync, R: Threads + Wait + Sync>(
     rt: &R,
     alloc: Global,
@@ -87,23 +108,9 @@ fn run<K: Tie + Send + Sync, R: Threads + Wait + Sync>(
 ) -> Result<()>
     requires named { AreParts K.names K.name K.parts parts }
 {
-    let (shared, mut ports) = Shared::<K, Kept<K>>::open(parts)?;
-    let (Some(third), Some(second), Some(first)) = (ports.pop(), ports.pop(), ports.pop()) else {
-        return Err(CallError::Unexpected);
-    };
-    let mut driver = Caller::of(first, &shared, rt, alloc);
-    let mut device = Caller::of(second, &shared, rt, alloc);
-    let mut client = Caller::of(third, &shared, rt, alloc);
-    let chid = driver.channel_create(ChannelFlags::DISCONNECT)?;
-    let (drove, done) = join(
-        rt,
-        || {
-            let drove = drive(&mut driver, chid);
-            driver.or_shutdown(drove)
-        },
-        || use_device(rt, &mut device, &mut client, chid, values),
-    );
-    drove.and(done)
+    let (shared, ports) = Shared::<K, Kept<K>>::open(parts)?;
+    let (mut driver, mut device, mut client) = three_callers(ports, &shared, rt, alloc)?;
+    run_all(rt, &mut driver, &mut device, &mut client, values)
 }
 
 /// Lets a client read these values of a device through its driver. The driver and the device's thread are of one

@@ -69,7 +69,7 @@ impl Resource {
 }
 
 /// A client of the server.
-#[derive(Drop)]
+#[derive(Clone, Copy)]
 struct Client {
     thread: ThreadNo,
     coid: ConnectionId,
@@ -169,22 +169,29 @@ fn ask(
     serve_one(simulator, chid, resource)
 }
 
-/// Lets both clients ask for the resource, and the first give it back. Returns the answers in the order in which they
-/// came.
-pub fn kept_waiting(alloc: Global) -> Result<Vec<Reply>, CallError> {
-    let mut simulator = simulator_of_three(alloc)?;
+/// Lets both clients ask for the resource, and the first give it back. Adds the answers in the order in which they came.
+fn use_resource(
+    simulator: &mut Simulator,
+    resource: &mut Resource,
+    replies: &mut Vec<Reply>,
+) -> Result<(), CallError> {
     let chid = simulator
         .thread(SERVER)
         .channel_create(ChannelFlags::of(0))?;
-    let mut first = Client::attach(&mut simulator, FIRST, chid)?;
-    let mut second = Client::attach(&mut simulator, SECOND, chid)?;
-    let mut resource = Resource::new(alloc);
-    let mut replies = Vec::new(alloc);
-    ask(&mut simulator, &mut first, TAKE, chid, &mut resource)?;
-    first.take_answer(&mut simulator, &mut replies)?;
-    ask(&mut simulator, &mut second, TAKE, chid, &mut resource)?;
-    ask(&mut simulator, &mut first, GIVE_BACK, chid, &mut resource)?;
-    first.take_answer(&mut simulator, &mut replies)?;
-    second.take_answer(&mut simulator, &mut replies)?;
+    let mut first = Client::attach(simulator, FIRST, chid)?;
+    let mut second = Client::attach(simulator, SECOND, chid)?;
+    ask(simulator, &mut first, TAKE, chid, resource)?;
+    first.take_answer(simulator, replies)?;
+    ask(simulator, &mut second, TAKE, chid, resource)?;
+    ask(simulator, &mut first, GIVE_BACK, chid, resource)?;
+    first.take_answer(simulator, replies)?;
+    second.take_answer(simulator, replies)
+}
+
+/// Runs the server and its clients. Returns the answers in the order in which they came.
+pub fn kept_waiting(alloc: Global) -> Result<Vec<Reply>, CallError> {
+    let mut simulator = simulator_of_three(alloc)?;
+    let (mut resource, mut replies) = (Resource::new(alloc), Vec::new(alloc));
+    use_resource(&mut simulator, &mut resource, &mut replies)?;
     Ok(replies)
 }

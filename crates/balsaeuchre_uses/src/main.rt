@@ -9,6 +9,7 @@ mod kept_waiting;
 mod one_thread;
 mod reply;
 mod shutdown;
+mod three_callers;
 mod three_threads;
 mod timeout;
 mod two_threads;

@@ -41,7 +41,22 @@ fn send<E: Endpoint, R: Wait>(client: &mut Caller<E, R>, chid: ChannelId) -> Res
     client.connect_detach(coid)
 }
 
-/// Opens the kernel, starts both threads, waits for them, and closes the kernel.
+/// Starts both threads, and waits for them.
+fn run_both<S: Endpoint + Send, C: Endpoint + Send, R: Threads + Wait + Sync>(
+    rt: &R,
+    server: &mut Caller<S, R>,
+    client: &mut Caller<C, R>,
+) -> Result<()> {
+    let chid = server.channel_create(ChannelFlags::DISCONNECT)?;
+    let (served, sent) = join(
+        rt,
+        || server.run(|server| serve(server, chid)),
+        || client.run(|client| send(client, chid)),
+    );
+    served.and(sent)
+}
+
+/// Opens the kernel, runs both threads, and closes the kernel.
 fn run<K: Tie + Send + Sync, R: Threads + Wait + Sync>(
     rt: &R,
     alloc: Global,
@@ -52,13 +67,7 @@ fn run<K: Tie + Send + Sync, R: Threads + Wait + Sync>(
 {
     let (shared, ports) = Shared::<K, Kept<K>>::open(parts)?;
     let (mut server, mut client) = two_callers(ports, &shared, rt, alloc)?;
-    let chid = server.channel_create(ChannelFlags::DISCONNECT)?;
-    let (served, sent) = join(
-        rt,
-        || server.run(|server| serve(server, chid)),
-        || client.run(|client| send(client, chid)),
-    );
-    served.and(sent)?;
+    run_both(rt, &mut server, &mut client)?;
     let ports = vec![in alloc; server.into_port(), client.into_port()]?;
     close(shared, ports)
 }
