@@ -1,6 +1,4 @@
-//! The cells with the kernel's completions, by one thread and by many.
+//! The cells with the kernel's completions, by many threads.
 
-mod closing;
 mod crossing;
 mod making;
-mod polling;
