@@ -22,26 +22,28 @@ fn shown_byte(byte: u8) -> char {
 /// Returns a line and the marks below it around this place. A long line is cut to what stands around the place, with two
 /// dots where something is left out. A tab is shown as a space, and a byte that isn't printable ASCII as `?`.
 pub fn excerpt_of(alloc: Global, line: &[u8], place: Place) -> Result<String, AllocError> {
-    let from = if place.at < MOST_SHOWN / 2 || line.len() <= MOST_SHOWN {
-        0
-    } else {
-        place.at.saturating_sub(SHOWN_BEFORE)
-    };
-    let dots = if from > 0 { ".." } else { "" };
-    let mut text = format!(in alloc; "  {dots}")?;
+    let mut text = String::new(alloc);
+    push_excerpt(&mut text, line, place)?;
+    Ok(text)
+}
+
+/// Adds a line and the marks below it.
+fn push_excerpt(text: &mut String, line: &[u8], place: Place) -> Result<(), AllocError> {
+    let is_near = place.at < MOST_SHOWN / 2 || line.len() <= MOST_SHOWN;
+    let skipped = place.at.saturating_sub(SHOWN_BEFORE);
+    let from = if is_near { 0 } else { skipped };
+    let front = if from > 0 { "  .." } else { "  " };
+    text.push_str(front)?;
     for byte in line.iter().skip(from).take(MOST_SHOWN) {
         text.push(shown_byte(*byte))?;
     }
-    if line.len().saturating_sub(from) > MOST_SHOWN {
-        text.push_str("..")?;
-    }
-    text.push_str("\n  ")?;
+    let is_cut = line.len().saturating_sub(from) > MOST_SHOWN;
+    text.push_str(if is_cut { "..\n" } else { "\n" })?;
     let before = place.at.saturating_sub(from);
-    for _ in 0..before.saturating_add(dots.len()) {
-        text.push(' ')?;
+    let blanks = before.saturating_add(front.len());
+    let marks = place.len.min(MOST_SHOWN.saturating_sub(before).max(1));
+    for at in 0..blanks.saturating_add(marks) {
+        text.push(if at < blanks { ' ' } else { '^' })?;
     }
-    for _ in 0..place.len.min(MOST_SHOWN.saturating_sub(before).max(1)) {
-        text.push('^')?;
-    }
-    Ok(text)
+    Ok(())
 }

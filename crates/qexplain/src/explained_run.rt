@@ -1,10 +1,11 @@
 //! Unproved: words and layout. A run whose failures and waits are explained.
 
 use crate::history::{History, Past};
-use crate::waiting::{deadlocks, waits};
+use crate::waiting::{Wait, deadlocks, waits};
 use crate::why::refusals;
 use qbase::errno::Errno;
 use qbase::ids::ThreadNo;
+use qkernel::kernel::Kernel;
 use qmodel::call::Call;
 use qnames::wording::Context;
 use qscript::run::Run;
@@ -36,8 +37,7 @@ impl ExplainedRun {
     pub fn make(&mut self, thread: ThreadNo, call: Call) -> Result<(), Errno> {
         let past = Past::of(thread, &call);
         self.run.make(thread, call)?;
-        self.history.add(past, self.run.endings())?;
-        Ok(())
+        Ok(self.history.add(past, self.run.endings())?)
     }
 
     /// Returns the run.
@@ -60,12 +60,23 @@ impl ExplainedRun {
         let kernel = self.run.kernel();
         let waits = waits(names.alloc, kernel, &self.history, &[])?;
         let mut words = Vec::new(names.alloc);
-        for wait in &waits {
-            words.push(wait.words(names)?)?;
-        }
-        for deadlock in &deadlocks(names.alloc, kernel, waits.as_slice(), &[])? {
-            words.push(deadlock.words(names)?)?;
-        }
+        push_waits(&mut words, names, kernel, waits.as_slice())?;
         Ok(words)
     }
+}
+
+/// Adds these waits in words, and then the circles among them.
+fn push_waits(
+    words: &mut Vec<String>,
+    names: Context<'_>,
+    kernel: &Kernel,
+    waits: &[Wait],
+) -> Result<(), AllocError> {
+    for wait in waits {
+        words.push(wait.words(names)?)?;
+    }
+    for deadlock in &deadlocks(names.alloc, kernel, waits, &[])? {
+        words.push(deadlock.words(names)?)?;
+    }
+    Ok(())
 }

@@ -61,13 +61,15 @@ pub fn faults(alloc: Global, text: &[u8]) -> Result<Vec<Remark>, AllocError> {
 impl Reader {
     /// Returns the fault of the next line.
     fn fault_of(&mut self, alloc: Global, line: &[u8]) -> Result<Option<LineFault>, AllocError> {
-        let said = line_behind(alloc, self.roster.as_slice(), self.has_calls, line);
-        match &said {
-            Ok(Line::Blank) => {}
-            Ok(Line::Roster(member)) => self.roster.push(*member)?,
-            Ok(Line::Call(..)) => self.has_calls = true,
+        let said = match line_behind(alloc, self.roster.as_slice(), self.has_calls, line) {
+            Ok(said) => said,
             Err(ParseError::Memory) => return Err(AllocError),
-            Err(ParseError::Fault(fault)) => return self.untold(line, *fault),
+            Err(ParseError::Fault(fault)) => return self.untold(line, fault),
+        };
+        match &said {
+            Line::Blank => {}
+            Line::Roster(member) => self.roster.push(*member)?,
+            Line::Call(..) => self.has_calls = true,
         }
         Ok(None)
     }

@@ -79,9 +79,8 @@ pub struct History {
 impl History {
     /// Returns the history before any call.
     pub fn new(alloc: Global) -> History {
-        History {
-            calls: Vec::new(alloc),
-        }
+        let calls = Vec::new(alloc);
+        History { calls }
     }
 
     /// Adds the next call and the endings of its event.
@@ -124,7 +123,6 @@ impl History {
     /// Returns the thread that received a message.
     pub fn receiver_of(&self, message: u64) -> Option<ThreadNo> {
         let mut calls = self.calls.iter();
-        let receipt = calls.find(|past| past.end == End::Message(message))?;
-        Some(receipt.thread)
+        Some(calls.find(|past| past.end == End::Message(message))?.thread)
     }
 }

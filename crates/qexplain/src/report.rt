@@ -28,14 +28,9 @@ pub struct Report {
 /// Returns what a script prints, and the report of the same run.
 pub fn explained(alloc: Global, text: &[u8]) -> Result<(String, Report), ScriptFault> {
     let script = parse(alloc, text)?;
-    let lines = call_lines(alloc, text)?;
+    let run = ReportedRun::new(alloc, &script, call_lines(alloc, text)?)?;
     let scope = Scope::new(alloc);
-    let names = Context::plain(alloc, &scope);
-    let mut run = ReportedRun::new(alloc, &script, lines)?;
-    for (thread, call) in script.calls {
-        run.make(names, thread, call)?;
-    }
-    Ok(run.finish(names)?)
+    Ok(run.end(Context::plain(alloc, &scope), script)?)
 }
 
 /// A run that goes on call by call, and its report so far.
@@ -82,17 +77,30 @@ impl ReportedRun {
         let failed = endings.filter(|ending| matches!(ending.mark, Mark::Failed(_)));
         let count = failed.count();
         self.report.failures = self.report.failures.saturating_add(count);
-        if count == 0 || self.report.refusals.len() >= MOST_REFUSALS {
-            return Ok(());
-        }
-        for (number, refusal) in self.run.refusals(names)? {
-            let place = number.saturating_sub(1) as usize;
-            let line = self.lines.get(place).copied().unwrap_or(0);
-            if self.report.refusals.len() < MOST_REFUSALS {
-                self.report.refusals.push((line, refusal))?;
+        if count > 0 && self.report.refusals.len() < MOST_REFUSALS {
+            for (number, refusal) in self.run.refusals(names)? {
+                self.note(number, refusal)?;
             }
         }
         Ok(())
+    }
+
+    /// Notes a failure of the call of this number, unless there are `MOST_REFUSALS`.
+    fn note(&mut self, number: u64, refusal: String) -> Result<(), AllocError> {
+        if self.report.refusals.len() < MOST_REFUSALS {
+            let place = number.saturating_sub(1) as usize;
+            let line = self.lines.get(place).copied().unwrap_or(0);
+            self.report.refusals.push((line, refusal))?;
+        }
+        Ok(())
+    }
+
+    /// Makes the calls of its script, and returns what `finish` does.
+    fn end(mut self, names: Context<'_>, script: Script) -> Result<(String, Report), AllocError> {
+        for (thread, call) in script.calls {
+            self.make(names, thread, call)?;
+        }
+        self.finish(names)
     }
 
     /// Returns what the run prints, and its report with who is blocked on whom at its end.

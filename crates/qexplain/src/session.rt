@@ -74,9 +74,8 @@ impl Session {
     /// is added; the line number of the error counts all lines of the session. After `NoMemory` the session must not be
     /// used any more.
     pub fn add(&mut self, lines: &[u8]) -> Result<Vec<u8>, ScriptFault> {
-        let text = self.text.len();
+        let (text, members) = (self.text.len(), self.roster.len());
         let count = self.lines;
-        let members = self.roster.len();
         let added = self.try_add(lines);
         if added.is_err() {
             self.text.truncate(text);

@@ -1,6 +1,7 @@
 //! Unproved: words and layout. Prints the state of each thread.
 
 use qkernel::kernel::Kernel;
+use qkernel::open_call::Blocked;
 use qmodel::call::Mark;
 use qnames::wording::Context;
 use qreading::states::state_among;
@@ -19,26 +20,34 @@ pub fn states_of(
     let blocked = kernel.blocked(names.alloc)?;
     let mut lines = String::new(names.alloc);
     for member in members {
-        let mut threads = kernel.threads().iter();
-        let Some(thread) = threads.find(|thread| thread.member.thread == member.thread) else {
-            continue;
-        };
-        let state = state_among(blocked.as_slice(), member.thread);
-        let shown = names.thread(member.thread);
-        write!(lines, "{shown}")?;
-        match (names.is_plain(), kernel.is_down()) {
-            (true, true) => lines.push_str(" state ready -")?,
-            (true, false) => {
-                let priority = thread.priority;
-                push_mark(&mut lines, Mark::State { state, priority })?;
-            }
-            (false, true) => lines.push_str(" is ready")?,
-            (false, false) => {
-                let (state, level) = (names.state(&state)?, thread.priority.get());
-                write!(lines, " is {state}  # priority {level}")?;
-            }
-        }
-        lines.push('\n')?;
+        push_state(&mut lines, names, kernel, blocked.as_slice(), member)?;
     }
     Ok(lines)
+}
+
+/// Adds the line of a thread, if the kernel has it.
+fn push_state(
+    lines: &mut String,
+    names: Context<'_>,
+    kernel: &Kernel,
+    blocked: &[Blocked],
+    member: &Member,
+) -> Result<(), AllocError> {
+    let mut threads = kernel.threads().iter();
+    let Some(thread) = threads.find(|thread| thread.member.thread == member.thread) else {
+        return Ok(());
+    };
+    let (shown, priority) = (names.thread(member.thread), thread.priority);
+    let state = state_among(blocked, member.thread);
+    write!(lines, "{shown}")?;
+    match (names.is_plain(), kernel.is_down()) {
+        (true, true) => lines.push_str(" state ready -"),
+        (true, false) => push_mark(lines, Mark::State { state, priority }),
+        (false, true) => lines.push_str(" is ready"),
+        (false, false) => {
+            let (state, level) = (names.state(&state)?, priority.get());
+            write!(lines, " is {state}  # priority {level}")
+        }
+    }?;
+    lines.push('\n')
 }

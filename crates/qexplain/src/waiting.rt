@@ -28,8 +28,7 @@ pub struct Wait {
 impl Wait {
     /// Returns `THREAD waits for THREAD: message MESSAGE isn't received`.
     pub fn words(&self, names: Context<'_>) -> Result<String, AllocError> {
-        let thread = names.thread(self.thread);
-        let on = names.thread(self.on);
+        let (thread, on) = (names.thread(self.thread), names.thread(self.on));
         let message = names.id(self.message);
         let (others, lack) = match (self.is_held, self.has_others) {
             (true, _) => ("", "answered"),
@@ -53,8 +52,7 @@ impl Deadlock {
         let mut words = String::new(names.alloc);
         let mut between = "deadlock: ";
         for wait in &self.waits {
-            let thread = names.thread(wait.thread);
-            let on = names.thread(wait.on);
+            let (thread, on) = (names.thread(wait.thread), names.thread(wait.on));
             write!(words, "{between}{thread} waits for {on}")?;
             between = ", ";
         }

@@ -22,35 +22,43 @@ pub fn refusals(
     history: &History,
     endings: &[Completion],
 ) -> Result<Vec<(u64, String)>, AllocError> {
-    let alloc = names.alloc;
-    let mut refusals = Vec::new(alloc);
-    let made = history.made();
-    let Some(call) = history.call(made) else {
-        return Ok(refusals);
-    };
+    let mut refusals = Vec::new(names.alloc);
     for ending in endings {
-        let number = ending.call;
         if let Mark::Failed(errno) = ending.mark
-            && let Some(past) = history.call(number)
+            && let Some(past) = history.call(ending.call)
         {
-            let head = head_words(names, number, &past, errno)?;
-            let why = if number == made {
-                let blocked = kernel.blocked(alloc)?;
-                let refused = Refused {
-                    names,
-                    kernel,
-                    blocked,
-                    history,
-                    call,
-                };
-                refused.rule(errno)?
-            } else {
-                cut_words(names, made, &call)?
-            };
-            refusals.push((number, format!(in alloc; "{head}: {why}")?))?;
+            let mut words = head_words(names, ending.call, &past, errno)?;
+            let why = why_words(names, kernel, history, ending.call, errno)?;
+            write!(words, ": {why}")?;
+            refusals.push((ending.call, words))?;
         }
     }
     Ok(refusals)
+}
+
+/// Returns why the call of this number failed in the event of the latest call.
+fn why_words(
+    names: Context<'_>,
+    kernel: &Kernel,
+    history: &History,
+    number: u64,
+    errno: Errno,
+) -> Result<String, AllocError> {
+    let made = history.made();
+    let Some(call) = history.call(made) else {
+        return Ok(String::new(names.alloc));
+    };
+    if number != made {
+        return cut_words(names, made, &call);
+    }
+    let refused = Refused {
+        names,
+        kernel,
+        blocked: kernel.blocked(names.alloc)?,
+        history,
+        call,
+    };
+    refused.rule(errno)
 }
 
 /// Returns what stands for the first operand of a call of this kind: a thread, an id or flags.
@@ -69,8 +77,7 @@ fn head_words(
     past: &Past,
     errno: Errno,
 ) -> Result<String, AllocError> {
-    let name = past.kind.word();
-    let error = word(errno);
+    let (name, error) = (past.kind.word(), word(errno));
     let first = if names.is_plain() {
         Shown::Number(number)
     } else {

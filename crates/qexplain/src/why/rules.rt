@@ -198,33 +198,26 @@ impl Refused<'_> {
         if number == 0 {
             return self.plain("calls are numbered from 1");
         }
-        let call = self.names.call(number);
-        if number == self.history.made() {
-            return format!(in alloc; "{call} is this one");
-        }
         let Some(past) = self.history.call(number) else {
             return format!(in alloc; "call {number} isn't made yet");
         };
-        let word = past.kind.word();
-        match past.end {
-            End::Refused => format!(in alloc; "{call} was refused"),
-            End::Channel => format!(in alloc; "{call} made a channel"),
-            End::Connection => format!(in alloc; "{call} made a connection"),
-            End::Message(message) => {
-                let message = self.names.id(message);
-                format!(in alloc; "{call} received message {message}")
-            }
-            End::Pulse(item) => {
-                let item = self.names.id(item);
-                format!(in alloc; "{call} received pulse {item}")
-            }
-            _ if past.kind == CallKind::Send => {
-                let message = self.names.id(number);
-                format!(in alloc; "{call} sent message {message}")
-            }
-            _ if past.kind == CallKind::Pulse => format!(in alloc; "{call} sent a pulse"),
-            _ => format!(in alloc; "{call} is the call '{word}'"),
-        }
+        let call = self.names.call(number);
+        let (did, item) = match past.end {
+            _ if number == self.history.made() => ("is this one", None),
+            End::Refused => ("was refused", None),
+            End::Channel => ("made a channel", None),
+            End::Connection => ("made a connection", None),
+            End::Message(message) => ("received message", Some(message)),
+            End::Pulse(item) => ("received pulse", Some(item)),
+            _ if past.kind == CallKind::Send => ("sent message", Some(number)),
+            _ if past.kind == CallKind::Pulse => ("sent a pulse", None),
+            _ => return format!(in alloc; "{call} is the call '{}'", past.kind.word()),
+        };
+        let Some(item) = item else {
+            return format!(in alloc; "{call} {did}");
+        };
+        let item = self.names.id(item);
+        format!(in alloc; "{call} {did} {item}")
     }
 
     /// Returns the channel that may have been meant: the one that a connection of this number leads to, or else the
