@@ -21,6 +21,7 @@ use qscript::script::roster_with_all;
 use qscript::{Script, parse};
 use qtables::member::Member;
 use std::alloc::{AllocError, Global};
+use std::mem;
 
 /// The most calls of a chart.
 pub const MOST_CALLS: usize = 400;
@@ -95,35 +96,19 @@ pub fn chart_of(names: Context<'_>, script: Script, view: &View) -> Result<Chart
 }
 
 /// Returns the part of a chart that is drawn.
-fn part_of(alloc: Global, whole: Chart, view: &View) -> Result<Chart, AllocError> {
-    let Chart {
-        lifelines,
-        rows,
-        waits,
-        deadlocks,
-        ..
-    } = whole;
-    let before = view.before() as u64;
-    let mut part = Vec::new(alloc);
-    let mut blocked = Vec::new(alloc);
-    for row in rows {
-        if row.number > view.to as u64 {
-            break;
+fn part_of(alloc: Global, mut part: Chart, view: &View) -> Result<Chart, AllocError> {
+    let to = view.to as u64;
+    part.before = view.before() as u64;
+    for mut row in mem::replace(&mut part.rows, Vec::new(alloc)) {
+        if row.number <= to.min(part.before) {
+            mem::swap(&mut part.blocked, &mut row.blocked);
         }
-        if row.number > before {
-            part.push(row)?;
-        } else {
-            blocked = row.blocked;
+        let is_drawn = row.number > part.before && row.number <= to;
+        if is_drawn {
+            part.rows.push(row)?;
         }
     }
-    Ok(Chart {
-        lifelines,
-        rows: part,
-        before,
-        blocked,
-        waits,
-        deadlocks,
-    })
+    Ok(part)
 }
 
 /// Sorts the threads by their processes, and those of a process by number.

@@ -83,16 +83,17 @@ pub fn push_result(
     let Some(own) = endings.iter().find(|ending| ending.call == number) else {
         return Ok(());
     };
-    match own.mark {
-        Mark::Failed(errno) => write!(words, ": fail {}", word(errno)),
-        Mark::Channel(channel) => write!(words, ": channel {}", names.id(channel.0)),
-        Mark::Connection(coid) => write!(words, ": connection {}", names.id(coid.0)),
-        Mark::Count(copied) => write!(words, ": {copied} bytes"),
+    let (kind, id) = match own.mark {
+        Mark::Failed(errno) => return write!(words, ": fail {}", word(errno)),
+        Mark::Channel(channel) => ("channel", channel.0),
+        Mark::Connection(coid) => ("connection", coid.0),
+        Mark::Count(copied) => return write!(words, ": {copied} bytes"),
         Mark::State { state, priority } => {
-            write!(words, ": {} {}", state_name(state), priority.get())
+            return write!(words, ": {} {}", state_name(state), priority.get());
         }
-        _ => Ok(()),
-    }
+        _ => return Ok(()),
+    };
+    write!(words, ": {kind} {}", names.id(id))
 }
 
 /// The most bytes of a message or an answer that are shown.

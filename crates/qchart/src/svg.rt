@@ -25,27 +25,32 @@ type Place = (usize, usize);
 pub fn svg_of(names: Context<'_>, chart: &Chart) -> Result<String, AllocError> {
     let sheet = Sheet::of(names, chart)?;
     let mut out = String::new(names.alloc);
-    sheet.push_start(&mut out)?;
-    sheet.push_processes(&mut out)?;
-    sheet.push_guides(&mut out)?;
-    sheet.push_lifelines(&mut out)?;
-    for row in &chart.rows {
-        sheet.push_row(&mut out, row)?;
-    }
-    sheet.push_pending(&mut out)?;
-    sheet.push_deadlocks(&mut out)?;
-    sheet.push_legend(&mut out)?;
-    out.push_str("</svg>\n")?;
+    sheet.push_all(&mut out)?;
     Ok(out)
 }
 
 impl Sheet<'_> {
-    fn push_start(&self, out: &mut String) -> Added {
+    /// Adds the whole drawing.
+    fn push_all(&self, out: &mut String) -> Added {
         let (width, height) = (self.width(), self.height());
-        write!(out, "<svg xmlns=\"http://www.w3.org/2000/svg\"")?;
-        write!(out, " width=\"{width}\" height=\"{height}\"")?;
-        write!(out, " viewBox=\"0 0 {width} {height}\" role=\"img\">\n")?;
-        out.push_str(START)
+        write!(
+            out,
+            "<svg xmlns=\"http://www.w3.org/2000/svg\" width=\"{width}\" height=\"{height}\" \
+             viewBox=\"0 0 {width} {height}\" role=\"img\">\n{START}"
+        )?;
+        self.push_processes(out)?;
+        self.push_guides(out)?;
+        self.push_lifelines(out)?;
+        for row in &self.chart.rows {
+            self.push_row(out, row)?;
+        }
+        self.push_pending(out)?;
+        self.push_deadlocks(out)?;
+        let y = self.legend();
+        write!(
+            out,
+            "<g transform=\"translate(40,{y})\">\n{LEGEND}</g>\n</svg>\n"
+        )
     }
 
     /// Adds a background for the threads of each process.
@@ -68,8 +73,10 @@ impl Sheet<'_> {
         let x = self.x(first).saturating_sub(room);
         let width = self.x(last).saturating_add(room).saturating_sub(x);
         let height = self.foot().saturating_sub(4);
-        write!(out, "<rect class=\"process\" x=\"{x}\" y=\"8\"")?;
-        write!(out, " width=\"{width}\" height=\"{height}\" rx=\"8\"/>\n")
+        write!(
+            out,
+            "<rect class=\"process\" x=\"{x}\" y=\"8\" width=\"{width}\" height=\"{height}\" rx=\"8\"/>\n"
+        )
     }
 
     /// Adds the number of each call, and a faint horizontal line for it.
@@ -79,7 +86,7 @@ impl Sheet<'_> {
             let y = self.y(row.number);
             push_line(out, "guide", (40, y), right)?;
             let words = format!(in self.names.alloc; "{}", row.number)?;
-            push_text(out, "number", (32, y.saturating_add(4)), words.as_str())?;
+            push_made(out, "number", (32, y.saturating_add(4)), words)?;
         }
         Ok(())
     }
@@ -97,12 +104,14 @@ impl Sheet<'_> {
         let x = self.x_of(member.thread);
         let left = x.saturating_sub(self.head_half);
         let width = self.head_half.saturating_mul(2);
-        write!(out, "<rect class=\"head\" x=\"{left}\" y=\"14\"")?;
-        write!(out, " width=\"{width}\" height=\"38\" rx=\"4\"/>")?;
         let name = head(self.names, member)?;
-        write!(out, "<text class=\"name\" x=\"{x}\" y=\"30\">{name}</text>")?;
+        write!(
+            out,
+            "<rect class=\"head\" x=\"{left}\" y=\"14\" width=\"{width}\" height=\"38\" rx=\"4\"/>\
+             <text class=\"name\" x=\"{x}\" y=\"30\">{name}</text>"
+        )?;
         let words = priority_words(self.names.alloc, member.priority)?;
-        push_text(out, "first", (x, 45), words.as_str())
+        push_made(out, "first", (x, 45), words)
     }
 
     /// Adds the bars of a thread, one for each stay in a state, from the one before the first row on.
@@ -132,12 +141,12 @@ impl Sheet<'_> {
             let x = self.x_of(cut.thread);
             push_cross(out, x, y)?;
             let words = cut_words(self.names, cut)?;
-            push_text(out, "cut", (x.saturating_add(14), base), words.as_str())?;
+            push_made(out, "cut", (x.saturating_add(14), base), words)?;
         }
         for change in &row.changes {
             let x = self.x_of(change.thread).saturating_add(14);
             let words = priority_words(self.names.alloc, change.priority)?;
-            push_text(out, "change", (x, base), words.as_str())?;
+            push_made(out, "change", (x, base), words)?;
         }
         Ok(())
     }
@@ -181,8 +190,7 @@ impl Sheet<'_> {
     fn push_deadlocks(&self, out: &mut String) -> Added {
         let mut y = self.foot().saturating_add(20);
         for deadlock in &self.chart.deadlocks {
-            let words = deadlock.words(self.names)?;
-            push_text(out, "cut", (40, y), words.as_str())?;
+            push_made(out, "cut", (40, y), deadlock.words(self.names)?)?;
             y = y.saturating_add(LINE);
         }
         Ok(())
@@ -224,11 +232,6 @@ impl Sheet<'_> {
         }
         push_circle(out, "ring", from, y)
     }
-
-    fn push_legend(&self, out: &mut String) -> Added {
-        let y = self.legend();
-        write!(out, "<g transform=\"translate(40,{y})\">\n{LEGEND}</g>\n")
-    }
 }
 
 /// Returns the x coordinate at this distance from a line, on a side of it.
@@ -247,42 +250,55 @@ fn push_words(out: &mut String, side: Side, at: Place, words: &str) -> Added {
     }
 }
 
+/// Adds words that were made for this place.
+fn push_made(out: &mut String, class: &str, at: Place, words: String) -> Added {
+    push_text(out, class, at, words.as_str())
+}
+
 fn push_text(out: &mut String, class: &str, (x, y): Place, words: &str) -> Added {
-    write!(out, "<text class=\"{class}\" x=\"{x}\" y=\"{y}\">")?;
-    write!(out, "{words}</text>\n")
+    write!(
+        out,
+        "<text class=\"{class}\" x=\"{x}\" y=\"{y}\">{words}</text>\n"
+    )
 }
 
 /// Adds a horizontal line.
 fn push_line(out: &mut String, class: &str, (x, y): Place, end: usize) -> Added {
-    write!(out, "<line class=\"{class}\" x1=\"{x}\" y1=\"{y}\"")?;
-    write!(out, " x2=\"{end}\" y2=\"{y}\"/>")
+    write!(
+        out,
+        "<line class=\"{class}\" x1=\"{x}\" y1=\"{y}\" x2=\"{end}\" y2=\"{y}\"/>"
+    )
 }
 
 fn push_circle(out: &mut String, class: &str, x: usize, y: usize) -> Added {
-    write!(out, "<circle class=\"{class}\" cx=\"{x}\" cy=\"{y}\"")?;
-    out.push_str(" r=\"4\"/>")
+    write!(out, r#"<circle class="{class}" cx="{x}" cy="{y}" r="4"/>"#)
 }
 
 fn push_bar(out: &mut String, state: ThreadState, (x, y): Place, bottom: usize) -> Added {
     let class = state_word(state);
     let width = BAR_HALF.saturating_mul(2);
     let height = bottom.saturating_sub(y);
-    write!(out, "<rect class=\"{class}\" x=\"{x}\" y=\"{y}\"")?;
-    write!(out, " width=\"{width}\" height=\"{height}\"/>\n")
+    write!(
+        out,
+        "<rect class=\"{class}\" x=\"{x}\" y=\"{y}\" width=\"{width}\" height=\"{height}\"/>\n"
+    )
 }
 
 fn push_cross(out: &mut String, x: usize, y: usize) -> Added {
     let (left, right) = (x.saturating_sub(5), x.saturating_add(5));
     let (top, bottom) = (y.saturating_sub(5), y.saturating_add(5));
-    write!(out, "<path class=\"cross\" d=\"M{left},{top}")?;
-    write!(out, " L{right},{bottom} M{right},{top}")?;
-    write!(out, " L{left},{bottom}\"/>")
+    write!(
+        out,
+        "<path class=\"cross\" d=\"M{left},{top} L{right},{bottom} M{right},{top} L{left},{bottom}\"/>"
+    )
 }
 
 fn push_loop(out: &mut String, class: &str, x: usize, y: usize) -> Added {
     let (start, end) = (x.saturating_add(8), x.saturating_add(9));
     let far = x.saturating_add(26);
     let top = y.saturating_sub(8);
-    write!(out, "<path class=\"{class}\" d=\"M{start},{top}")?;
-    write!(out, " L{far},{top} L{far},{y} L{end},{y}\"/>")
+    write!(
+        out,
+        "<path class=\"{class}\" d=\"M{start},{top} L{far},{top} L{far},{y} L{end},{y}\"/>"
+    )
 }

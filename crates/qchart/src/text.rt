@@ -43,15 +43,7 @@ pub fn text_of(names: Context<'_>, chart: &Chart) -> Result<String, AllocError> 
     let gap = LEAST_GAP.max(words).max(heads);
     let page = Page { names, chart, gap };
     let mut out = String::new(names.alloc);
-    page.push_heads(&mut out)?;
-    for row in &chart.rows {
-        page.push_row(&mut out, row)?;
-    }
-    for deadlock in &chart.deadlocks {
-        let words = deadlock.words(names)?;
-        write!(out, "{words}\n")?;
-    }
-    out.push_str(LEGEND)?;
+    page.push_all(&mut out)?;
     Ok(out)
 }
 
@@ -62,24 +54,42 @@ impl Page<'_> {
         MARGIN.saturating_add(self.gap.saturating_mul(column))
     }
 
-    /// Writes words beside a thread's line.
-    fn put_beside(&self, line: &mut Line, thread: ThreadNo, words: &str) -> Added {
-        line.put(self.place_of(thread).saturating_add(2), words)
+    /// Adds the whole chart.
+    fn push_all(&self, out: &mut String) -> Added {
+        self.push_heads(out)?;
+        for row in &self.chart.rows {
+            self.push_row(out, row)?;
+        }
+        for deadlock in &self.chart.deadlocks {
+            write!(out, "{}\n", deadlock.words(self.names)?)?;
+        }
+        out.push_str(LEGEND)
+    }
+
+    /// Returns the place of words beside a thread's line.
+    fn beside(&self, thread: ThreadNo) -> usize {
+        self.place_of(thread).saturating_add(2)
     }
 
     /// Adds two lines for the heads of the threads.
     fn push_heads(&self, out: &mut String) -> Added {
         let mut names = Line::new(self.names.alloc);
         let mut levels = Line::new(self.names.alloc);
+        self.put_heads(&mut names, &mut levels)?;
+        names.end(out)?;
+        levels.end(out)
+    }
+
+    /// Writes the heads of the threads in one line, and their priorities in the other.
+    fn put_heads(&self, names: &mut Line, levels: &mut Line) -> Added {
         names.put(0, "call")?;
         for member in &self.chart.lifelines {
             let place = self.place_of(member.thread);
-            names.put(place, head(self.names, member)?.as_str())?;
+            names.put_made(place, head(self.names, member)?)?;
             let level = priority_words(self.names.alloc, member.priority)?;
-            levels.put(place, level.as_str())?;
+            levels.put_made(place, level)?;
         }
-        names.end(out)?;
-        levels.end(out)
+        Ok(())
     }
 
     /// Writes the states of the threads after a row, over any arrow that crosses them, and ends the line.
@@ -94,20 +104,25 @@ impl Page<'_> {
     /// Adds the lines of a row: its call, the arrows that aren't the call's own, and the priorities that changed.
     fn push_row(&self, out: &mut String, row: &Row) -> Added {
         let mut first = Line::new(self.names.alloc);
-        let number = row.number;
-        first.put(0, format!(in self.names.alloc; "{number:>4}")?.as_str())?;
-        match row.arrows.first() {
-            Some(arrow) if is_sent(row, arrow) => {
-                self.put_arrow(&mut first, arrow, row.words.as_str(), false)?;
-            }
-            _ => self.put_call(&mut first, row)?,
-        }
-        for cut in &row.cuts {
-            self.put_beside(&mut first, cut.thread, cut_words(self.names, cut)?.as_str())?;
-        }
+        self.put_row(&mut first, row)?;
         self.end_line(out, first, row)?;
         self.push_arrows(out, row)?;
         self.push_changes(out, row)
+    }
+
+    /// Writes the first line of a row: its number, its call, and the calls that it ended by force.
+    fn put_row(&self, line: &mut Line, row: &Row) -> Added {
+        line.put_made(0, format!(in self.names.alloc; "{:>4}", row.number)?)?;
+        match row.arrows.first() {
+            Some(arrow) if is_sent(row, arrow) => {
+                self.put_arrow(line, arrow, row.words.as_str(), false)?;
+            }
+            _ => self.put_call(line, row)?,
+        }
+        for cut in &row.cuts {
+            line.put_made(self.beside(cut.thread), cut_words(self.names, cut)?)?;
+        }
+        Ok(())
     }
 
     /// Writes a call that no arrow shows: its words beside the caller's line, or at a short arrow if nobody has
@@ -118,7 +133,7 @@ impl Page<'_> {
             Some(wait) if wait.on != wait.thread => {
                 self.put_short_arrow(line, wait, row.words.as_str())
             }
-            _ => self.put_beside(line, row.thread, row.words.as_str()),
+            _ => line.put(self.beside(row.thread), row.words.as_str()),
         }
     }
 
@@ -158,7 +173,7 @@ impl Page<'_> {
         let mut line = Line::new(self.names.alloc);
         for change in &row.changes {
             let words = priority_words(self.names.alloc, change.priority)?;
-            self.put_beside(&mut line, change.thread, words.as_str())?;
+            line.put_made(self.beside(change.thread), words)?;
         }
         self.end_line(out, line, row)
     }

@@ -39,10 +39,10 @@ fn hold_and_serve<E: Endpoint, R: Wait>(
     let mut tally = Tally::default();
     let first = next_request(caller, chid, false, &mut tally)?;
     let second = next_request(caller, chid, true, &mut tally)?;
-    answer(caller, &first)?;
-    tally.count_answered();
-    answer(caller, &second)?;
-    tally.count_answered();
+    for request in [first, second] {
+        answer(caller, &request)?;
+        tally.count_answered();
+    }
     Ok(tally.plus(serve_all(caller, chid)?))
 }
 

@@ -11,7 +11,7 @@ use crate::settings::{Settings, Stacks};
 use crate::stage::{Joined, Stage, Started};
 use crate::tally::{Tally, both};
 use crate::texts::Totals;
-use crate::timing::{start_of, timing_of};
+use crate::timing::{Timing, start_of, timing_of};
 use qbase::flags::ChannelFlags;
 use qbase::ids::ConnectionId;
 use qcalls::caller::Caller;
@@ -36,11 +36,12 @@ use std::thread::{Threads, available_parallelism};
 struct Crew<K: Tie> {
     servers: Vec<Port<K>>,
     clients: Vec<Port<K>>,
-    alarm: Port<K>,
+    /// The port of the alarm alone.
+    alarm: Vec<Port<K>>,
 }
 
-/// The results of all workers, the nanoseconds of each of the clients' round trips, and all ports in rising thread
-/// number.
+/// The results of all workers, the nanoseconds of each of the clients' round trips, and their ports with that of the
+/// alarm, in rising thread number.
 #[derive(Drop)]
 struct Gathered<K: Tie> {
     tally: Tally,
@@ -67,24 +68,14 @@ pub fn run<K: Tie + Send + Sync, R: Threads + Wait + Clock + Eprint + Sync>(
     requires named { AreParts K.names K.name K.parts parts }
     ensures run { IfOk result (λ f. IfSome f.trace (λ t. IsRun K.names.roster t)) }
 {
-    let Ok((mut shared, mut ports)) = Shared::<K, Kept<K>>::open(parts) else {
+    let Ok((mut shared, ports)) = Shared::<K, Kept<K>>::open(parts) else {
         return Err(ServeFault::NoMemory);
     };
     if let Ok(processors) = available_parallelism(rt) {
         shared.set_processors(processors.get());
     }
-    let Some(main) = ports.pop() else {
-        return Err(ServeFault::Worker);
-    };
-    let crew = crew_of(ports, settings.servers)?;
     let progress = Progress::new();
-    let start = start_of(rt, settings.time)?;
-    let Gathered {
-        tally,
-        trips,
-        ports,
-    } = gather(rt, alloc, &shared, &progress, main, crew, settings, stacks)?;
-    let timing = timing_of(rt, start, trips)?;
+    let (tally, timing, ports) = gather(rt, alloc, &shared, &progress, ports, settings, stacks)?;
     if !shared.all(ports.as_slice()) {
         return Err(ServeFault::Worker);
     }
@@ -98,33 +89,40 @@ pub fn run<K: Tie + Send + Sync, R: Threads + Wait + Clock + Eprint + Sync>(
     Ok(Finished { totals, trace })
 }
 
-/// Sorts the ports except that of the main thread, which come in rising thread number: servers, clients, the alarm.
-fn crew_of<K: Tie>(mut ports: Vec<Port<K>>, servers: u8) -> Result<Crew<K>, WorkerFault> {
+/// Sorts the ports, which come in rising thread number: servers, clients, the alarm, the main thread.
+fn crew_of<K: Tie>(
+    mut ports: Vec<Port<K>>,
+    servers: u8,
+) -> Result<(Port<K>, Crew<K>), WorkerFault> {
     let servers = usize::from(servers);
-    let alarm = ports.pop().ok_or(WorkerFault::Unexpected)?;
-    if ports.len() < servers {
+    let workers = ports.len().saturating_sub(2);
+    if workers < servers {
         return Err(WorkerFault::Unexpected);
     }
+    let mut alarm = ports.split_off(workers)?;
     let clients = ports.split_off(servers)?;
-    Ok(Crew {
+    let main = alarm.pop().ok_or(WorkerFault::Unexpected)?;
+    let crew = Crew {
         servers: ports,
         clients,
         alarm,
-    })
+    };
+    Ok((main, crew))
 }
 
 /// Starts the workers on threads of their own, and waits until all have ended. If the main thread's work fails, a
-/// Shutdown ends the workers.
+/// Shutdown ends the workers. Returns their results together, the times if they are taken, and all ports.
 fn gather<K: Tie + Send + Sync, L: Log + Send, R: Threads + Wait + Clock + Eprint + Sync>(
     rt: &R,
     alloc: Global,
     shared: &Shared<K, L>,
     progress: &Progress,
-    main: Port<K>,
-    crew: Crew<K>,
+    ports: Vec<Port<K>>,
     settings: Settings,
     stacks: Stacks,
-) -> Result<Gathered<K>, WorkerFault> {
+) -> Result<(Tally, Option<Timing>, Vec<Port<K>>), WorkerFault> {
+    let start = start_of(rt, settings.time)?;
+    let (main, crew) = crew_of(ports, settings.servers)?;
     let (work, port) = thread::scope(thread::scope_env(), rt, move |scope| {
         let stage = Stage {
             rt,
@@ -138,9 +136,12 @@ fn gather<K: Tie + Send + Sync, L: Log + Send, R: Threads + Wait + Clock + Eprin
         let work = conduct(&stage, &mut main, crew, settings);
         (main.or_shutdown(work), main.into_port())
     });
+    let mut main = Vec::new(alloc);
+    main.push(port)?;
     let mut gathered = work?;
-    gathered.ports.push(port)?;
-    Ok(gathered)
+    gathered.ports.append(&mut main)?;
+    let timing = timing_of(rt, start, gathered.trips)?;
+    Ok((gathered.tally, timing, gathered.ports))
 }
 
 /// Creates the channel, starts all workers at once, waits for the clients, stops the servers, waits for them, and shuts
@@ -158,31 +159,27 @@ fn conduct<
     crew: Crew<K>,
     settings: Settings,
 ) -> Result<Gathered<K>, WorkerFault> {
-    let (given, kept) = if settings.hold {
-        (Some(crew.alarm), None)
-    } else {
-        (None, Some(crew.alarm))
-    };
-    let many = crew.servers.len();
     let chid = main.channel_create(ChannelFlags::of(0))?;
     let coid = main.connect_attach(chid)?;
+    let (given, mut alarm) = if settings.hold {
+        (crew.alarm, Vec::new(stage.alloc))
+    } else {
+        (Vec::new(stage.alloc), crew.alarm)
+    };
+    let many = crew.servers.len();
     let servers = stage.start(crew.servers, None, given, chid)?;
-    let clients = stage.start(crew.clients, Some(settings), None, chid)?;
+    let clients = stage.start(crew.clients, Some(settings), Vec::new(stage.alloc), chid)?;
     let started = main.or_shutdown(both(servers.all, clients.all));
     if settings.progress {
         stage.show(clients.threads.len() as u64, settings.all_rounds());
     }
-    let clients = stage.join_all(clients.threads)?;
+    let clients = stage.join_all(clients.threads, &mut alarm)?;
     let stopped = stop_servers(main, coid, many);
-    let servers = stage.join_all(servers.threads)?;
-    let tally = both(both(clients.done, servers.done), both(started, stopped))?;
+    let servers = stage.join_all(servers.threads, &mut alarm)?;
+    let gathered = gathered_of(servers, clients, alarm, both(started, stopped))?;
     main.channel_destroy(chid)?;
     main.shutdown()?;
-    Ok(Gathered {
-        tally,
-        trips: clients.trips,
-        ports: ports_of(servers, clients.ports, kept)?,
-    })
+    Ok(gathered)
 }
 
 /// Sends one pulse for each server, which stops it. If that fails, a Shutdown does.
@@ -198,16 +195,19 @@ fn stop_servers<E: Endpoint, R: Wait>(
     Ok(Tally::default())
 }
 
-/// Returns the ports of all workers and of the alarm, which the main thread kept or a server had.
-fn ports_of<K: Tie>(
-    servers: Joined<K>,
-    mut clients: Vec<Port<K>>,
-    kept: Option<Port<K>>,
-) -> Result<Vec<Port<K>>, WorkerFault> {
-    let mut ports = servers.ports;
-    ports.append(&mut clients)?;
-    if let Some(alarm) = kept.or(servers.alarm) {
-        ports.push(alarm)?;
-    }
-    Ok(ports)
+/// Returns the results of all workers and their ports with that of the alarm, or an error if a worker or `rest` failed.
+fn gathered_of<K: Tie>(
+    mut servers: Joined<K>,
+    mut clients: Joined<K>,
+    mut alarm: Vec<Port<K>>,
+    rest: Result<Tally, WorkerFault>,
+) -> Result<Gathered<K>, WorkerFault> {
+    let tally = both(both(clients.done, servers.done), rest)?;
+    servers.ports.append(&mut clients.ports)?;
+    servers.ports.append(&mut alarm)?;
+    Ok(Gathered {
+        tally,
+        trips: clients.trips,
+        ports: servers.ports,
+    })
 }

@@ -53,9 +53,11 @@ pub fn answer<E: Endpoint, R: Wait>(
     request: &Request,
 ) -> Result<(), CallError> {
     let message = request.bytes();
-    match serve_one(message) {
-        Outcome::Same => caller.msg_reply(request.rcvid, 0, message),
-        Outcome::Bytes(bytes) => caller.msg_reply(request.rcvid, 0, &bytes),
-        Outcome::Error(code) => caller.msg_error(request.rcvid, code),
-    }
+    let outcome = serve_one(message);
+    let bytes: &[u8] = match &outcome {
+        Outcome::Same => message,
+        Outcome::Bytes(bytes) => bytes,
+        Outcome::Error(code) => return caller.msg_error(request.rcvid, *code),
+    };
+    caller.msg_reply(request.rcvid, 0, bytes)
 }

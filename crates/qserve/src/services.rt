@@ -10,6 +10,7 @@ pub const SUM: u8 = 2;
 pub const NO_SERVICE: i32 = 1;
 
 /// The answer of a service.
+#[derive(Clone, Copy)]
 pub enum Outcome {
     /// The message itself.
     Same,

@@ -17,6 +17,7 @@ use qshared::port::Port;
 use qshared::shared::Shared;
 use qshared::tie::Tie;
 use std::alloc::Global;
+use std::mem;
 use std::rt::Clock;
 use std::sync::Wait;
 use std::thread::{Builder, JoinHandle, Scope, Threads};
@@ -50,8 +51,6 @@ pub struct Joined<K: Tie> {
     pub done: Result<Tally, WorkerFault>,
     /// Their ports, in the order in which their threads were started.
     pub ports: Vec<Port<K>>,
-    /// The port of the alarm, if one of them had it.
-    pub alarm: Option<Port<K>>,
     /// The nanoseconds of all round trips, if they were timed.
     pub trips: Vec<u64>,
 }
@@ -81,7 +80,7 @@ impl<'s, X, K: Tie + Send + Sync, L: Log + Send, R: Threads + Wait + Clock + Epr
         &self,
         ports: Vec<Port<K>>,
         settings: Option<Settings>,
-        mut alarm: Option<Port<K>>,
+        mut alarm: Vec<Port<K>>,
         chid: ChannelId,
     ) -> Result<Started<K>, WorkerFault> {
         let (rt, alloc, shared) = (self.rt, self.alloc, self.shared);
@@ -91,7 +90,7 @@ impl<'s, X, K: Tie + Send + Sync, L: Log + Send, R: Threads + Wait + Clock + Epr
         let mut all = Ok(Tally::default());
         for port in ports {
             let builder = Builder::new().stack_size(stack);
-            let alarm = alarm.take();
+            let alarm = mem::replace(&mut alarm, Vec::new(alloc));
             let started = builder.spawn_scoped(self.scope, move || match settings {
                 Some(settings) => client_thread(rt, alloc, shared, progress, port, chid, settings),
                 None => server_thread(rt, alloc, shared, port, alarm, chid),
@@ -109,25 +108,36 @@ impl<'s, X, K: Tie + Send + Sync, L: Log + Send, R: Threads + Wait + Clock + Epr
         show(self.rt, self.alloc, self.progress, clients, rounds);
     }
 
-    /// Waits for all these threads to end. If there is no memory for their ports, it returns an error, and some may
-    /// still run.
-    pub fn join_all(&self, threads: Vec<JoinHandle<Ended<K>>>) -> Result<Joined<K>, WorkerFault> {
+    /// Waits for all these threads to end, and adds the port of the alarm to `alarm` if one of them had it. If there is
+    /// no memory for their ports, it returns an error, and some may still run.
+    pub fn join_all(
+        &self,
+        threads: Vec<JoinHandle<Ended<K>>>,
+        alarm: &mut Vec<Port<K>>,
+    ) -> Result<Joined<K>, WorkerFault> {
         let mut joined = Joined {
             done: Ok(Tally::default()),
             ports: Vec::with_capacity(self.alloc, threads.len())?,
-            alarm: None,
             trips: Vec::new(self.alloc),
         };
         for thread in threads {
-            let mut ended = thread.join(self.rt);
-            joined.done = both(joined.done, ended.done);
-            joined.trips.append(&mut ended.trips)?;
-            joined.ports.push(ended.port)?;
-            if ended.alarm.is_some() {
-                joined.alarm = ended.alarm;
-            }
+            joined.add(thread.join(self.rt), alarm)?;
         }
         Ok(joined)
+    }
+}
+
+impl<K: Tie> Joined<K> {
+    /// Adds the end of one more worker.
+    fn add(&mut self, mut ended: Ended<K>, alarm: &mut Vec<Port<K>>) -> Result<(), WorkerFault> {
+        self.done = both(self.done, ended.done);
+        self.ports.push(ended.port)?;
+        let own = ended.alarm;
+        if let Some(port) = own {
+            alarm.push(port)?;
+        }
+        self.trips.append(&mut ended.trips)?;
+        Ok(())
     }
 }
 
@@ -164,18 +174,17 @@ fn server_thread<K: Tie, L: Log, R: Wait>(
     alloc: Global,
     shared: &Shared<K, L>,
     port: Port<K>,
-    alarm: Option<Port<K>>,
+    mut alarm: Vec<Port<K>>,
     chid: ChannelId,
 ) -> Ended<K> {
     let mut caller = Caller::of(port, shared, rt, alloc);
-    let mut alarm = alarm.map(|alarm| Caller::of(alarm, shared, rt, alloc));
-    let done = match &mut alarm {
-        Some(alarm) => holding_server(&mut caller, alarm, chid),
-        None => server(&mut caller, chid),
-    };
-    let alarm = match alarm {
-        Some(alarm) => Some(alarm.into_port()),
-        None => None,
+    let (done, alarm) = match alarm.pop() {
+        Some(alarm) => {
+            let mut alarm = Caller::of(alarm, shared, rt, alloc);
+            let done = holding_server(&mut caller, &mut alarm, chid);
+            (done, Some(alarm.into_port()))
+        }
+        None => (server(&mut caller, chid), None),
     };
     Ended {
         done,

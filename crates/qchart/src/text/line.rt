@@ -29,6 +29,11 @@ impl Line {
         Ok(())
     }
 
+    /// Writes words that were made for this line.
+    pub fn put_made(&mut self, place: usize, words: String) -> Result<(), AllocError> {
+        self.put(place, words.as_str())
+    }
+
     /// Writes words with a space on each side; the words begin at the place.
     pub fn put_spaced(&mut self, place: usize, words: &str) -> Result<(), AllocError> {
         self.put(place.saturating_sub(1), " ")?;
