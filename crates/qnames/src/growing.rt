@@ -7,7 +7,7 @@ use crate::label::NameFault;
 use crate::line::Line;
 use crate::named::{Named, line_fault, name_faults, process_faults, push_process_number};
 use crate::plain::plain_line;
-use crate::reading::script::lines_behind;
+use crate::reading::script::{Lined, lines_behind};
 use qbase::ids::ThreadNo;
 use qkernel::kernel::Kernel;
 use qmodel::call::Call;
@@ -18,7 +18,7 @@ use qreading::reading::line::Line as Plain;
 use qreading::reading::script::line_behind;
 use qtables::member::Member;
 use std::alloc::{AllocError, Global};
-use std::slice;
+use std::{mem, slice};
 
 /// The lines of a script with names so far, and the comparison of its run with them.
 #[derive(Drop)]
@@ -50,12 +50,18 @@ impl Growing {
             lines: named.lines,
             open: Vec::new(alloc),
         };
-        for call in 1..=growing.check.calls.len() as u64 {
-            growing.open.push(call)?;
-        }
-        let (_, open) = growing.expectation_faults(Extent::Front, None)?;
-        growing.open = open;
+        growing.find_open()?;
         Ok((growing, calls))
+    }
+
+    /// Finds the calls whose expectations have names that stand for nothing yet.
+    fn find_open(&mut self) -> Result<(), AllocError> {
+        for call in 1..=self.check.calls.len() as u64 {
+            self.open.push(call)?;
+        }
+        let (_, open) = self.expectation_faults(Extent::Front, None)?;
+        self.open = open;
+        Ok(())
     }
 
     /// Returns the threads so far.
@@ -89,24 +95,31 @@ impl Growing {
 
     /// Adds a line, unless it is faulty.
     pub fn add(&mut self, line: &[u8]) -> Result<Step, AllocError> {
+        let calls = self.check.calls.len() as u64;
+        let mut lined = lines_behind(self.alloc, line, self.lines, calls)?;
+        match lined.lines.pop() {
+            _ if !lined.faults.is_empty() => {
+                Ok(Err(mem::replace(&mut lined.faults, Vec::new(self.alloc))))
+            }
+            Some(said) => self.add_said(&said, &mut lined),
+            None => Ok(Ok(Plain::Blank)),
+        }
+    }
+
+    /// Adds a line with its expectations, and takes it back if its names or its plain line are faulty.
+    fn add_said(&mut self, said: &Line, lined: &mut Lined) -> Result<Step, AllocError> {
         let calls = self.check.calls.len();
-        let mut lined = lines_behind(self.alloc, line, self.lines, calls as u64)?;
-        let said = match lined.lines.pop() {
-            Some(said) if lined.faults.is_empty() => said,
-            None if lined.faults.is_empty() => return Ok(Ok(Plain::Blank)),
-            _ => return Ok(Err(lined.faults)),
-        };
         let states = self.check.states.len();
         let extent = self.check.scope.extent();
-        let plain = plain_line(self.alloc, &self.check.scope, &said)?;
+        let plain = plain_line(self.alloc, &self.check.scope, said)?;
         if !self.check.scope.has_room() {
             return Err(AllocError);
         }
-        self.check.scope.add(self.alloc, &said)?;
+        self.check.scope.add(self.alloc, said)?;
         self.lines = lined.count;
         self.check.calls.append(&mut lined.calls)?;
         self.check.states.append(&mut lined.states)?;
-        let step = self.step(&said, plain, calls)?;
+        let step = self.step(said, plain, calls)?;
         if step.is_err() {
             self.lines = self.lines.saturating_sub(1);
             self.check.scope.go_back(self.alloc, extent)?;
@@ -127,31 +140,38 @@ impl Growing {
         let text = match plain {
             Ok(text) => text,
             Err(fault) => {
-                let lines = slice::from_ref(said);
-                let faults = name_faults(lines, self.check.context(), &[fault])?;
-                return Ok(Err(faults));
+                let context = self.check.context();
+                return name_faults(slice::from_ref(said), context, &[fault]).map(Err);
             }
         };
         let roster = self.roster.as_slice();
         match line_behind(self.alloc, roster, calls > 0, text.as_str().as_bytes()) {
-            Ok(plain) => self.expected(said, plain),
+            Ok(plain) => match self.expected(said, &plain) {
+                Ok(faults) if faults.is_empty() => Ok(Ok(plain)),
+                faults => faults.map(Err),
+            },
             Err(ParseError::Memory) => Err(AllocError),
-            Err(ParseError::Fault(fault)) => Ok(Err(line_fault(self.alloc, self.lines, fault)?)),
+            Err(ParseError::Fault(fault)) => line_fault(self.alloc, self.lines, fault).map(Err),
         }
     }
 
-    /// Returns what a line adds to the run, unless the names in expectations or the numbers of processes are faulty.
-    fn expected(&mut self, said: &Line, plain: Plain) -> Result<Step, AllocError> {
+    /// Adds what a line says of processes, calls and threads, or returns the faults of its process or of expectations.
+    fn expected(&mut self, said: &Line, plain: &Plain) -> Result<Vec<Fault>, AllocError> {
         let numbers = self.processes.len();
         push_process_number(&mut self.processes, said)?;
         let processes = self.processes.as_slice();
         let faults = process_faults(self.alloc, processes, &self.check.scope)?;
-        if !faults.is_empty() {
-            self.processes.truncate(numbers);
-            return Ok(Err(faults));
+        if faults.is_empty() {
+            return self.open_faults(said, plain);
         }
+        self.processes.truncate(numbers);
+        Ok(faults)
+    }
+
+    /// Adds what a line says of calls and threads, or returns the faults of the names in expectations.
+    fn open_faults(&mut self, said: &Line, plain: &Plain) -> Result<Vec<Fault>, AllocError> {
         let waiting = self.open.len();
-        if let Plain::Call(..) = &plain {
+        if let Plain::Call(..) = plain {
             self.open.push(self.check.calls.len() as u64)?;
         }
         let state = match said {
@@ -161,13 +181,13 @@ impl Growing {
         let (faults, open) = self.expectation_faults(Extent::Front, state)?;
         if !faults.is_empty() {
             self.open.truncate(waiting);
-            return Ok(Err(faults));
+            return Ok(faults);
         }
         self.open = open;
-        if let Plain::Roster(member) = &plain {
+        if let Plain::Roster(member) = plain {
             self.roster.push(*member)?;
         }
-        Ok(Ok(plain))
+        Ok(faults)
     }
 
     /// Returns what differs from the expectations at the end of the lines, and wasn't returned before: the names that

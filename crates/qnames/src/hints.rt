@@ -125,16 +125,12 @@ pub fn is_utf_16(text: &[u8]) -> bool {
 }
 
 /// Adds what to write in place of a word that can't be read as this operand, if that is known.
-pub fn push_operand_hint(
-    wanted: &mut String,
-    operand: Operand,
-    word: &[u8],
-) -> Result<(), AllocError> {
-    match operand {
-        Operand::Flags => push_flag_hint(wanted, word),
-        Operand::ErrorCode => push_code_hint(wanted, word),
+pub fn push_operand_hint(out: &mut String, slot: Operand, word: &[u8]) -> Result<(), AllocError> {
+    match slot {
+        Operand::Flags => push_flag_hint(out, word),
+        Operand::ErrorCode => push_code_hint(out, word),
         Operand::Message | Operand::ReplyBuffer | Operand::Buffer | Operand::Data => {
-            push_bytes_hint(wanted, word)
+            push_bytes_hint(out, word)
         }
         _ => Ok(()),
     }

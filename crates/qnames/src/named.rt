@@ -1,6 +1,6 @@
 //! Reads and translates a script with names.
 
-use crate::expectation::Extent;
+use crate::expectation::{Extent, StateCheck};
 use crate::expecting::check::Check;
 use crate::expecting::names::NameCheck;
 use crate::hints::is_utf_16;
@@ -17,6 +17,7 @@ use qreading::place::{Fault, Place};
 use qreading::word::Word;
 use qreading::{MOST_TEXT, Script};
 use std::alloc::{AllocError, Global};
+use std::mem;
 
 /// A script with names whose plain script can run.
 #[derive(Drop)]
@@ -48,11 +49,12 @@ pub const MOST_FAULTS: usize = 20;
 /// The first byte of the first line of a text.
 const START: Place = Place { line: 1, column: 1 };
 
+/// Faults in words, or the error of memory if there is none for them.
+type Faults = Result<Vec<Fault>, AllocError>;
+
 /// Returns a list of one fault.
-fn single(alloc: Global, place: Place, what: String) -> Result<Vec<Fault>, AllocError> {
-    let mut faults = Vec::new(alloc);
-    faults.push(Fault { place, what })?;
-    Ok(faults)
+fn single(alloc: Global, place: Place, what: Result<String, AllocError>) -> Faults {
+    Ok(vec![in alloc; Fault { place, what: what? }]?)
 }
 
 /// A name, the way in which a line uses it, and the kind that it has to be of.
@@ -99,11 +101,7 @@ fn use_at<'a>(lines: &'a [Line], place: Place) -> Option<Use<'a>> {
 }
 
 /// Returns the first faults of the names of the lines, in words.
-pub fn name_faults(
-    lines: &[Line],
-    context: Context<'_>,
-    faults: &[NameFault],
-) -> Result<Vec<Fault>, AllocError> {
+pub fn name_faults(lines: &[Line], context: Context<'_>, faults: &[NameFault]) -> Faults {
     let mut told = Vec::new(context.alloc);
     for fault in faults.iter().take(MOST_FAULTS) {
         let place = fault.place;
@@ -116,12 +114,12 @@ pub fn name_faults(
 }
 
 /// Returns the faults of the names in the expectations, in words.
-fn expectation_faults(check: &Check, extent: Extent) -> Result<Vec<Fault>, AllocError> {
-    let mut names = NameCheck::new(check.context(), extent);
-    for call in &check.calls {
+fn expectation_faults(context: Context<'_>, states: &[StateCheck], extent: Extent) -> Faults {
+    let mut names = NameCheck::new(context, extent);
+    for call in context.calls {
         names.call(call)?;
     }
-    for state in &check.states {
+    for state in states {
         names.state(state)?;
     }
     Ok(names.faults)
@@ -138,11 +136,7 @@ pub fn push_process_number(numbers: &mut Vec<(Place, u64)>, line: &Line) -> Resu
 }
 
 /// Returns the faults of the numbers of processes: a line gives a number that a named process has.
-pub fn process_faults(
-    alloc: Global,
-    numbers: &[(Place, u64)],
-    scope: &Scope,
-) -> Result<Vec<Fault>, AllocError> {
+pub fn process_faults(alloc: Global, numbers: &[(Place, u64)], scope: &Scope) -> Faults {
     let mut faults = Vec::new(alloc);
     for (place, number) in numbers {
         let at = number.wrapping_sub(1) as usize;
@@ -156,30 +150,30 @@ pub fn process_faults(
 }
 
 /// Returns the fault of a line of the plain script, in words.
-pub fn line_fault(alloc: Global, line: u64, fault: LineFault) -> Result<Vec<Fault>, AllocError> {
+pub fn line_fault(alloc: Global, line: u64, fault: LineFault) -> Faults {
     let place = Place { line, column: 1 };
     let words = match fault {
         LineFault::LongLine => "the line's plain form has over 4,096 bytes",
         LineFault::DoubleThread => "another thread has this number",
         LineFault::TooManyThreads => "a script has at most 64 threads",
         LineFault::UnknownThread => "no thread has this number",
-        other => return single(alloc, place, format!(in alloc; "{other}")?),
+        other => return single(alloc, place, format!(in alloc; "{other}")),
     };
-    single(alloc, place, String::from_str(alloc, words)?)
+    single(alloc, place, String::from_str(alloc, words))
 }
 
 /// Returns the faults of lines that can't be translated, in words. The lines of the plain script are numbered like those
 /// of the script with names.
-fn refusal_faults(alloc: Global, lined: Lined, refusal: Refusal) -> Result<Vec<Fault>, AllocError> {
+fn refusal_faults(alloc: Global, lined: &Lined, refusal: &Refusal) -> Faults {
     match refusal {
         Refusal::Memory | Refusal::Script(ScriptFault::NoMemory) => Err(AllocError),
         Refusal::Names(faults) => {
             let scope = Scope::after(alloc, lined.lines.as_slice())?;
-            let check = Check::new(alloc, scope, lined.calls, lined.states);
-            name_faults(lined.lines.as_slice(), check.context(), faults.as_slice())
+            let context = lined.context(&scope);
+            name_faults(lined.lines.as_slice(), context, faults.as_slice())
         }
-        Refusal::Script(ScriptFault::Line { number, fault }) => line_fault(alloc, number, fault),
-        Refusal::Script(fault) => single(alloc, START, format!(in alloc; "{fault}")?),
+        Refusal::Script(ScriptFault::Line { number, fault }) => line_fault(alloc, *number, *fault),
+        Refusal::Script(fault) => single(alloc, START, format!(in alloc; "{fault}")),
     }
 }
 
@@ -196,32 +190,33 @@ fn follows(fault: &Fault, faulty: &[&[u8]]) -> bool {
     lines.any(|line| line.split(is_end).any(|word| word == name.as_bytes()))
 }
 
+/// Returns the faults of the names of lines, and then those of the names in their expectations.
+fn lined_faults(alloc: Global, lined: &Lined, extent: Extent) -> Faults {
+    let plain = plain_of(alloc, lined.lines.as_slice())?;
+    let context = lined.context(&plain.scope);
+    let mut faults = name_faults(lined.lines.as_slice(), context, plain.faults.as_slice())?;
+    let mut expected = expectation_faults(context, lined.states.as_slice(), extent)?;
+    faults.append(&mut expected)?;
+    Ok(faults)
+}
+
 /// Returns the faults of lines, and those of the other lines' names that don't follow from them.
-fn all_faults(
-    alloc: Global,
-    text: &[u8],
-    lined: Lined,
-    extent: Extent,
-) -> Result<Vec<Fault>, AllocError> {
-    let mut faults = lined.faults;
-    faults.truncate(if is_utf_16(text) { 1 } else { MOST_FAULTS });
+fn all_faults(alloc: Global, text: &[u8], lined: &mut Lined, extent: Extent) -> Faults {
+    let most = if is_utf_16(text) { 1 } else { MOST_FAULTS };
+    lined.faults.truncate(most);
     let mut faulty = Vec::new(alloc);
-    for fault in &faults {
+    for fault in &lined.faults {
         let number = fault.place.line.saturating_sub(1) as usize;
         faulty.push(Lines(text).nth(number).unwrap_or(&[]))?;
     }
-    let plain = plain_of(alloc, lined.lines.as_slice())?;
-    let check = Check::new(alloc, plain.scope, lined.calls, lined.states);
-    let context = check.context();
-    let named = name_faults(lined.lines.as_slice(), context, plain.faults.as_slice())?;
-    for fault in named.into_iter().chain(expectation_faults(&check, extent)?) {
+    for fault in lined_faults(alloc, lined, extent)? {
         if !follows(&fault, faulty.as_slice()) {
-            faults.push(fault)?;
+            lined.faults.push(fault)?;
         }
     }
-    faults.sort_by_key(|fault| fault.place.line)?;
-    faults.truncate(MOST_FAULTS);
-    Ok(faults)
+    lined.faults.sort_by_key(|fault| fault.place.line)?;
+    lined.faults.truncate(MOST_FAULTS);
+    Ok(mem::replace(&mut lined.faults, Vec::new(alloc)))
 }
 
 /// Reads the text of a script with names.
@@ -237,34 +232,47 @@ pub fn read_so_far(alloc: Global, text: &[u8]) -> Result<Reading, AllocError> {
 /// Reads the lines of this part of a script.
 fn read_lines(alloc: Global, text: &[u8], extent: Extent) -> Result<Reading, AllocError> {
     if text.len() > MOST_TEXT {
-        let what = String::from_str(alloc, "script too long")?;
-        return Ok(Reading::Faulty(single(alloc, START, what)?));
+        let what = String::from_str(alloc, "script too long");
+        return single(alloc, START, what).map(Reading::Faulty);
     }
-    let lined = lines_behind(alloc, text, 0, 0)?;
-    if !lined.faults.is_empty() {
-        return Ok(Reading::Faulty(all_faults(alloc, text, lined, extent)?));
+    let mut lined = lines_behind(alloc, text, 0, 0)?;
+    if lined.faults.is_empty() {
+        read_lined(alloc, &mut lined, extent)
+    } else {
+        all_faults(alloc, text, &mut lined, extent).map(Reading::Faulty)
     }
+}
+
+/// Reads lines that have no faults of their own.
+fn read_lined(alloc: Global, lined: &mut Lined, extent: Extent) -> Result<Reading, AllocError> {
     let translation = match translate(alloc, lined.lines.as_slice()) {
         Ok(translation) => translation,
-        Err(refusal) => return Ok(Reading::Faulty(refusal_faults(alloc, lined, refusal)?)),
+        Err(refusal) => return refusal_faults(alloc, lined, &refusal).map(Reading::Faulty),
     };
-    let mut processes = Vec::new(alloc);
-    for line in &lined.lines {
-        push_process_number(&mut processes, line)?;
-    }
-    let check = Check::new(alloc, translation.scope, lined.calls, lined.states);
-    let mut faults = process_faults(alloc, processes.as_slice(), &check.scope)?;
-    if faults.is_empty() {
-        faults = expectation_faults(&check, extent)?;
-    }
-    if !faults.is_empty() {
-        return Ok(Reading::Faulty(faults));
-    }
-    Ok(Reading::Good(Named {
+    let calls = mem::replace(&mut lined.calls, Vec::new(alloc));
+    let states = mem::replace(&mut lined.states, Vec::new(alloc));
+    let mut named = Named {
         text: translation.text,
         script: translation.script,
-        check,
-        processes,
+        check: Check::new(alloc, translation.scope, calls, states),
+        processes: Vec::new(alloc),
         lines: lined.count,
-    }))
+    };
+    match add_processes(alloc, &mut named, lined.lines.as_slice(), extent) {
+        Ok(faults) if faults.is_empty() => Ok(Reading::Good(named)),
+        faults => faults.map(Reading::Faulty),
+    }
+}
+
+/// Adds the numbers that these lines give for processes, and returns their faults, or else those in the expectations.
+fn add_processes(alloc: Global, named: &mut Named, lines: &[Line], extent: Extent) -> Faults {
+    for line in lines {
+        push_process_number(&mut named.processes, line)?;
+    }
+    let check = &named.check;
+    let faults = process_faults(alloc, named.processes.as_slice(), &check.scope)?;
+    if faults.is_empty() {
+        return expectation_faults(check.context(), check.states.as_slice(), extent);
+    }
+    Ok(faults)
 }

@@ -36,17 +36,21 @@ impl Context<'_> {
 
     /// Returns the words for a name that no line above defines.
     fn undefined(&self, name: &Word) -> Result<String, AllocError> {
+        let mut text = format!(in self.alloc; "{name} isn't defined before this line")?;
+        self.push_meant(&mut text, name)?;
+        Ok(text)
+    }
+
+    /// Adds the line below that defines a name, or else a name that is near to it.
+    fn push_meant(&self, text: &mut String, name: &Word) -> Result<(), AllocError> {
         if let Some(label) = self.scope.latest(name) {
             let line = label.line;
-            return format!(in self.alloc;
-                "{name} isn't defined before this line; line {line} defines it"
-            );
+            return write!(text, "; line {line} defines it");
         }
         let labels = self.scope.labels().iter();
         let names: Vec<&str> = labels.map(|label| label.name.as_str()).collect(self.alloc)?;
-        let mut text = format!(in self.alloc; "{name} isn't defined before this line")?;
-        push_near(self.alloc, &mut text, name.as_str(), names.as_slice())?;
-        Ok(text)
+        push_near(self.alloc, text, name.as_str(), names.as_slice())?;
+        Ok(())
     }
 
     /// Returns the words for a name that stands for something of another kind than this.
@@ -54,22 +58,23 @@ impl Context<'_> {
         let Some(label) = self.scope.latest(name) else {
             return self.undefined(name);
         };
+        let is = label.kind.words();
         let made = self.verb(label.number);
-        let is = match label.kind {
-            Kind::Call => format!(in self.alloc; "a call of {made}")?,
-            kind => String::from_str(self.alloc, kind.words())?,
+        let (of, call) = match label.kind {
+            Kind::Call => (" of ", made),
+            _ => ("", ""),
         };
         let wanted = kind.words();
-        let mut text = format!(in self.alloc; "{name} is {is}, and ")?;
-        match usage {
-            Usage::Caller => text.push_str("a call begins with the thread that makes it")?,
-            Usage::Operand(verb) => write!(text, "{verb} wants {wanted}")?,
-            Usage::Expectation => write!(text, "{wanted} is wanted here")?,
-        }
-        if kind == Kind::Message && made == "receive" {
-            text.push_str("; a message has the name of its send")?;
-        }
-        Ok(text)
+        let (front, wants, wanted) = match usage {
+            Usage::Caller => ("a call begins with the thread that makes it", "", ""),
+            Usage::Operand(verb) => (verb, " wants ", wanted),
+            Usage::Expectation => (wanted, " is wanted here", ""),
+        };
+        let hint = match kind {
+            Kind::Message if made == "receive" => "; a message has the name of its send",
+            _ => "",
+        };
+        format!(in self.alloc; "{name} is {is}{of}{call}, and {front}{wants}{wanted}{hint}")
     }
 
     /// Returns the fault of a name that has to be of this kind, in words.

@@ -51,10 +51,10 @@ fn is_state(name: &str, wanted: &str) -> bool {
     name == wanted || wanted == "blocked" && name != "ready"
 }
 
-fn difference_at(
-    place: Place,
-    what: Result<String, AllocError>,
-) -> Result<Option<Fault>, AllocError> {
+/// The difference of what came from what was expected, if there is one.
+type Difference = Result<Option<Fault>, AllocError>;
+
+fn difference_at(place: Place, what: Result<String, AllocError>) -> Difference {
     Ok(Some(Fault { place, what: what? }))
 }
 
@@ -172,7 +172,7 @@ impl Check {
     }
 
     /// Returns how the end of a call differs from what its own line expects.
-    fn own_difference(&self, call: u64) -> Result<Option<Fault>, AllocError> {
+    fn own_difference(&self, call: u64) -> Difference {
         let (Some(check), Some(end)) = (self.at(call), self.end_of(call)) else {
             return Ok(None);
         };
@@ -185,7 +185,7 @@ impl Check {
     }
 
     /// Returns how the end of a call differs from the expected one.
-    fn difference(&self, end: &End, expected: &Expectation) -> Result<Option<Fault>, AllocError> {
+    fn difference(&self, end: &End, expected: &Expectation) -> Difference {
         if let Ending::Parts(patterns) = &expected.ending
             && end.fits(self.context(), patterns.as_slice())?
         {
@@ -208,12 +208,7 @@ impl Check {
     }
 
     /// Returns the failure of a call that no line expects.
-    fn silent_difference(
-        &self,
-        call: u64,
-        check: &CallCheck,
-        end: &End,
-    ) -> Result<Option<Fault>, AllocError> {
+    fn silent_difference(&self, call: u64, check: &CallCheck, end: &End) -> Difference {
         if !matches!(end.mark, Mark::Failed(_)) || self.is_followed(call, end.event) {
             return Ok(None);
         }
@@ -261,12 +256,7 @@ impl Check {
     }
 
     /// Returns how the end of a call differs from what the line of the call numbered `event` expects.
-    fn follower_difference(
-        &self,
-        event: u64,
-        follower: &Follower,
-        end: &End,
-    ) -> Result<Option<Fault>, AllocError> {
+    fn follower_difference(&self, event: u64, follower: &Follower, end: &End) -> Difference {
         if end.event == event || matches!(follower.expectation.ending, Ending::Blocked) {
             return self.difference(end, &follower.expectation);
         }
@@ -280,11 +270,7 @@ impl Check {
     }
 
     /// Returns how the state of a thread now differs from what a line says.
-    fn state_difference(
-        &self,
-        kernel: Option<&Kernel>,
-        check: &StateCheck,
-    ) -> Result<Option<Fault>, AllocError> {
+    fn state_difference(&self, kernel: Option<&Kernel>, check: &StateCheck) -> Difference {
         let thread = operand_number(&self.scope, &check.thread);
         let now = match (kernel, u8::try_from(thread)) {
             (Some(kernel), Ok(thread)) => {
@@ -316,12 +302,12 @@ impl Check {
             };
             let thread = self.context().thread(ending.thread);
             let verb = check.kind.word();
+            let (name, equals) = match self.scope.name_of(false, ending.call) {
+                Some(name) => (name.as_str(), " = "),
+                None => ("", ""),
+            };
             let told = end.told(self.context())?;
-            write!(out, "{line}: ")?;
-            if let Some(name) = self.scope.name_of(false, ending.call) {
-                write!(out, "{name} = ")?;
-            }
-            write!(out, "{thread} {verb} -> {told}\n")?;
+            write!(out, "{line}: {name}{equals}{thread} {verb} -> {told}\n")?;
         }
         Ok(())
     }
@@ -346,12 +332,7 @@ impl Check {
     }
 
     /// Returns the difference of a call that has to end and hasn't.
-    fn open_difference(
-        &self,
-        kernel: &Kernel,
-        call: u64,
-        expected: &Expectation,
-    ) -> Result<Option<Fault>, AllocError> {
+    fn open_difference(&self, kernel: &Kernel, call: u64, expected: &Expectation) -> Difference {
         if matches!(expected.ending, Ending::Blocked) {
             return Ok(None);
         }

@@ -40,6 +40,9 @@ enum Part<'a> {
     Buffer(&'a [u8]),
 }
 
+/// The parts of a completion.
+type Parts<'a> = Vec<Part<'a>>;
+
 impl Part<'_> {
     /// Returns its number, if it is one.
     fn number(self) -> Option<i128> {
@@ -72,7 +75,7 @@ impl Part<'_> {
 }
 
 /// Adds the parts of an Info.
-fn push_info(parts: &mut Vec<Part<'_>>, info: Info) -> Result<(), AllocError> {
+fn push_info(parts: &mut Parts<'_>, info: Info) -> Result<(), AllocError> {
     parts.extend_from_slice(&[
         Part::Word("info"),
         Part::Process(info.process.0),
@@ -86,13 +89,8 @@ fn push_info(parts: &mut Vec<Part<'_>>, info: Info) -> Result<(), AllocError> {
 }
 
 /// Adds the parts of a pulse.
-fn push_pulse(
-    parts: &mut Vec<Part<'_>>,
-    item: u64,
-    priority: u8,
-    what: What,
-) -> Result<(), AllocError> {
-    let level = Part::Number(i128::from(priority));
+fn push_pulse(parts: &mut Parts<'_>, item: u64, level: u8, what: What) -> Result<(), AllocError> {
+    let level = Part::Number(i128::from(level));
     parts.extend_from_slice(&[Part::Word("pulse"), Part::Id(item), level])?;
     match what {
         What::Message => Ok(()),
@@ -111,11 +109,7 @@ fn push_pulse(
 }
 
 /// Adds the parts of the state of a thread.
-fn push_state(
-    parts: &mut Vec<Part<'_>>,
-    state: &ThreadState,
-    priority: u8,
-) -> Result<(), AllocError> {
+fn push_state(parts: &mut Parts<'_>, state: &ThreadState, priority: u8) -> Result<(), AllocError> {
     parts.extend_from_slice(&[Part::Word("state"), Part::Word(state_word(*state))])?;
     if let Some(channel) = state_channel(*state) {
         parts.push(Part::Id(channel.0))?;
@@ -125,7 +119,7 @@ fn push_state(
 }
 
 /// Adds the parts of a mark.
-fn push_mark(parts: &mut Vec<Part<'_>>, mark: Mark) -> Result<(), AllocError> {
+fn push_mark(parts: &mut Parts<'_>, mark: Mark) -> Result<(), AllocError> {
     match mark {
         Mark::Ok => parts.extend_from_slice(&[Part::Word("ok")]),
         Mark::Failed(e) => parts.extend_from_slice(&[Part::Word("fail"), Part::Word(word(e))]),
@@ -159,7 +153,7 @@ fn push_mark(parts: &mut Vec<Part<'_>>, mark: Mark) -> Result<(), AllocError> {
 
 impl End {
     /// Returns its parts.
-    fn parts(&self, alloc: Global) -> Result<Vec<Part<'_>>, AllocError> {
+    fn parts(&self, alloc: Global) -> Result<Parts<'_>, AllocError> {
         let mut parts = Vec::with_capacity(alloc, 9)?;
         push_mark(&mut parts, self.mark)?;
         if let Some(buffer) = &self.buffer {
@@ -182,32 +176,31 @@ impl End {
     pub fn told(&self, names: Context<'_>) -> Result<String, AllocError> {
         let mut out = String::new(names.alloc);
         for part in &self.parts(names.alloc)? {
-            match *part {
-                Part::Word(word) => write!(out, " {word}")?,
-                Part::Number(number) => write!(out, " {number}")?,
-                Part::Id(id) => push_shown(&mut out, names.id(id))?,
-                Part::Thread(number) => push_shown(&mut out, names.thread(ThreadNo(number)))?,
-                Part::Process(number) => push_shown(&mut out, names.process(ProcessNo(number)))?,
-                Part::Copied(count) => self.push_content(names.alloc, &mut out, count)?,
-                Part::Counted(count) => {
-                    write!(out, " {count}")?;
-                    if self.buffer.is_some() {
-                        self.push_content(names.alloc, &mut out, count)?;
-                    }
-                }
-                Part::Buffer(_) => {}
-            }
+            self.push(names, &mut out, *part)?;
         }
         String::from_str(names.alloc, out.as_str().trim_start())
     }
 
+    /// Adds a space and the words of a part, but nothing for a buffer.
+    fn push(&self, names: Context<'_>, out: &mut String, part: Part<'_>) -> Result<(), AllocError> {
+        match part {
+            Part::Word(word) => write!(out, " {word}"),
+            Part::Number(number) => write!(out, " {number}"),
+            Part::Id(id) => push_shown(out, names.id(id)),
+            Part::Thread(number) => push_shown(out, names.thread(ThreadNo(number))),
+            Part::Process(number) => push_shown(out, names.process(ProcessNo(number))),
+            Part::Copied(count) => self.push_bytes(names.alloc, out, count),
+            Part::Counted(count) if self.buffer.is_none() => write!(out, " {count}"),
+            Part::Counted(count) => {
+                write!(out, " {count}")?;
+                self.push_bytes(names.alloc, out, count)
+            }
+            Part::Buffer(_) => Ok(()),
+        }
+    }
+
     /// Adds a space and the first `count` bytes of the buffer.
-    fn push_content(
-        &self,
-        alloc: Global,
-        out: &mut String,
-        count: usize,
-    ) -> Result<(), AllocError> {
+    fn push_bytes(&self, alloc: Global, out: &mut String, count: usize) -> Result<(), AllocError> {
         let buffer = self.buffer.as_ref();
         let buffer = buffer.map_or([].as_slice(), |buffer| buffer.as_slice());
         let shown = shown_bytes(alloc, buffer.get(..count).unwrap_or(buffer))?;

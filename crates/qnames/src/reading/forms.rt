@@ -154,19 +154,19 @@ impl Patterns {
     fn add(&mut self, part: Part, token: &Token<'_>) -> Result<(), ReadError> {
         let alloc = self.alloc;
         let pattern = match part {
-            _ if token.is_word("*") => Pattern::Any,
-            Part::Errno => Pattern::Word(errno(alloc, token)?),
-            Part::Id(kind) => named(alloc, kind, token)?,
-            Part::Process => process(alloc, token)?,
-            Part::Number => Pattern::Number(number(alloc, token)?),
+            _ if token.is_word("*") => Ok(Pattern::Any),
+            Part::Errno => errno(alloc, token).map(Pattern::Word),
+            Part::Id(kind) => named(alloc, kind, token),
+            Part::Process => process(alloc, token),
+            Part::Number => number(alloc, token).map(Pattern::Number),
             Part::Content => {
                 let content = bytes(alloc, token)?;
                 self.all.push(Pattern::Number(content.len() as i128))?;
-                Pattern::Front(content)
+                Ok(Pattern::Front(content))
             }
-            Part::Buffer => Pattern::Front(bytes(alloc, token)?),
+            Part::Buffer => bytes(alloc, token).map(Pattern::Front),
         };
-        self.all.push(pattern)?;
+        self.all.push(pattern?)?;
         Ok(())
     }
 
@@ -197,6 +197,12 @@ impl Patterns {
             Some((word, parts)) => self.add_word(word, parts, rest),
             None => Err(wanted(self.alloc, word, words)),
         }
+    }
+
+    /// Adds the patterns of a state, whose content may be left out.
+    fn add_state(&mut self, word: &'static str, content: &[Token<'_>]) -> Result<(), ReadError> {
+        self.add_word(word, &[], &[])?;
+        self.add_of(&STATES, content, "a state is ready, send, receive or reply")
     }
 
     /// Adds the patterns of a pulse: its call and its priority, which may be left out, and its content.
@@ -241,14 +247,12 @@ pub fn ending(alloc: Global, first: &Token<'_>, rest: &[Token<'_>]) -> Result<En
         alloc,
         all: Vec::new(alloc),
     };
-    match word {
-        "pulse" => patterns.add_pulse(parts, rest)?,
-        "state" => {
-            patterns.add_word(word, parts, &[])?;
-            patterns.add_of(&STATES, rest, "a state is ready, send, receive or reply")?;
-        }
-        _ => patterns.add_word(word, parts, rest)?,
-    }
+    let added = match word {
+        "pulse" => patterns.add_pulse(parts, rest),
+        "state" => patterns.add_state(word, rest),
+        _ => patterns.add_word(word, parts, rest),
+    };
+    added?;
     if word == "blocked" {
         return Ok(Ending::Blocked);
     }
