@@ -30,8 +30,7 @@ fn level(number: u8) -> Result<Priority, Errno>
     }
 }
 
-/// Returns four threads, each in a process of its own: the store and the server of priority 10, the clients of 40
-/// and 20.
+/// Returns four threads, each in a process of its own: store and server of priority 10, clients of 40 and 20.
 fn roster_of_four(alloc: Global) -> Result<Roster, Errno>
     ensures { IfOk result (λ members. members ≡ roster) }
 {

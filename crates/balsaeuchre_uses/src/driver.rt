@@ -1,5 +1,4 @@
-//! A driver: a server that keeps its client waiting until the device has a value, which a third thread reports by a
-//! pulse.
+//! A driver: a server whose client waits until the device has a value, which a third thread reports by a pulse.
 
 ghost use Rattle.balsaeuchre.specs.Naming.{AreParts};
 
@@ -12,8 +11,7 @@ use std::marker::Brand;
 use std::sync::Wait;
 use std::thread::{Threads, join};
 
-/// Does the driver's work: answers each message with the device's next value, whichever of the two comes first, until
-/// the client has detached.
+/// Does the driver's work: answers each message with the device's next value, until the client has detached.
 fn drive<E: Endpoint, R: Wait>(driver: &mut Caller<E, R>, chid: ChannelId) -> Result<()> {
     let mut values = Vec::new(driver.alloc());
     let mut held = None;
@@ -113,8 +111,7 @@ fn run<K: Tie + Send + Sync, R: Threads + Wait + Sync>(
     run_all(rt, &mut driver, &mut device, &mut client, values)
 }
 
-/// Lets a client read these values of a device through its driver. The driver and the device's thread are of one
-/// process.
+/// Lets a client read these values of a device through its driver, which is of one process with the device's thread.
 pub fn with_a_driver<R: Threads + Wait + Sync>(
     rt: &R,
     alloc: Global,

@@ -123,8 +123,7 @@ fn simulator_of_three(alloc: Global) -> Result<Simulator, CallError> {
     Simulator::new(alloc, &roster)
 }
 
-/// Returns the three threads. (No clause says which, so that the prover doesn't go through the kernel's facts about
-/// them.)
+/// Returns the three threads. (No clause says which: the prover would go through the kernel's facts about them.)
 fn roster_of_three(alloc: Global) -> Result<Roster, Errno> {
     let mut roster = Roster::new(alloc);
     roster.add(SERVER, ProcessNo(1), Priority::lowest())?;

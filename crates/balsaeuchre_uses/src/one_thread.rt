@@ -1,5 +1,4 @@
-//! A server and a client in one thread. The client's send leaves it blocked; once the server replied, the client
-//! takes the answer.
+//! A server and a client in one thread. The client's send leaves it blocked; it takes the answer after the reply.
 
 use crate::reply::Reply;
 use balsaeuchre::calls::{CallError, Calls, Received};

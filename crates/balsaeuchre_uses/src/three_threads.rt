@@ -1,5 +1,4 @@
-//! The parts that the examples with three threads share: a server, a client, and another thread of the client's
-//! process.
+//! What the examples with three threads share: a server, a client, and another thread of the client's process.
 
 ghost use Rattle.std.specs.Prelude.{◌≡◌, [], pos, IfOk};
 ghost use Rattle.balsaeuchre.specs.Stands.{StandsAt};

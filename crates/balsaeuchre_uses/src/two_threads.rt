@@ -72,8 +72,7 @@ fn run<K: Tie + Send + Sync, R: Threads + Wait + Sync>(
     close(shared, ports)
 }
 
-/// Runs a server and a client on threads of their own; the server answers the client's messages. Returns the trace of
-/// the kernel.
+/// Runs a server that answers its client's messages, each on a thread of its own. Returns the kernel's trace.
 pub fn on_two_threads<R: Threads + Wait + Sync>(rt: &R, alloc: Global) -> Result<Trace> {
     let mut roster = Roster::new(alloc);
     roster.add(ThreadNo(1), ProcessNo(1), Priority::lowest())?;

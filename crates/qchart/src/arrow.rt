@@ -31,8 +31,7 @@ pub struct Arrow {
     pub what: What,
 }
 
-/// Returns the thread that made the call with this number; `callers` are the threads of the calls from 1 on. `None` if
-/// there is no such call.
+/// Returns the thread that made the call with this number, if there is one; `callers` are those of calls from 1 on.
 pub fn caller_of(callers: &[ThreadNo], number: u64) -> Option<ThreadNo>
     ensures { result ≡ caller_of callers.now number }
 {

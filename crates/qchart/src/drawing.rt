@@ -38,8 +38,7 @@ pub fn drawing(alloc: Global, text: &[u8], view: &View) -> Result<String, ChartF
     Ok(drawn)
 }
 
-/// Runs a script with these names on a new kernel, and returns the drawing of the run; an error if more than 400 calls
-/// would be drawn.
+/// Runs a script with these names on a new kernel, and returns the run's drawing; an error if it has over 400 calls.
 pub fn drawing_of(names: Context<'_>, script: Script, view: &View) -> Result<String, ChartFault>
     ensures { IfErr result (IsUncharted view.now script.calls.items) }
 {
@@ -52,8 +51,7 @@ pub fn drawing_of(names: Context<'_>, script: Script, view: &View) -> Result<Str
     Ok(drawn)
 }
 
-/// Runs the script in a text on a new kernel, and returns the chart of the run with all its rows; an error if more than
-/// 400 of them would be drawn.
+/// Runs the script in a text on a new kernel, and returns the run's chart; an error if more than 400 rows are drawn.
 #[tactic(auto, using(crate::proofs::Charting::uncharted))]
 pub fn chart(alloc: Global, text: &[u8], view: &View) -> Result<Chart, ChartFault>
     ensures ok { IfOk result (IsCharted view.now text.now) }

@@ -45,8 +45,7 @@ impl<T: Drop> From<AllocFailed<T>> for ChartFault {
 }
 
 impl ChartFault {
-    /// Returns the exit status of the program: 1 if the script is at fault or has too many calls, 3 if something else
-    /// failed.
+    /// Returns the exit status: 1 if the script is at fault or has too many calls, 3 if something else failed.
     pub fn status(&self) -> u8
         ensures { result ≡ status_of self.now }
     {

@@ -72,8 +72,7 @@ pub fn priority_words(alloc: Global, priority: Priority) -> Words {
     format!(in alloc; "priority {}", priority.get())
 }
 
-/// Adds what the caller of the latest call, which has this number, got at once; nothing if an arrow shows it, or if
-/// there is nothing to say.
+/// Adds what the latest call's caller got at once; nothing if an arrow shows it, or if there is nothing to say.
 pub fn push_result(
     names: Context<'_>,
     words: &mut String,
@@ -114,8 +113,7 @@ fn push_bytes(words: &mut String, bytes: &[u8]) -> Result<(), AllocError> {
     Ok(())
 }
 
-/// Returns the words of the arrows of an event whose call `caller` made, in the order of its endings; with the bytes if
-/// `bytes` is set.
+/// Returns the words of an event's arrows, in the order of its endings; with the bytes if `bytes` is set.
 pub fn arrow_labels(
     names: Context<'_>,
     callers: &[ThreadNo],

@@ -51,8 +51,7 @@ impl Standing {
     }
 }
 
-/// Makes the calls in order, adds them to the history, and returns a row for each; its words have the bytes if `bytes`
-/// is set.
+/// Makes the calls in order, adds them to the history, and returns a row for each; with the bytes if `bytes` is set.
 pub fn rows_of(
     names: Context<'_>,
     run: &mut Run,

@@ -209,8 +209,7 @@ impl Sheet<'_> {
         push_words(out, side, (beside(x, side, 14), base), row.words.as_str())
     }
 
-    /// Adds an arrow between two lines, or back to its own; with a ring at its tail if what it stands for was sent in an
-    /// earlier row.
+    /// Adds an arrow between two lines, or back to its own; a ring at its tail if it was sent in an earlier row.
     fn push_arrow(&self, out: &mut String, y: usize, row: &Row, arrow: &Arrow) -> Added {
         let class = match arrow.what {
             What::Message => "message",

@@ -19,8 +19,7 @@ use std::sync::Wait;
 use std::thread::Threads;
 use std::{io, str};
 
-/// Runs a server and its clients, and records the kernel's calls if the recording has a name. Progress is shown only on
-/// a terminal.
+/// Runs a server and its clients, and records the calls if the recording has a name. Shows progress on a terminal.
 pub fn run_serve<R: Files + Print + Eprint + AllocGlobal + Threads + Wait + Clock + Sync>(
     rt: &R,
     run: ServeRun,
@@ -79,8 +78,7 @@ fn end_served(rt: &impl Eprint, fault: ServeFault) -> ExitCode {
     }
 }
 
-/// Runs a server and its clients, stores their recording, and prints the results with the units of the times, or as
-/// JSON.
+/// Runs a server and its clients, stores their recording, and prints the results with units, or as JSON.
 fn serve_in_words<R: Print + Eprint + AllocGlobal + Threads + Wait + Clock + Sync, S: Store>(
     rt: &R,
     settings: Settings,

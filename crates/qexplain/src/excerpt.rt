@@ -1,5 +1,4 @@
-//! Unproved: words and layout. Shows a line with a mark below the part that an explanation is
-//! about.
+//! Unproved: words and layout. Shows a line with a mark below the part that an explanation is about.
 
 use qreading::parts::Place;
 use std::alloc::{AllocError, Global};

@@ -33,8 +33,7 @@ struct Reader {
 }
 
 /// Returns the faults of the lines of a text in order, at most `MOST_FAULTS`. The first is the one that a run reports.
-/// Each line is read although lines above it are faulty; a fault that follows from one above is left out if it can be
-/// recognized.
+/// Lines below faulty ones are read too; a fault that follows from one above is left out if it is recognized.
 pub fn faults(alloc: Global, text: &[u8]) -> Result<Vec<Remark>, AllocError> {
     let mut reader = Reader {
         roster: Vec::new(alloc),

@@ -1,5 +1,4 @@
-//! Unproved: words and layout. Keeps a script that grows line by line, and returns what each line
-//! adds to its trace.
+//! Unproved: words and layout. Keeps a script that grows line by line, and returns what a line adds to its trace.
 
 use crate::explained_run::ExplainedRun;
 use crate::states::states_of;
@@ -170,8 +169,7 @@ impl Session {
         }
     }
 
-    /// Removes the last line of the text that is neither empty nor a comment, and returns it. The lines above it are
-    /// run again.
+    /// Removes the last line that is neither empty nor a comment, and returns it. The lines above are run again.
     pub fn undo(&mut self) -> Result<Option<Vec<u8>>, ScriptFault> {
         let Some((start, line)) = last_line(self.text.as_slice()) else {
             return Ok(None);

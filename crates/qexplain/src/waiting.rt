@@ -16,8 +16,7 @@ pub struct Wait {
     pub message: u64,
     /// The process of the channel; each of its threads may receive and answer the message.
     pub server: ProcessNo,
-    /// The thread that it waits for: the one that received the message, or else the first of the process that may still
-    /// receive it.
+    /// The thread that it waits for: the message's receiver, or else the first of the process that may receive it.
     pub on: ThreadNo,
     /// Whether the message is received.
     pub is_held: bool,
@@ -39,8 +38,7 @@ impl Wait {
     }
 }
 
-/// Threads that wait for one another in a circle, in its order, the least first. No other thread can answer any of
-/// them.
+/// Threads that wait for one another in a circle, the least first. No other thread can answer any of them.
 #[derive(Drop)]
 pub struct Deadlock {
     waits: Vec<Wait>,

@@ -34,8 +34,7 @@ pub struct Growing {
     open: Vec<u64>,
 }
 
-/// What a line adds to the run; a blank one adds nothing, or a state that is compared. Or the faults of the line, which
-/// isn't added.
+/// What a line adds to the run; a blank one adds nothing, or a compared state. Or the faults of a line not added.
 pub type Step = Result<Plain, Vec<Fault>>;
 
 impl Growing {
@@ -129,8 +128,7 @@ impl Growing {
         Ok(step)
     }
 
-    /// Returns what a line adds to the run, given its plain line or the fault of its names; `calls` is the number of
-    /// calls above it.
+    /// Returns what a line adds to the run, given its plain line or its names' fault; `calls` calls stand above it.
     fn step(
         &mut self,
         said: &Line,

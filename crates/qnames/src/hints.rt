@@ -1,5 +1,4 @@
-//! Unproved: words and layout. Recognizes what is often written in a script by mistake, and says
-//! what to write in its place.
+//! Unproved: words and layout. Recognizes frequent mistakes in a script, and says what to write in their place.
 
 use qbase::errno;
 use qbase::errno::Errno;
@@ -17,8 +16,7 @@ fn lowercase(alloc: Global, word: &[u8]) -> Result<Vec<u8>, AllocError> {
     letters.map(|byte| byte.to_ascii_lowercase()).collect(alloc)
 }
 
-/// Returns the form of the call that has this name, up to a parenthesis, here or in QNX: there in any case, with or
-/// without underscores.
+/// Returns the form of the call of this name, up to a parenthesis, here or in QNX, there in any case and `_` left out.
 pub fn form_meant(alloc: Global, word: &[u8]) -> Result<Option<Form>, AllocError> {
     let word = word.split(|byte| *byte == b'(').next().unwrap_or(word);
     let plain = lowercase(alloc, word)?;

@@ -162,8 +162,7 @@ pub fn line_fault(alloc: Global, line: u64, fault: LineFault) -> Faults {
     single(alloc, place, String::from_str(alloc, words))
 }
 
-/// Returns the faults of lines that can't be translated, in words. The lines of the plain script are numbered like those
-/// of the script with names.
+/// Returns the faults of lines that can't be translated, in words. Lines of the plain script have the same numbers.
 fn refusal_faults(alloc: Global, lined: &Lined, refusal: &Refusal) -> Faults {
     match refusal {
         Refusal::Memory | Refusal::Script(ScriptFault::NoMemory) => Err(AllocError),

@@ -9,8 +9,7 @@ use crate::line::{CallLine, Definition, Line, Mention, Operand, ThreadLine};
 use crate::scope::{Scope, is_same_kind};
 use std::alloc::{AllocError, Global};
 
-/// The plain script, and the faults of its names. If there are faults, the script must not be used: it has 0 for each
-/// name that stands for nothing.
+/// The plain script, and the faults of its names. With faults it is of no use: a name that stands for nothing is 0.
 #[derive(Drop)]
 pub struct Plain {
     pub text: String,

@@ -20,8 +20,7 @@ fn main(rt: HostRuntime) -> ExitCode {
     }
 }
 
-/// Runs the scripts of standard input, prints a line for each, and returns whether each printed the output that was
-/// written for it.
+/// Runs the scripts of standard input, prints a line for each, and returns whether each printed its written output.
 fn compare_all<R: Input + Print + AllocGlobal>(rt: &R) -> io::Result<bool> {
     let mut text = Vec::new(rt.alloc());
     rt.reader().read_to_end(&mut text)?;
@@ -41,8 +40,7 @@ fn compare_all<R: Input + Print + AllocGlobal>(rt: &R) -> io::Result<bool> {
     Ok(compare(rt, &row)? && all)
 }
 
-/// Runs the script of the row, if there is one, prints whether it passed, and returns whether it printed the output
-/// that was written for it.
+/// Runs the row's script, if there is one, prints whether it passed, and returns whether it printed its output.
 fn compare<R: Print + AllocGlobal>(rt: &R, row: &Option<Row>) -> io::Result<bool> {
     let Some(row) = row else {
         return Ok(true);

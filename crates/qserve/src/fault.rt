@@ -13,8 +13,7 @@ use thiserror::Error;
 pub enum WorkerFault {
     /// One of its calls gave no result, or there was no memory for what it keeps.
     Call(CallError),
-    /// It met an answer or a pulse that its work doesn't have, or a thread couldn't be started, or the clock couldn't
-    /// be read.
+    /// It met an answer or pulse that its work doesn't have, or there was no thread for it, or no clock.
     Unexpected,
 }
 

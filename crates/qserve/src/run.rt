@@ -144,8 +144,7 @@ fn gather<K: Tie + Send + Sync, L: Log + Send, R: Threads + Wait + Clock + Eprin
     Ok((gathered.tally, timing, gathered.ports))
 }
 
-/// Creates the channel, starts all workers at once, waits for the clients, stops the servers, waits for them, and shuts
-/// down.
+/// Creates the channel, starts all workers, waits for the clients, stops the servers, waits for them, and shuts down.
 fn conduct<
     's,
     X,

@@ -1,5 +1,4 @@
-//! The work of a server: it receives and replies until a pulse stops it. The main thread created the channel, on which
-//! several servers may receive.
+//! The work of a server: it receives and replies until a pulse stops it. Several may receive on the main channel.
 
 use crate::fault::WorkerFault;
 use crate::protocol::{COUNT, REQUEST_LENGTH, STOP};

@@ -20,8 +20,7 @@ pub enum Outcome {
     Error(i32),
 }
 
-/// Returns the answer of the service that a message names. A message that names none, or is empty, is answered with the
-/// error `NO_SERVICE`.
+/// Returns the answer of the service that a message names; the error `NO_SERVICE` if it names none or is empty.
 pub fn serve_one(message: &[u8]) -> Outcome {
     match message.split_first() {
         Some((&ECHO, _)) => Outcome::Same,

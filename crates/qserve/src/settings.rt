@@ -21,8 +21,7 @@ pub struct Settings {
     pub servers: u8,
     /// The number of rounds of each client, 1 to 1,000. A round is a pulse and then a message.
     pub rounds: u16,
-    /// Whether the server keeps the first message until it has received a second. This needs two clients or more and
-    /// just one server.
+    /// Whether the server keeps the first message until it has a second. This needs two clients and just one server.
     pub hold: bool,
     /// Whether the run and its round trips are timed.
     pub time: bool,

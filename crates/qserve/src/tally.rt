@@ -44,8 +44,7 @@ impl Tally {
     }
 }
 
-/// Returns the results of two workers together, or an error: no memory if either had none, else that of the first, else
-/// that of the second.
+/// Returns the results of two workers together, or an error: no memory if either had none, else the first one's.
 pub fn both(
     first: Result<Tally, WorkerFault>,
     second: Result<Tally, WorkerFault>,

@@ -43,8 +43,7 @@ impl Timing {
     }
 }
 
-/// Returns the time that this share, in %, of the round trips took at most, or 0 if there is none. The times have to
-/// rise.
+/// Returns the time that this share, in %, of the round trips took at most, 0 if there is none. The times must rise.
 fn share(trips: &[u64], hundredths: usize) -> u64 {
     let many = trips.len().saturating_mul(hundredths).div_ceil(100);
     trips.get(many.saturating_sub(1)).copied().unwrap_or(0)

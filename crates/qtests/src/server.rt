@@ -46,8 +46,7 @@ fn errand<K: Tie, L: Log>(rt: &(impl Wait + Abort), shared: &Shared<K, L>, port:
     done(rt, port.call(shared, rt, Call::ChannelDestroy(chid)));
 }
 
-/// Answers a message, after a look at it or a write into its reply buffer, by its number. An answer may fail, where
-/// the client was unblocked.
+/// Answers a message by its number, after a look or a write. An answer fails if the client was unblocked.
 fn answer<K: Tie, L: Log>(
     rt: &(impl Wait + Abort),
     alloc: Global,

@@ -73,8 +73,7 @@ impl Sheet<'_> {
         self.x(self.chart.column(thread))
     }
 
-    /// Returns the y coordinate of the call with this number; that of the call before the first row is where the bars
-    /// begin.
+    /// Returns the y coordinate of the call with this number; bars begin at that of the call before the first row.
     pub fn y(&self, number: u64) -> usize {
         let place = number.saturating_sub(self.chart.before) as usize;
         BARS.saturating_add(ROW.saturating_mul(place))

@@ -220,8 +220,7 @@ impl Refused<'_> {
         format!(in alloc; "{call} {did} {item}")
     }
 
-    /// Returns the channel that may have been meant: the one that a connection of this number leads to, or else the
-    /// last one that is open.
+    /// Returns the channel that may be meant: that to which this connection leads, or else the last open one.
     fn likely_channel(&self) -> Result<String, AllocError> {
         let channels = self.kernel.channels();
         if let Some(past) = self.history.call(self.call.operand)
@@ -240,8 +239,7 @@ impl Refused<'_> {
         format!(in self.names.alloc; "{call} made channel {channel}")
     }
 
-    /// Returns the connection that may have been meant: the first of its process to a channel of this number, or else
-    /// the last of its process.
+    /// Returns the connection that may be meant: its process's first to the channel of this number, or else its last.
     fn likely_connection(&self) -> Result<String, AllocError> {
         let process = self.process();
         let connections = self.kernel.connections();

@@ -18,8 +18,7 @@ pub struct NameCheck<'a> {
     pub is_open: bool,
 }
 
-/// Returns whether a name of a kind may stand where one of another kind is wanted. Each call that ends has a name, also
-/// one that makes something.
+/// Returns whether a name of a kind may stand where another kind is wanted. Each call that ends has a name.
 fn may_stand(kind: Kind, wanted: Kind) -> bool {
     match wanted {
         Kind::Call => kind != Kind::Thread,

@@ -75,8 +75,7 @@ fn semicolon_at(tokens: &[Token<'_>]) -> usize
     }
 }
 
-/// Reads the expectations of a call's line, which follow the call: nothing, or `-> ENDING`, and then any number of
-/// `; NAME -> ENDING`.
+/// Reads the expectations behind a call: nothing, or `-> ENDING`, and then any number of `; NAME -> ENDING`.
 pub fn endings_in(
     alloc: Global,
     kind: CallKind,

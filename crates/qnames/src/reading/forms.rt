@@ -170,8 +170,7 @@ impl Patterns {
         Ok(())
     }
 
-    /// Adds the pattern of a word that is printed as it stands here, and the patterns of what follows it, of which the
-    /// last ones may be left out.
+    /// Adds the pattern of a word that stands as it is, and those of what follows it; the last ones may be left out.
     fn add_word(
         &mut self,
         word: &'static str,
