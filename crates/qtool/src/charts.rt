@@ -1,7 +1,7 @@
 //! Unproved: words and layout. Draws the run of a script, into a file or on standard output.
 
 use crate::command::ChartRun;
-use crate::ending::{end_unread, end_with, print_text, text_of};
+use crate::ending::{End, end_unread, end_with, print_text, text_of};
 use crate::names::{is_named, named_of};
 use crate::remarks::Source;
 use qchart::drawing::{drawing, drawing_of};
@@ -12,10 +12,7 @@ use std::process::ExitCode;
 use std::rt::Files;
 
 /// Draws the run of a script, from a file or from standard input. A drawing is never written over its script.
-pub fn run_chart<R: Files + Input + Print + Eprint + AllocGlobal>(
-    rt: &R,
-    run: &ChartRun,
-) -> Result<ExitCode, ExitCode> {
+pub fn run_chart<R: Files + Input + Print + Eprint + AllocGlobal>(rt: &R, run: &ChartRun) -> End {
     let file = run.file.as_deref();
     if let (Some(file), Some(output)) = (file, run.output.as_deref())
         && is_same(rt, file, output)

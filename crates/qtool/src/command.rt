@@ -136,6 +136,9 @@ pub enum Action {
     Serve(ServeRun),
 }
 
+/// What is asked for, if there is memory for it.
+type Run<T> = Result<T, AllocError>;
+
 /// Returns the value of an argument, or `None` if it is missing.
 fn text_of(alloc: Global, value: Option<&str>) -> Result<Option<String>, AllocError> {
     value.map(|text| String::from_str(alloc, text)).transpose()
@@ -147,7 +150,7 @@ fn file_of(alloc: Global, value: Option<&str>) -> Result<Option<String>, AllocEr
 }
 
 /// Returns the script that the arguments ask for.
-fn script_of(alloc: Global, matches: &ArgMatches<'_>, screen: Screen) -> Result<ScriptRun, Error> {
+fn script_of(alloc: Global, matches: &ArgMatches<'_>, screen: Screen) -> Run<ScriptRun> {
     Ok(ScriptRun {
         file: file_of(alloc, matches.get_str("file"))?,
         explain: matches.get_flag("explain"),
@@ -161,7 +164,7 @@ fn script_of(alloc: Global, matches: &ArgMatches<'_>, screen: Screen) -> Result<
 }
 
 /// Returns the check that the arguments ask for: of the current folder, if they name no file or folder.
-fn check_of(alloc: Global, matches: &ArgMatches<'_>, screen: Screen) -> Result<CheckRun, Error> {
+fn check_of(alloc: Global, matches: &ArgMatches<'_>, screen: Screen) -> Run<CheckRun> {
     let mut paths = Vec::new(alloc);
     for path in matches.get_strs("path").unwrap_or(&["."]) {
         paths.push(String::from_str(alloc, path)?)?;
@@ -176,7 +179,7 @@ fn check_of(alloc: Global, matches: &ArgMatches<'_>, screen: Screen) -> Result<C
 }
 
 /// Returns the drawing that the arguments ask for.
-fn chart_of(alloc: Global, matches: &ArgMatches<'_>, screen: Screen) -> Result<ChartRun, Error> {
+fn chart_of(alloc: Global, matches: &ArgMatches<'_>, screen: Screen) -> Run<ChartRun> {
     Ok(ChartRun {
         file: file_of(alloc, matches.get_str("file"))?,
         output: file_of(alloc, matches.get_str("output"))?,
@@ -190,11 +193,7 @@ fn chart_of(alloc: Global, matches: &ArgMatches<'_>, screen: Screen) -> Result<C
 }
 
 /// Returns the design that the arguments ask for.
-fn explore_of(
-    alloc: Global,
-    matches: &ArgMatches<'_>,
-    screen: Screen,
-) -> Result<ExploreRun, Error> {
+fn explore_of(alloc: Global, matches: &ArgMatches<'_>, screen: Screen) -> Run<ExploreRun> {
     Ok(ExploreRun {
         file: file_of(alloc, matches.get_str("file"))?,
         listing: matches.get_flag("listing"),
@@ -210,7 +209,7 @@ fn explore_of(
 }
 
 /// Returns the demonstration that the arguments ask for. Each number has a default.
-fn serve_of(alloc: Global, matches: &ArgMatches<'_>) -> Result<ServeRun, Error> {
+fn serve_of(alloc: Global, matches: &ArgMatches<'_>) -> Run<ServeRun> {
     Ok(ServeRun {
         clients: matches.get_one("clients").unwrap_or(0),
         servers: matches.get_one("servers").unwrap_or(0),
@@ -223,10 +222,8 @@ fn serve_of(alloc: Global, matches: &ArgMatches<'_>) -> Result<ServeRun, Error> 
     })
 }
 
-/// Returns the action that a command line asks for, as it is done with these outputs; the first word is the program's
-/// name. The error may be a help text that was asked for.
-pub fn action_of(alloc: Global, words: &[String], screen: Screen) -> Result<Action, Error> {
-    let matches = command(alloc)?.try_get_matches_from(words)?;
+/// Returns the action that the arguments ask for, as it is done with these outputs.
+fn action_in(alloc: Global, matches: &ArgMatches<'_>, screen: Screen) -> Run<Action> {
     Ok(match matches.subcommand() {
         Some(("serve", serve)) => Action::Serve(serve_of(alloc, serve)?),
         Some(("check", check)) => Action::Check(check_of(alloc, check, screen)?),
@@ -240,4 +237,11 @@ pub fn action_of(alloc: Global, words: &[String], screen: Screen) -> Result<Acti
         Some((_, script)) => Action::Script(script_of(alloc, script, screen)?),
         None => Action::Script(ScriptRun::default()),
     })
+}
+
+/// Returns the action that a command line asks for, as it is done with these outputs; the first word is the program's
+/// name. The error may be a help text that was asked for.
+pub fn action_of(alloc: Global, words: &[String], screen: Screen) -> Result<Action, Error> {
+    let matches = command(alloc)?.try_get_matches_from(words)?;
+    Ok(action_in(alloc, &matches, screen)?)
 }

@@ -7,6 +7,9 @@ use std::process::ExitCode;
 use std::rt::Files;
 use std::{fs, io};
 
+/// The exit code of an action; the error is that of one that failed.
+pub type End = Result<ExitCode, ExitCode>;
+
 /// Ends the program without a message, since nobody reads the output any more. The status, 141, is that of a program
 /// killed by SIGPIPE.
 pub fn end_quietly() -> ExitCode {

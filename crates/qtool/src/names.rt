@@ -1,13 +1,14 @@
 //! Unproved: words and layout. Runs a script with names, or prints its plain script.
 
 use crate::command::ScriptRun;
-use crate::ending::{end_failed, print_text, text_of};
+use crate::ending::{End, end_failed, print_text, text_of};
 use crate::remarks::Source;
 use crate::scripts::print_trace;
 use qexplain::report::{Report, ReportedRun};
 use qnames::{Named, Reading, read};
 use qreading::place::Fault;
 use std::alloc::{AllocError, Global};
+use std::mem;
 use std::process::ExitCode;
 use std::rt::Files;
 
@@ -27,24 +28,31 @@ pub fn named_of<R: Eprint + AllocGlobal>(rt: &R, source: Source<'_>) -> Result<N
 
 /// Runs the script with names in a file or in standard input, or prints its plain script: prints its trace, and reports
 /// what differs from the expectations.
-pub fn run_named<R: Files + Input + Print + Eprint + AllocGlobal>(
-    rt: &R,
-    run: &ScriptRun,
-) -> Result<ExitCode, ExitCode> {
+pub fn run_named<R: Files + Input + Print + Eprint + AllocGlobal>(rt: &R, run: &ScriptRun) -> End {
     let file = run.file.as_deref();
     let text = text_of(rt, file)?;
     let shows = run.explain || run.screen.errors;
     let source = Source::new(file, text.as_slice(), shows, run.screen.colours.errors);
-    let named = named_of(rt, source)?;
+    let mut named = named_of(rt, source)?;
     if run.plain {
-        print_text(rt, named.text.as_str())?;
-        return Ok(ExitCode::SUCCESS);
+        return print_text(rt, named.text.as_str()).map(|()| ExitCode::SUCCESS);
     }
-    let outcome = outcome_of(rt.alloc(), named, run.names && !run.json);
-    let (trace, report, faults) = outcome.map_err(|_| end_failed(rt, "out of memory"))?;
+    match outcome_of(rt.alloc(), &mut named, run.names && !run.json) {
+        Ok(outcome) => print_outcome(rt, run, source, &outcome),
+        Err(_) => Err(end_failed(rt, "out of memory")),
+    }
+}
+
+/// Prints the trace of a script with names, and reports what differs from the expectations.
+fn print_outcome<R: Print + Eprint + AllocGlobal>(
+    rt: &R,
+    run: &ScriptRun,
+    source: Source<'_>,
+    (trace, report, faults): &Outcome,
+) -> End {
     print_trace(rt, run, trace.as_str())?;
     if run.explain {
-        let _ = source.tell_report(rt, &report);
+        let _ = source.tell_report(rt, report);
     }
     if faults.is_empty() {
         return Ok(ExitCode::SUCCESS);
@@ -56,33 +64,45 @@ pub fn run_named<R: Files + Input + Print + Eprint + AllocGlobal>(
 type Outcome = (String, Report, Vec<Fault>);
 
 /// Runs a script with names once, and returns its outcome; the trace has the names if `in_names` is set.
-fn outcome_of(alloc: Global, named: Named, in_names: bool) -> Result<Outcome, AllocError> {
-    let (script, mut check) = (named.script, named.check);
-    let calls = check.calls.iter();
+fn outcome_of(alloc: Global, named: &mut Named, in_names: bool) -> Result<Outcome, AllocError> {
+    let calls = named.check.calls.iter();
     let lines = calls.map(|call| call.place.line as usize).collect(alloc)?;
-    let mut run = ReportedRun::new(alloc, &script, lines)?;
-    check.compare_states(Some(run.run().kernel()))?;
+    let mut run = ReportedRun::new(alloc, &named.script, lines)?;
     let mut told = String::new(alloc);
-    for (thread, call) in script.calls {
+    let faults = make_all(&mut run, named, &mut told, in_names)?;
+    let (plain, report) = run.finish(named.check.context())?;
+    Ok((if in_names { told } else { plain }, report, faults))
+}
+
+/// Makes the calls of a script with names, and returns what differs from the expectations; the trace with the names is
+/// added if `in_names` is set.
+fn make_all(
+    run: &mut ReportedRun,
+    named: &mut Named,
+    trace: &mut String,
+    in_names: bool,
+) -> Result<Vec<Fault>, AllocError> {
+    let Named { script, check, .. } = named;
+    let alloc = check.context().alloc;
+    check.compare_states(Some(run.run().kernel()))?;
+    for (thread, call) in mem::replace(&mut script.calls, Vec::new(alloc)) {
         run.make(check.context(), thread, call)?;
         check.follow(run.run().kernel(), run.run().endings())?;
         if in_names {
-            check.push_trace(&mut told, run.run().endings())?;
+            check.push_trace(trace, run.run().endings())?;
         }
     }
     check.finish(run.run().kernel())?;
     let blocked = run.run().kernel().blocked(alloc)?;
-    check.context().push_blocked(&mut told, blocked.as_slice())?;
-    let (plain, report) = run.finish(check.context())?;
-    let trace = if in_names { told } else { plain };
-    Ok((trace, report, check.take_faults()?))
+    check.context().push_blocked(trace, blocked.as_slice())?;
+    check.take_faults()
 }
 
 /// Returns the faults of a script with names, or else what differs from its expectations in its run.
 pub fn faults_of(alloc: Global, text: &[u8]) -> Result<Vec<Fault>, AllocError> {
     match read(alloc, text)? {
-        Reading::Good(named) => {
-            let (_, _, faults) = outcome_of(alloc, named, false)?;
+        Reading::Good(mut named) => {
+            let (_, _, faults) = outcome_of(alloc, &mut named, false)?;
             Ok(faults)
         }
         Reading::Faulty(faults) => Ok(faults),

@@ -1,7 +1,7 @@
 //! Unproved: words and layout. Runs a script, from a file or from standard input.
 
 use crate::command::ScriptRun;
-use crate::ending::{end_failed, end_quietly, end_unread, end_with, print_text};
+use crate::ending::{End, end_failed, end_quietly, end_unread, end_with, print_text};
 use crate::json::trace_json;
 use crate::names::{is_named, run_named};
 use crate::remarks;
@@ -19,10 +19,7 @@ use std::{fs, io};
 
 /// Runs a script, from a file or from standard input. It has names if its file is called so, or `names_in` says it, and
 /// is plain otherwise. A faulty line is explained on a terminal, or if explanations are asked for.
-pub fn run_script<R: Files + Input + Print + Eprint + AllocGlobal>(
-    rt: &R,
-    run: &ScriptRun,
-) -> Result<ExitCode, ExitCode> {
+pub fn run_script<R: Files + Input + Print + Eprint + AllocGlobal>(rt: &R, run: &ScriptRun) -> End {
     let file = run.file.as_deref();
     match file {
         _ if run.names_in || file.is_some_and(is_named) => run_named(rt, run),
@@ -43,7 +40,7 @@ fn run_plain<R: Print + Eprint + AllocGlobal, S: Read + Drop>(
     rt: &R,
     run: &ScriptRun,
     input: S,
-) -> Result<ExitCode, ExitCode> {
+) -> End {
     if run.explain || run.strict || run.json {
         return explain_from(rt, run, input);
     }
@@ -63,7 +60,7 @@ fn explain_from<R: Print + Eprint + AllocGlobal, S: Read + Drop>(
     rt: &R,
     run: &ScriptRun,
     input: S,
-) -> Result<ExitCode, ExitCode> {
+) -> End {
     let mut reader = Watched::new(Source::new(rt.alloc(), input, true));
     let text = read_all(rt.alloc(), &mut reader);
     let explained = text.and_then(|text| explained(rt.alloc(), text.as_slice()));

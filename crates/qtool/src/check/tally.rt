@@ -2,84 +2,57 @@
 
 use std::fmt;
 
-/// The number of scripts with each outcome.
+/// The outcomes, each with its words in the count of one script, and of several.
+const OUTCOMES: [(&str, &str, &str); 6] = [
+    ("same", "same", "same"),
+    ("differs", "differs", "differ"),
+    ("without", "without a trace", "without a trace"),
+    ("written", "written", "written"),
+    ("faulty", "faulty", "faulty"),
+    ("unread", "unread", "unread"),
+];
+
+/// The number of scripts with each outcome, and of the files and folders that can't be read or written.
 #[derive(Clone, Copy, Default, PartialEq, Eq)]
-pub struct Tally {
-    /// The scripts that printed their traces.
-    pub same: usize,
-    /// The scripts that printed something else.
-    pub differ: usize,
-    /// The scripts without a trace.
-    pub without: usize,
-    /// The scripts whose traces were written.
-    pub written: usize,
-    /// The scripts that have no run.
-    pub faulty: usize,
-    /// The files and folders that can't be read or written.
-    pub unread: usize,
-}
+pub struct Tally([usize; 6]);
 
 /// `11 same, 1 differs, 3 without a trace`; zeros are left out.
 impl fmt::Display for Tally {
     fn fmt<W: fmt::Write>(&self, f: &mut fmt::Formatter<W>) -> fmt::Result {
-        let differs = if self.differ == 1 {
-            "differs"
-        } else {
-            "differ"
-        };
-        let first = put(f, true, self.same, "same")?;
-        let first = put(f, first, self.differ, differs)?;
-        let first = put(f, first, self.without, "without a trace")?;
-        let first = put(f, first, self.written, "written")?;
-        let first = put(f, first, self.faulty, "faulty")?;
-        put(f, first, self.unread, "unread")?;
+        let mut is_first = true;
+        for ((_, one, several), count) in OUTCOMES.iter().zip(&self.0) {
+            let words = if *count == 1 { one } else { several };
+            let comma = if is_first { "" } else { ", " };
+            if *count > 0 {
+                write!(f, "{comma}{count} {words}")?;
+                is_first = false;
+            }
+        }
         Ok(())
     }
 }
 
-/// Writes a count that isn't 0, behind a comma if it isn't the first; returns whether none is written so far.
-fn put<W: fmt::Write>(
-    f: &mut fmt::Formatter<W>,
-    first: bool,
-    count: usize,
-    name: &str,
-) -> Result<bool, fmt::Error> {
-    if count == 0 {
-        return Ok(first);
-    }
-    if !first {
-        write!(f, ", ")?;
-    }
-    write!(f, "{count} {name}")?;
-    Ok(false)
-}
-
 impl Tally {
-    /// Counts a script by its outcome, or a file or folder as unread.
+    /// Counts a script by its outcome, or a file or folder as `unread`.
     pub fn add(&mut self, outcome: &str) {
-        match outcome {
-            "same" => self.same = self.same.saturating_add(1),
-            "differs" => self.differ = self.differ.saturating_add(1),
-            "without" => self.without = self.without.saturating_add(1),
-            "written" => self.written = self.written.saturating_add(1),
-            "faulty" => self.faulty = self.faulty.saturating_add(1),
-            _ => self.unread = self.unread.saturating_add(1),
+        for ((name, _, _), count) in OUTCOMES.iter().zip(&mut self.0) {
+            if *name == outcome {
+                *count = count.saturating_add(1);
+            }
         }
     }
 
     /// Returns whether any script was checked.
     pub fn has_some(&self) -> bool {
-        self.same > 0 || self.differ > 0 || self.without > 0 || self.written > 0 || self.faulty > 0
+        self.0.iter().take(5).any(|count| *count > 0)
     }
 
     /// Returns the exit status of the check.
     pub fn status(&self) -> u8 {
-        if self.unread > 0 {
-            3
-        } else if self.differ > 0 || self.without > 0 || self.faulty > 0 {
-            1
-        } else {
-            0
+        let [_, differ, without, _, faulty, unread] = self.0;
+        if unread > 0 {
+            return 3;
         }
+        u8::from(differ > 0 || without > 0 || faulty > 0)
     }
 }

@@ -18,6 +18,9 @@ const NAMES_IN: &str = "names-in: Read a script with names, whatever its file is
 /// The option that prints names: its name and its help.
 const NAMES: &str = "names: Print names in place of numbers, as is done on a terminal";
 
+/// A command line that is built, if there is memory for it.
+type Build<'a> = Result<Command<'a>, AllocError>;
+
 /// Returns a subcommand with these texts, without arguments.
 fn subcommand<'a>(alloc: Global, name: &'a str, texts: &'static Texts) -> Command<'a> {
     Command::new(alloc, name)
@@ -27,16 +30,20 @@ fn subcommand<'a>(alloc: Global, name: &'a str, texts: &'static Texts) -> Comman
 }
 
 /// Adds options without a value, each `NAME: HELP`.
-fn with_flags<'a>(
-    alloc: Global,
-    mut command: Command<'a>,
-    flags: &[&'a str],
-) -> Result<Command<'a>, AllocError> {
+fn with_flags<'a>(alloc: Global, mut command: Command<'a>, flags: &[&'a str]) -> Build<'a> {
     for (name, help) in flags.iter().filter_map(|flag| flag.split_once(": ")) {
         let flag = Arg::new(alloc, name).long(name).help(help);
         command = command.arg(flag.action(ArgAction::SetTrue))?;
     }
     Ok(command)
+}
+
+/// Returns an option with a value.
+fn option<'a>(alloc: Global, name: &'a str, value: &'a str, help: &'a str) -> Arg<'a> {
+    Arg::new(alloc, name)
+        .long(name)
+        .value_name(value)
+        .help(help)
 }
 
 /// Returns an option with a number.
@@ -47,11 +54,7 @@ fn number<'a>(
     parser: ValueParser<'a>,
     help: &'a str,
 ) -> Arg<'a> {
-    Arg::new(alloc, name)
-        .long(name)
-        .value_name(value)
-        .value_parser(parser)
-        .help(help)
+    option(alloc, name, value, help).value_parser(parser)
 }
 
 /// Returns the argument that is a file.
@@ -60,33 +63,30 @@ fn file<'a>(alloc: Global, help: &'a str) -> Arg<'a> {
 }
 
 /// Returns the subcommand `serve`.
-fn serve_command<'a>(alloc: Global) -> Result<Command<'a>, AllocError> {
+fn serve_command<'a>(alloc: Global) -> Build<'a> {
     let clients = value_parser!(u8).range(1..33);
-    let clients = number(alloc, "clients", "N", clients, "How many clients, 1 to 32");
+    let clients_help = "How many clients, 1 to 32";
     let servers = value_parser!(u8).range(1..17);
-    let servers = number(alloc, "servers", "M", servers, "How many servers, 1 to 16");
+    let servers_help = "How many servers, 1 to 16";
     let rounds = value_parser!(u16).range(1..1001);
-    let help = "How many rounds each client makes, 1 to 1000";
-    let rounds = number(alloc, "rounds", "K", rounds, help);
-    let record = Arg::new(alloc, "record")
-        .long("record")
-        .value_name("NAME")
-        .help("Write NAME.txt, a script of the kernel's calls, and NAME.trace");
+    let rounds_help = "How many rounds each client makes, 1 to 1000";
+    let command = subcommand(alloc, "serve", &SERVE)
+        .arg(number(alloc, "clients", "N", clients, clients_help).default_value("2"))?
+        .arg(number(alloc, "servers", "M", servers, servers_help).default_value("1"))?
+        .arg(number(alloc, "rounds", "K", rounds, rounds_help).default_value("1"))?;
     let flags = [
         "hold: Keep the first message until there is a second",
         "time: Print how long the run and its round trips took",
         "json: Print an object of JSON in place of lines",
         "quiet: Show no progress",
     ];
-    let command = subcommand(alloc, "serve", &SERVE)
-        .arg(clients.default_value("2"))?
-        .arg(servers.default_value("1"))?
-        .arg(rounds.default_value("1"))?;
-    with_flags(alloc, command, &flags)?.arg(record)
+    let command = with_flags(alloc, command, &flags)?;
+    let help = "Write NAME.txt, a script of the kernel's calls, and NAME.trace";
+    command.arg(option(alloc, "record", "NAME", help))
 }
 
 /// Returns the subcommand `script`.
-fn script_command<'a>(alloc: Global) -> Result<Command<'a>, AllocError> {
+fn script_command<'a>(alloc: Global) -> Build<'a> {
     let flags = [
         EXPLAIN,
         JSON,
@@ -101,7 +101,7 @@ fn script_command<'a>(alloc: Global) -> Result<Command<'a>, AllocError> {
 }
 
 /// Returns the subcommand `check`.
-fn check_command<'a>(alloc: Global) -> Result<Command<'a>, AllocError> {
+fn check_command<'a>(alloc: Global) -> Build<'a> {
     let paths = Arg::new(alloc, "path")
         .value_name("PATH")
         .num_args(0..)
@@ -113,12 +113,7 @@ fn check_command<'a>(alloc: Global) -> Result<Command<'a>, AllocError> {
 }
 
 /// Returns the subcommand `chart`.
-fn chart_command<'a>(alloc: Global) -> Result<Command<'a>, AllocError> {
-    let output = Arg::new(alloc, "output")
-        .short('o')
-        .long("output")
-        .value_name("FILE")
-        .help("Write the drawing into this file; none or - is standard output");
+fn chart_command<'a>(alloc: Global) -> Build<'a> {
     let flags = [
         "text: Draw in columns of text, as is done on a terminal, and not as SVG",
         "bytes: Show the bytes of messages and answers, 8 at most",
@@ -127,16 +122,17 @@ fn chart_command<'a>(alloc: Global) -> Result<Command<'a>, AllocError> {
     let call = value_parser!(u32).range(1..4294967295);
     let from = "The number of the first call that is drawn";
     let to = "The number of the last call that is drawn";
+    let help = "Write the drawing into this file; none or - is standard output";
     let command = subcommand(alloc, "chart", &CHART)
         .arg(file(alloc, "The script's file; none or - is standard input"))?
-        .arg(output)?;
+        .arg(option(alloc, "output", "FILE", help).short('o'))?;
     with_flags(alloc, command, &flags)?
         .arg(number(alloc, "from", "N", call, from).default_value("1"))?
         .arg(number(alloc, "to", "M", call, to))
 }
 
 /// Returns the subcommand `explore`.
-fn explore_command<'a>(alloc: Global) -> Result<Command<'a>, AllocError> {
+fn explore_command<'a>(alloc: Global) -> Build<'a> {
     let help = "The design's file; none or - is standard input";
     let script = "script: Print the run that shows a fault alone, as a script";
     let json = "json: Print an object of JSON in place of lines";
@@ -154,19 +150,28 @@ fn explore_command<'a>(alloc: Global) -> Result<Command<'a>, AllocError> {
         .arg(number(alloc, "seed", "S", any, seed).default_value("1"))
 }
 
+/// Returns the subcommand `play`.
+fn play_command<'a>(alloc: Global) -> Build<'a> {
+    let command = subcommand(alloc, "play", &PLAY).arg(file(alloc, "A script to begin with"))?;
+    with_flags(alloc, command, &[NAMES])
+}
+
+/// Adds a subcommand, if there was memory for it.
+fn with<'a>(command: Command<'a>, subcommand: Build<'a>) -> Build<'a> {
+    command.subcommand(subcommand?)
+}
+
 /// Returns the whole command line, with its six subcommands.
-pub(super) fn command<'a>(alloc: Global) -> Result<Command<'a>, AllocError> {
-    let play = subcommand(alloc, "play", &PLAY).arg(file(alloc, "A script to begin with"))?;
-    let play = with_flags(alloc, play, &[NAMES])?;
-    Command::new(alloc, "qdemo")
+pub(super) fn command<'a>(alloc: Global) -> Build<'a> {
+    let command = Command::new(alloc, "qdemo")
         .version(VERSION)
         .about(ABOUT)
         .after_help(EXAMPLE)
-        .subcommand_required(true)
-        .subcommand(script_command(alloc)?)?
-        .subcommand(check_command(alloc)?)?
-        .subcommand(play)?
-        .subcommand(chart_command(alloc)?)?
-        .subcommand(explore_command(alloc)?)?
-        .subcommand(serve_command(alloc)?)
+        .subcommand_required(true);
+    let command = with(command, script_command(alloc))?;
+    let command = with(command, check_command(alloc))?;
+    let command = with(command, play_command(alloc))?;
+    let command = with(command, chart_command(alloc))?;
+    let command = with(command, explore_command(alloc))?;
+    with(command, serve_command(alloc))
 }

@@ -98,6 +98,22 @@ impl Names {
         Ok(())
     }
 
+    /// Adds the threads to the run and makes the calls, and returns what differs from the expectations.
+    fn make_all(
+        &mut self,
+        session: &mut Session,
+        calls: Vec<(ThreadNo, Call)>,
+    ) -> Result<Vec<Fault>, AllocError> {
+        for member in self.growing.roster() {
+            session.add_member(*member)?;
+        }
+        self.growing.check.compare_states(None)?;
+        for (thread, call) in calls {
+            self.make(session, thread, call)?;
+        }
+        self.growing.check.take_faults()
+    }
+
     /// Adds a line, and what it says to the run, unless it is faulty.
     fn add(&mut self, session: &mut Session, line: &[u8]) -> Result<Vec<Fault>, AllocError> {
         let read = match self.growing.add(line)? {
@@ -165,14 +181,13 @@ impl Sheet {
         if self.names.is_some() {
             return Ok(self.add_named_line(line)?);
         }
-        let taken = self.add_plain(line)?;
-        let Taken::Plain(number, fault) = taken else {
-            return Ok(taken);
-        };
-        match self.add_named(line)? {
-            Taken::Named(_) if !has_signs(line) => Ok(Taken::Plain(number, fault)),
-            other => Ok(other),
+        let plain = self.add_plain(line)?;
+        if !matches!(plain, Taken::Plain(..)) {
+            return Ok(plain);
         }
+        let named = self.add_named(line)?;
+        let is_plain = matches!(named, Taken::Named(_)) && !has_signs(line);
+        Ok(if is_plain { plain } else { named })
     }
 
     /// Adds lines of a plain script.
@@ -225,19 +240,12 @@ impl Sheet {
         };
         let (growing, calls) = Growing::of(self.alloc, named)?;
         let mut session = Session::new(self.alloc);
-        for member in growing.roster() {
-            session.add_member(*member)?;
-        }
         let mut names = Names {
             text,
             growing,
             trace: String::new(self.alloc),
         };
-        names.growing.check.compare_states(None)?;
-        for (thread, call) in calls {
-            names.make(&mut session, thread, call)?;
-        }
-        let faults = names.growing.check.take_faults()?;
+        let faults = names.make_all(&mut session, calls)?;
         self.session = session;
         self.names = Some(names);
         self.added(shown, faults)
