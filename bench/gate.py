@@ -4,6 +4,7 @@
     bench/gate.py run LOG [WORD..]    runs `rt ci WORD..` in this checkout and writes LOG
     bench/gate.py LOG..               prints the table of one or more logs
     bench/gate.py lanes N LOG..       prints how long their jobs take on N processors
+    bench/gate.py functions NAME..    lists the functions of these built libraries, the largest first
 
 Below the table stands the longest chain: crates each of which waits for the proof of the one before.
 
@@ -15,10 +16,14 @@ linkers). The last line is that of the whole run, `total`.
 `lanes` goes through the jobs as `rt ci` does: each waits for the proofs that it stands on, edits also for their seed;
 those with the longest chain behind them come first, and edits fill what is left. A job takes its processor seconds.
 
+`functions` prints for each function the bytes of its lowered code, and how many drops and `?` it has. About 2,000 bytes
+are a second of proof. `rt lib` builds a library into `out/rlib` of its crate, where this looks for it.
+
 What an earlier run on this machine passed is taken from there and costs nothing. `bench/gate.py run LOG --anew` proves
 all from nothing. Processes are looked at ten times a second, so a figure is up to a tenth of a second a process short.
 """
 
+import json
 import os
 import re
 import subprocess
@@ -182,9 +187,29 @@ def table(logs):
     print(f"{total / 60:.0f} processor minutes by the system, {wall / 60:.0f} minutes from start to end")
 
 
+def functions(names):
+    """Prints the size of the lowered code of each function of these crates, the largest first."""
+    found = []
+    for name in names:
+        code = TOP / "crates" / name / "out/rlib" / f"{name}.rlib" / "toolchain/mir.json"
+        if not code.is_file():
+            return f"{code.relative_to(TOP)} isn't there: run `rt lib` in crates/{name}"
+        for function, parts in json.loads(code.read_text()):
+            if function.startswith(f"{name}::"):
+                called = [json.dumps(it["Call"][0]) for it in parts["body"] if isinstance(it, dict) and "Call" in it]
+                drops = sum(bool(re.search(r'drop"|Destruct', it)) for it in called)
+                tries = sum('branch"' in it for it in called)
+                found.append((len(json.dumps(parts["body"])), drops, tries, function))
+    print(f"{'bytes':>9}{'drops':>7}{'?':>5}  function")
+    for size, drops, tries, function in sorted(found, reverse=True):
+        print(f"{size:9,}{drops:7}{tries:5}  {function}")
+
+
 if {"-h", "--help"} & set(sys.argv[1:2]):
     print(__doc__)
     sys.exit()
+if sys.argv[1:2] == ["functions"] and len(sys.argv) > 2:
+    sys.exit(functions(sys.argv[2:]))
 if sys.argv[1:2] == ["lanes"] and len(sys.argv) > 3:
     sys.exit(lanes(int(sys.argv[2]), sys.argv[3:]))
 if sys.argv[1:2] == ["run"] and len(sys.argv) > 2:
