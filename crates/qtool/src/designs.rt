@@ -113,26 +113,35 @@ pub fn run_explore<R: Files + Input + Print + Eprint + AllocGlobal>(
         }
         Err(_) => return Err(end_failed(rt, "out of memory")),
     };
-    if run.listing {
-        return print_listing(rt, &design);
-    }
-    if errors {
-        let source = remarks::Source::new(run.file.as_deref(), text, true, colours.errors);
-        let _ = source.tell_oddities(rt);
-    }
     let source = Source {
         alloc: rt.alloc(),
         file,
         text,
         design: &design,
     };
+    explore_read(rt, run, source)
+}
+
+/// Prints a design's listing, or explores the design and prints the words of the search.
+fn explore_read<R: Print + Eprint + AllocGlobal>(
+    rt: &R,
+    run: &ExploreRun,
+    source: Source<'_>,
+) -> Result<ExitCode, ExitCode> {
+    if run.listing {
+        return print_listing(rt, source.design);
+    }
+    let Source { file, text, .. } = source;
+    if run.screen.errors {
+        let colours = run.screen.colours.errors;
+        let _ = remarks::Source::new(run.file.as_deref(), text, true, colours).tell_oddities(rt);
+    }
     let told = search_shown(rt, run, source);
     let (words, status) = told.map_err(|_| end_failed(rt, "out of memory"))?;
     print_told(rt, run, file, words.as_str(), status)
 }
 
-/// Prints the words of a search, and returns its exit status. If a script is asked for and there is no run, the words go
-/// to standard error.
+/// Prints the words of a search, and returns its exit status. Without a run for `--script` they go to standard error.
 fn print_told<R: Print + Eprint + AllocGlobal>(
     rt: &R,
     run: &ExploreRun,
@@ -166,8 +175,7 @@ fn painted(alloc: Global, run: &ExploreRun, words: &str, status: u8) -> Result<S
     format!(in alloc; "{begin}{first}{end}\n{rest}")
 }
 
-/// Returns the outcome of a search as an object of JSON: the design's file, the outcome in a word, and the lines of its
-/// output.
+/// Returns the outcome of a search as an object of JSON: the design's file, the outcome in a word, the output's lines.
 fn object_of(alloc: Global, file: &str, output: &str, status: u8) -> Result<String, AllocError> {
     let outcome = match status {
         0 => "nothing",

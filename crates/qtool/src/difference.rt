@@ -45,8 +45,7 @@ pub fn difference_of(alloc: Global, found: &[u8], wanted: &[u8]) -> Result<Diffe
     })
 }
 
-/// Returns the line with this number as it is shown: `?` for a byte that isn't printable, and words for the end of the
-/// text.
+/// Returns the line with this number as it is shown: `?` for a byte that isn't printable, words for the text's end.
 fn shown_line(alloc: Global, text: &[u8], number: usize) -> Result<String, AllocError> {
     let mut shown = String::new(alloc);
     let mut line = 1usize;

@@ -10,8 +10,7 @@ use std::{fs, io};
 /// The exit code of an action; the error is that of one that failed.
 pub type End = Result<ExitCode, ExitCode>;
 
-/// Ends the program without a message, since nobody reads the output any more. The status, 141, is that of a program
-/// killed by SIGPIPE.
+/// Ends the program without a message, since nobody reads the output. The status is that of SIGPIPE, 141.
 pub fn end_quietly() -> ExitCode {
     ExitCode::from(141)
 }

@@ -1,5 +1,4 @@
-//! Unproved: words and layout. The program except the server on threads: its command line, and its
-//! work with scripts and designs.
+//! Unproved: words and layout. The program except the server on threads: its command line, scripts and designs.
 #![tactic(auto)]
 
 pub mod charts;

@@ -74,8 +74,7 @@ fn outcome_of(alloc: Global, named: &mut Named, in_names: bool) -> Result<Outcom
     Ok((if in_names { told } else { plain }, report, faults))
 }
 
-/// Makes the calls of a script with names, and returns what differs from the expectations; the trace with the names is
-/// added if `in_names` is set.
+/// Makes the calls of a script with names, adds the trace if `in_names` is set, and returns what isn't as expected.
 fn make_all(
     run: &mut ReportedRun,
     named: &mut Named,

@@ -1,5 +1,4 @@
-//! Unproved: words and layout. Plays with a kernel: each line of the input is a line of a script or
-//! a command, and is answered at once.
+//! Unproved: words and layout. Plays with a kernel: answers each line of the input, a script's or a command, at once.
 
 mod order;
 pub mod sheet;
@@ -48,9 +47,8 @@ struct Play<'a, R> {
     colours: bool,
 }
 
-/// Plays with the script of a file, or without one. Lines come from standard input; at its end, if it isn't a terminal,
-/// the blocked threads are printed as at the end of a script. The status is 1 if a line was faulty and the input isn't
-/// a terminal.
+/// Plays with the script of a file, or without one. Lines come from standard input. If that isn't a terminal, the
+/// blocked threads are printed at its end, as at the end of a script, and the status is 1 if a line was faulty.
 pub fn run_play<R: Files + Input + Print + Eprint + AllocGlobal>(
     rt: &R,
     run: &PlayRun,
@@ -64,25 +62,30 @@ pub fn run_play<R: Files + Input + Print + Eprint + AllocGlobal>(
         faulty: false,
         colours: run.screen.colours.errors,
     };
-    if let Some(name) = run.file.as_deref() {
-        let text = text_of(rt, Some(name))?;
-        let taken = play.take_file(text.as_slice(), name);
-        if !taken.map_err(|error| end_unwritten(rt, error))? {
-            return Ok(ExitCode::FAILURE);
-        }
-    }
-    play.go_on().map_err(|error| end_unwritten(rt, error))
+    play.run(run.file.as_deref())
 }
 
 /// The error of its methods is that of standard output, or of memory.
 impl<R: Files + Input + Print + Eprint + AllocGlobal> Play<'_, R> {
+    /// Plays with the script of this file, or without one.
+    fn run(&mut self, file: Option<&str>) -> Result<ExitCode, ExitCode> {
+        let rt = self.rt;
+        if let Some(name) = file {
+            let text = text_of(rt, Some(name))?;
+            let taken = self.take_file(text.as_slice(), name);
+            if !taken.map_err(|error| end_unwritten(rt, error))? {
+                return Ok(ExitCode::FAILURE);
+            }
+        }
+        self.go_on().map_err(|error| end_unwritten(rt, error))
+    }
+
     /// Prints bytes as they are.
     fn print(&self, bytes: &[u8]) -> io::Result<()> {
         io::writer(self.rt).write_all(bytes)
     }
 
-    /// Begins with the script of a file, and returns whether it has no fault. A fault is reported as `script` reports
-    /// it.
+    /// Begins with the script of a file, and returns whether it has no fault. Faults are reported as by `script`.
     fn take_file(&mut self, text: &[u8], name: &str) -> io::Result<bool> {
         let file = Some(name);
         let taken = if is_named(name) {
@@ -256,8 +259,7 @@ impl<R: Files + Input + Print + Eprint + AllocGlobal> Play<'_, R> {
         Ok(())
     }
 
-    /// Prints the blocked threads at the end, if the input isn't a terminal, and what differs from the expectations
-    /// then.
+    /// Prints the blocked threads at the end, unless the input is a terminal, and what isn't as expected then.
     fn finish(&mut self) -> io::Result<()> {
         if !self.terminal {
             let blocked = self.sheet.session().blocked(self.sheet.shown())?;

@@ -11,8 +11,7 @@ use qreading::place::Fault;
 use std::io;
 use std::process::ExitCode;
 
-/// The source of faults: the name of its file, its text, whether the faulty lines are shown, and whether standard error
-/// has colours.
+/// The source of faults: its file's name, its text, whether faulty lines are shown, and whether errors have colours.
 #[derive(Clone, Copy)]
 pub struct Source<'a> {
     pub file: Option<&'a str>,

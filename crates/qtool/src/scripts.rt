@@ -54,8 +54,7 @@ fn run_plain<R: Print + Eprint + AllocGlobal, S: Read + Drop>(
     }
 }
 
-/// Runs the script that this reader gives, and reports on the same run. The status is 1 for a failure if the run is
-/// strict.
+/// Runs the script that this reader gives, and reports on the same run. The status of a failed strict run is 1.
 fn explain_from<R: Print + Eprint + AllocGlobal, S: Read + Drop>(
     rt: &R,
     run: &ScriptRun,

@@ -1,5 +1,4 @@
-//! Unproved: words and layout. The lines of a play: a plain script, which becomes one with names at
-//! the first line that only such a script has.
+//! Unproved: words and layout. The lines of a play: a plain script, or one with names from its first such line on.
 
 use qbase::ids::ThreadNo;
 use qexplain::session::Session;
