@@ -56,7 +56,7 @@ fn errand<K: Tie, L: Log>(
     round: u64,
 ) {
     let own = port.thread();
-    let level = priority(rt, 20 + (round & 7) as u8);
+    let level = priority(rt, 20u8.wrapping_add((round & 7) as u8));
     let call = match round % ERRANDS {
         1 => Call::Pulse {
             coid,
@@ -69,7 +69,7 @@ fn errand<K: Tie, L: Log>(
             priority: level,
         },
         5 => Call::State(own),
-        7 => Call::Unblock(ThreadNo(17 + (round >> 4 & 7) as u8)),
+        7 => Call::Unblock(ThreadNo(17u8.wrapping_add((round >> 4 & 7) as u8))),
         9 => Call::ConnectDetach(attached(rt, shared, port, ChannelId(1))),
         _ => return,
     };
