@@ -119,11 +119,11 @@ pub fn run_explore<R: Files + Input + Print + Eprint + AllocGlobal>(
         text,
         design: &design,
     };
-    explore_read(rt, run, source)
+    explore_source(rt, run, source)
 }
 
 /// Prints a design's listing, or explores the design and prints the words of the search.
-fn explore_read<R: Print + Eprint + AllocGlobal>(
+fn explore_source<R: Print + Eprint + AllocGlobal>(
     rt: &R,
     run: &ExploreRun,
     source: Source<'_>,
