@@ -29,7 +29,8 @@ pub fn printed(alloc: Global, input: &[u8]) -> Result<Vec<u8>, ScriptFault>
     Ok(writer.into_inner())
 }
 
-/// Runs a script and compares what it prints with its trace, which, if the same, is the text of a lawful run of it.
+/// Runs a script, and compares what it prints with its trace. If they are the same, the trace is the text of a lawful
+/// run of the script.
 pub fn outcome_of(alloc: Global, input: &[u8], trace: &[u8]) -> Outcome
     ensures same { result ≡ Outcome.Same → Runs input.now trace.now }
 {

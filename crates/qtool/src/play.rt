@@ -1,4 +1,5 @@
-//! Unproved: words and layout. Plays with a kernel: answers each line of the input, a script's or a command, at once.
+//! Unproved: words and layout. Plays with a kernel: each line of the input is a line of a script or
+//! a command, and is answered at once.
 
 mod order;
 pub mod sheet;

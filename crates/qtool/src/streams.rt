@@ -4,7 +4,8 @@ use std::alloc::Global;
 use std::io;
 use std::io::{Read, Write};
 
-/// A reader that remembers why a read failed, and keeps the bytes if `keeps` is set and memory lasts.
+/// A reader that remembers why a read failed, and also keeps the bytes if `keeps` is set. If memory runs out, it keeps
+/// nothing.
 #[derive(Drop)]
 pub struct Source<R> {
     inner: R,

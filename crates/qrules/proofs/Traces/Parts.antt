@@ -1,5 +1,5 @@
 -- Parts of the look-ups, each by what was found so far, which is what the proofs split on.
-use Rattle.qrules.proofs.Common.{◌&&◌, ◌==◌, Bool, false, int_lt, is_some, List, ℕ, ℤ, pos, Option, None, Some, if◌then◌else◌, error_mark, tells_disconnect, disconnect_item, OpenChannel, ChannelId, ProcessNo, ThreadNo, SentItem, refusal_if_full, due_pulse_of, Errno, Badf, Inval, Connection, OpenCall, laid_count, lay_over}
+use Rattle.qrules.proofs.Common.{◌&&◌, ◌==◌, Bool, false, is_some, List, ℕ, ℤ, Option, None, Some, if◌then◌else◌, error_mark, tells_disconnect, disconnect_item, OpenChannel, ChannelId, ProcessNo, ThreadNo, SentItem, due_pulse_of, Connection, OpenCall, laid_count, lay_over}
 use Rattle.std.specs.Option.{option_and_then, option_map_or}
 use Rattle.qrules.proofs.Words.Items.{Finish}
 use Rattle.qrules.proofs.Words.Facts.{count_to, Facts, is_of_process, is_held_by}
@@ -48,10 +48,6 @@ due_pulse_over f t connection = option_and_then (λ c. if is_last_connection f c
 -- the connection is live, and of the thread's process
 abbrev pub is_own : Facts → ThreadNo → Option Connection → Bool
 is_own f t connection = option_map_or (λ c. is_of_process f t c.process) connection false
-
--- why a pulse to this channel is refused
-abbrev pub refusal_on : Facts → ℤ → Option ChannelId → Option Errno
-refusal_on f code channel = option_map_or (λ h. if int_lt code (pos 0) then Some Inval else refusal_if_full f h) channel (Some Badf)
 
 -- the answer of a Reply
 abbrev pub reply_finish : ℤ → List ℕ → Finish
