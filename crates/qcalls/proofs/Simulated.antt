@@ -1,9 +1,11 @@
 -- A result that is read off the event of a call in one thread.
-use Rattle.qcalls.proofs.Common.{Call, CallError, Completion, Ending, Err, Ok, Reading, Result, ap, ending_in, inl, inr, refl, subst, sym, ℕ, ◌∙◌, ◌≡◌}
-use Rattle.std.specs.Prelude.{Option, None, Some, List, ◌^◌}
+use Rattle.qcalls.proofs.Common.{Call, CallError, Completion, Ending, Err, Ok, Reading, Result, ap, cond, ending_in, false, inl, inr, none-some, read_off, refl, subst, sym, true, ℕ, ◌∙◌, ◌≡◌}
+use Rattle.std.specs.Prelude.{Option, None, Some, List, Bool, is_some, nat_lt, ◌^◌}
 use Rattle.qbase.specs.declared.errno.Errno.TheVariants as errno
+use Rattle.qtables.specs.Members.{member_at}
+use Rattle.qstate.specs.Kept.{members_of}
 use Rattle.qbase.specs.declared.errno.Errno.{Errno}
-use Rattle.qcalls.specs.Simulating.{Comes, IsEvent, Simulates, Simulation, done, ending_of, unless_blocked, unmade}
+use Rattle.qcalls.specs.Simulating.{Comes, IsEvent, Simulates, Simulation, at_once, done, ending_of, unless_blocked, unmade}
 use Rattle.qcalls.specs.declared.simulator.Outcome.{Outcome}
 use Rattle.qcalls.specs.declared.simulator.Outcome.TheVariants.{Done, Blocked}
 

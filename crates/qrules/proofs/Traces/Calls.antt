@@ -1,10 +1,8 @@
 -- The laws of every call.
 pub mod Taking
 pub mod Held
-pub mod Answering
 pub mod Receiving
 pub mod Delivering
-pub mod Error
 pub mod Info
 pub mod Pulse
 pub mod PrioritySet
