@@ -19,9 +19,9 @@ fn built() -> Vec<PathBuf> {
     folders
 }
 
-/// Whether an archive has the member of an unproved library.
+/// Whether an archive has the member of an unproved library. A member's name takes 16 bytes.
 fn is_unproved(archive: &Path) -> bool {
-    let member = b"\nunproved.o/";
+    let member = b"unproved.o/     ";
     fs::read(archive).is_ok_and(|bytes| bytes.windows(member.len()).any(|window| window == member))
 }
 
@@ -51,7 +51,11 @@ fn main() {
     let linked = link("balsaeuchre", &folders) || link("balsaeuchre_c", &folders) && link("libc_c", &folders);
     if !linked {
         println!("cargo::error=neither libbalsaeuchre.a nor libbalsaeuchre_c.a with liblibc_c.a is in {folders:?}");
-        println!("cargo::error=set {VARIABLE} to its folder; foreign/install --unproved builds one in a minute, to try it, ");
-        println!("cargo::error=and `rt lib` in crates/balsaeuchre_c builds and proves the one of the clone");
+        println!(
+            "cargo::error=set {VARIABLE} to its folder, or prove and build it by `rt lib` in crates/balsaeuchre_c"
+        );
+        println!(
+            "cargo::error=foreign/install --unproved PREFIX builds an unproved one, in a minute: PREFIX/lib has it"
+        );
     }
 }
