@@ -31,7 +31,8 @@ Description: message-passing kernel after QNX Neutrino, machine-checked
  This package has the program qdemo, which runs scripts of kernel calls, and a
  static library with headers for C and C++.
 ${unproved:+ .
- This qdemo was built without its proofs, with checks at run time.}
+ This qdemo and this library were built without their proofs, with checks at
+ run time.}
 END
 }
 

@@ -35,6 +35,7 @@ static uint64_t now(void) {
 #include "services.c"
 #include "show.c"
 #include "packets.c"
+#include "version.c"
 
 static int listener = -1;
 static bool stops;     /* a signal has asked for the end; its address is what the epoll says of signals */
@@ -194,7 +195,8 @@ static const char usage[] =
     "  --connections 256   connections of each, of 1,024 in all\n"
     "  --bytes 8388608     bytes of the open calls of each\n"
     "  --group NAME        whose members may connect, too, beside the same user\n"
-    "  --record FILE.names writes all calls as a script with names, for qdemo\n";
+    "  --record FILE.names writes all calls as a script with names, for qdemo\n"
+    "balsaeuchred --version prints the version, and \"unproved\" if the kernel is of an unproved library.\n";
 
 /* Of processes and threads the one that isn't given is as great as it can be. Returns whether both fit. */
 static bool fill_limits(void) {
@@ -235,6 +237,12 @@ static const char *open_files(const char *path) {
 int main(int count, char **words) {
     sigset_t signals;
     cpu_set_t processors;
+    if (count == 2 && !strcmp(words[1], "--version")) return print_version("balsaeuchred");
+    if (balsaeuchre_version() != BALSAEUCHRE_VERSION) {
+        return fputs("balsaeuchred: its header and its library have other versions, or one of them is unproved: build "
+                     "it again, by foreign/install\n", stderr), 1;
+    }
+    if (BALSAEUCHRE_VERSION & BALSAEUCHRE_UNPROVED) fputs("balsaeuchred: its kernel is unproved\n", stderr);
     words = read_options(words + (count > 0));
     if (!words) return fputs(usage, stderr), 2;
     const char *failed = open_files(*words);

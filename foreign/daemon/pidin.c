@@ -18,15 +18,17 @@ static int fail(int error) {
 }
 
 #include "link.c"
+#include "version.c"
 
 int main(int count, char **words) {
     static char text[65536];
     struct wire_ask ask = {.op = OP_SHOW};
     struct wire_answer answer;
+    if (count == 2 && !strcmp(words[1], "--version")) return print_version("pidin");
     const char *path = count > 1 ? words[1] : getenv("BALSAEUCHRE_SYSTEM");
     if (count > 2 || !path || *path == '-') {
         fputs("usage: pidin [SOCKET]\nPrints the programs of the balsaeuchred whose socket it is, or else "
-              "BALSAEUCHRE_SYSTEM.\n", stderr);
+              "BALSAEUCHRE_SYSTEM. pidin --version prints its version.\n", stderr);
         return 2;
     }
     int fd = connect_to(path);

@@ -1,6 +1,7 @@
 //! Links the static library. `BALSAEUCHRE_LIB_DIR` names the folder that has it: `libbalsaeuchre.a`, as it is
 //! installed, or `libbalsaeuchre_c.a` with the heap's `liblibc_c.a`. Without it the library is the one that `rt lib`
-//! made in the clone that this package lies in, and the heap the toolchain's.
+//! made in the clone that this package lies in, and the heap the toolchain's. A library that `foreign/unproved` built is
+//! taken only where the variable names its folder, and is warned of.
 
 use std::path::{Path, PathBuf, absolute};
 use std::process::Command;
@@ -18,11 +19,21 @@ fn built() -> Vec<PathBuf> {
     folders
 }
 
+/// Whether an archive has the member of an unproved library. A member's name takes 16 bytes.
+fn is_unproved(archive: &Path) -> bool {
+    let member = b"unproved.o/     ";
+    fs::read(archive).is_ok_and(|bytes| bytes.windows(member.len()).any(|window| window == member))
+}
+
 /// Links a library of one of the folders, and returns whether there is one.
 fn link(library: &str, folders: &[PathBuf]) -> bool {
     let mut files = folders.iter().map(|folder| folder.join(format!("lib{library}.a")));
     let Some(file) = files.find_map(|file| fs::canonicalize(file).ok()) else { return false };
     println!("cargo::rerun-if-changed={}", file.display());
+    if is_unproved(&file) {
+        println!("cargo::rustc-cfg=balsaeuchre_unproved");
+        println!("cargo::warning={} is unproved: foreign/install --unproved built it", file.display());
+    }
     println!("cargo::rustc-link-search=native={}", file.parent().expect("a file has a folder").display());
     println!("cargo::rustc-link-lib=static={library}");
     true
@@ -31,6 +42,7 @@ fn link(library: &str, folders: &[PathBuf]) -> bool {
 fn main() {
     println!("cargo::rerun-if-env-changed={VARIABLE}");
     println!("cargo::rerun-if-env-changed=DOCS_RS");
+    println!("cargo::rustc-check-cfg=cfg(balsaeuchre_unproved)");
     if env::var_os("DOCS_RS").is_some() {
         return; // the documentation needs no library
     }
@@ -39,6 +51,11 @@ fn main() {
     let linked = link("balsaeuchre", &folders) || link("balsaeuchre_c", &folders) && link("libc_c", &folders);
     if !linked {
         println!("cargo::error=neither libbalsaeuchre.a nor libbalsaeuchre_c.a with liblibc_c.a is in {folders:?}");
-        println!("cargo::error=set {VARIABLE} to its folder, or build it by `rt lib` in crates/balsaeuchre_c");
+        println!(
+            "cargo::error=set {VARIABLE} to its folder, or prove and build it by `rt lib` in crates/balsaeuchre_c"
+        );
+        println!(
+            "cargo::error=foreign/install --unproved PREFIX builds an unproved one, in a minute: PREFIX/lib has it"
+        );
     }
 }

@@ -61,8 +61,25 @@ static int open_kernel(neutrino *k, const struct neutrino_thread *threads, size_
     return 0;
 }
 
+static void say_version(const char *part, uint32_t version) {
+    uint32_t number = version & ~BALSAEUCHRE_UNPROVED;
+    const char *proof = version & BALSAEUCHRE_UNPROVED ? ", unproved" : "";
+    dprintf(STDERR_FILENO, "balsaeuchre: %s has version %u.%u%s\n", part, number / 100, number % 100, proof);
+}
+
+/* Whether the program's header, this layer and the library are of one version. If not, standard error says of which. */
+static bool is_one_version(uint32_t header) {
+    uint32_t library = balsaeuchre_version();
+    if (header == NEUTRINO_VERSION && library == NEUTRINO_VERSION) return true;
+    say_version("the program's header", header);
+    say_version("the layer of threads", NEUTRINO_VERSION);
+    say_version("the library", library);
+    dprintf(STDERR_FILENO, "balsaeuchre: these have to be the same: compile and link with the files of one install\n");
+    return false;
+}
+
 neutrino *neutrino_open_version(uint32_t version, const struct neutrino_thread *threads, size_t count) {
-    int error = version != NEUTRINO_VERSION || balsaeuchre_version() != BALSAEUCHRE_VERSION ? ENOEXEC : 0;
+    int error = is_one_version(version) ? 0 : ENOEXEC;
     if (!error && !pthread_once(&once, prepare)) error = refused;
     if (!error) error = count > PLACES ? EAGAIN : count ? 0 : EINVAL;
     for (size_t at = 0; !error && at < count; at++) {

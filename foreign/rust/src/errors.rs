@@ -1,6 +1,6 @@
 //! The errors of opening a kernel, and of calls.
 
-use crate::kernel::{Mark, VERSION};
+use crate::kernel::{Mark, UNPROVED, VERSION};
 use std::error::Error;
 use std::fmt;
 
@@ -69,11 +69,21 @@ pub enum OpenError {
     /// second.
     #[allow(missing_docs)] // a field is what its name says
     Version { library: u32, package: u32 },
+    /// The package was built for a proved library and is linked with an unproved one. The library's version is this.
+    LibraryUnproved(u32),
+    /// The package was built for an unproved library and is linked with a proved one. The library's version is this.
+    LibraryProved(u32),
 }
 
 impl OpenError {
     pub(crate) fn check_version(library: u32) -> std::result::Result<(), OpenError> {
-        if library == VERSION { Ok(()) } else { Err(OpenError::Version { library, package: VERSION }) }
+        let number = library & !UNPROVED;
+        match (library & UNPROVED, VERSION & UNPROVED) {
+            _ if library == VERSION => Ok(()),
+            (UNPROVED, 0) => Err(OpenError::LibraryUnproved(number)),
+            (0, UNPROVED) => Err(OpenError::LibraryProved(number)),
+            _ => Err(OpenError::Version { library: number, package: VERSION & !UNPROVED }),
+        }
     }
 }
 
@@ -82,6 +92,12 @@ impl fmt::Display for OpenError {
         match self {
             OpenError::Refused(errno) => write!(f, "roster refused: {errno}"),
             OpenError::Version { library, package } => write!(f, "library of version {library}, not {package}"),
+            OpenError::LibraryUnproved(number) => {
+                write!(f, "library of version {number} is unproved, and the package was built for a proved one")
+            }
+            OpenError::LibraryProved(number) => {
+                write!(f, "library of version {number} is proved, and the package was built for an unproved one")
+            }
         }
     }
 }

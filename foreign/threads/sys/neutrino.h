@@ -35,8 +35,13 @@
 extern "C" {
 #endif
 
-/* The version of this header: 10 is 0.10. */
+/* The version of this header: 10 is 0.10. Headers of an unproved library (foreign/install --unproved) have the second of
+ * these versions. */
+#ifndef BALSAEUCHRE_IS_UNPROVED
 #define NEUTRINO_VERSION 10
+#else
+#define NEUTRINO_VERSION (10 | 0x80000000u)
+#endif
 
 /* ---- opening a kernel, and joining it as a thread; QNX has no such calls */
 
