@@ -15,6 +15,11 @@ static bool watch(int fd, uint32_t wanted, const void *of) {
     return !epoll_ctl(events, EPOLL_CTL_ADD, fd, &(struct epoll_event){wanted, {.ptr = (void *)(uintptr_t)of}});
 }
 
+/* Changes what the epoll says of a file. */
+static void watch_for(int fd, uint32_t wanted, const void *of) {
+    epoll_ctl(events, EPOLL_CTL_MOD, fd, &(struct epoll_event){wanted, {.ptr = (void *)(uintptr_t)of}});
+}
+
 /* Makes the box and the bell of a thread. Returns whether it could. files gets what the thread gets: both. */
 static bool open_box(struct client *c, int files[2]) {
     int file = memfd_create("balsaeuchre", MFD_CLOEXEC | MFD_ALLOW_SEALING);
@@ -30,9 +35,12 @@ static bool open_box(struct client *c, int files[2]) {
 
 static void close_box(struct client *c) {
     if (c->box) munmap(c->box, sizeof *c->box);
-    if (c->bell > 0) epoll_ctl(events, EPOLL_CTL_DEL, c->bell, NULL), close(c->bell); /* its thread may have it still */
+    if (c->bell != -1) {
+        epoll_ctl(events, EPOLL_CTL_DEL, c->bell, NULL); /* its thread may have it still */
+        close(c->bell);
+    }
     c->box = NULL;
-    c->bell = 0;
+    c->bell = -1;
 }
 
 /* Sends an answer as a packet, with files or without. */
@@ -100,5 +108,5 @@ static void free_client(struct client *c) {
     if (c->fd != -1) close(c->fd);
     close_box(c);
     drop_bytes(c);
-    *c = (struct client){.fd = -1};
+    *c = no_client;
 }
