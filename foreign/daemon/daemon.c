@@ -2,6 +2,7 @@
 #define _GNU_SOURCE
 #include "daemon.h"
 
+#include <malloc.h>
 #include <sys/signalfd.h>
 #include <time.h>
 
@@ -164,6 +165,8 @@ static int run(void) {
 int main(int count, char **words) {
     const char *path = NULL;
     open_standard_files();
+    mallopt(M_MMAP_THRESHOLD, KEPT / 2); /* long calls come again and again, and fresh pages take longer than copies */
+    mallopt(M_TRIM_THRESHOLD, KEPT);
     int status = read_options(count, words, &path);
     if (status != -1) return status;
     status = open_files(path) ? run() : 1;

@@ -19,6 +19,7 @@
 
 enum { CLIENTS = 256, PROCESSES = 32, CLOCKS = 100, SYSTEM = 200, RETRY = 10 }; /* RETRY: milliseconds */
 enum { USUAL = 10, SIDE = SCOID };
+enum { LONG_ASK = 1 << 16, KEPT = 64 << 20 }; /* bytes; KEPT: of free memory that the host doesn't get back */
 enum { CHANNEL_PLACES = 1 << CHANNEL_BITS, CONNECTION_PLACES = 1 << CONNECTION_BITS, SLOT_BITS = 6 };
 
 /* A socket. */

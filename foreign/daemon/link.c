@@ -26,8 +26,8 @@ static bool may_ask(int fd, const char *path) {
     if (getsockopt(fd, SOL_SOCKET, SO_PEERCRED, &daemon, &length)) return false;
     if (daemon.uid == 0 || daemon.uid == geteuid() || daemon.uid == trusted_user()) return true;
     if (atomic_exchange(&said, true)) return false;
-    dprintf(STDERR_FILENO, "balsaeuchre: the balsaeuchred at %s is of user %u: expected root's (0) or this user's (%u). "
-            "BALSAEUCHRE_SYSTEM_USER=%u takes it\n", path, daemon.uid, geteuid(), daemon.uid);
+    dprintf(STDERR_FILENO, "balsaeuchre: the balsaeuchred at %s is of user %u: expected root's (0) or this user's "
+            "(%u). BALSAEUCHRE_SYSTEM_USER=%u takes it\n", path, daemon.uid, geteuid(), daemon.uid);
     return false;
 }
 

@@ -5,7 +5,7 @@ static struct neutrino remote_kernel; /* of which only the process is used */
 static bool is_remote;
 static int program_socket = -1, program_scoid;
 static bool reconnects; /* after the daemon's end the program connects to the next one */
-static int files[UINT8_MAX + 1][2]; /* sockets and bells of the threads, by tid, for a forked child to close; -1: none */
+static int files[UINT8_MAX + 1][2]; /* sockets and bells by tid, for a forked child to close; -1: none */
 static volatile int last_chid, last_coid, last_rcvid; /* the greatest that the program has had, for the next daemon */
 static pthread_mutex_t asking = PTHREAD_MUTEX_INITIALIZER; /* over the program's socket and the table */
 
@@ -259,8 +259,8 @@ static void say_waiting(unsigned places) {
     uint64_t time = now();
     if (!since || time - since > 20 * (uint64_t)SECOND) since = time; /* another wait than the last one */
     if (!places || time - since < SECOND || atomic_exchange(&said, true)) return;
-    dprintf(STDERR_FILENO, "balsaeuchre: a thread waits for a place: this program has %u in the balsaeuchred at %s, whose "
-            "option --threads gives more\n", places, system_path);
+    dprintf(STDERR_FILENO, "balsaeuchre: a thread waits for a place: this program has %u in the balsaeuchred at %s, "
+            "whose option --threads gives more\n", places, system_path);
 }
 
 /* Opens the calling thread's box, and notes its files. */

@@ -108,11 +108,12 @@ static void put_result(struct client *c, int error, int64_t result) {
     put_answer(c, error, result, NULL, 0);
 }
 
-/* Takes memory for a call's bytes, as far as its process may have so many. */
+/* Takes memory for a call's bytes, as far as its process may have so many. It isn't cleared: of the room only those
+ * bytes are answered that the kernel has written, or that came with the call. */
 static void take_bytes(struct client *c, size_t size) {
     struct process *process = &processes[c->process];
     c->size = 0;
-    c->bytes = process->bytes + size <= (size_t)limits.bytes ? calloc(1, size + 1) : NULL;
+    c->bytes = process->bytes + size <= (size_t)limits.bytes ? malloc(size + 1) : NULL;
     if (!c->bytes) return;
     c->size = size;
     process->bytes += size;

@@ -1,5 +1,6 @@
-/* connects [NAME..]: which daemon a program asks, and what it says of one that it can't; how long calls wait, and what a
- * wait costs. again_N start daemons of their own, by BALSAEUCHRE_DAEMON. */
+/* connects [NAME..]: which daemon a program asks, and what it says of one that it can't; how long calls wait, and what
+ * a wait costs. For a daemon of 12 processes of 4 threads. again and not_again start daemons of their own, by
+ * BALSAEUCHRE_DAEMON. */
 #define _GNU_SOURCE
 #include "tests.h"
 
@@ -140,8 +141,8 @@ static void ask_nobody(void *user) {
     if (user) check(setenv("BALSAEUCHRE_SYSTEM_USER", user, 1) == 0);
     fails(ChannelCreate(0), user ? ESHUTDOWN : EPERM);
     fails(ChannelCreate(0), user ? ESHUTDOWN : EPERM);
-    snprintf(wanted, sizeof wanted, "balsaeuchre: the balsaeuchred at %s is of user %d: expected root's (0) or this user's "
-             "(%d). BALSAEUCHRE_SYSTEM_USER=%d takes it\n", getenv("BALSAEUCHRE_SYSTEM"), NOBODY, geteuid(), NOBODY);
+    snprintf(wanted, sizeof wanted, "balsaeuchre: the balsaeuchred at %s is of user %d: expected root's (0) or "
+             "this user's (%d). BALSAEUCHRE_SYSTEM_USER=%d takes it\n", getenv("BALSAEUCHRE_SYSTEM"), NOBODY, geteuid(), NOBODY);
     check(strcmp(said(errors), user ? "" : wanted) == 0);
 }
 
@@ -275,7 +276,8 @@ static void no_thread(void) {
             text = said(errors);
         }
     }
-    check(strstr(text, "a thread waits for a place: this program has ") && strstr(text, "whose option --threads gives more\n"));
+    check(strstr(text, "a thread waits for a place: this program has "));
+    check(strstr(text, "whose option --threads gives more\n"));
     check(ChannelDestroy(chid) == 0);
     for (int at = 0; at < count; at++) check(pthread_join(all[at], NULL) == 0);
     check(!*said(errors));
@@ -375,7 +377,8 @@ static void *wait_through_end(void *chid) {
     ended_at = seconds(CLOCK_MONOTONIC);
     waited = error;
     while (!is_back) usleep(1000);
-    fails(MsgReceive((int)(intptr_t)chid, room, sizeof room, NULL), getenv("BALSAEUCHRE_RECONNECT") ? ESRCH : ESHUTDOWN);
+    int wanted = getenv("BALSAEUCHRE_RECONNECT") ? ESRCH : ESHUTDOWN;
+    fails(MsgReceive((int)(intptr_t)chid, room, sizeof room, NULL), wanted);
     return NULL;
 }
 
