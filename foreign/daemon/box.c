@@ -3,21 +3,20 @@
 
 /* A thread looks at its box for a while before it sleeps. A call that waits for another program does so only with three
  * processors, one for each and one for the daemon. */
-enum { LOOKS = 100, LONG_LOOKS = 500, SOON = 10000000, LATE = 500000000 }; /* the last two: nanoseconds */
+enum { LOOKS = 100, LONG_LOOKS = 500, LONG = 100000000 }; /* the last: nanoseconds, after which a wait is a long one */
 
-static _Thread_local struct { int socket, bell, processors; struct wire_box *box; } own = {-1, -1, 1, NULL};
+static _Thread_local struct {
+    int socket, bell, processors;
+    bool is_lost; /* the daemon has ended */
+    int priority; /* that was set last */
+    struct wire_box *box;
+} own = {-1, -1, 1, false, 0, NULL};
 
 /* Wakes the daemon. For signal handlers, too. */
 static void ring(void) {
     const uint64_t once = 1;
     int error = errno;
     if (write(own.bell, &once, sizeof once) < 0) errno = error;
-}
-
-/* Whether the daemon has ended, or has closed the socket. */
-static bool is_gone(void) {
-    char byte;
-    return recv(own.socket, &byte, 1, MSG_PEEK | MSG_DONTWAIT) != -1 || (errno != EAGAIN && errno != EINTR);
 }
 
 static bool has_answer(void) { return atomic_load_explicit(&own.box->word, memory_order_acquire) == WIRE_ANSWERED; }
@@ -29,20 +28,27 @@ static int looks_for(const struct wire_ask *ask) {
     return own.processors > (waits ? 2 : 1) ? waits ? LONG_LOOKS : LOOKS : 0;
 }
 
-/* Waits for the answer. A daemon that has ended wakes nobody, so its socket is looked at now and then. Returns false if
- * it is gone. */
+/* Sleeps until the daemon has sent the byte that follows the answer, or has ended. */
+static void sleep_at_socket(void) {
+    char byte;
+    while (recv(own.socket, &byte, 1, 0) == -1 && errno == EINTR) continue;
+}
+
+/* Waits for the answer. A daemon that is killed doesn't change the word, but the host closes its sockets. So a thread
+ * that has slept at the word for a while sleeps at its socket. Returns false if the daemon is gone. */
 static bool wait_for_answer(int looks) {
-    struct timespec time = {0, SOON};
-    uint32_t open = WIRE_OPEN;
+    uint32_t open = WIRE_OPEN, asleep = WIRE_ASLEEP;
     for (; looks && !has_answer(); looks--) pause_briefly();
-    atomic_compare_exchange_strong(&own.box->word, &open, WIRE_ASLEEP);
-    while (!has_answer()) {
-        long woken = syscall(SYS_futex, &own.box->word, FUTEX_WAIT, WIRE_ASLEEP, &time, NULL, 0);
+    if (!atomic_compare_exchange_strong(&own.box->word, &open, WIRE_ASLEEP)) return has_answer();
+    uint64_t until = now() + LONG;
+    struct timespec end = {(time_t)(until / 1000000000u), (long)(until % 1000000000u)};
+    while (atomic_load(&own.box->word) == WIRE_ASLEEP) {
+        long woken = syscall(SYS_futex, &own.box->word, FUTEX_WAIT_BITSET, WIRE_ASLEEP, &end, NULL,
+                             FUTEX_BITSET_MATCH_ANY);
         if (woken == 0 || errno != ETIMEDOUT) continue;
-        if (is_gone() && !has_answer()) return false;
-        time.tv_nsec *= time.tv_nsec < LATE ? 2 : 1;
+        if (atomic_compare_exchange_strong(&own.box->word, &asleep, WIRE_AT_SOCKET)) sleep_at_socket();
     }
-    return true;
+    return has_answer();
 }
 
 /* Asks the daemon by the box, with the bytes of two buffers, and waits. Returns and fails as exchange. */
@@ -73,13 +79,12 @@ static void close_box(void) {
 }
 
 /* Opens the socket, the box and the bell of the calling thread. Returns 0, or -1 and sets errno. */
-static int open_box(const char *path, struct wire_ask *ask) {
+static int open_box(const char *path, struct wire_ask *ask, struct wire_answer *answer) {
     int files[2] = {-1, -1};
     struct iovec none = {NULL, 0};
-    struct wire_answer answer;
     cpu_set_t processors;
     own.socket = connect_to(path);
-    bool joined = own.socket != -1 && !exchange(own.socket, ask, none, &answer, none, files);
+    bool joined = own.socket != -1 && !exchange(own.socket, ask, none, answer, none, files);
     void *box = joined ? mmap(NULL, sizeof *own.box, PROT_READ | PROT_WRITE, MAP_SHARED, files[0], 0) : MAP_FAILED;
     int error = errno;
     if (files[0] != -1) close(files[0]);

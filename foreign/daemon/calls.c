@@ -226,7 +226,8 @@ static bool begin_call(struct client *c, const struct wire_ask *a, const uint8_t
     size_t came = a->sent_len + (a->request.kind == BALSAEUCHRE_SEND ? a->room_len : 0);
     c->ask = *a;
     take_bytes(c, (size_t)a->sent_len + a->room_len);
-    if (c->bytes && came) memcpy(c->bytes, bytes, came);
+    if (came > LONG_ASK) wake_threads(); /* who have their answers, before the copying */
+    if (c->bytes) copy_once(c->bytes, bytes, came);
     make_call(c);
     return true;
 }

@@ -19,13 +19,14 @@
 
 enum { CLIENTS = 256, PROCESSES = 32, CLOCKS = 100, SYSTEM = 200, RETRY = 10 }; /* RETRY: milliseconds */
 enum { USUAL = 10, SIDE = SCOID };
+enum { LONG_ASK = 1 << 16, KEPT = 64 << 20 }; /* bytes; KEPT: of free memory that the host doesn't get back */
 enum { CHANNEL_PLACES = 1 << CHANNEL_BITS, CONNECTION_PLACES = 1 << CONNECTION_BITS, SLOT_BITS = 6 };
 
 /* A socket. */
 struct client {
     bool is_used, is_process;
     int fd; /* -1: it has ended, while the thread's call is still open */
-    int bell;             /* of a thread */
+    int bell;             /* of a thread; -1: none */
     struct wire_box *box; /* of a thread, or null */
     uint32_t asked, given_up; /* as they were read in the box */
     bool rings;               /* as it was written there */
@@ -42,6 +43,8 @@ struct client {
     bool wrote;       /* a Write has changed the reply buffer */
     uint64_t came_as; /* the number of its accept */
 };
+
+static const struct client no_client = {.fd = -1, .bell = -1};
 
 /* A process of the kernel: a program of the host. */
 struct process {

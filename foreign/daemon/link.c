@@ -1,22 +1,53 @@
 /* Sockets to the daemon. A call waits for its answer. Tested, not proved. */
+#include <pwd.h>
+#include <stdatomic.h>
+#include <stdio.h>
 #include <sys/socket.h>
 #include <sys/uio.h>
 #include <sys/un.h>
 
-/* Connects to the daemon of a path. */
+/* The user whom BALSAEUCHRE_SYSTEM_USER names, by a name or a number; or -1. */
+static uid_t trusted_user(void) {
+    const char *name = secure_getenv("BALSAEUCHRE_SYSTEM_USER");
+    struct passwd entry, *found = NULL;
+    char room[1024], *end;
+    if (!name || !*name) return (uid_t)-1;
+    unsigned long number = strtoul(name, &end, 10);
+    if (*name >= '0' && *name <= '9' && !*end) return number < UINT32_MAX ? (uid_t)number : (uid_t)-1;
+    return !getpwnam_r(name, &entry, room, sizeof room, &found) && found ? entry.pw_uid : (uid_t)-1;
+}
+
+/* Whether the daemon at a socket is root's, this user's, or that of the user whom the environment names. Where it is
+ * not, that is said once. */
+static bool may_ask(int fd, const char *path) {
+    static atomic_bool said;
+    struct ucred daemon;
+    socklen_t length = sizeof daemon;
+    if (getsockopt(fd, SOL_SOCKET, SO_PEERCRED, &daemon, &length)) return false;
+    if (daemon.uid == 0 || daemon.uid == geteuid() || daemon.uid == trusted_user()) return true;
+    if (atomic_exchange(&said, true)) return false;
+    dprintf(STDERR_FILENO, "balsaeuchre: the balsaeuchred at %s is of user %u: expected root's (0) or this user's "
+            "(%u). BALSAEUCHRE_SYSTEM_USER=%u takes it\n", path, daemon.uid, geteuid(), daemon.uid);
+    return false;
+}
+
+/* Connects to the daemon of a path. EPERM: it is of a user whom this program doesn't trust. */
 static int connect_to(const char *path) {
     struct sockaddr_un address = {.sun_family = AF_UNIX};
     if (!path || strlen(path) >= sizeof address.sun_path) return fail(ENAMETOOLONG);
     strcpy(address.sun_path, path);
     int fd = socket(AF_UNIX, SOCK_SEQPACKET | SOCK_CLOEXEC, 0);
-    if (fd == -1 || !connect(fd, (struct sockaddr *)&address, sizeof address)) return fd;
-    int error = errno;
+    if (fd == -1) return -1;
+    int error = connect(fd, (struct sockaddr *)&address, sizeof address) ? errno : 0;
+    if (!error && !may_ask(fd, path)) error = EPERM;
+    if (!error) return fd;
     close(fd);
     return fail(error);
 }
 
 /* Asks the daemon by a packet, and waits. Returns the result, or fails with the daemon's error, or with ESHUTDOWN if it
- * is gone. files, if not null, gets those that come with the answer. */
+ * is gone. files, if not null, gets those that come with the answer. A daemon that refuses a socket closes it after an
+ * answer that is there before the ask. */
 static long exchange(int fd, struct wire_ask *ask, struct iovec sent, struct wire_answer *answer, struct iovec room,
                      int files[2]) {
     struct iovec asked[] = {{ask, sizeof *ask}, sent}, answered[] = {{answer, sizeof *answer}, room};
@@ -28,9 +59,9 @@ static long exchange(int fd, struct wire_ask *ask, struct iovec sent, struct wir
     ask->sent_len = (uint32_t)sent.iov_len;
     do length = sendmsg(fd, &out, MSG_NOSIGNAL);
     while (length == -1 && errno == EINTR);
-    if (length == -1) return fail(ESHUTDOWN);
+    if (length == -1 && errno != EPIPE && errno != ECONNRESET) return fail(ESHUTDOWN);
     do length = recvmsg(fd, &in, MSG_CMSG_CLOEXEC);
-    while (length == -1 && errno == EINTR);
+    while (length == -1 && (errno == EINTR || errno == ECONNRESET));
     if (length < (ssize_t)sizeof *answer || answer->length > room.iov_len) return fail(ESHUTDOWN);
     if (answer->error) return fail(answer->error);
     if (files && rights.head.cmsg_len != CMSG_LEN(2 * sizeof *files)) return fail(ESHUTDOWN);

@@ -52,7 +52,7 @@ static bool take_packet(struct client *c, const uint8_t *packet, size_t length) 
 
 /* Reads one packet, if there is one. */
 static void read_packet(struct client *c) {
-    uint8_t packet[sizeof(struct wire_ask) + WIRE_NAME + 1];
+    _Alignas(box_word) uint8_t packet[sizeof(struct wire_ask) + WIRE_NAME + 1];
     ssize_t length = recv(c->fd, packet, sizeof packet, MSG_DONTWAIT);
     if (length < 0 && (errno == EAGAIN || errno == EINTR)) return;
     if (length <= 0 || !take_packet(c, packet, (size_t)length)) hang_up(c);
@@ -66,8 +66,8 @@ static bool read_box(struct client *c) {
     c->asked = asked;
     c->given_up = given_up;
     if (is_ask) {
-        struct wire_ask a = box->ask;
-        atomic_thread_fence(memory_order_seq_cst); /* it is read once */
+        struct wire_ask a;
+        copy_once(&a, &box->ask, sizeof a);
         if (c->rings) atomic_store_explicit(&box->rings, 0, memory_order_relaxed);
         c->rings = false;
         if (!take_ask(c, &a, box->bytes)) hang_up(c);

@@ -9,10 +9,24 @@ static void read_groups(int fd, struct process *process) {
         process->groups[process->ngroups] = groups[process->ngroups];
 }
 
+/* Numbers up to this one aren't given. Those that come first are far from one of the upper half. */
+static void skip_up_to(struct names *names, int number) {
+    uint32_t turn = (uint32_t)number >> names->bits;
+    if (number > 0 && turn < names->turns / 2 && names->least <= turn) names->least = turn + 1;
+}
+
+/* A program may still use numbers of an earlier daemon. They name nothing here. */
+static void skip_numbers(const struct wire_ask *a) {
+    skip_up_to(&k->tables[CHANNELS], a->states);
+    skip_up_to(&k->tables[CONNECTIONS], (int)a->flags & ~SIDE);
+    skip_up_to(&k->tables[MESSAGES], number_of_rcvid(a->pid));
+}
+
 static void join_process(struct client *c, const struct wire_ask *a) {
     int process = 1;
     while (process <= limits.processes && processes[process].peer.pid) process++;
-    int error = a->number != WIRE_VERSION ? ENOEXEC : process_of(c->peer.pid) ? EBUSY : 0;
+    bool knows = a->number >= WIRE_OLDEST && a->number <= WIRE_VERSION;
+    int error = !knows ? ENOEXEC : process_of(c->peer.pid) ? EBUSY : 0;
     if (!error && process > limits.processes) error = EAGAIN;
     if (!error) {
         struct process *new = &processes[process];
@@ -20,7 +34,9 @@ static void join_process(struct client *c, const struct wire_ask *a) {
         read_groups(c->fd, new);
         c->is_process = true;
         c->process = (uint8_t)process;
+        skip_numbers(a);
     }
+    c->answer.count = (uint32_t)limits.processes;
     put_result(c, error, SCOID | process);
 }
 
@@ -31,7 +47,7 @@ static void join_thread(struct client *c, const struct wire_ask *a) {
     int error = !process ? ESRCH : thread_of(process, a->number) ? EBUSY : seat == PLACES ? EAGAIN : 0;
     int files[2] = {-1, -1};
     if (a->number < 1 || a->number > UINT8_MAX || a->value < 1 || a->value > UINT8_MAX) error = EINVAL;
-    if (!error && !open_box(c, files)) error = ENOMEM;
+    if (!error && !open_box(c, files)) error = errno == EMFILE ? ENFILE : errno; /* of the daemon, not the program */
     if (!error) {
         struct place *p = &k->places[seat];
         balsaeuchre_request request = balsaeuchre_request_of(BALSAEUCHRE_PRIORITY_SET, clock_of(process), 0);
@@ -50,6 +66,7 @@ static void join_thread(struct client *c, const struct wire_ask *a) {
         close_box(c);
     }
     c->answer.error = error;
+    c->answer.count = process ? (uint32_t)threads_of(process) : 0;
     send_answer(c, NULL, error ? NULL : files);
     if (files[0] != -1) close(files[0]);
 }

@@ -4,24 +4,58 @@
 static struct neutrino remote_kernel; /* of which only the process is used */
 static bool is_remote;
 static int program_socket = -1, program_scoid;
-static int files[UINT8_MAX + 1][2]; /* sockets and bells of the threads, by tid, for a forked child to close; 0: none */
+static bool reconnects; /* after the daemon's end the program connects to the next one */
+static int files[UINT8_MAX + 1][2]; /* sockets and bells by tid, for a forked child to close; -1: none */
+static volatile int last_chid, last_coid, last_rcvid; /* the greatest that the program has had, for the next daemon */
 static pthread_mutex_t asking = PTHREAD_MUTEX_INITIALIZER; /* over the program's socket and the table */
 
 static _Thread_local struct place own_place;
 static _Thread_local uint32_t calls;
 static _Thread_local volatile sig_atomic_t open_call; /* the number of the call that waits, or 0 */
 
-/* Asks by the thread's box, or else the program's socket, and waits. Returns the result, or fails with the daemon's
- * error. */
-static long ask_with(struct wire_ask *ask, const struct iovec sent[2], struct wire_answer *answer, struct iovec room) {
-    int cancel, ignored;
-    long result;
-    if (inside || program_socket == -1) return fail(inside ? EDEADLK : ESHUTDOWN);
-    pthread_setcancelstate(PTHREAD_CANCEL_DISABLE, &cancel);
-    inside++;
-    ask->sent_len = (uint32_t)sent[0].iov_len;
+/* ---- after the daemon's end */
+
+static int open_program_socket(void);
+static int open_thread(int tid, int priority);
+static void note_files(int tid, int socket, int bell);
+
+static bool has_ended(int fd) {
+    char byte;
+    ssize_t length = recv(fd, &byte, 1, MSG_PEEK | MSG_DONTWAIT);
+    return length == 0 || (length == -1 && errno != EAGAIN && errno != EINTR);
+}
+
+/* Connects the program to the daemon that runs now, if no thread has done so yet. Returns 0, or -1 and sets errno. */
+static int reopen_program(void) {
+    pthread_mutex_lock(&asking);
+    int old = program_socket, scoid = has_ended(old) ? open_program_socket() : program_scoid, error = errno;
+    if (scoid != -1) program_scoid = scoid;
+    if (program_socket != old) close(old);
+    pthread_mutex_unlock(&asking);
+    return scoid == -1 ? fail(error) : 0;
+}
+
+/* Connects the program again, and the calling thread. A call that finds the daemon gone fails, as nobody knows what
+ * came of it, and the thread's next call comes here. */
+static int connect_again(void) {
+    if (reopen_program()) return -1;
     if (self) {
-        if (self->interruptible && cancel == PTHREAD_CANCEL_ENABLE) ask->flags |= WIRE_CANCELS;
+        note_files(self->tid, -1, -1);
+        close_box();
+        if (open_thread(self->tid, own.priority)) return -1;
+    }
+    own.is_lost = false;
+    return 0;
+}
+
+/* ---- asking */
+
+/* Asks by the thread's box, or else the program's socket. */
+static long ask_once(struct wire_ask *ask, const struct iovec sent[2], struct wire_answer *answer, struct iovec room) {
+    long result;
+    ask->sent_len = (uint32_t)sent[0].iov_len;
+    if (own.is_lost && reconnects && connect_again()) return -1;
+    if (self) {
         open_call = (sig_atomic_t)ask->call;
         result = ask_by_box(ask, sent, answer, room);
         open_call = 0;
@@ -30,6 +64,18 @@ static long ask_with(struct wire_ask *ask, const struct iovec sent[2], struct wi
         result = exchange(program_socket, ask, sent[0], answer, room, NULL);
         pthread_mutex_unlock(&asking);
     }
+    if (result == -1 && errno == ESHUTDOWN) own.is_lost = true;
+    return result;
+}
+
+/* Asks, and waits. Returns the result, or fails with the daemon's error. */
+static long ask_with(struct wire_ask *ask, const struct iovec sent[2], struct wire_answer *answer, struct iovec room) {
+    int cancel, ignored;
+    if (inside || program_socket == -1) return fail(inside ? EDEADLK : ESHUTDOWN);
+    pthread_setcancelstate(PTHREAD_CANCEL_DISABLE, &cancel);
+    inside++;
+    if (self && self->interruptible && cancel == PTHREAD_CANCEL_ENABLE) ask->flags |= WIRE_CANCELS;
+    long result = ask_once(ask, sent, answer, room);
     int error = errno;
     inside--;
     pthread_setcancelstate(cancel, &ignored);
@@ -51,6 +97,15 @@ static long ask_about(uint32_t op, int number) { return ask_plainly(&(struct wir
 
 /* ---- calls */
 
+/* Keeps what a connection to the next daemon needs. */
+static void keep_result(const struct call *c, int result) {
+    int kind = c->request.kind, coid = result & ~SCOID;
+    if (kind == BALSAEUCHRE_PRIORITY_SET && c->request.target == self->tid) own.priority = c->request.priority;
+    if (kind == BALSAEUCHRE_CHANNEL_CREATE && result > last_chid) last_chid = result;
+    if (kind == BALSAEUCHRE_CONNECT_ATTACH && coid > last_coid) last_coid = coid;
+    if (kind == BALSAEUCHRE_RECEIVE && result > last_rcvid) last_rcvid = result;
+}
+
 /* Makes a call, with what the layer does not know of it, and waits for its end. */
 static long call_with(struct call *c, uint64_t value, pid_t pid, unsigned flags) {
     struct wire_answer answer = {.error = 0};
@@ -64,15 +119,16 @@ static long call_with(struct call *c, uint64_t value, pid_t pid, unsigned flags)
     self->states = 0;
     long result = ask_with(&ask, sent, &answer, (struct iovec){c->room, c->room_len});
     if (c->info && answer.info.pid && result != -1) *c->info = answer.info;
+    if (result != -1 && reconnects) keep_result(c, (int)result);
     return result;
 }
 
 static long call_remote(struct call *c) {
     const balsaeuchre_request *r = &c->request;
     if ((!c->sent && c->sent_len) || (!c->room && c->room_len)) return fail(EFAULT);
-    if (r->kind == BALSAEUCHRE_SEND && c->sent_len > WIRE_MOST) return fail(EMSGSIZE);
-    if (c->sent_len > WIRE_MOST) c->sent_len = WIRE_MOST;
-    if (c->room_len > WIRE_MOST) c->room_len = WIRE_MOST;
+    bool sends = r->kind == BALSAEUCHRE_SEND;
+    if (c->sent_len > WIRE_MOST || (sends && c->room_len > WIRE_MOST)) return fail(EMSGSIZE);
+    if (c->room_len > WIRE_MOST) c->room_len = WIRE_MOST; /* no message is longer */
     return call_with(c, r->kind == BALSAEUCHRE_PULSE ? (uint64_t)(int64_t)r->value : r->flags, 0, 0);
 }
 
@@ -80,16 +136,22 @@ static long call_long(struct call *c) { return is_remote ? call_remote(c) : call
 
 /* ---- joining */
 
+enum { PATH = sizeof((struct sockaddr_un *)0)->sun_path };
+
+static char system_word[PATH]; /* BALSAEUCHRE_SYSTEM, as it was when the kernel was opened */
+static char system_path[PATH]; /* its absolute path: the environment and the folder may change */
+
 /* In a forked child, which has the sockets of its parent, but none of its threads. */
 static void forget_sockets(void) {
     if (!is_remote) return;
     for (int at = 0; at < 2 * (UINT8_MAX + 1); at++) {
-        if (files[at / 2][at % 2]) close(files[at / 2][at % 2]);
-        files[at / 2][at % 2] = 0;
+        if (files[at / 2][at % 2] != -1) close(files[at / 2][at % 2]);
+        files[at / 2][at % 2] = -1;
     }
     if (program_socket != -1) close(program_socket);
     program_socket = own.socket = own.bell = -1;
     own.box = NULL; /* a child doesn't have it */
+    own.is_lost = false;
     open_call = 0;
     inside = 0;
     self = NULL;
@@ -97,28 +159,79 @@ static void forget_sockets(void) {
     pthread_mutex_init(&asking, NULL);
 }
 
-/* No daemon is there, which is told once. */
+/* Keeps the absolute path of the daemon's socket. A forked child, which opens it again, may be in another folder. */
+static int keep_path(const char *word) {
+    char folder[PATH] = "";
+    if (strcmp(word, system_word) == 0) return 0;
+    if (*word != '/' && !getcwd(folder, sizeof folder)) return fail(errno == ERANGE ? ENAMETOOLONG : errno);
+    if (strlen(folder) + strlen(word) + 1 >= PATH) return fail(ENAMETOOLONG);
+    snprintf(system_path, PATH, *word == '/' ? "%s%s" : "%s/%s", folder, word);
+    strcpy(system_word, word);
+    return 0;
+}
+
+/* No daemon can be asked, which is said once. */
 static neutrino *refuse_path(const char *path) {
-    static bool told;
+    static atomic_bool said;
     int error = errno;
-    if (!told) dprintf(STDERR_FILENO, "balsaeuchre: no balsaeuchred at %s: %s\n", path, strerror(error));
-    told = true;
+    if (error != EPERM && !atomic_exchange(&said, true)) /* may_ask has said so of EPERM */
+        dprintf(STDERR_FILENO, "balsaeuchre: no balsaeuchred at %s: %s%s\n", path, strerror(error),
+                error == ENAMETOOLONG ? ": its absolute path has at most 107 bytes" : "");
     errno = error == ENOENT || error == ECONNREFUSED ? ESHUTDOWN : error;
     return NULL;
 }
 
-static neutrino *open_remote(const char *path) {
-    static bool prepared;
-    program_socket = connect_to(path);
-    if (program_socket == -1) return refuse_path(path);
-    if (!prepared) pthread_atfork(NULL, NULL, forget_sockets);
-    prepared = true;
-    program_scoid = (int)ask_about(OP_PROCESS, WIRE_VERSION);
-    if (program_scoid == -1) {
-        close(program_socket); /* which leaves errno as it is */
-        program_socket = -1;
-        return NULL;
+/* The daemon doesn't take this program, which is said once. places are those of programs. */
+static void say_refusal(int error, unsigned places) {
+    static atomic_bool said;
+    const char *path = system_path;
+    if (error == ESHUTDOWN || atomic_exchange(&said, true)) return;
+    if (error == EAGAIN && places)
+        dprintf(STDERR_FILENO, "balsaeuchre: the balsaeuchred at %s has places for %u programs, and all are taken: its "
+                "option --processes gives more\n", path, places);
+    else if (error == ENFILE)
+        dprintf(STDERR_FILENO, "balsaeuchre: the balsaeuchred at %s can open no further file: start it with a greater "
+                "limit (ulimit -n)\n", path);
+    else if (error == EACCES)
+        dprintf(STDERR_FILENO, "balsaeuchre: the balsaeuchred at %s takes no programs of user %u: its option --group "
+                "names a group that it takes\n", path, geteuid());
+    else if (error == ENOEXEC)
+        dprintf(STDERR_FILENO, "balsaeuchre: the balsaeuchred at %s is of another release: expected one that takes "
+                "version %d\n", path, WIRE_VERSION);
+    else
+        dprintf(STDERR_FILENO, "balsaeuchre: the balsaeuchred at %s refuses this program: %s\n", path, strerror(error));
+}
+
+/* Opens the program's socket. Returns its scoid, or -1 and sets errno. */
+static int open_program_socket(void) {
+    struct iovec none = {NULL, 0};
+    struct wire_answer answer = {.error = 0};
+    struct wire_ask ask = {.op = OP_PROCESS, .number = WIRE_VERSION, .states = last_chid, .flags = (unsigned)last_coid,
+                           .pid = last_rcvid};
+    int fd = connect_to(system_path);
+    if (fd == -1) return refuse_path(system_path) ? 0 : -1;
+    int scoid = (int)exchange(fd, &ask, none, &answer, none, NULL), error = errno;
+    if (scoid != -1) {
+        program_socket = fd;
+        return scoid;
     }
+    say_refusal(error, answer.count);
+    close(fd);
+    return fail(error);
+}
+
+static neutrino *open_remote(const char *word) {
+    static bool prepared;
+    if (keep_path(word)) return refuse_path(word);
+    if (!prepared) {
+        pthread_atfork(NULL, NULL, forget_sockets);
+        memset(files, -1, sizeof files);
+    }
+    prepared = true;
+    const char *reconnect = secure_getenv("BALSAEUCHRE_RECONNECT");
+    reconnects = reconnect && strcmp(reconnect, "1") == 0;
+    program_scoid = open_program_socket();
+    if (program_scoid == -1) return NULL;
     remote_kernel.process = getpid();
     is_remote = true;
     return &remote_kernel;
@@ -137,11 +250,41 @@ static void note_files(int tid, int socket, int bell) {
     pthread_mutex_unlock(&asking);
 }
 
-static int join_remote(int tid) {
-    struct wire_ask ask = {.op = OP_THREAD, .number = tid, .value = 10, .pid = (int32_t)syscall(SYS_gettid)};
-    if (tid < 1 || tid > UINT8_MAX) return fail(ESRCH);
-    if (open_box(getenv("BALSAEUCHRE_SYSTEM"), &ask)) return -1;
+enum { USUAL_PRIORITY = 10, SECOND = 1000000000 };
+
+/* A thread waits for a place, which is said once if it has waited for a second. */
+static void say_waiting(unsigned places) {
+    static atomic_bool said;
+    static _Thread_local uint64_t since;
+    uint64_t time = now();
+    if (!since || time - since > 20 * (uint64_t)SECOND) since = time; /* another wait than the last one */
+    if (!places || time - since < SECOND || atomic_exchange(&said, true)) return;
+    dprintf(STDERR_FILENO, "balsaeuchre: a thread waits for a place: this program has %u in the balsaeuchred at %s, "
+            "whose option --threads gives more\n", places, system_path);
+}
+
+/* Opens the calling thread's box, and notes its files. */
+static int open_thread(int tid, int priority) {
+    struct wire_ask ask = {.op = OP_THREAD, .number = tid, .value = (uint64_t)priority,
+                           .pid = (int32_t)syscall(SYS_gettid)};
+    struct wire_answer answer = {.error = 0};
+    if (open_box(system_path, &ask, &answer)) {
+        int error = errno;
+        if (error == EAGAIN) say_waiting(answer.count);
+        return fail(error == ENOENT || error == ECONNREFUSED ? ESHUTDOWN : error);
+    }
     note_files(tid, own.socket, own.bell);
+    return 0;
+}
+
+static int join_remote(int tid) {
+    if (tid < 1 || tid > UINT8_MAX) return fail(ESRCH);
+    own.priority = USUAL_PRIORITY;
+    if (open_thread(tid, own.priority)) {
+        bool is_unknown = errno == ESRCH || errno == ESHUTDOWN; /* to the daemon that runs now */
+        if (!is_unknown || !reconnects || reopen_program() || open_thread(tid, own.priority)) return -1;
+    }
+    own.is_lost = false;
     own_place = (struct place){.tid = (uint8_t)tid};
     self = &own_place;
     kernel = &remote_kernel;
@@ -156,7 +299,7 @@ int neutrino_join(neutrino *k, int tid) {
 int neutrino_leave(void) {
     if (!is_remote) return leave_here();
     if (refuse_call()) return -1;
-    note_files(self->tid, 0, 0);
+    note_files(self->tid, -1, -1);
     shutdown(own.socket, SHUT_RDWR); /* a forked child may have it, too, for a moment */
     close_box();
     self = NULL;

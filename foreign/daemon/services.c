@@ -3,7 +3,7 @@
 /* Reads a name that an ask brings. Returns an errno or 0. */
 static int read_name(const struct wire_ask *a, const uint8_t *bytes, char name[WIRE_NAME]) {
     if (!a->sent_len || a->sent_len >= WIRE_NAME) return EINVAL;
-    memcpy(name, bytes, a->sent_len);
+    copy_once(name, bytes, a->sent_len);
     name[a->sent_len] = 0;
     return strlen(name) == a->sent_len ? 0 : EINVAL;
 }

@@ -1,7 +1,7 @@
 /* Sockets and boxes: answers, and the bytes of calls. None waits. Tested, not proved.
  *
  * A box is the daemon's memory, whose length is sealed, and which its thread may change at any time. So an ask is
- * copied before it is looked at. */
+ * copied before it is looked at, and each of its words is read once. */
 #include <linux/futex.h>
 #include <sys/eventfd.h>
 #include <sys/mman.h>
@@ -11,8 +11,28 @@
 static int events;      /* the epoll */
 static const char bell; /* its address is what the epoll says of any bell, after which all boxes are looked at */
 
+typedef uint64_t __attribute__((may_alias)) box_word;
+
+/* Copies bytes that a program may change meanwhile. Each is read once. They begin at a whole word. */
+static void copy_once(void *to, const void *from, size_t length) {
+    const box_word *words = from;
+    const uint8_t *bytes = from;
+    uint8_t *target = to;
+    size_t at = 0;
+    for (; at + sizeof *words <= length; at += sizeof *words) {
+        box_word word = __atomic_load_n(words++, __ATOMIC_RELAXED);
+        memcpy(target + at, &word, sizeof word);
+    }
+    for (; at < length; at++) target[at] = __atomic_load_n(bytes + at, __ATOMIC_RELAXED);
+}
+
 static bool watch(int fd, uint32_t wanted, const void *of) {
     return !epoll_ctl(events, EPOLL_CTL_ADD, fd, &(struct epoll_event){wanted, {.ptr = (void *)(uintptr_t)of}});
+}
+
+/* Changes what the epoll says of a file. */
+static void watch_for(int fd, uint32_t wanted, const void *of) {
+    epoll_ctl(events, EPOLL_CTL_MOD, fd, &(struct epoll_event){wanted, {.ptr = (void *)(uintptr_t)of}});
 }
 
 /* Makes the box and the bell of a thread. Returns whether it could. files gets what the thread gets: both. */
@@ -30,9 +50,12 @@ static bool open_box(struct client *c, int files[2]) {
 
 static void close_box(struct client *c) {
     if (c->box) munmap(c->box, sizeof *c->box);
-    if (c->bell > 0) epoll_ctl(events, EPOLL_CTL_DEL, c->bell, NULL), close(c->bell); /* its thread may have it still */
+    if (c->bell != -1) {
+        epoll_ctl(events, EPOLL_CTL_DEL, c->bell, NULL); /* its thread may have it still */
+        close(c->bell);
+    }
     c->box = NULL;
-    c->bell = 0;
+    c->bell = -1;
 }
 
 /* Sends an answer as a packet, with files or without. */
@@ -50,13 +73,15 @@ static void send_answer(struct client *c, const void *bytes, const int files[2])
     if (sendmsg(c->fd, &packet, MSG_NOSIGNAL | MSG_DONTWAIT) < 0) shutdown(c->fd, SHUT_RDWR);
 }
 
-static uint64_t asleep; /* threads that have an answer, and have to be woken, by place */
+static uint64_t asleep, at_socket; /* threads that have an answer, and have to be woken, by place */
 
 /* Puts an answer into the box of a thread. */
 static void put_in_box(struct client *c, const void *bytes) {
     if (c->answer.length) memcpy(c->box->bytes, bytes, c->answer.length);
     c->box->answer = c->answer;
-    if (atomic_exchange(&c->box->word, WIRE_ANSWERED) == WIRE_ASLEEP) asleep |= bit_of(k, c->place);
+    uint32_t before = atomic_exchange(&c->box->word, WIRE_ANSWERED);
+    if (before == WIRE_ASLEEP) asleep |= bit_of(k, c->place);
+    if (before == WIRE_AT_SOCKET) at_socket |= bit_of(k, c->place);
 }
 
 /* Wakes threads once all have their answers, as that takes longer than those. */
@@ -64,6 +89,10 @@ static void wake_threads(void) {
     for (; asleep; asleep &= asleep - 1) {
         const struct client *c = client_of[__builtin_ctzll(asleep)];
         if (c && c->box) syscall(SYS_futex, &c->box->word, FUTEX_WAKE, 1, NULL, NULL, 0);
+    }
+    for (; at_socket; at_socket &= at_socket - 1) {
+        const struct client *c = client_of[__builtin_ctzll(at_socket)];
+        if (c && c->fd != -1) send(c->fd, "", 1, MSG_NOSIGNAL | MSG_DONTWAIT);
     }
 }
 
@@ -79,11 +108,12 @@ static void put_result(struct client *c, int error, int64_t result) {
     put_answer(c, error, result, NULL, 0);
 }
 
-/* Takes memory for a call's bytes, as far as its process may have so many. */
+/* Takes memory for a call's bytes, as far as its process may have so many. It isn't cleared: of the room only those
+ * bytes are answered that the kernel has written, or that came with the call. */
 static void take_bytes(struct client *c, size_t size) {
     struct process *process = &processes[c->process];
     c->size = 0;
-    c->bytes = process->bytes + size <= (size_t)limits.bytes ? calloc(1, size + 1) : NULL;
+    c->bytes = process->bytes + size <= (size_t)limits.bytes ? malloc(size + 1) : NULL;
     if (!c->bytes) return;
     c->size = size;
     process->bytes += size;
@@ -100,5 +130,5 @@ static void free_client(struct client *c) {
     if (c->fd != -1) close(c->fd);
     close_box(c);
     drop_bytes(c);
-    *c = (struct client){.fd = -1};
+    *c = no_client;
 }

@@ -11,10 +11,11 @@
 #include "balsaeuchre.h"
 #include "sys/neutrino.h"
 
-enum { WIRE_VERSION = 3, WIRE_MOST = 1 << 20, WIRE_NAME = 256, WIRE_GROUPS = 8 };
+enum { WIRE_VERSION = 4, WIRE_OLDEST = 3, WIRE_MOST = 1 << 20, WIRE_NAME = 256, WIRE_GROUPS = 8 };
 
 enum wire_op {
-    OP_PROCESS = 1, /* the first of a program's socket: number is WIRE_VERSION; the result is its scoid */
+    OP_PROCESS = 1, /* the first of a program's socket: number is WIRE_VERSION; the result is its scoid. Of an earlier
+                       daemon: states, flags and pid are the last chid, coid and rcvid, which don't come again */
     OP_THREAD,      /* the first of a thread's: number is its tid, value its priority */
     OP_CALL,        /* the request, with the number of what it names; the bytes: sent, then a Send's reply buffer */
     OP_CANCEL,      /* unblock the thread whose tid is number, in this call or the next ones */
@@ -50,13 +51,15 @@ struct wire_answer {
     int32_t error;
     uint32_t length; /* of the bytes behind it */
     int64_t result;
-    uint32_t count; /* bytes of a reply; of a State the chid that the thread is blocked on */
+    uint32_t count; /* bytes of a reply; of a State the chid that the thread is blocked on; of EAGAIN the places */
     uint8_t how;
     uint8_t priority; /* of a pulse, or a State */
     struct _msg_info info;
 };
 
-enum { WIRE_OPEN, WIRE_ASLEEP, WIRE_ANSWERED }; /* the last ask has no answer yet; its thread also sleeps; it has one */
+/* The last ask has no answer yet; its thread also sleeps; it has one; its thread sleeps at its socket, to which the
+ * daemon sends a byte after the answer. */
+enum { WIRE_OPEN, WIRE_ASLEEP, WIRE_ANSWERED, WIRE_AT_SOCKET };
 
 /* Only bytes of the call that is open are in use: before the answer those of the ask, and then those of the answer. */
 struct wire_box {

@@ -46,6 +46,7 @@ struct names {
     struct name *places;
     uint32_t turns; /* a name's turns go from 1 to this, and begin again */
     int bits;       /* of the place */
+    uint32_t least; /* turns below this are left out */
 };
 
 /* The table in which the id of a call's request has its name. */
@@ -135,7 +136,8 @@ static uint64_t bit_of(const neutrino *k, const struct place *p) { return 1ull <
 static int host_error(uint32_t error) {
     static const int host_errors[] = {0,      ESRCH,     EBADF,     EINVAL,    EAGAIN, EINTR, EBUSY,
                                       ENOMEM, ESHUTDOWN, EOVERFLOW, EOVERFLOW, ESRCH,  EPERM, EBUSY};
-    return host_errors[error];
+    bool is_known = error < sizeof host_errors / sizeof *host_errors;
+    return is_known ? host_errors[error] : EIO;
 }
 
 #endif

@@ -6,9 +6,9 @@
  * open at a time. All of this is under the lock.
  */
 static void open_tables(neutrino *k) {
-    k->tables[CHANNELS] = (struct names){k->channels, INT_MAX >> CHANNEL_BITS, CHANNEL_BITS};
-    k->tables[CONNECTIONS] = (struct names){k->connections, (SCOID - 1) >> CONNECTION_BITS, CONNECTION_BITS};
-    k->tables[MESSAGES] = (struct names){k->messages, INT_MAX >> MESSAGE_BITS, MESSAGE_BITS};
+    k->tables[CHANNELS] = (struct names){k->channels, INT_MAX >> CHANNEL_BITS, CHANNEL_BITS, 0};
+    k->tables[CONNECTIONS] = (struct names){k->connections, (SCOID - 1) >> CONNECTION_BITS, CONNECTION_BITS, 0};
+    k->tables[MESSAGES] = (struct names){k->messages, INT_MAX >> MESSAGE_BITS, MESSAGE_BITS, 0};
     k->event.rows = k->rows + OWN_ROWS * PLACES;
     k->side.rows = k->event.rows + BALSAEUCHRE_ROWS;
     /* The first channel is 1, as under QNX: the places but 0, which has no such name, begin with the turn 0. */
@@ -36,6 +36,7 @@ static int new_name(neutrino *k, enum table table, uint64_t id, uint8_t owner) {
     name->id = id;
     name->owner = owner;
     name->turn = name->turn == names->turns ? 1 : name->turn + 1;
+    if (name->turn < names->least) name->turn = names->least;
     return (int)(name->turn << names->bits) | place;
 }
 

@@ -14,7 +14,10 @@ static struct client *open_socket(int at) {
     struct wire_ask ask = {.op = at ? OP_THREAD : OP_PROCESS, .number = at ? at : WIRE_VERSION, .value = USUAL};
     if (socketpair(AF_UNIX, SOCK_SEQPACKET | SOCK_NONBLOCK, 0, ends)) abort();
     struct client *c = new_client();
-    *c = (struct client){.is_used = true, .fd = ends[0], .peer = {getpid(), 0, 0}};
+    *c = no_client;
+    c->is_used = true;
+    c->fd = ends[0];
+    c->peer.pid = getpid();
     if (!watch(c->fd, EPOLLIN, c)) abort();
     far[at] = ends[1];
     if (!take_packet(c, (const uint8_t *)&ask, sizeof ask)) abort();

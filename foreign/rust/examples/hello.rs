@@ -1,9 +1,9 @@
 //! A server and a client as programs of their own, over a `balsaeuchred`. In three terminals:
 //!
 //! ```sh
-//! balsaeuchred /tmp/bus
-//! cargo run --example hello -- server /tmp/bus
-//! cargo run --example hello -- client /tmp/bus
+//! balsaeuchred "$XDG_RUNTIME_DIR/bus"
+//! cargo run --example hello -- server "$XDG_RUNTIME_DIR/bus"
+//! cargo run --example hello -- client "$XDG_RUNTIME_DIR/bus"
 //! ```
 
 use balsaeuchre::{ChannelFlags, Port, Received};
