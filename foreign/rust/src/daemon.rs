@@ -42,6 +42,31 @@ fn exchange(socket: &OwnedFd, ask: &Ask) -> io::Result<(Answer, Option<[c_int; 2
     Ok((answer, rights.files()))
 }
 
+/// The variable that names the user of a daemon that is neither root's nor one's own.
+const USER_VARIABLE: &str = "BALSAEUCHRE_USER";
+
+/// Whether a daemon of this user is trusted by a program of another user, who may have named one more.
+fn is_trusted(user: u32, own: u32, named: Option<u32>) -> bool {
+    user == 0 || user == own || Some(user) == named
+}
+
+/// Connects a socket to the daemon of a path. Another user may have taken the path first, so the daemon has to be of a
+/// user that is trusted.
+fn connect_to_daemon(path: &Path) -> io::Result<OwnedFd> {
+    let socket = connect_to(path)?;
+    let (user, own) = (host::user_of(&socket)?, host::own_user());
+    let named = host::variable(USER_VARIABLE).and_then(|name| host::user_named(&name));
+    if is_trusted(user, own, named) {
+        return Ok(socket);
+    }
+    let told = format!(
+        "the daemon at {} is of the user {user}, expected the user {own} or root: if it is the one that you mean, \
+         set {USER_VARIABLE} to its user",
+        path.display()
+    );
+    Err(io::Error::new(io::ErrorKind::PermissionDenied, told))
+}
+
 /// What the ports of this program in one daemon share: the program ends for the daemon as the socket is closed.
 struct Program {
     path: PathBuf,
@@ -71,7 +96,7 @@ fn program(path: &Path) -> io::Result<Arc<Program>> {
     if let Some(program) = programs.iter().filter_map(Weak::upgrade).find(is_it) {
         return Ok(program);
     }
-    let socket = connect_to(path)?;
+    let socket = connect_to_daemon(path)?;
     let (answer, _) = exchange(&socket, &Ask { op: wire::OP_PROCESS, number: wire::VERSION, ..Ask::default() })?;
     let (path, taken) = (path.to_owned(), Mutex::new([false; 256]));
     let program = Arc::new(Program { path, socket, pid: process::id(), scoid: answer.result as u32, taken });
@@ -153,7 +178,7 @@ impl Link {
         let program = Use(Some(program(path)?));
         let mut taken = lock(&program.taken);
         let tid = (1..=u8::MAX).find(|tid| !taken[usize::from(*tid)]).ok_or(io::ErrorKind::QuotaExceeded)?;
-        let socket = connect_to(path)?;
+        let socket = connect_to_daemon(path)?;
         // SAFETY: it takes nothing.
         let host_tid = unsafe { host::syscall(host::SYS_GETTID) } as i32;
         let ask = Ask { op: wire::OP_THREAD, number: tid.into(), value: 10, pid: host_tid, ..Ask::default() };

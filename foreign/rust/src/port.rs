@@ -121,8 +121,9 @@ impl Port {
     /// for it. A forked child is another program: calls by its parent's ports are refused with `Down`, and it has to
     /// connect itself.
     ///
-    /// Fails with the error of the host if there is no daemon or it belongs to another user, and with its `EAGAIN` if
-    /// all places of programs or threads are taken.
+    /// Fails with the error of the host if there is no daemon or it refuses this program's user, and with its `EAGAIN` if
+    /// all places of programs or threads are taken. The daemon has to be root's, one's own, or of the user that the
+    /// variable `BALSAEUCHRE_USER` names, by name or number; if not, it fails with `PermissionDenied`.
     pub fn connect(path: impl AsRef<Path>) -> io::Result<Port> {
         let link = Link::open(path.as_ref())?;
         let thread = Thread::new(link.tid(), 0, 10);

@@ -3,6 +3,7 @@
 
 use balsaeuchre::{CallError, ChannelFlags, ChannelId, Errno, Port, Pulse, Received, State, ThreadState, What};
 use std::io::ErrorKind;
+use std::os::unix::process::CommandExt;
 use std::path::PathBuf;
 use std::process::{Child, Command};
 use std::sync::atomic::{AtomicBool, AtomicUsize, Ordering};
@@ -17,9 +18,12 @@ struct Daemon {
 
 impl Daemon {
     fn start(name: &str) -> Option<Daemon> {
-        let program = env::var_os("BALSAEUCHRE_DAEMON")?;
+        Daemon::start_by(name, Command::new(env::var_os("BALSAEUCHRE_DAEMON")?))
+    }
+
+    fn start_by(name: &str, mut command: Command) -> Option<Daemon> {
         let path = env::temp_dir().join(format!("balsaeuchre-{}-{name}", std::process::id()));
-        let process = Command::new(program).args(["--threads", "4"]).arg(&path).spawn().unwrap();
+        let process = command.args(["--threads", "4"]).arg(&path).spawn().unwrap();
         while !path.exists() {
             thread::sleep(Duration::from_millis(5));
         }
@@ -40,9 +44,14 @@ impl Daemon {
 
     /// Runs this test once more, as another program.
     fn spawn(&self, test: &str, role: &str) -> Child {
+        self.program(test, role).spawn().unwrap()
+    }
+
+    /// The command that runs a test once more, as another program.
+    fn program(&self, test: &str, role: &str) -> Command {
         let mut command = Command::new(env::current_exe().unwrap());
         command.args(["--exact", test, "--nocapture"]).env("ROLE", role).env("SOCKET", &self.path);
-        command.spawn().unwrap()
+        command
     }
 }
 
@@ -236,6 +245,7 @@ fn programs_come_and_go() {
 
 unsafe extern "C" {
     fn fork() -> i32;
+    fn geteuid() -> u32;
     fn waitpid(pid: i32, status: *mut i32, flags: i32) -> i32;
     fn _exit(status: i32) -> !;
     fn kill(pid: i32, signal: i32) -> i32;
@@ -391,4 +401,40 @@ fn over_a_mebibyte() {
         assert_eq!((answer.status, answer.bytes()), (5, &long[..MOST]));
         serving.join().unwrap();
     });
+}
+
+/// A daemon of another user is refused, unless the environment names that user. Only root can start one.
+#[test]
+fn a_daemon_of_another_user() {
+    const NOBODY: u32 = 65534;
+    if let Ok(role) = env::var("ROLE") {
+        let error = Port::connect(env::var_os("SOCKET").unwrap()).err().map(|error| error.kind());
+        assert_eq!(error, (role == "refused").then_some(ErrorKind::PermissionDenied));
+        return;
+    }
+    let Some(program) = env::var_os("BALSAEUCHRE_DAEMON") else { return };
+    // SAFETY: it takes nothing.
+    if unsafe { geteuid() } != 0 {
+        return;
+    }
+    // The other user may not enter the folder that the program is in.
+    let copy = env::temp_dir().join(format!("balsaeuchred-{}", std::process::id()));
+    fs::copy(program, &copy).unwrap();
+    let mut command = Command::new(&copy);
+    command.uid(NOBODY).gid(0).args(["--group", "root"]);
+    let daemon = Daemon::start_by("another", command).unwrap();
+    let error = loop {
+        let error = Port::connect(&daemon.path).err().unwrap();
+        if error.kind() != ErrorKind::ConnectionRefused {
+            break error;
+        }
+        thread::sleep(Duration::from_millis(5));
+    };
+    assert_eq!(error.kind(), ErrorKind::PermissionDenied);
+    assert!(error.to_string().contains("is of the user 65534"), "{error}");
+    for (user, role) in [("65534", "trusted"), ("65533", "refused"), ("no such user", "refused"), ("", "refused")] {
+        let mut named = daemon.program("a_daemon_of_another_user", role);
+        assert!(named.env("BALSAEUCHRE_USER", user).status().unwrap().success(), "{user}");
+    }
+    fs::remove_file(copy).unwrap();
 }

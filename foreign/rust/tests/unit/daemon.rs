@@ -40,3 +40,16 @@ fn programs_have_whole_numbers() {
     let Mark::Pulse { pulse, .. } = pulse_of(&Answer::default(), &bytes) else { panic!("no pulse") };
     assert_eq!(pulse.what, What::Unblock(ReceiveId(i32::MAX as u64)));
 }
+
+#[test]
+fn whose_daemon_is_trusted() {
+    assert!([0, 7].iter().all(|user| is_trusted(*user, 7, None)));
+    assert!([8, 70].iter().all(|user| !is_trusted(*user, 7, None)));
+    assert!([0, 7, 8].iter().all(|user| is_trusted(*user, 7, Some(8))));
+    assert!(!is_trusted(9, 7, Some(8)));
+    assert_eq!(host::user_named("root".as_ref()), Some(0));
+    assert_eq!(host::user_named("4294967294".as_ref()), Some(u32::MAX - 1));
+    assert_eq!(host::user_named("no such user".as_ref()), None);
+    let (one, _other) = UnixStream::pair().unwrap();
+    assert_eq!(host::user_of(&one.into()).unwrap(), host::own_user());
+}

@@ -2,7 +2,7 @@
 //! values of the same names. It wants a clone of the repository, and cc; the package by itself has no headers.
 
 use super::*;
-use crate::host::{self, Address, Packet, Part, Rights};
+use crate::host::{self, Address, Packet, Part, Peer, Rights, User};
 use crate::kernel::kind;
 use std::path::Path;
 use std::process::Command;
@@ -54,6 +54,8 @@ fn structs() -> Vec<Row> {
         layout!(Packet, "struct msghdr": msg_name, msg_namelen, msg_iov, msg_iovlen, msg_control, msg_controllen,
                 msg_flags),
         layout!(Rights, "struct rights": cmsg_len, cmsg_level, cmsg_type, files),
+        layout!(Peer, "struct ucred": pid, uid, gid),
+        layout!(User, "struct passwd": pw_name, pw_passwd, pw_uid, pw_gid, pw_gecos, pw_dir, pw_shell),
     ]
     .concat()
 }
@@ -67,8 +69,8 @@ fn constants() -> Vec<Row> {
                 STATE_SEND: STATE_SEND, STATE_RECEIVE: STATE_RECEIVE, STATE_REPLY: STATE_REPLY,
                 _PULSE_CODE_UNBLOCK: CODE_UNBLOCK, _PULSE_CODE_DISCONNECT: CODE_DISCONNECT),
         vec![("_NTO_TIMEOUT_SEND | _NTO_TIMEOUT_RECEIVE | _NTO_TIMEOUT_REPLY".to_string(), TIMED_STATES.into())],
-        same!(host: AF_UNIX, SOCK_SEQPACKET, SOCK_CLOEXEC, SOL_SOCKET, SCM_RIGHTS, SHUT_RDWR, MSG_PEEK,
-              MSG_DONTWAIT, MSG_NOSIGNAL, MSG_CMSG_CLOEXEC, PROT_READ, PROT_WRITE, MAP_SHARED, MADV_DONTFORK),
+        same!(host: AF_UNIX, SOCK_SEQPACKET, SOCK_CLOEXEC, SOL_SOCKET, SO_PEERCRED, SCM_RIGHTS, SHUT_RDWR, MSG_PEEK,
+              MSG_DONTWAIT, MSG_NOSIGNAL, MSG_CMSG_CLOEXEC, PROT_READ, PROT_WRITE, MAP_SHARED, MADV_DONTFORK, AT_SECURE),
         values!(FUTEX_WAIT: host::FUTEX_WAIT, SYS_gettid: host::SYS_GETTID, SYS_futex: host::SYS_FUTEX),
         same!(host: ENOENT, ESRCH, EINTR, EBADF, EAGAIN, ENOMEM, EBUSY, EEXIST, EOVERFLOW, ESHUTDOWN, ETIMEDOUT),
     ]
@@ -98,7 +100,7 @@ fn printed(foreign: &Path, rows: &[Row]) -> Vec<i64> {
 }
 
 const HEAD: &str = "#define _GNU_SOURCE\n\
-    #include <errno.h>\n#include <linux/futex.h>\n#include <stdio.h>\n#include <sys/mman.h>\n#include <sys/socket.h>\n\
+    #include <errno.h>\n#include <linux/futex.h>\n#include <pwd.h>\n#include <stdio.h>\n#include <sys/auxv.h>\n#include <sys/mman.h>\n#include <sys/socket.h>\n\
     #include <sys/syscall.h>\n#include <sys/uio.h>\n#include <sys/un.h>\n#include \"wire.h\"\n\
     struct rights { size_t cmsg_len; int cmsg_level, cmsg_type, files[2]; };\n\
     _Static_assert(sizeof(struct cmsghdr) == offsetof(struct rights, files), \"files follow the head\");\n";
