@@ -20,7 +20,13 @@ use std::sync::{Arc, Mutex, MutexGuard, Weak};
 use std::time::Duration;
 use std::{hint, process, ptr};
 
-/// Asks by a packet, and waits for the answer and the two files that come with it, if there are any.
+/// Whether the other end of a socket is closed, which may have sent a packet before.
+fn is_closed(error: &io::Error) -> bool {
+    matches!(error.kind(), io::ErrorKind::BrokenPipe | io::ErrorKind::ConnectionReset)
+}
+
+/// Asks by a packet, and waits for the answer and the two files that come with it, if there are any. A daemon that
+/// refuses a socket closes it after an answer that may be there before the ask.
 fn exchange(socket: &OwnedFd, ask: &Ask) -> io::Result<(Answer, Option<[c_int; 2]>)> {
     let (mut answer, mut rights) = (Answer::default(), Rights::default());
     let mut part = Part { iov_base: ptr::from_mut(&mut answer).cast(), iov_len: size_of::<Answer>() };
@@ -29,10 +35,16 @@ fn exchange(socket: &OwnedFd, ask: &Ask) -> io::Result<(Answer, Option<[c_int; 2
     packet.msg_control = ptr::from_mut(&mut rights).cast();
     packet.msg_controllen = size_of::<Rights>();
     let fd = socket.as_raw_fd();
+    let bytes = ptr::from_ref(ask).cast();
     // SAFETY: an ask with its length.
-    uninterrupted(|| unsafe { host::send(fd, ptr::from_ref(ask).cast(), size_of::<Ask>(), host::MSG_NOSIGNAL) })?;
+    let sent = uninterrupted(|| unsafe { host::send(fd, bytes, size_of::<Ask>(), host::MSG_NOSIGNAL) });
+    if sent.as_ref().is_err_and(|error| !is_closed(error)) {
+        sent?;
+    }
     // SAFETY: the packet's parts have their lengths, and any bytes are an answer and numbers.
-    let came = uninterrupted(|| unsafe { host::recvmsg(fd, &mut packet, host::MSG_CMSG_CLOEXEC) })?;
+    let mut receive = || uninterrupted(|| unsafe { host::recvmsg(fd, &mut packet, host::MSG_CMSG_CLOEXEC) });
+    // The host says once that the other end was closed, and then gives what was sent before.
+    let came = receive().or_else(|error| if is_closed(&error) { receive() } else { Err(error) })?;
     if came < size_of::<Answer>() {
         return Err(io::ErrorKind::ConnectionAborted.into());
     }
@@ -43,7 +55,7 @@ fn exchange(socket: &OwnedFd, ask: &Ask) -> io::Result<(Answer, Option<[c_int; 2
 }
 
 /// The variable that names the user of a daemon that is neither root's nor one's own.
-const USER_VARIABLE: &str = "BALSAEUCHRE_USER";
+const USER_VARIABLE: &str = "BALSAEUCHRE_SYSTEM_USER";
 
 /// Whether a daemon of this user is trusted by a program of another user, who may have named one more.
 fn is_trusted(user: u32, own: u32, named: Option<u32>) -> bool {
@@ -60,8 +72,8 @@ fn connect_to_daemon(path: &Path) -> io::Result<OwnedFd> {
         return Ok(socket);
     }
     let told = format!(
-        "the daemon at {} is of the user {user}, expected the user {own} or root: if it is the one that you mean, \
-         set {USER_VARIABLE} to its user",
+        "the balsaeuchred at {} is of user {user}: expected root's (0) or this user's ({own}). \
+         {USER_VARIABLE}={user} takes it",
         path.display()
     );
     Err(io::Error::new(io::ErrorKind::PermissionDenied, told))
@@ -298,11 +310,11 @@ impl Link {
         let (request, sent, room) = call(unsafe { &*lent }).raw(self.tid);
         let kind = request.kind;
         let is_send = kind == kind::SEND;
-        if kind == kind::SHUTDOWN || is_send && (sent.len() > MOST || room.len() > MOST) {
+        if kind == kind::SHUTDOWN || sent.len() > MOST || is_send && room.len() > MOST {
             return Err(CallError::Refused(Errno::Inval));
         }
-        // No message or reply is longer, so no call but a Send loses a byte by the cut.
-        let (sent, room) = (&sent[..sent.len().min(MOST)], &room[..room.len().min(MOST)]);
+        // No message is longer.
+        let room = &room[..room.len().min(MOST)];
         let receives = kind == kind::RECEIVE || kind == kind::RECEIVE_PULSE;
         let room_len = if receives { lent.len().clamp(size_of::<RawPulse>(), MOST) } else { room.len() };
         self.calls = self.calls.wrapping_add(1).max(1);

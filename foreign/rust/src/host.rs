@@ -190,8 +190,8 @@ pub(crate) fn user_of(socket: &OwnedFd) -> Result<u32> {
 
 /// Returns the user of a name or a number.
 pub(crate) fn user_named(name: &OsStr) -> Option<u32> {
-    if let Some(number) = name.to_str().and_then(|text| text.parse().ok()) {
-        return Some(number);
+    if let Some(number) = name.to_str().filter(|text| text.bytes().all(|byte| byte.is_ascii_digit())) {
+        return number.parse().ok().filter(|user| *user != u32::MAX);
     }
     let name = CString::new(name.as_bytes()).ok()?;
     let (mut room, mut user, mut found) = (vec![0; 1 << 16], MaybeUninit::uninit(), ptr::null_mut::<User>());

@@ -116,14 +116,14 @@ impl Port {
     /// channel's number has the pid of its program in its upper half. What differs: [`process`](Port::process) is the
     /// daemon's number of a program, and [`Thread::process`] is 0; [`sched_set`](Port::sched_set),
     /// [`unblock`](Port::unblock) and [`state`](Port::state) know only the threads of this program.
-    /// [`shutdown`](Port::shutdown) is refused with `Inval`, and so is a message or a reply buffer of over 1 MiB. A port
-    /// that is dropped leaves the kernel, and with the last one the program has ended for all others, which need not wait
-    /// for it. A forked child is another program: calls by its parent's ports are refused with `Down`, and it has to
-    /// connect itself.
+    /// [`shutdown`](Port::shutdown) is refused with `Inval`, and so is a message, a reply or a reply buffer of over
+    /// 1 MiB. A port that is dropped leaves the kernel, and with the last one the program has ended for all others, which
+    /// need not wait for it. A forked child is another program: calls by its parent's ports are refused with `Down`, and
+    /// it has to connect itself.
     ///
     /// Fails with the error of the host if there is no daemon or it refuses this program's user, and with its `EAGAIN` if
     /// all places of programs or threads are taken. The daemon has to be root's, one's own, or of the user that the
-    /// variable `BALSAEUCHRE_USER` names, by name or number; if not, it fails with `PermissionDenied`.
+    /// variable `BALSAEUCHRE_SYSTEM_USER` names, by name or number; if not, it fails with `PermissionDenied`.
     pub fn connect(path: impl AsRef<Path>) -> io::Result<Port> {
         let link = Link::open(path.as_ref())?;
         let thread = Thread::new(link.tid(), 0, 10);

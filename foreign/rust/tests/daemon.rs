@@ -376,7 +376,7 @@ fn the_same_name_in_two_folders() {
     folders.iter().for_each(|folder| fs::remove_dir_all(folder).unwrap());
 }
 
-/// A message or a reply buffer of over 1 MiB is refused; longer bytes of other calls are cut, as no message has more.
+/// Bytes of over 1 MiB are refused, and so is such a reply buffer. Other buffers may be longer, as no message is.
 #[test]
 fn over_a_mebibyte() {
     const MOST: usize = 1 << 20;
@@ -394,8 +394,10 @@ fn over_a_mebibyte() {
             let Received::Message(request) = server.msg_receive(channel, &mut buffer).unwrap() else { panic!() };
             let (rcvid, copied) = (request.rcvid, request.copied);
             assert_eq!((copied, server.msg_read(rcvid, 0, &mut buffer).unwrap().len()), (MOST, MOST));
-            assert_eq!(server.msg_write(rcvid, 1, &long), Ok(MOST - 1));
-            server.msg_reply(rcvid, 5, &long).unwrap();
+            assert_eq!(server.msg_write(rcvid, 1, &long), Err(REFUSED(Errno::Inval)));
+            assert_eq!(server.msg_write(rcvid, 1, &long[..MOST]), Ok(MOST - 1));
+            assert_eq!(server.msg_reply(rcvid, 5, &long), Err(REFUSED(Errno::Inval)));
+            server.msg_reply(rcvid, 5, &long[..MOST]).unwrap();
         });
         let answer = client.msg_send(connection, &long[..MOST], &mut room[..MOST]).unwrap();
         assert_eq!((answer.status, answer.bytes()), (5, &long[..MOST]));
@@ -431,10 +433,10 @@ fn a_daemon_of_another_user() {
         thread::sleep(Duration::from_millis(5));
     };
     assert_eq!(error.kind(), ErrorKind::PermissionDenied);
-    assert!(error.to_string().contains("is of the user 65534"), "{error}");
+    assert!(error.to_string().contains("is of user 65534: "), "{error}");
     for (user, role) in [("65534", "trusted"), ("65533", "refused"), ("no such user", "refused"), ("", "refused")] {
         let mut named = daemon.program("a_daemon_of_another_user", role);
-        assert!(named.env("BALSAEUCHRE_USER", user).status().unwrap().success(), "{user}");
+        assert!(named.env("BALSAEUCHRE_SYSTEM_USER", user).status().unwrap().success(), "{user}");
     }
     fs::remove_file(copy).unwrap();
 }
