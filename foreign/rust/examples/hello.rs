@@ -6,7 +6,7 @@
 //! cargo run --example hello -- client "$XDG_RUNTIME_DIR/bus"
 //! ```
 
-use balsaeuchre::{ChannelFlags, Port, Received};
+use balsaeuchre::{ChannelFlags, Port, Pulse, Received, What};
 use std::error::Error;
 
 /// Answers one message.
@@ -20,10 +20,11 @@ fn serve(port: &mut Port) -> Result<(), Box<dyn Error>> {
                 println!("server: {:?}", String::from_utf8_lossy(request.bytes()));
                 port.msg_reply(request.rcvid, 7, b"world")?;
             }
-            Received::Pulse(pulse) => {
-                println!("server: {:?}", pulse.what);
+            Received::Pulse(Pulse { what: What::Disconnect(_), .. }) => {
+                println!("server: the client has ended");
                 return Ok(());
             }
+            Received::Pulse(pulse) => println!("server: {:?}", pulse.what),
         }
     }
 }

@@ -2,7 +2,7 @@
 
 use crate::errors::{CallError, Result};
 use crate::ids::{ChannelFlags, ChannelId, ConnectionId, ReceiveId};
-use crate::kernel::{Mark, RawRequest};
+use crate::kernel::{Mark, RawRequest, kind};
 use crate::port::Port;
 use crate::results::{Answer, Info, Pulse, Received, Request, State};
 use crate::shared::FRONT;
@@ -52,25 +52,27 @@ impl<'a> Call<'a> {
     pub(crate) fn raw(self, thread: u8) -> (RawRequest, &'a [u8], &'a [u8]) {
         let of = |kind, id| RawRequest { kind, thread, id, ..RawRequest::default() };
         match self {
-            Call::ChannelCreate { flags } => (RawRequest { flags: flags.0, ..of(1, 0) }, &[], &[]),
-            Call::ConnectAttach { chid } => (of(2, chid.0), &[], &[]),
-            Call::Send { coid, message, reply_buffer } => (of(3, coid.0), message, reply_buffer),
-            Call::Receive { chid, buffer } => (of(4, chid.0), &[], buffer),
-            Call::Reply { rcvid, status, bytes } => (RawRequest { status, ..of(5, rcvid.0) }, bytes, &[]),
-            Call::Error { rcvid, code } => (RawRequest { code, ..of(6, rcvid.0) }, &[], &[]),
-            Call::Read { rcvid, offset, buffer } => (RawRequest { offset, ..of(7, rcvid.0) }, &[], buffer),
-            Call::Write { rcvid, offset, bytes } => (RawRequest { offset, ..of(8, rcvid.0) }, bytes, &[]),
-            Call::Info { rcvid } => (of(9, rcvid.0), &[], &[]),
-            Call::ReceivePulse { chid } => (of(10, chid.0), &[], &[]),
+            Call::ChannelCreate { flags } => (RawRequest { flags: flags.0, ..of(kind::CHANNEL_CREATE, 0) }, &[], &[]),
+            Call::ConnectAttach { chid } => (of(kind::CONNECT_ATTACH, chid.0), &[], &[]),
+            Call::Send { coid, message, reply_buffer } => (of(kind::SEND, coid.0), message, reply_buffer),
+            Call::Receive { chid, buffer } => (of(kind::RECEIVE, chid.0), &[], buffer),
+            Call::Reply { rcvid, status, bytes } => (RawRequest { status, ..of(kind::REPLY, rcvid.0) }, bytes, &[]),
+            Call::Error { rcvid, code } => (RawRequest { code, ..of(kind::ERROR, rcvid.0) }, &[], &[]),
+            Call::Read { rcvid, offset, buffer } => (RawRequest { offset, ..of(kind::READ, rcvid.0) }, &[], buffer),
+            Call::Write { rcvid, offset, bytes } => (RawRequest { offset, ..of(kind::WRITE, rcvid.0) }, bytes, &[]),
+            Call::Info { rcvid } => (of(kind::INFO, rcvid.0), &[], &[]),
+            Call::ReceivePulse { chid } => (of(kind::RECEIVE_PULSE, chid.0), &[], &[]),
             Call::Pulse { coid, priority, code, value } => {
-                (RawRequest { priority, pulse_code: code, value, ..of(11, coid.0) }, &[], &[])
+                (RawRequest { priority, pulse_code: code, value, ..of(kind::PULSE, coid.0) }, &[], &[])
             }
-            Call::PrioritySet { thread: target, priority } => (RawRequest { target, priority, ..of(12, 0) }, &[], &[]),
-            Call::State { thread: target } => (RawRequest { target, ..of(13, 0) }, &[], &[]),
-            Call::ChannelDestroy { chid } => (of(14, chid.0), &[], &[]),
-            Call::Shutdown => (of(15, 0), &[], &[]),
-            Call::Unblock { thread: target } => (RawRequest { target, ..of(16, 0) }, &[], &[]),
-            Call::ConnectDetach { coid } => (of(17, coid.0), &[], &[]),
+            Call::PrioritySet { thread: target, priority } => {
+                (RawRequest { target, priority, ..of(kind::PRIORITY_SET, 0) }, &[], &[])
+            }
+            Call::State { thread: target } => (RawRequest { target, ..of(kind::STATE, 0) }, &[], &[]),
+            Call::ChannelDestroy { chid } => (of(kind::CHANNEL_DESTROY, chid.0), &[], &[]),
+            Call::Shutdown => (of(kind::SHUTDOWN, 0), &[], &[]),
+            Call::Unblock { thread: target } => (RawRequest { target, ..of(kind::UNBLOCK, 0) }, &[], &[]),
+            Call::ConnectDetach { coid } => (of(kind::CONNECT_DETACH, coid.0), &[], &[]),
         }
     }
 }

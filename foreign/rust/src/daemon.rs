@@ -2,220 +2,176 @@
 //! `foreign/daemon/wire.h`, and are those of Linux on x86-64.
 
 use crate::errors::{CallError, Errno, Result};
+use crate::host::{self, Packet, Part, Rights, connect_to, uninterrupted};
 use crate::ids::{ChannelId, ConnectionId, ReceiveId};
-use crate::kernel::{Call, Mark, RawRequest};
+use crate::kernel::{Call, Mark, RawRequest, kind};
 use crate::results::{Info, Pulse, State, ThreadState, What};
-use crate::sleeping::LOOKS;
-use std::ffi::{c_int, c_long, c_void};
+use crate::sleeping::{LOOKS, first_looks};
+use crate::wire::{self, Answer, Ask, MOST, MsgInfo, RawPulse, Shared};
+use std::ffi::c_int;
 use std::fs::File;
 use std::io::{self, Write};
 use std::mem::{offset_of, zeroed};
+use std::ops::Deref;
 use std::os::fd::{AsRawFd, FromRawFd, OwnedFd};
-use std::os::unix::ffi::OsStrExt;
-use std::path::{Path, PathBuf};
+use std::path::{Path, PathBuf, absolute};
 use std::sync::atomic::{AtomicU32, Ordering};
-use std::sync::{Arc, Mutex, Weak};
+use std::sync::{Arc, Mutex, MutexGuard, Weak};
 use std::time::Duration;
-use std::{hint, process, ptr, thread};
+use std::{hint, process, ptr};
 
-const VERSION: i32 = 3;
-const MOST: usize = 1 << 20;
-const PROCESS: u32 = 1;
-const THREAD: u32 = 2;
-const CALL: u32 = 3;
-pub(crate) const NAME: u32 = 5;
-pub(crate) const UNNAME: u32 = 6;
-pub(crate) const FIND: u32 = 7;
-const CANCELLED: u8 = 1;
-const CODE: u8 = 2;
-/// The states that time out: SEND, RECEIVE and REPLY.
-const STATES: i32 = 28;
-const ASLEEP: u32 = 1;
-const ANSWERED: u32 = 2;
-
-#[repr(C)]
-#[derive(Clone, Copy, Default)]
-struct Ask {
-    op: u32,
-    call: u32,
-    number: i32,
-    pid: i32,
-    states: i32,
-    flags: u32,
-    time: u64,
-    value: u64,
-    sent_len: u32,
-    room_len: u32,
-    request: RawRequest,
+/// Whether the other end of a socket is closed, which may have sent a packet before.
+fn is_closed(error: &io::Error) -> bool {
+    matches!(error.kind(), io::ErrorKind::BrokenPipe | io::ErrorKind::ConnectionReset)
 }
 
-#[repr(C)]
-#[derive(Clone, Copy, Default)]
-struct MsgInfo {
-    nodes: [u32; 2],
-    pid: i32,
-    tid: i32,
-    chid: i32,
-    scoid: i32,
-    coid: i32,
-    priority: i16,
-    flags: i16,
-    msglen: usize,
-    srcmsglen: usize,
-    dstmsglen: usize,
-    rest: [u32; 2],
-}
-
-#[repr(C)]
-#[derive(Clone, Copy, Default)]
-pub(crate) struct Answer {
-    error: i32,
-    length: u32,
-    result: i64,
-    count: u32,
-    how: u8,
-    priority: u8,
-    info: MsgInfo,
-}
-
-#[repr(C)]
-struct Shared {
-    asked: AtomicU32,
-    given_up: AtomicU32,
-    ask: Ask,
-    unused: [u32; 8],
-    word: AtomicU32,
-    rings: AtomicU32,
-    answer: Answer,
-    bytes: [u8; 2 * MOST],
-}
-
-/// The bytes of a pulse, as C has it.
-const PULSE: usize = 24;
-
-const _: () = assert!(size_of::<Ask>() == 88 && offset_of!(Ask, request) == 48);
-const _: () = assert!(size_of::<MsgInfo>() == 64 && offset_of!(MsgInfo, msglen) == 32);
-const _: () = assert!(size_of::<Answer>() == 88 && offset_of!(Answer, info) == 24);
-const _: () = assert!(offset_of!(Shared, word) == 128 && offset_of!(Shared, bytes) == 224);
-
-#[repr(C)]
-struct Address {
-    family: u16,
-    path: [u8; 108],
-}
-
-#[repr(C)]
-struct Part {
-    base: *mut c_void,
-    length: usize,
-}
-
-#[repr(C)]
-struct Packet {
-    name: *mut c_void,
-    name_len: u32,
-    parts: *mut Part,
-    part_count: usize,
-    control: *mut c_void,
-    control_len: usize,
-    flags: c_int,
-}
-
-/// The part of a packet that brings two files.
-#[repr(C)]
-#[derive(Default)]
-struct Rights {
-    length: usize,
-    level: c_int,
-    kind: c_int,
-    files: [c_int; 2],
-}
-
-unsafe extern "C" {
-    fn socket(domain: c_int, kind: c_int, protocol: c_int) -> c_int;
-    fn connect(fd: c_int, address: *const Address, length: u32) -> c_int;
-    fn send(fd: c_int, bytes: *const c_void, length: usize, flags: c_int) -> isize;
-    fn recv(fd: c_int, bytes: *mut c_void, length: usize, flags: c_int) -> isize;
-    fn recvmsg(fd: c_int, packet: *mut Packet, flags: c_int) -> isize;
-    fn mmap(at: *mut c_void, length: usize, access: c_int, flags: c_int, fd: c_int, offset: i64) -> *mut c_void;
-    fn munmap(at: *mut c_void, length: usize) -> c_int;
-    fn syscall(number: c_long, ...) -> c_long;
-}
-
-/// Connects a socket of packets to the daemon of a path.
-fn connect_to(path: &Path) -> io::Result<OwnedFd> {
-    const UNIX: u16 = 1;
-    const SEQPACKET_CLOEXEC: c_int = 5 | 0o2000000;
-    let mut address = Address { family: UNIX, path: [0; 108] };
-    let bytes = path.as_os_str().as_bytes();
-    if bytes.len() >= address.path.len() {
-        return Err(io::ErrorKind::InvalidInput.into());
-    }
-    address.path[..bytes.len()].copy_from_slice(bytes);
-    // SAFETY: it takes numbers.
-    let fd = unsafe { socket(UNIX.into(), SEQPACKET_CLOEXEC, 0) };
-    if fd == -1 {
-        return Err(io::Error::last_os_error());
-    }
-    // SAFETY: the file was opened here, and belongs to nobody else.
-    let owned = unsafe { OwnedFd::from_raw_fd(fd) };
-    // SAFETY: the address has that length.
-    if unsafe { connect(fd, &address, size_of::<Address>() as u32) } == -1 {
-        return Err(io::Error::last_os_error());
-    }
-    Ok(owned)
-}
-
-/// Asks by a packet, and waits for the answer and the two files that come with it, if there are any.
+/// Asks by a packet, and waits for the answer and the two files that come with it, if there are any. A daemon that
+/// refuses a socket closes it after an answer that may be there before the ask.
 fn exchange(socket: &OwnedFd, ask: &Ask) -> io::Result<(Answer, Option<[c_int; 2]>)> {
-    const NOSIGNAL: c_int = 0x4000;
-    const CLOEXEC: c_int = 0x4000_0000;
     let (mut answer, mut rights) = (Answer::default(), Rights::default());
-    let mut part = Part { base: ptr::from_mut(&mut answer).cast(), length: size_of::<Answer>() };
+    let mut part = Part { iov_base: ptr::from_mut(&mut answer).cast(), iov_len: size_of::<Answer>() };
     // SAFETY: zeros are a packet.
-    let mut packet = Packet { parts: &mut part, part_count: 1, ..unsafe { zeroed() } };
-    packet.control = ptr::from_mut(&mut rights).cast();
-    packet.control_len = size_of::<Rights>();
+    let mut packet = Packet { msg_iov: &mut part, msg_iovlen: 1, ..unsafe { zeroed() } };
+    packet.msg_control = ptr::from_mut(&mut rights).cast();
+    packet.msg_controllen = size_of::<Rights>();
+    let fd = socket.as_raw_fd();
+    let bytes = ptr::from_ref(ask).cast();
     // SAFETY: an ask with its length.
-    let sent = unsafe { send(socket.as_raw_fd(), ptr::from_ref(ask).cast(), size_of::<Ask>(), NOSIGNAL) };
-    // SAFETY: the packet's parts have their lengths, and any bytes are an answer and numbers.
-    let came = if sent < 0 { sent } else { unsafe { recvmsg(socket.as_raw_fd(), &mut packet, CLOEXEC) } };
-    match came {
-        ..0 => Err(io::Error::last_os_error()),
-        came if (came as usize) < size_of::<Answer>() => Err(io::ErrorKind::ConnectionAborted.into()),
-        _ if answer.error != 0 => Err(io::Error::from_raw_os_error(answer.error)),
-        _ => Ok((answer, (rights.length == offset_of!(Rights, files) + 8).then_some(rights.files))),
+    let sent = uninterrupted(|| unsafe { host::send(fd, bytes, size_of::<Ask>(), host::MSG_NOSIGNAL) });
+    if sent.as_ref().is_err_and(|error| !is_closed(error)) {
+        sent?;
     }
+    // SAFETY: the packet's parts have their lengths, and any bytes are an answer and numbers.
+    let mut receive = || uninterrupted(|| unsafe { host::recvmsg(fd, &mut packet, host::MSG_CMSG_CLOEXEC) });
+    // The host says once that the other end was closed, and then gives what was sent before.
+    let came = receive().or_else(|error| if is_closed(&error) { receive() } else { Err(error) })?;
+    if came < size_of::<Answer>() {
+        return Err(io::ErrorKind::ConnectionAborted.into());
+    }
+    if answer.error != 0 {
+        return Err(io::Error::from_raw_os_error(answer.error));
+    }
+    Ok((answer, rights.files()))
+}
+
+/// The variable that names the user of a daemon that is neither root's nor one's own.
+const USER_VARIABLE: &str = "BALSAEUCHRE_SYSTEM_USER";
+
+/// Whether a daemon of this user is trusted by a program of another user, who may have named one more.
+fn is_trusted(user: u32, own: u32, named: Option<u32>) -> bool {
+    user == 0 || user == own || Some(user) == named
+}
+
+/// Connects a socket to the daemon of a path. Another user may have taken the path first, so the daemon has to be of a
+/// user that is trusted.
+fn connect_to_daemon(path: &Path) -> io::Result<OwnedFd> {
+    let socket = connect_to(path)?;
+    let (user, own) = (host::user_of(&socket)?, host::own_user());
+    let named = host::variable(USER_VARIABLE).and_then(|name| host::user_named(&name));
+    if is_trusted(user, own, named) {
+        return Ok(socket);
+    }
+    let told = format!(
+        "the balsaeuchred at {} is of user {user}: expected root's (0) or this user's ({own}). \
+         {USER_VARIABLE}={user} takes it",
+        path.display()
+    );
+    Err(io::Error::new(io::ErrorKind::PermissionDenied, told))
 }
 
 /// What the ports of this program in one daemon share: the program ends for the daemon as the socket is closed.
 struct Program {
     path: PathBuf,
-    _socket: OwnedFd,
-    process: u8,
+    socket: OwnedFd,
+    pid: u32,
+    scoid: u32,
     taken: Mutex<[bool; 256]>,
 }
 
 static PROGRAMS: Mutex<Vec<Weak<Program>>> = Mutex::new(Vec::new());
 
-/// The program's socket to the daemon of a path, which is opened if it isn't yet.
+fn lock<T>(mutex: &Mutex<T>) -> MutexGuard<'_, T> {
+    mutex.lock().unwrap_or_else(|poisoned| poisoned.into_inner())
+}
+
+/// Ends a socket for the daemon, even while a forked child still has it.
+fn end(socket: &OwnedFd) {
+    // SAFETY: it takes numbers.
+    unsafe { host::shutdown(socket.as_raw_fd(), host::SHUT_RDWR) };
+}
+
+/// The program of a daemon's path, whose socket is opened if it isn't yet.
 fn program(path: &Path) -> io::Result<Arc<Program>> {
-    let mut programs = PROGRAMS.lock().unwrap_or_else(|poisoned| poisoned.into_inner());
+    let mut programs = lock(&PROGRAMS);
     programs.retain(|program| program.strong_count() > 0);
-    if let Some(program) = programs.iter().filter_map(Weak::upgrade).find(|program| program.path == path) {
+    let is_it = |program: &Arc<Program>| program.is_own() && program.path == path;
+    if let Some(program) = programs.iter().filter_map(Weak::upgrade).find(is_it) {
         return Ok(program);
     }
-    let socket = connect_to(path)?;
-    let (answer, _) = exchange(&socket, &Ask { op: PROCESS, number: VERSION, ..Ask::default() })?;
+    let socket = connect_to_daemon(path)?;
+    let (answer, _) = exchange(&socket, &Ask { op: wire::OP_PROCESS, number: wire::VERSION, ..Ask::default() })?;
     let (path, taken) = (path.to_owned(), Mutex::new([false; 256]));
-    let program = Arc::new(Program { path, _socket: socket, process: answer.result as u8, taken });
+    let program = Arc::new(Program { path, socket, pid: process::id(), scoid: answer.result as u32, taken });
     programs.push(Arc::downgrade(&program));
     Ok(program)
 }
 
+impl Program {
+    /// Returns false in a forked child, which is another program.
+    fn is_own(&self) -> bool {
+        self.pid == process::id()
+    }
+}
+
+impl Drop for Program {
+    fn drop(&mut self) {
+        if self.is_own() {
+            end(&self.socket);
+        }
+    }
+}
+
+/// A port's use of its program. The last one ends the program's socket while no thread opens another, since the daemon
+/// refuses a second one.
+struct Use(Option<Arc<Program>>);
+
+impl Deref for Use {
+    type Target = Program;
+
+    fn deref(&self) -> &Program {
+        self.0.as_ref().expect("only drop empties it")
+    }
+}
+
+impl Drop for Use {
+    fn drop(&mut self) {
+        let _programs = lock(&PROGRAMS);
+        self.0 = None;
+    }
+}
+
+/// Maps the box of a thread. A forked child doesn't get it.
+fn map(file: &OwnedFd) -> io::Result<*mut Shared> {
+    const ACCESS: c_int = host::PROT_READ | host::PROT_WRITE;
+    let length = size_of::<Shared>();
+    // SAFETY: a new mapping, shared, to be read and written.
+    let at = unsafe { host::mmap(ptr::null_mut(), length, ACCESS, host::MAP_SHARED, file.as_raw_fd(), 0) };
+    if at as isize == -1 {
+        return Err(io::Error::last_os_error());
+    }
+    // SAFETY: the mapping was made here.
+    if unsafe { host::madvise(at, length, host::MADV_DONTFORK) } == -1 {
+        let error = io::Error::last_os_error();
+        // SAFETY: it is used no more.
+        unsafe { host::munmap(at, length) };
+        return Err(error);
+    }
+    Ok(at.cast())
+}
+
 /// A thread's socket, box and bell.
 pub(crate) struct Link {
-    program: Arc<Program>,
+    program: Use,
     tid: u8,
     socket: OwnedFd,
     bell: File,
@@ -230,39 +186,44 @@ unsafe impl Send for Link {}
 impl Link {
     /// Joins the kernel of a daemon as the next free thread of this program.
     pub(crate) fn open(path: &Path) -> io::Result<Link> {
-        let program = program(path)?;
-        let mut taken = program.taken.lock().unwrap_or_else(|poisoned| poisoned.into_inner());
+        let path = &absolute(path)?;
+        let program = Use(Some(program(path)?));
+        let mut taken = lock(&program.taken);
         let tid = (1..=u8::MAX).find(|tid| !taken[usize::from(*tid)]).ok_or(io::ErrorKind::QuotaExceeded)?;
-        let socket = connect_to(path)?;
+        let socket = connect_to_daemon(path)?;
         // SAFETY: it takes nothing.
-        let host_tid = unsafe { syscall(186) } as i32;
-        let ask = Ask { op: THREAD, number: tid.into(), value: 10, pid: host_tid, ..Ask::default() };
+        let host_tid = unsafe { host::syscall(host::SYS_GETTID) } as i32;
+        let ask = Ask { op: wire::OP_THREAD, number: tid.into(), value: 10, pid: host_tid, ..Ask::default() };
         let (_, Some([file, bell])) = exchange(&socket, &ask)? else { return Err(io::ErrorKind::InvalidData.into()) };
         // SAFETY: both files have come with the answer, and belong to nobody else.
         let (file, bell) = unsafe { (OwnedFd::from_raw_fd(file), File::from_raw_fd(bell)) };
-        // SAFETY: a new mapping, shared, to be read and written.
-        let at = unsafe { mmap(ptr::null_mut(), size_of::<Shared>(), 3, 1, file.as_raw_fd(), 0) };
-        if at as isize == -1 {
-            return Err(io::Error::last_os_error());
-        }
+        let shared = map(&file)?;
         taken[usize::from(tid)] = true;
         drop(taken);
-        let looks = if thread::available_parallelism().is_ok_and(|count| count.get() == 1) { 0 } else { LOOKS / 5 };
-        Ok(Link { program, tid, socket, bell, shared: at.cast(), calls: 0, looks })
+        Ok(Link { program, tid, socket, bell, shared, calls: 0, looks: first_looks(LOOKS / 5) })
     }
 
     pub(crate) fn tid(&self) -> u8 {
         self.tid
     }
 
-    pub(crate) fn process(&self) -> u8 {
-        self.program.process
+    pub(crate) fn process(&self) -> u32 {
+        self.program.scoid
     }
 
     /// What daemon and thread change at any time.
     fn words(&self) -> (&AtomicU32, &AtomicU32, &AtomicU32) {
         // SAFETY: the mapping lives as long as the link, and these are only used as atomic numbers.
-        unsafe { (&(*self.shared).asked, &(*self.shared).word, &(*self.shared).rings) }
+        unsafe { (&(*self.shared).asked, &(*self.shared).back.word, &(*self.shared).back.rings) }
+    }
+
+    /// Whether the daemon has ended, or has closed the socket.
+    fn is_gone(&self) -> bool {
+        let mut byte = 0u8;
+        let (fd, flags) = (self.socket.as_raw_fd(), host::MSG_PEEK | host::MSG_DONTWAIT);
+        // SAFETY: room for one byte; it is only peeked at, without waiting.
+        let came = uninterrupted(|| unsafe { host::recv(fd, ptr::from_mut(&mut byte).cast(), 1, flags) });
+        came.err().is_none_or(|error| error.kind() != io::ErrorKind::WouldBlock)
     }
 
     /// Waits for the answer. A daemon that has ended wakes nobody, so its socket is looked at now and then. Returns
@@ -272,23 +233,20 @@ impl Link {
         // SAFETY: as in `words`.
         let word = unsafe { &*word };
         for _ in 0..self.looks {
-            if word.load(Ordering::Acquire) == ANSWERED {
+            if word.load(Ordering::Acquire) == wire::ANSWERED {
                 return true;
             }
             hint::spin_loop();
         }
         let mut time = Duration::from_millis(10);
-        let _ = word.compare_exchange(0, ASLEEP, Ordering::AcqRel, Ordering::Acquire);
-        while word.load(Ordering::Acquire) != ANSWERED {
+        let _ = word.compare_exchange(wire::OPEN, wire::ASLEEP, Ordering::AcqRel, Ordering::Acquire);
+        while word.load(Ordering::Acquire) != wire::ANSWERED {
             let until = [time.as_secs() as i64, time.subsec_nanos().into()];
+            let (at, number, wait) = (word.as_ptr(), host::SYS_FUTEX, host::FUTEX_WAIT);
             // SAFETY: a futex of the box, and a time.
-            let woken = unsafe { syscall(202, word.as_ptr(), 0, ASLEEP, until.as_ptr(), ptr::null::<u32>(), 0) };
+            let woken = unsafe { host::syscall(number, at, wait, wire::ASLEEP, until.as_ptr(), ptr::null::<u32>(), 0) };
             if woken == -1 && io::Error::last_os_error().kind() == io::ErrorKind::TimedOut {
-                let mut byte = 0u8;
-                // SAFETY: room for one byte; it is only peeked at, without waiting.
-                let came = unsafe { recv(self.socket.as_raw_fd(), ptr::from_mut(&mut byte).cast(), 1, 0x42) };
-                let is_open = came == -1 && io::Error::last_os_error().kind() == io::ErrorKind::WouldBlock;
-                if !is_open && word.load(Ordering::Acquire) != ANSWERED {
+                if self.is_gone() && word.load(Ordering::Acquire) != wire::ANSWERED {
                     return false;
                 }
                 time = (2 * time).min(Duration::from_secs(1));
@@ -300,8 +258,11 @@ impl Link {
     /// Asks with these bytes, and waits. Returns the answer and its bytes.
     fn ask(&mut self, ask: Ask, sent: &[&[u8]]) -> Result<(Answer, &[u8])> {
         const GONE: CallError = CallError::Refused(Errno::Down);
+        if !self.program.is_own() {
+            return Err(GONE);
+        }
         // SAFETY: the mapping lives as long as the link.
-        let bytes: *mut u8 = unsafe { &raw mut (*self.shared).bytes }.cast();
+        let bytes: *mut u8 = unsafe { &raw mut (*self.shared).back.bytes }.cast();
         let mut at = 0;
         for part in sent {
             // SAFETY: both parts of a call are at most `MOST` bytes, and between its calls the box is the thread's.
@@ -311,7 +272,7 @@ impl Link {
         // SAFETY: as above.
         unsafe { (&raw mut (*self.shared).ask).write(ask) };
         let (asked, word, rings) = self.words();
-        word.store(0, Ordering::Relaxed);
+        word.store(wire::OPEN, Ordering::Relaxed);
         asked.fetch_add(1, Ordering::SeqCst);
         if rings.load(Ordering::SeqCst) != 0 {
             let _ = self.bell.write(&1u64.to_ne_bytes());
@@ -320,7 +281,7 @@ impl Link {
             return Err(GONE);
         }
         // SAFETY: the daemon has answered, and writes no more until the next ask.
-        let answer = unsafe { (&raw const (*self.shared).answer).read() };
+        let answer = unsafe { (&raw const (*self.shared).back.answer).read() };
         let length = (answer.length as usize).min(MOST);
         // SAFETY: as above.
         let bytes = unsafe { std::slice::from_raw_parts(bytes, length) };
@@ -330,7 +291,7 @@ impl Link {
     /// Asks for something beside the calls: about a name.
     pub(crate) fn ask_name(&mut self, op: u32, chid: ChannelId, name: &str) -> Result<ChannelId> {
         let ask = Ask { op, number: chid.0 as i32, sent_len: name.len() as u32, ..Ask::default() };
-        if name.len() > 255 {
+        if name.len() >= wire::NAME_ROOM {
             return Err(CallError::Refused(Errno::Inval));
         }
         let (answer, _) = self.ask(ask, &[name.as_bytes()])?;
@@ -347,31 +308,35 @@ impl Link {
         let lent: *mut [u8] = buffer;
         // SAFETY: the buffer isn't written before the call's bytes are in the box.
         let (request, sent, room) = call(unsafe { &*lent }).raw(self.tid);
-        let kind = request.kind();
-        let room_len = if kind == 4 || kind == 10 { lent.len().clamp(PULSE, MOST) } else { room.len() };
-        if kind == 15 || sent.len() > MOST || room_len > MOST {
+        let kind = request.kind;
+        let is_send = kind == kind::SEND;
+        if kind == kind::SHUTDOWN || sent.len() > MOST || is_send && room.len() > MOST {
             return Err(CallError::Refused(Errno::Inval));
         }
+        // No message is longer.
+        let room = &room[..room.len().min(MOST)];
+        let receives = kind == kind::RECEIVE || kind == kind::RECEIVE_PULSE;
+        let room_len = if receives { lent.len().clamp(size_of::<RawPulse>(), MOST) } else { room.len() };
         self.calls = self.calls.wrapping_add(1).max(1);
         let ask = self.ask_of(request, time, [sent.len(), room_len]);
-        let (answer, bytes) = self.ask(ask, &[sent, if kind == 3 { room } else { &[] }])?;
+        let (answer, bytes) = self.ask(ask, &[sent, if is_send { room } else { &[] }])?;
         // SAFETY: the call's slices are used no more.
         let buffer = unsafe { &mut *lent };
         let copied = bytes.len().min(buffer.len());
-        if kind != 10 && (kind != 4 || answer.result != 0) {
+        if kind != kind::RECEIVE_PULSE && (kind != kind::RECEIVE || answer.result != 0) {
             buffer[..copied].copy_from_slice(&bytes[..copied]);
         }
         Ok(mark_of(kind, &answer, bytes, copied))
     }
 
     fn ask_of(&self, request: RawRequest, time: Option<Duration>, lengths: [usize; 2]) -> Ask {
-        let pid = (request.id() >> 32) as i32;
+        let pid = (request.id >> 32) as i32;
         Ask {
-            op: CALL,
+            op: wire::OP_CALL,
             call: self.calls,
-            number: request.id() as i32,
-            pid: if pid == 0 { process::id() as i32 } else { pid },
-            states: if time.is_some() { STATES } else { 0 },
+            number: request.id as i32,
+            pid: if pid == 0 { self.program.pid as i32 } else { pid },
+            states: if time.is_some() { wire::TIMED_STATES } else { 0 },
             time: time.map_or(0, |time| time.as_nanos().try_into().unwrap_or(u64::MAX)),
             value: request.value(),
             sent_len: lengths[0] as u32,
@@ -382,12 +347,17 @@ impl Link {
     }
 }
 
+/// The daemon frees the thread's place as its socket ends. So the number may only be given again after that. In a forked
+/// child there is no box, and the socket is the parent's.
 impl Drop for Link {
     fn drop(&mut self) {
+        if !self.program.is_own() {
+            return;
+        }
         // SAFETY: the mapping is this link's, and used no more.
-        unsafe { munmap(self.shared.cast(), size_of::<Shared>()) };
-        let mut taken = self.program.taken.lock().unwrap_or_else(|poisoned| poisoned.into_inner());
-        taken[usize::from(self.tid)] = false;
+        unsafe { host::munmap(self.shared.cast(), size_of::<Shared>()) };
+        end(&self.socket);
+        lock(&self.program.taken)[usize::from(self.tid)] = false;
     }
 }
 
@@ -398,24 +368,24 @@ fn channel_of(pid: i32, number: i64) -> ChannelId {
 
 fn error_of(answer: &Answer) -> CallError {
     let errno = match answer.error {
-        _ if answer.how == CODE => return CallError::Code(answer.error),
-        110 => return CallError::TimedOut,
-        12 => return CallError::NoMemory,
-        2 | 3 => Errno::Srch,
-        9 => Errno::Badf,
-        11 => Errno::Again,
-        4 => Errno::Intr,
-        16 | 17 => Errno::Busy,
-        75 => Errno::Exhausted,
-        108 => Errno::Down,
+        _ if answer.how == wire::CODE => return CallError::Code(answer.error),
+        host::ETIMEDOUT => return CallError::TimedOut,
+        host::ENOMEM => return CallError::NoMemory,
+        host::ENOENT | host::ESRCH => Errno::Srch,
+        host::EBADF => Errno::Badf,
+        host::EAGAIN => Errno::Again,
+        host::EINTR => Errno::Intr,
+        host::EBUSY | host::EEXIST => Errno::Busy,
+        host::EOVERFLOW => Errno::Exhausted,
+        host::ESHUTDOWN => Errno::Down,
         _ => Errno::Inval,
     };
-    if answer.how == CANCELLED { CallError::Cancelled(errno) } else { CallError::Refused(errno) }
+    if answer.how == wire::CUT { CallError::Cancelled(errno) } else { CallError::Refused(errno) }
 }
 
 fn info_of(info: &MsgInfo, copied: usize) -> Info {
     Info {
-        process: info.scoid as u8,
+        process: info.scoid as u32,
         thread: info.tid as u8,
         priority: info.priority as u8,
         connection: ConnectionId(info.coid as u64),
@@ -428,36 +398,43 @@ fn info_of(info: &MsgInfo, copied: usize) -> Info {
 fn pulse_of(answer: &Answer, bytes: &[u8]) -> Mark {
     let number =
         |at: usize| bytes.get(at..at + 4).map_or(0, |part| i32::from_ne_bytes(part.try_into().unwrap_or_default()));
-    let code = bytes.get(4).map_or(0, |code| *code as i8);
+    let code = bytes.get(offset_of!(RawPulse, code)).map_or(0, |code| *code as i8);
+    let value = number(offset_of!(RawPulse, value));
     let what = match code {
-        -1 => What::Unblock(ReceiveId(number(8) as u64)),
-        -2 => What::Disconnect(number(16) as u8),
-        code => What::User { code, value: number(8) },
+        wire::CODE_UNBLOCK => What::Unblock(ReceiveId(value as u64)),
+        wire::CODE_DISCONNECT => What::Disconnect(number(offset_of!(RawPulse, scoid)) as u32),
+        code => What::User { code, value },
     };
     Mark::Pulse { number: 0, pulse: Pulse { priority: answer.priority, what } }
+}
+
+fn state_of(answer: &Answer) -> State {
+    let blocked = channel_of(answer.info.pid, answer.count.into());
+    let state = match answer.result {
+        wire::STATE_SEND => ThreadState::SendBlocked(blocked),
+        wire::STATE_RECEIVE => ThreadState::ReceiveBlocked(blocked),
+        wire::STATE_REPLY => ThreadState::ReplyBlocked(blocked),
+        _ => ThreadState::Ready,
+    };
+    State { state, priority: answer.priority }
 }
 
 /// How a call of this kind ended.
 fn mark_of(kind: u8, answer: &Answer, bytes: &[u8], copied: usize) -> Mark {
     let (result, id) = (answer.result, answer.result as u64);
-    let blocked = channel_of(answer.info.pid, answer.count.into());
     match kind {
-        1 => Mark::Channel(channel_of(process::id() as i32, result)),
-        2 => Mark::Connection(ConnectionId(id)),
-        3 => Mark::Replied { status: result, copied: (answer.count as usize).min(copied) },
-        4 if result != 0 => Mark::Message { rcvid: ReceiveId(id), info: info_of(&answer.info, copied) },
-        4 | 10 => pulse_of(answer, bytes),
-        7 | 8 => Mark::Count(result as usize),
-        9 => Mark::Info(info_of(&answer.info, answer.info.msglen)),
-        13 => {
-            let state = match result {
-                2 => ThreadState::SendBlocked(blocked),
-                3 => ThreadState::ReceiveBlocked(blocked),
-                4 => ThreadState::ReplyBlocked(blocked),
-                _ => ThreadState::Ready,
-            };
-            Mark::State(State { state, priority: answer.priority })
-        }
+        kind::CHANNEL_CREATE => Mark::Channel(channel_of(process::id() as i32, result)),
+        kind::CONNECT_ATTACH => Mark::Connection(ConnectionId(id)),
+        kind::SEND => Mark::Replied { status: result, copied: (answer.count as usize).min(copied) },
+        kind::RECEIVE if result != 0 => Mark::Message { rcvid: ReceiveId(id), info: info_of(&answer.info, copied) },
+        kind::RECEIVE | kind::RECEIVE_PULSE => pulse_of(answer, bytes),
+        kind::READ | kind::WRITE => Mark::Count(result as usize),
+        kind::INFO => Mark::Info(info_of(&answer.info, answer.info.msglen)),
+        kind::STATE => Mark::State(state_of(answer)),
         _ => Mark::Done,
     }
 }
+
+#[cfg(test)]
+#[path = "../tests/unit/daemon.rs"]
+mod test;

@@ -3,6 +3,7 @@
 mod calls;
 mod daemon;
 mod errors;
+mod host;
 mod ids;
 pub mod kernel;
 mod port;
@@ -15,6 +16,7 @@ mod sleeping;
 #[cfg(test)]
 #[path = "../tests/unit/mod.rs"]
 mod unit;
+mod wire;
 
 pub use errors::{CallError, Errno, OpenError, Result};
 pub use ids::{ChannelFlags, ChannelId, ConnectionId, ReceiveId};

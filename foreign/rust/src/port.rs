@@ -1,11 +1,12 @@
 //! The port of a thread, by which it calls the kernel, and the waiting of its calls.
 
-use crate::daemon::{FIND, Link, NAME, UNNAME};
+use crate::daemon::Link;
 use crate::errors::{CallError, Errno, OpenError, Result, outcome};
 use crate::ids::ChannelId;
 use crate::kernel::{Call, Mark, Thread};
 use crate::shared::{Lent, Shared};
-use crate::sleeping::LOOKS;
+use crate::sleeping::{LOOKS, first_looks};
+use crate::wire::{OP_FIND, OP_NAME, OP_UNNAME};
 use std::io;
 use std::mem::forget;
 use std::path::Path;
@@ -53,8 +54,7 @@ pub(crate) struct Place {
 pub fn open(threads: &[Thread]) -> std::result::Result<Vec<Port>, OpenError> {
     let shared = Arc::new(Shared::new(threads)?);
     let ports = threads.iter().enumerate();
-    // On one processor a port never looks, since the thread that it waits for can't run meanwhile.
-    let looks = if thread::available_parallelism().is_ok_and(|count| count.get() == 1) { 0 } else { LOOKS };
+    let looks = first_looks(LOOKS);
     let place = |at, thread| Place { shared: shared.clone(), at, thread, looks, longest: 0, seen: 0 };
     Ok(ports.map(|(at, &thread)| Port { side: Side::Own(place(at, thread)), thread, timeout: None }).collect())
 }
@@ -77,6 +77,16 @@ impl Port {
     #[must_use]
     pub fn thread(&self) -> Thread {
         self.thread
+    }
+
+    /// Returns the number of the port's process, as others get it in [`Info::process`](crate::Info::process) and
+    /// [`What::Disconnect`](crate::What::Disconnect).
+    #[must_use]
+    pub fn process(&self) -> u32 {
+        match &self.side {
+            Side::Own(place) => place.thread.process.into(),
+            Side::Daemon(link) => link.process(),
+        }
     }
 
     /// Sets the timeout of the next call that can block, `msg_send`, `msg_receive` or `msg_receive_pulse`, counted from
@@ -103,16 +113,20 @@ impl Port {
     /// Joins the kernel of the `balsaeuchred` whose socket has this path, as a further thread of this program, with the
     /// priority 10. Servers and clients may be programs of their own then, in Rust or C: a server gives its channel a
     /// name ([`name_attach`](Port::name_attach)), by which a client finds it ([`name_find`](Port::name_find)), and a
-    /// channel's number has the pid of its program in its upper half. What differs: [`Thread::process`] is the daemon's
-    /// number of a program, and [`sched_set`](Port::sched_set), [`unblock`](Port::unblock) and [`state`](Port::state)
-    /// know the threads of this program alone. [`shutdown`](Port::shutdown) is refused with `Inval`. A port that is
-    /// dropped leaves the kernel, and with the last one the program has ended for all others, who need not wait for it.
+    /// channel's number has the pid of its program in its upper half. What differs: [`process`](Port::process) is the
+    /// daemon's number of a program, and [`Thread::process`] is 0; [`sched_set`](Port::sched_set),
+    /// [`unblock`](Port::unblock) and [`state`](Port::state) know only the threads of this program.
+    /// [`shutdown`](Port::shutdown) is refused with `Inval`, and so is a message, a reply or a reply buffer of over
+    /// 1 MiB. A port that is dropped leaves the kernel, and with the last one the program has ended for all others, which
+    /// need not wait for it. A forked child is another program: calls by its parent's ports are refused with `Down`, and
+    /// it has to connect itself.
     ///
-    /// Fails with the error of the host if there is no daemon or it belongs to another user, and with its `EAGAIN` if
-    /// all places of programs or threads are taken.
+    /// Fails with the error of the host if there is no daemon or it refuses this program's user, and with its `EAGAIN` if
+    /// all places of programs or threads are taken. The daemon has to be root's, one's own, or of the user that the
+    /// variable `BALSAEUCHRE_SYSTEM_USER` names, by name or number; if not, it fails with `PermissionDenied`.
     pub fn connect(path: impl AsRef<Path>) -> io::Result<Port> {
         let link = Link::open(path.as_ref())?;
-        let thread = Thread::new(link.tid(), link.process(), 10);
+        let thread = Thread::new(link.tid(), 0, 10);
         Ok(Port { side: Side::Daemon(link), thread, timeout: None })
     }
 
@@ -127,18 +141,18 @@ impl Port {
     /// `Busy` if the name is taken, and `Inval` if the channel isn't open, is another program's or has a name, or if the
     /// kernel isn't a daemon's.
     pub fn name_attach(&mut self, chid: ChannelId, name: &str) -> Result<()> {
-        self.link()?.ask_name(NAME, chid, name).map(|_| ())
+        self.link()?.ask_name(OP_NAME, chid, name).map(|_| ())
     }
 
     /// Takes the name of a channel of this program back (`name_detach`). Refused with `Inval` as `name_attach`.
     pub fn name_detach(&mut self, chid: ChannelId) -> Result<()> {
-        self.link()?.ask_name(UNNAME, chid, "").map(|_| ())
+        self.link()?.ask_name(OP_UNNAME, chid, "").map(|_| ())
     }
 
     /// Returns the channel of any program that has this name, for `connect_attach`. Unlike `name_open` in C it sends the
     /// server no message. Refused with `Srch` if there is none, and `Inval` if the kernel isn't a daemon's.
     pub fn name_find(&mut self, name: &str) -> Result<ChannelId> {
-        self.link()?.ask_name(FIND, ChannelId(0), name)
+        self.link()?.ask_name(OP_FIND, ChannelId(0), name)
     }
 
     /// Makes a call that has no buffer and never waits.
@@ -181,11 +195,16 @@ impl Place {
         // SAFETY: this function borrows the buffer, and doesn't use it itself before the call is ended. Before that it
         // doesn't return, nor unwind: what panics with the lock poisons it, and `wait` aborts.
         let lent = unsafe { Lent::of(buffer) };
-        let (request, sent, room) = call(lent.bytes()).raw(self.thread.thread);
+        // SAFETY: the call's slices of the buffer are pointers once it is made, and nothing fills the buffer before that.
+        let (request, sent, room) = call(unsafe { lent.bytes() }).raw(self.thread.thread);
+        let room: *const [u8] = room;
         self.make_room(lent.len(), room.len());
         // SAFETY: this port is the place's owner, and has no open call.
         unsafe { self.shared.places[self.at].open(lent) };
-        let (own, asleep) = self.shared.lock().make(&self.shared, self.at, (&request, sent, room), lent);
+        let mut locked = self.shared.lock();
+        // SAFETY: the room is of the buffer that is lent.
+        let (own, asleep) = unsafe { locked.make(&self.shared, self.at, (&request, sent, room), lent) };
+        drop(locked);
         if own.is_some() {
             // SAFETY: its call isn't open.
             unsafe { self.shared.places[self.at].lent() };
@@ -237,7 +256,8 @@ impl Place {
         let (request, sent, room) = Call::Unblock { thread: self.thread.thread }.raw(clock);
         // SAFETY: it has no bytes.
         let none = unsafe { Lent::of(&mut []) };
-        let (own, asleep) = locked.make(&self.shared, self.at, (&request, sent, room), none);
+        // SAFETY: the room is empty.
+        let (own, asleep) = unsafe { locked.make(&self.shared, self.at, (&request, sent, room), none) };
         let is_late = place.is_ended();
         drop(locked);
         asleep.iter().for_each(thread::Thread::unpark);
@@ -262,3 +282,7 @@ impl Drop for Port {
         }
     }
 }
+
+#[cfg(test)]
+#[path = "../tests/unit/port.rs"]
+mod test;

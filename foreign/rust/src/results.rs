@@ -75,14 +75,15 @@ pub enum What {
     /// The sender of this held message is to be unblocked.
     Unblock(ReceiveId),
     /// This process detached its last connection to the channel.
-    Disconnect(u8),
+    Disconnect(u32),
 }
 
 /// The sender, the connection and the lengths of a held message.
 #[derive(Clone, Copy, Debug, PartialEq, Eq)]
 pub struct Info {
-    /// The sender's process.
-    pub process: u8,
+    /// The sender's process. In a daemon's kernel it is a program's number that C has as `scoid`, which no later program
+    /// gets soon.
+    pub process: u32,
     /// The sender's thread.
     pub thread: u8,
     /// The priority with which the message was received.

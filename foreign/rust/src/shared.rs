@@ -2,7 +2,7 @@
 
 use crate::errors::{Errno, OpenError};
 use crate::ids::ReceiveId;
-use crate::kernel::{Call, Ending, Library, Mark, ROWS, RawEnding, RawRequest, Thread};
+use crate::kernel::{Call, Ending, Library, Mark, ROWS, RawEnding, RawRequest, Thread, kind};
 #[cfg(feature = "record")]
 use crate::record::Record;
 use crate::results::Info;
@@ -27,7 +27,7 @@ pub(crate) const FRONT: usize = 1024;
 /// The bytes of a place's own room for what its calls bring.
 const NEAR: usize = 2 * FRONT;
 /// The kinds of call that may end more than one call of another thread.
-const ENDS_MANY: [u8; 3] = [14, 15, 17];
+const ENDS_MANY: [u8; 3] = [kind::CHANNEL_DESTROY, kind::SHUTDOWN, kind::CONNECT_DETACH];
 /// The index of no place.
 const NONE: u8 = u8::MAX;
 
@@ -59,15 +59,23 @@ impl Lent {
         self.0.len()
     }
 
-    /// Returns the content of the buffer. No slice of it may be used after a `fill`.
-    pub(crate) fn bytes<'a>(self) -> &'a [u8] {
-        // SAFETY: the buffer is lent; the slices are read by the kernel's call alone, which is made under the lock.
+    /// Returns the content of the buffer.
+    ///
+    /// # Safety
+    /// The call that lent the buffer hasn't ended. The caller has the kernel's lock, or is the thread that makes the call
+    /// and hasn't opened it yet. The slice isn't used once its call ends, nor after a `fill`.
+    pub(crate) unsafe fn bytes<'a>(self) -> &'a [u8] {
+        // SAFETY: the buffer lives until its call ends, and nobody writes it while the slice is used.
         unsafe { &*self.0 }
     }
 
-    /// Copies bytes of the kernel into the buffer, from `start` on. The caller has the lock.
-    fn fill(self, start: usize, bytes: &[u8]) {
-        // SAFETY: the buffer is lent, and only the thread with the lock uses it.
+    /// Copies bytes of the kernel into the buffer, from `start` on.
+    ///
+    /// # Safety
+    /// The call that lent the buffer hasn't ended, and the caller has the kernel's lock. No slice of the buffer is used
+    /// any longer.
+    unsafe fn fill(self, start: usize, bytes: &[u8]) {
+        // SAFETY: the buffer lives until its call ends, and nobody else uses it.
         let buffer = unsafe { &mut *self.0 };
         buffer[start..start + bytes.len()].copy_from_slice(bytes);
     }
@@ -187,11 +195,14 @@ impl Shared {
 
 impl Locked {
     /// Makes a call, whose buffer is lent, from a place, and delivers the endings to their threads.
-    pub(crate) fn make(
+    ///
+    /// # Safety
+    /// The room is empty, or a part of the buffer that is lent: it isn't a slice, as the buffer is filled in here.
+    pub(crate) unsafe fn make(
         &mut self,
         shared: &Shared,
         place: usize,
-        (request, sent, room): (&RawRequest, &[u8], &[u8]),
+        (request, sent, room): (&RawRequest, &[u8], *const [u8]),
         lent: Lent,
     ) -> Made {
         let (mut own, mut asleep, mut message) = (None, Sleepers::default(), None);
@@ -200,14 +211,16 @@ impl Locked {
             // SAFETY: the caller has the lock, and the call was open: what it lent was taken from it, once.
             Some(at) => asleep.add(unsafe { shared.places[at].end(mark) }),
         };
-        // SAFETY: this thread has the lock. Who sends is no clock.
-        let msglen = |thread| unsafe { shared.places[usize::from(shared.place_of[usize::from(thread)])].msglen() };
+        // Who sends is no clock.
+        let sender = |thread| &shared.places[usize::from(shared.place_of[usize::from(thread)])];
+        // SAFETY: the call isn't ended, and its buffer isn't filled yet.
         #[cfg(feature = "record")]
-        shared.record.call(*request, sent, room.len(), lent);
-        let is_near = self.most <= NEAR / 2 && !ENDS_MANY.contains(&request.kind());
+        shared.record.call(*request, sent, room.len(), unsafe { lent.bytes() });
+        let is_near = self.most <= NEAR / 2 && !ENDS_MANY.contains(&request.kind);
         let bytes = if is_near { &mut self.near[place][..] } else { &mut self.bytes };
         let rows = rows_of(&mut self.rows[place..place + ROWS / 2]);
-        let endings = match self.library.make((request, sent, room), rows, bytes) {
+        // SAFETY: the buffer is lent, and nobody else uses it.
+        let endings = match unsafe { self.library.make((request, sent, room), rows, bytes) } {
             Ok(endings) => endings,
             Err(errno) => return (Some(Mark::Failed(errno)), Sleepers::default()),
         };
@@ -216,22 +229,30 @@ impl Locked {
             let at = Some(at).filter(|_| at != usize::from(NONE) && ending.thread != request.thread);
             // SAFETY: this thread has the lock.
             let lent = at.map_or(lent, |at| unsafe { shared.places[at].lent() }.expect("a call that ends was open"));
-            lent.fill(0, ending.buffer);
+            // SAFETY: the call ends below, under the lock, and the kernel has read its room.
+            unsafe { lent.fill(0, ending.buffer) };
             match ending.mark {
                 // At most one message is received in an event.
                 Mark::Message { rcvid, info } => message = Some((ending.thread, at, lent, rcvid, info)),
-                Mark::Info(info) => end(at, Mark::Info(Info { msglen: *msglen(info.thread), ..info })),
+                Mark::Info(info) => {
+                    // SAFETY: this thread has the lock.
+                    let msglen = unsafe { sender(info.thread).msglen() };
+                    end(at, Mark::Info(Info { msglen, ..info }));
+                }
                 mark => end(at, mark),
             }
         }
         if let Some((receiver, at, lent, rcvid, mut info)) = message {
             let rest = info.msglen..info.srcmsglen.min(lent.0.len());
             if !rest.is_empty() {
+                // SAFETY: the receiver's call ends below, under the lock, and the buffer isn't filled meanwhile.
                 #[cfg(feature = "record")]
-                shared.record.read_on(receiver, rcvid, &lent.bytes()[rest.clone()], rest.start);
-                info.msglen += self.read_on(receiver, rcvid, lent, rest);
+                shared.record.read_on(receiver, rcvid, unsafe { &lent.bytes()[rest.clone()] }, rest.start);
+                // SAFETY: as above.
+                info.msglen += unsafe { self.read_on(receiver, rcvid, lent, rest) };
             }
-            *msglen(info.thread) = info.msglen;
+            // SAFETY: this thread has the lock.
+            unsafe { sender(info.thread).set_msglen(info.msglen) };
             end(at, Mark::Message { rcvid, info });
         }
         (own, asleep)
@@ -239,14 +260,22 @@ impl Locked {
 
     /// Reads the rest of a message, behind the front of the buffer, by a call of the receiver. Returns the number of
     /// bytes read: 0 if the kernel is out of memory.
-    fn read_on(&mut self, receiver: u8, rcvid: ReceiveId, lent: Lent, rest: Range<usize>) -> usize {
+    ///
+    /// # Safety
+    /// The receiver's call, which lent the buffer, hasn't ended, and no slice of the buffer is used any longer.
+    unsafe fn read_on(&mut self, receiver: u8, rcvid: ReceiveId, lent: Lent, rest: Range<usize>) -> usize {
         let start = rest.start;
-        let read = Call::Read { rcvid, offset: start, buffer: &lent.bytes()[rest] };
+        // SAFETY: the slice is used until the kernel has read it, before the buffer is filled.
+        let read = Call::Read { rcvid, offset: start, buffer: unsafe { &lent.bytes()[rest] } };
         let (request, sent, room) = read.raw(receiver);
         let rows = rows_of(&mut self.rows[..ROWS / 2]);
-        let Ok(endings) = self.library.make((&request, sent, room), rows, &mut self.bytes) else { return 0 };
+        // SAFETY: the room is a slice.
+        let Ok(endings) = (unsafe { self.library.make((&request, sent, room), rows, &mut self.bytes) }) else {
+            return 0;
+        };
         let Some(Ending { mark: Mark::Count(count), buffer, .. }) = endings.iter().next() else { return 0 };
-        lent.fill(start, buffer);
+        // SAFETY: the kernel has read the room.
+        unsafe { lent.fill(start, buffer) };
         count
     }
 }

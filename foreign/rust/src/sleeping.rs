@@ -14,6 +14,12 @@ use std::time::Instant;
 /// always sleep.
 pub(crate) const LOOKS: u32 = 2000;
 
+/// Returns the number of looks of a port's first call: `most`, or 0 on one processor, where the thread that it waits for
+/// can't run meanwhile.
+pub(crate) fn first_looks(most: u32) -> u32 {
+    if thread::available_parallelism().is_ok_and(|count| count.get() == 1) { 0 } else { most }
+}
+
 /// The call is open, and its thread isn't asleep.
 const OPEN: u32 = 0;
 /// The call is open, and its thread is asleep, or about to be.
@@ -77,14 +83,22 @@ impl Place {
         unsafe { (*self.lent.get()).take() }
     }
 
-    /// Returns the place of a message's length.
+    /// Returns the length of the message that the thread sent, as it was received.
     ///
     /// # Safety
-    /// The caller has the kernel's lock, and doesn't keep it for longer.
-    #[allow(clippy::mut_from_ref)]
-    pub(crate) unsafe fn msglen(&self) -> &mut usize {
-        // SAFETY: it is used under the lock alone.
-        unsafe { &mut *self.msglen.get() }
+    /// The caller has the kernel's lock.
+    pub(crate) unsafe fn msglen(&self) -> usize {
+        // SAFETY: it is used under the lock only.
+        unsafe { *self.msglen.get() }
+    }
+
+    /// Sets the length of the message that the thread sent.
+    ///
+    /// # Safety
+    /// The caller has the kernel's lock.
+    pub(crate) unsafe fn set_msglen(&self, length: usize) {
+        // SAFETY: it is used under the lock only.
+        unsafe { *self.msglen.get() = length };
     }
 
     pub(crate) fn is_ended(&self) -> bool {

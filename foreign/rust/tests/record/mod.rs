@@ -6,7 +6,6 @@ use crate::ids::ReceiveId;
 use crate::kernel::{Call, Ending, Kernel, Mark, RawRequest, Thread};
 use crate::port::Port;
 use crate::results::Info;
-use crate::shared::Lent;
 use std::mem::take;
 use std::sync::Mutex;
 
@@ -42,8 +41,8 @@ impl Record {
     }
 
     /// Records a call. The caller has the kernel's lock.
-    pub(crate) fn call(&self, request: RawRequest, sent: &[u8], seen: usize, lent: Lent) {
-        let (sent, room) = (sent.to_vec(), lent.bytes().to_vec());
+    pub(crate) fn call(&self, request: RawRequest, sent: &[u8], seen: usize, buffer: &[u8]) {
+        let (sent, room) = (sent.to_vec(), buffer.to_vec());
         self.keep(Kept { request, sent, room, seen, reads_on: false });
     }
 
