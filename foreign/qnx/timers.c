@@ -7,7 +7,7 @@
 
 struct timer {
     bool is_used;
-    int fd;      /* of a timer of pulses, or 0 */
+    int fd;      /* of a timer of pulses, or -1 */
     void *hosts; /* the host's timer */
     clockid_t clock;
     int flags; /* with which it was set last */
@@ -55,7 +55,7 @@ static int open_hosts_timer(struct timer *new) {
 
 int TimerCreate(clockid_t id, const struct sigevent *event) {
     static const struct sigevent alarms = {.sigev_notify = SIGEV_SIGNAL, .sigev_signo = SIGALRM};
-    struct timer new = {.is_used = true, .clock = id, .event = event ? *event : alarms};
+    struct timer new = {.is_used = true, .fd = -1, .clock = id, .event = event ? *event : alarms};
     bool is_pulse = SIGEV_GET_TYPE(&new.event) == SIGEV_PULSE;
     int at = 0, error = is_pulse ? wrong_event(&new.event) : 0;
     if (error || enter()) return error ? fail(error) : -1;
@@ -79,24 +79,24 @@ int neutrino_timer_settime(timer_t timer, int flags, const struct itimerspec *va
     if (!t) return -1;
     t->overruns = 0;
     t->flags = flags;
-    if (!t->fd) return hosts_settime(t->hosts, flags, value, old);
+    if (t->fd == -1) return hosts_settime(t->hosts, flags, value, old);
     return timerfd_settime(t->fd, flags & TIMER_ABSTIME ? TFD_TIMER_ABSTIME : 0, value, old);
 }
 
 int neutrino_timer_gettime(timer_t timer, struct itimerspec *value) {
     const struct timer *t = timer_of(timer);
-    return !t ? -1 : t->fd ? timerfd_gettime(t->fd, value) : hosts_gettime(t->hosts, value);
+    return !t ? -1 : t->fd != -1 ? timerfd_gettime(t->fd, value) : hosts_gettime(t->hosts, value);
 }
 
 int neutrino_timer_getoverrun(timer_t timer) {
     const struct timer *t = timer_of(timer);
-    return !t ? -1 : t->fd ? t->overruns : hosts_getoverrun(t->hosts);
+    return !t ? -1 : t->fd != -1 ? t->overruns : hosts_getoverrun(t->hosts);
 }
 
 int TimerDestroy(timer_t id) {
     hold();
     struct timer *t = timer_of(id);
-    if (t && t->fd) close(t->fd);
+    if (t && t->fd != -1) close(t->fd);
     else if (t) hosts_delete(t->hosts);
     if (t) t->is_used = false;
     release();

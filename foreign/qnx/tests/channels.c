@@ -142,3 +142,27 @@ void disconnects(void) {
     check(pulse.code == _PULSE_CODE_DISCONNECT && pulse.scoid > 0 && ConnectDetach(pulse.scoid) == 0);
     check(ChannelDestroy(chid) == 0);
 }
+
+static _Atomic int goes_on;
+
+static void *create_on(void *argument) {
+    while (atomic_load(&goes_on)) {
+        int chid = ChannelCreate(_NTO_CHF_COID_DISCONNECT | _NTO_CHF_THREAD_DEATH);
+        check(chid > 0 && ChannelDestroy(chid) == 0);
+    }
+    return argument;
+}
+
+/* Threads that create and destroy a channel each are never refused, though all together have as many as there are. */
+void at_the_limit(void) {
+    enum { ALL = 64, THREADS = 8 };
+    int chids[ALL - THREADS];
+    pthread_t threads[THREADS];
+    for (int at = 0; at < ALL - THREADS; at++) check((chids[at] = ChannelCreate(_NTO_CHF_COID_DISCONNECT)) > 0);
+    atomic_store(&goes_on, 1);
+    for (int at = 0; at < THREADS; at++) threads[at] = start(create_on, NULL);
+    usleep((useconds_t)rounds * 500);
+    atomic_store(&goes_on, 0);
+    for (int at = 0; at < THREADS; at++) result_of(threads[at]);
+    for (int at = 0; at < ALL - THREADS; at++) check(ChannelDestroy(chids[at]) == 0);
+}
