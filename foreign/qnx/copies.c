@@ -60,8 +60,9 @@ static __attribute__((noinline)) int mark_copy(void) {
     if (!found.other) return 0;
     atomic_store(&opened, 0);
     if (!has_said)
-        dprintf(STDERR_FILENO, "balsaeuchre: %s has a kernel, and %s has a library of its own, which can't use it: link "
-                "the program with -rdynamic, so that both use the program's\n", found.other, found.own);
+        dprintf(STDERR_FILENO, "balsaeuchre: %s has the kernel of this process, and %s was linked with another copy of the "
+                "library, which can't use it: link the program with -rdynamic, so that both use one copy\n",
+                found.other, found.own);
     has_said = true;
     return fail(ENOTSUP);
 }

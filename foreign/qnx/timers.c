@@ -12,6 +12,7 @@ struct timer {
     clockid_t clock;
     int flags; /* with which it was set last */
     _Atomic int overruns;
+    _Atomic unsigned settings; /* how often it was set */
     struct sigevent event;
 };
 
@@ -77,10 +78,12 @@ int neutrino_timer_create(clockid_t id, struct sigevent *event, timer_t *timer) 
 int neutrino_timer_settime(timer_t timer, int flags, const struct itimerspec *value, struct itimerspec *old) {
     struct timer *t = timer_of(timer);
     if (!t) return -1;
-    t->overruns = 0;
     t->flags = flags;
     if (t->fd == -1) return hosts_settime(t->hosts, flags, value, old);
-    return timerfd_settime(t->fd, flags & TIMER_ABSTIME ? TFD_TIMER_ABSTIME : 0, value, old);
+    int result = timerfd_settime(t->fd, flags & TIMER_ABSTIME ? TFD_TIMER_ABSTIME : 0, value, old);
+    t->settings++;
+    t->overruns = 0;
+    return result;
 }
 
 int neutrino_timer_gettime(timer_t timer, struct itimerspec *value) {
@@ -131,16 +134,19 @@ int TimerInfo(pid_t pid, timer_t id, int flags, struct _timer_info *info) {
     return id;
 }
 
-/* Sends the pulses of a timer's expiries. By the front's own thread. */
+/* Sends the pulses of a timer's expiries, and counts those that it can't send, unless the timer was set meanwhile. By
+ * the front's own thread. */
 static void expire(struct timer *t) {
     uint64_t times = 0;
     hold();
+    unsigned settings = t->settings;
     struct sigevent event = t->event;
     if (!t->is_used || read(t->fd, &times, sizeof times) != sizeof times) times = 0;
     release();
     for (; times && !send_event_pulse(&event); times--) continue;
     hold();
     t->overruns = times < INT_MAX ? (int)times : INT_MAX;
+    if (t->settings != settings) t->overruns = 0;
     release();
 }
 
