@@ -143,26 +143,21 @@ void disconnects(void) {
     check(ChannelDestroy(chid) == 0);
 }
 
-static _Atomic int goes_on;
-
-static void *create_on(void *argument) {
-    while (atomic_load(&goes_on)) {
-        int chid = ChannelCreate(_NTO_CHF_COID_DISCONNECT | _NTO_CHF_THREAD_DEATH);
-        check(chid > 0 && ChannelDestroy(chid) == 0);
-    }
-    return argument;
+static void *destroy(void *chid) {
+    check(ChannelDestroy(*(int *)chid) == 0);
+    return NULL;
 }
 
-/* Threads that create and destroy a channel each are never refused, though all together have as many as there are. */
+/* Where there is room for a channel, there is room for one that is told of ends, also beside a ChannelDestroy. */
 void at_the_limit(void) {
-    enum { ALL = 64, THREADS = 8 };
-    int chids[ALL - THREADS];
-    pthread_t threads[THREADS];
-    for (int at = 0; at < ALL - THREADS; at++) check((chids[at] = ChannelCreate(_NTO_CHF_COID_DISCONNECT)) > 0);
-    atomic_store(&goes_on, 1);
-    for (int at = 0; at < THREADS; at++) threads[at] = start(create_on, NULL);
-    usleep((useconds_t)rounds * 500);
-    atomic_store(&goes_on, 0);
-    for (int at = 0; at < THREADS; at++) result_of(threads[at]);
-    for (int at = 0; at < ALL - THREADS; at++) check(ChannelDestroy(chids[at]) == 0);
+    enum { ALL = 64, TOLD = _NTO_CHF_COID_DISCONNECT };
+    int chids[ALL], chid;
+    for (int at = 0; at < ALL; at++) check((chids[at] = ChannelCreate(TOLD)) > 0);
+    for (int turn = 0; turn < 20 + rounds / 10; turn++) {
+        pthread_t other = start(destroy, &chids[turn % ALL]);
+        while ((chid = ChannelCreate(0)) == -1) check(errno == EAGAIN);
+        check(ChannelDestroy(chid) == 0 && (chid = ChannelCreate(TOLD)) > 0 && result_of(other) == 0);
+        chids[turn % ALL] = chid;
+    }
+    for (int at = 0; at < ALL; at++) check(ChannelDestroy(chids[at]) == 0);
 }
