@@ -20,6 +20,14 @@ static int fail(int error) {
 #include "link.c"
 #include "version.c"
 
+/* Puts ? for what would act on the terminal. The daemon does so for names; a socket of another user's may be of a
+ * program that doesn't. */
+static void make_text(char *text, size_t length) {
+    for (size_t at = 0; at < length; at++) {
+        if (text[at] != '\n' && (text[at] < ' ' || text[at] > '~')) text[at] = '?';
+    }
+}
+
 int main(int count, char **words) {
     static char text[65536];
     struct wire_ask ask = {.op = OP_SHOW};
@@ -37,5 +45,6 @@ int main(int count, char **words) {
         fprintf(stderr, "pidin: %s: %s\n", path, strerror(errno));
         return 1;
     }
+    make_text(text, answer.length);
     return fwrite(text, 1, answer.length, stdout) != answer.length || fflush(stdout);
 }

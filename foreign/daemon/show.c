@@ -1,4 +1,5 @@
 /* What pidin prints. Tested, not proved. */
+#include "printable.h"
 
 /* Prints on whom a thread is blocked. */
 static void show_blocked(FILE *to, const struct neutrino_blocked *blocked) {
@@ -33,6 +34,9 @@ static void show_thread(FILE *to, const struct client *c) {
 static void show_channel(FILE *to, int place) {
     const struct name *channel = &k->channels[place];
     int chid = chid_at(place), sent = 0, held = 0, receive = 0;
+    char name[WIRE_NAME];
+    strcpy(name, names[place]);
+    make_printable(name);
     for (int at = 0; at < PLACES; at++) {
         struct neutrino_blocked blocked = look_at(k, &k->places[at]);
         sent += blocked.state == STATE_SEND && blocked.chid == chid;
@@ -40,7 +44,7 @@ static void show_channel(FILE *to, int place) {
         receive += blocked.state == STATE_RECEIVE && blocked.chid == chid;
     }
     fprintf(to, "%8d %4d %5d %5d %6d %9d %s\n", (int)processes[channel->owner].peer.pid, chid, sent, held,
-            pulses[place], receive, names[place]);
+            pulses[place], receive, name);
 }
 
 static void show(FILE *to) {

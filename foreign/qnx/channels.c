@@ -50,15 +50,21 @@ static void tell_death(int tid) {
     else tell(_NTO_CHF_THREAD_DEATH, _PULSE_CODE_THREADDEATH, tid);
 }
 
-/* Tells of each connection to a channel that was destroyed. */
-static void tell_disconnects(int chid) {
-    int coids[ENTRIES], count = 0;
+/* Returns the coid of the first connection to a channel from this entry on, and moves *at past it; or returns 0. */
+static int next_connection(int chid, int *at) {
+    int coid = 0;
     hold();
-    for (int at = 0; at < ENTRIES; at++) {
-        if (connections[at].coid && connections[at].chid == chid) coids[count++] = connections[at].coid;
+    for (; !coid && *at < ENTRIES; ++*at) {
+        if (connections[*at].coid && connections[*at].chid == chid) coid = connections[*at].coid;
     }
     release();
-    for (int at = 0; at < count; at++) tell(_NTO_CHF_COID_DISCONNECT, _PULSE_CODE_COIDDEATH, coids[at]);
+    return coid;
+}
+
+/* Tells of each connection to a channel that was destroyed. It keeps no list, since stacks may be short. */
+static void tell_disconnects(int chid) {
+    int at = 0;
+    for (int coid; (coid = next_connection(chid, &at));) tell(_NTO_CHF_COID_DISCONNECT, _PULSE_CODE_COIDDEATH, coid);
 }
 
 static void attach_told(void *t) {
@@ -67,20 +73,24 @@ static void attach_told(void *t) {
 
 static void detach_told(void *t) { layer_ConnectDetach(((struct told *)t)->coid); }
 
+/* Enters a channel in the table. Returns whether there was a place. */
+static bool enter_told(const struct told *new) {
+    int at = 0;
+    hold();
+    while (at < CHANNELS && told[at].chid) at++;
+    if (at < CHANNELS) told[at] = *new;
+    release();
+    return at < CHANNELS;
+}
+
 /* A new channel is told of ends. */
 static int add_told(int chid, unsigned flags) {
     struct told new = {.chid = chid, .coid = -1, .flags = flags};
     as_system(attach_told, &new);
-    if (new.coid == -1) {
-        layer_ChannelDestroy(chid);
-        return fail(EAGAIN);
-    }
-    hold();
-    int at = 0;
-    while (told[at].chid) at++; /* there are no more than channels */
-    told[at] = new;
-    release();
-    return chid;
+    if (new.coid != -1 && enter_told(&new)) return chid;
+    if (new.coid != -1) as_system(detach_told, &new);
+    layer_ChannelDestroy(chid);
+    return fail(EAGAIN);
 }
 
 int ChannelCreate(unsigned flags) {
@@ -92,17 +102,29 @@ int ChannelCreate(unsigned flags) {
     return chid == -1 || !(flags & DEATHS) ? chid : add_told(chid, flags);
 }
 
-int ChannelDestroy(int chid) {
-    if (enter() || layer_ChannelDestroy(chid)) return -1;
+/* Removes a channel from the table, under the lock. Returns what it had there. */
+static struct told take_told(int chid) {
     struct told gone = {.chid = 0};
-    hold();
     for (int at = 0; at < CHANNELS; at++) {
         if (told[at].chid != chid) continue;
         gone = told[at];
         told[at].chid = 0;
     }
-    forget_notes(chid);
+    return gone;
+}
+
+/* The channel leaves the kernel and the table under one lock, so the table never has more channels than the kernel. */
+int ChannelDestroy(int chid) {
+    struct told gone = {.chid = 0};
+    if (enter()) return -1;
+    hold();
+    int result = layer_ChannelDestroy(chid);
+    if (!result) {
+        gone = take_told(chid);
+        forget_notes(chid);
+    }
     release();
+    if (result) return -1;
     if (gone.chid) as_system(detach_told, &gone);
     tell_disconnects(chid);
     return 0;

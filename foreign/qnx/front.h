@@ -34,7 +34,6 @@ enum { TIMERS = 256, NAMES = 64, NAME_LENGTH = 256, THREAD_NAME = 16 };
 static pthread_mutex_t front = PTHREAD_MUTEX_INITIALIZER;
 static _Thread_local volatile sig_atomic_t holding; /* the front's lock, for the thread's own signal handlers */
 static _Thread_local int cancel_state;              /* as it was before it held the lock */
-static _Thread_local volatile sig_atomic_t handling; /* how many handlers of the program the thread is in */
 
 static void hold(void) {
     int state;

@@ -83,12 +83,13 @@ static int send_pulse(int coid, int priority, int code, union sigval value) {
 }
 
 static int defer_pulse(int coid, int priority, int code, union sigval value);
+static bool is_handling(void);
 
 /* A handler may have interrupted a call or the allocator, so the front's own thread sends its pulse. */
 int MsgSendPulsePtr(int coid, int priority, int code, void *value) {
     union sigval sent = {.sival_ptr = value};
     if (wrong_pulse(priority, code)) return fail(EINVAL);
-    if (handling || holding) return is_connection(coid) ? defer_pulse(coid, priority, code, sent) : fail(EBADF);
+    if (holding || is_handling()) return is_connection(coid) ? defer_pulse(coid, priority, code, sent) : fail(EBADF);
     return enter() ? -1 : send_pulse(coid, priority, code, sent);
 }
 

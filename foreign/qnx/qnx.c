@@ -3,6 +3,7 @@
 #define BALSAEUCHRE_QNX_NO_WRAPPERS
 #include "front.h"
 
+#include "copies.c"
 #include "seats.c"
 #include "channels.c"
 #include "pulses.c"

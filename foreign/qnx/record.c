@@ -39,7 +39,8 @@ static void write_named(const char *text, size_t length) {
 }
 
 static void write_all(void) {
-    struct line line = {.length = 0};
+    static struct line line; /* under the record's lock; a stack may be too short */
+    line.length = 0;
     record.written = 0;
     if (ftruncate(record.fd, 0) || lseek(record.fd, 0, SEEK_SET)) return;
     for (int tid = 0; tid < 256; tid++) {
@@ -113,9 +114,10 @@ static void keep_line(const struct line *line) {
 /* The hook: the kernel has made a call. */
 static void record_call(const balsaeuchre_request *r, const void *sent, size_t sent_len, const void *room,
                         size_t room_len, const balsaeuchre_event *event) {
-    struct line line = {.length = 0};
+    static struct line line; /* under the record's lock; a stack may be too short */
     (void)room;
     pthread_mutex_lock(&recording);
+    line.length = 0;
     if (record.fd != -1) {
         add_made(&line, &(struct made){r, sent, sent_len, room_len}, event);
         keep_line(&line);

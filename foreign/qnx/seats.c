@@ -8,6 +8,7 @@
 #define PATIENCE 10 /* seconds */
 #endif
 
+enum { OWN_STACK = 1 << 18 }; /* bytes of the stacks of the front's own threads */
 enum use { FREE, RESERVED, TAKEN };
 
 struct seat {
@@ -30,6 +31,8 @@ static pthread_key_t ending; /* of a thread: its destructor gives the seat back 
 static pthread_once_t once = PTHREAD_ONCE_INIT;
 static int refused; /* the error with which the host refused the key or the handlers of forks */
 
+static _Thread_local volatile sig_atomic_t unlocked_forks; /* that the thread is in, without the lock */
+
 /* The calling thread's seat, or 0; and the seat that is reserved for it, or 0. */
 static _Thread_local int seat, reserved;
 static _Thread_local unsigned ticket;
@@ -40,9 +43,21 @@ static void start_service(void);
 static void record_seat(int tid, pthread_t thread);
 static const struct neutrino_hooks *hooks_of_run(void);
 
+/* Before a fork: no other thread is amid a change of the tables. A handler that has interrupted a call forks without
+ * the lock, for its own thread may have it, or have what the thread with the lock waits for. */
+static void before_fork(void) {
+    if (holding || neutrino_inside()) unlocked_forks++;
+    else hold();
+}
+
+static void after_fork(void) {
+    if (unlocked_forks) unlocked_forks--;
+    else release();
+}
+
 static void prepare(void) {
     refused = pthread_key_create(&ending, end_thread);
-    if (!refused) refused = pthread_atfork(hold, release, forget_all);
+    if (!refused) refused = pthread_atfork(before_fork, after_fork, forget_all);
 }
 
 /* How a thread is scheduled if nobody says more. */
@@ -94,16 +109,42 @@ static int take_in_time(void) {
     return tid;
 }
 
-/* Opens the program's kernel, if it isn't yet. Returns null and sets errno on an error. */
-static neutrino *open_program(void) {
+/* Starts a thread of the front's own. */
+static int start_own(pthread_t *thread, void *(*work)(void *argument), void *argument) {
+    pthread_attr_t attributes;
+    pthread_attr_init(&attributes);
+    int error = pthread_attr_setstacksize(&attributes, OWN_STACK);
+    if (!error) error = pthread_create(thread, &attributes, work, argument);
+    pthread_attr_destroy(&attributes);
+    return error;
+}
+
+static void *open_kernel(void *error) {
     struct neutrino_thread threads[SYSTEM];
     for (int tid = 1; tid <= SYSTEM; tid++)
         threads[tid - 1] = (struct neutrino_thread){(uint8_t)tid, tid == SYSTEM ? SYSTEM_PROCESS : PROGRAM, USUAL};
+    kernel = neutrino_open(threads, SYSTEM);
+    *(int *)error = kernel ? 0 : errno;
+    return NULL;
+}
+
+/* Opens the kernel by a thread of its own, since that takes 16 KiB of the stack, and the caller may have no more in
+ * all. */
+static void open_on_own_stack(void) {
+    pthread_t thread;
+    int error = 0;
+    if (start_own(&thread, open_kernel, &error)) open_kernel(&error);
+    else pthread_join(thread, NULL);
+    if (error) errno = error;
+}
+
+/* Opens the program's kernel, if it isn't yet. Returns null and sets errno on an error. */
+static neutrino *open_program(void) {
     pthread_once(&once, prepare);
     if (refused) errno = refused;
     hold();
-    bool is_first = !kernel && !refused;
-    if (is_first) kernel = neutrino_open(threads, SYSTEM);
+    bool is_first = !kernel && !refused && !mark_copy();
+    if (is_first) open_on_own_stack();
     if (is_first && kernel) {
         program = getpid();
         neutrino_set_hooks(kernel, hooks_of_run());
@@ -174,24 +215,22 @@ static int take_seat(void) {
     return error ? fail(error) : 0;
 }
 
-/* Lets the calling thread make calls. EDEADLK: it is a handler that interrupted the front. */
-static int enter(void) { return holding ? fail(EDEADLK) : seat ? 0 : take_seat(); }
+/* Lets the calling thread make calls. EDEADLK: it is a handler that interrupted the front, or one that did so to a call
+ * and has forked since. */
+static int enter(void) {
+    if (holding || (!seat && neutrino_inside())) return fail(EDEADLK);
+    return seat ? 0 : take_seat();
+}
 
 static pthread_mutex_t systems = PTHREAD_MUTEX_INITIALIZER; /* over the front's thread of a process of its own */
 
-/* Makes work's calls as that thread. The calling thread's own seat stays taken. */
+/* Makes work's calls as that thread. It can't fail: under the lock nobody else acts as it, the calling thread is in no
+ * call, and no memory is taken. The calling thread keeps its seat, timeout and cancellation. */
 static void as_system(void (*work)(void *argument), void *argument) {
-    int own = seat;
     struct quiet quiet;
     be_quiet(&quiet);
     pthread_mutex_lock(&systems);
-    if (own) neutrino_leave();
-    if (!neutrino_join(kernel, SYSTEM)) {
-        work(argument);
-        neutrino_leave();
-    }
-    seat = 0;
-    if (own) join(own);
+    if (neutrino_act_as(kernel, SYSTEM, work, argument)) perror("balsaeuchre: the front's own thread can't make a call");
     pthread_mutex_unlock(&systems);
     end_quiet(&quiet);
 }

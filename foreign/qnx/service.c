@@ -67,8 +67,8 @@ static void start_service(void) {
     struct sigaction quit;
     const char *circles = getenv("BALSAEUCHRE_CIRCLES");
     if (!open_service()) return;
-    int error = pthread_create(&thread, NULL, serve, circles && *circles && strcmp(circles, "0") ? orders : NULL);
-    if (error) return;
+    bool tells = circles && *circles && strcmp(circles, "0");
+    if (start_own(&thread, serve, tells ? orders : NULL)) return;
     pthread_detach(thread);
     if (sigaction(SIGQUIT, NULL, &quit) || quit.sa_handler != SIG_DFL) return;
     memset(&quit, 0, sizeof quit);
@@ -77,10 +77,12 @@ static void start_service(void) {
     sigaction(SIGQUIT, &quit, NULL);
 }
 
-/* In a forked child, whose one thread has the front's lock, and none of its parent's kernel. */
+/* In a forked child, whose one thread has none of its parent's kernel. If it is in a handler that has interrupted a
+ * call, it stays refused calls. */
 static void forget_all(void) {
+    int ignored;
     for (int at = 0; at < TIMERS; at++) {
-        if (timers[at].is_used && timers[at].fd) close(timers[at].fd);
+        if (timers[at].is_used && timers[at].fd != -1) close(timers[at].fd);
     }
     for (int at = 0; at < 2; at++) {
         if (orders[at] != -1) close(orders[at]);
@@ -88,6 +90,7 @@ static void forget_all(void) {
     if (watched != -1) close(watched);
     watched = orders[0] = orders[1] = -1;
     kernel = NULL;
+    atomic_store(&opened, 0);
     seat = reserved = 0;
     sleepers = NULL;
     memset(timers, 0, sizeof timers);
@@ -100,5 +103,10 @@ static void forget_all(void) {
     pthread_mutex_init(&systems, NULL);
     pthread_mutex_init(&front, NULL);
     pthread_cond_init(&given_back, NULL);
-    holding = 0;
+    if (unlocked_forks) {
+        unlocked_forks--;
+        return;
+    }
+    holding--;
+    pthread_setcancelstate(cancel_state, &ignored);
 }

@@ -1,4 +1,5 @@
 /* Shows who is blocked on whom, like pidin, and tells of circles. Tested, not proved. */
+#include "printable.h"
 
 /* The name that a thread has by pthread_setname_np, or the program's. */
 static void name_thread(int tid, char *name) {
@@ -6,6 +7,7 @@ static void name_thread(int tid, char *name) {
     hold();
     if (tid >= 1 && tid <= SEATS && seats[tid].use == TAKEN) pthread_getname_np(seats[tid].thread, name, THREAD_NAME);
     release();
+    make_printable(name);
 }
 
 static void show_thread(int fd, int tid, const struct neutrino_blocked *blocked) {
@@ -20,16 +22,18 @@ static void show_thread(int fd, int tid, const struct neutrino_blocked *blocked)
 }
 
 void neutrino_show(int fd) {
-    struct neutrino_blocked all[256];
     if (!holding && kernel && neutrino_remote()) {
         neutrino_remote_show(fd);
         return;
     }
     dprintf(fd, "%8s %3s %-15s %4s %-8s Blocked\n", "pid", "tid", "name", "prio", "STATE");
-    if (!kernel || enter() || neutrino_look(kernel, all)) return;
-    for (int tid = 1; tid <= SEATS; tid++) {
+    if (!kernel || enter()) return;
+    struct neutrino_blocked *all = calloc(256, sizeof *all); /* the stack may be too short */
+    bool has_looked = all && !neutrino_look(kernel, all);
+    for (int tid = 1; has_looked && tid <= SEATS; tid++) {
         if (all[tid].state) show_thread(fd, tid, &all[tid]);
     }
+    free(all);
 }
 
 /* The threads of the circle in which a thread waits for itself, a bit for each, or 0. */

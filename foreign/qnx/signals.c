@@ -1,17 +1,59 @@
 /* Signals: handlers end calls. Tested, not proved.
  *
  * The host runs on_signal, which marks the call of its thread as interrupted and then runs the program's handler. */
+#include <ucontext.h>
+
+enum { NESTED = 8 }; /* handlers that interrupt one another, and of which the thread keeps where they run */
+
 static _Atomic uintptr_t handlers[NSIG]; /* the program's */
 static _Atomic int flags_of[NSIG];
+
+/* A handler that a thread is in: it runs on the stack from low to high. */
+struct handling {
+    uintptr_t low, high;
+    int signo; /* which is blocked meanwhile; 0: it isn't */
+};
+
+static _Thread_local volatile struct handling handlings[NESTED];
+static _Thread_local volatile sig_atomic_t handling; /* how many of them there are */
+
+/* Whether a handler was left by a jump, such as siglongjmp: the thread is above it on the stack, or on another one, or
+ * has the signal unblocked. */
+static bool is_left(const volatile struct handling *h) {
+    sigset_t blocked;
+    uintptr_t here = (uintptr_t)__builtin_frame_address(0);
+    if (here < h->low || here > h->high) return true;
+    return h->signo && !pthread_sigmask(SIG_BLOCK, NULL, &blocked) && !sigismember(&blocked, h->signo);
+}
+
+/* Whether the calling thread is in a handler of the program. */
+static bool is_handling(void) {
+    while (handling && is_left(&handlings[handling - 1])) handling--;
+    return handling;
+}
+
+/* The calling thread is in one more handler, which on_signal calls in this frame. It is entered twice, as a handler
+ * that interrupts this may have had the same place. */
+static void begin_handling(int outer, int signo, const ucontext_t *context, void *frame) {
+    uintptr_t low = (uintptr_t)context->uc_stack.ss_sp, high = low + context->uc_stack.ss_size, at = (uintptr_t)frame;
+    bool is_alternate = at >= low && at < high;
+    bool is_blocked = !(atomic_load(&flags_of[signo]) & SA_NODEFER);
+    struct handling own = {is_alternate ? low : 0, at, is_blocked ? signo : 0};
+    for (int times = 0; times < 2 && outer < NESTED; times++) {
+        handlings[outer] = own;
+        handling = outer + 1;
+    }
+}
 
 static void on_signal(int signo, siginfo_t *info, void *context) {
     uintptr_t handler = atomic_load(&handlers[signo]);
     int before = errno; /* the call that is interrupted has set its own */
     neutrino_interrupt();
-    handling++;
+    int outer = is_handling() ? handling : 0;
+    begin_handling(outer, signo, context, __builtin_frame_address(0));
     if (atomic_load(&flags_of[signo]) & SA_SIGINFO) ((void (*)(int, siginfo_t *, void *))handler)(signo, info, context);
     else ((void (*)(int))handler)(signo);
-    handling--;
+    handling = outer;
     errno = before;
 }
 

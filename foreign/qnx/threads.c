@@ -2,6 +2,8 @@
 struct start {
     void *(*function)(void *argument);
     void *argument;
+    pthread_t *id; /* where the creator wants the thread's id, or null */
+    bool has_met;  /* the thread or its creator has come to meet the other */
     int reserved;
     unsigned ticket;
 };
@@ -22,16 +24,27 @@ static void end_thread(void *argument) {
     give_back(tid);
 }
 
-static void *run_thread(void *argument) {
-    struct start start = *(struct start *)argument;
-    free(argument);
+/* A thread and its creator meet here. The first one writes the thread's id, so that the thread finds it before its
+ * function begins, and its creator as pthread_create returns. The second one frees the start. */
+static void meet(struct start *start, pthread_t thread) {
     hold();
-    reserved = start.reserved;
-    ticket = start.ticket;
-    if (has_reserved()) seats[reserved].thread = pthread_self();
+    bool is_second = start->has_met;
+    start->has_met = true;
+    if (!is_second && start->id) *start->id = thread;
+    struct seat *s = &seats[start->reserved];
+    if (s->use == RESERVED && s->ticket == start->ticket) s->thread = thread;
     release();
+    if (is_second) free(start);
+}
+
+static void *run_thread(void *own) {
+    struct start *start = own;
+    void *(*function)(void *argument) = start->function, *argument = start->argument;
+    reserved = start->reserved;
+    ticket = start->ticket;
+    meet(start, pthread_self());
     pthread_setspecific(ending, seats);
-    return start.function(start.argument);
+    return function(argument);
 }
 
 /* The priority of attributes: the host takes 1 to 99. These bytes are cleared as attributes begin, and the host doesn't
@@ -81,20 +94,19 @@ static void reserve_both(struct start *start, const pthread_attr_t *attributes) 
     release();
 }
 
-/* The new thread is known, or could not be created. */
-static void note_created(const struct start *start, const pthread_t *thread) {
+/* No thread was created for this start. */
+static void give_up(struct start *start) {
     hold();
     struct seat *s = &seats[start->reserved];
-    bool is_reserved = s->use == RESERVED && s->ticket == start->ticket;
-    if (is_reserved && thread) s->thread = *thread;
-    else if (is_reserved) s->use = FREE;
+    if (s->use == RESERVED && s->ticket == start->ticket) s->use = FREE;
     release();
+    free(start);
 }
 
 /* The thread has the host's usual scheduling, whatever its attributes say. */
 int neutrino_pthread_create(pthread_t *thread, const pthread_attr_t *attributes, void *(*function)(void *),
                             void *argument) {
-    struct start *start = malloc(sizeof *start), copy;
+    struct start *start = malloc(sizeof *start);
     pthread_attr_t hosts;
     pthread_t created;
     pthread_once(&once, prepare);
@@ -102,17 +114,15 @@ int neutrino_pthread_create(pthread_t *thread, const pthread_attr_t *attributes,
         free(start);
         return EAGAIN;
     }
-    *start = (struct start){.function = function, .argument = argument};
+    *start = (struct start){.function = function, .argument = argument, .id = thread};
     reserve_both(start, attributes);
-    copy = *start;
     if (attributes) {
         hosts = *attributes; /* for this call alone */
         pthread_attr_setinheritsched(&hosts, PTHREAD_INHERIT_SCHED);
     }
     int error = pthread_create(&created, attributes ? &hosts : NULL, run_thread, start);
-    note_created(&copy, error ? NULL : &created);
-    if (error) free(start);
-    if (!error && thread) *thread = created;
+    if (error) give_up(start);
+    else meet(start, created);
     return error;
 }
 

@@ -7,11 +7,12 @@
 
 struct timer {
     bool is_used;
-    int fd;      /* of a timer of pulses, or 0 */
+    int fd;      /* of a timer of pulses, or -1 */
     void *hosts; /* the host's timer */
     clockid_t clock;
     int flags; /* with which it was set last */
     _Atomic int overruns;
+    _Atomic unsigned settings; /* how often it was set */
     struct sigevent event;
 };
 
@@ -55,7 +56,7 @@ static int open_hosts_timer(struct timer *new) {
 
 int TimerCreate(clockid_t id, const struct sigevent *event) {
     static const struct sigevent alarms = {.sigev_notify = SIGEV_SIGNAL, .sigev_signo = SIGALRM};
-    struct timer new = {.is_used = true, .clock = id, .event = event ? *event : alarms};
+    struct timer new = {.is_used = true, .fd = -1, .clock = id, .event = event ? *event : alarms};
     bool is_pulse = SIGEV_GET_TYPE(&new.event) == SIGEV_PULSE;
     int at = 0, error = is_pulse ? wrong_event(&new.event) : 0;
     if (error || enter()) return error ? fail(error) : -1;
@@ -77,26 +78,28 @@ int neutrino_timer_create(clockid_t id, struct sigevent *event, timer_t *timer) 
 int neutrino_timer_settime(timer_t timer, int flags, const struct itimerspec *value, struct itimerspec *old) {
     struct timer *t = timer_of(timer);
     if (!t) return -1;
-    t->overruns = 0;
     t->flags = flags;
-    if (!t->fd) return hosts_settime(t->hosts, flags, value, old);
-    return timerfd_settime(t->fd, flags & TIMER_ABSTIME ? TFD_TIMER_ABSTIME : 0, value, old);
+    if (t->fd == -1) return hosts_settime(t->hosts, flags, value, old);
+    int result = timerfd_settime(t->fd, flags & TIMER_ABSTIME ? TFD_TIMER_ABSTIME : 0, value, old);
+    t->settings++;
+    t->overruns = 0;
+    return result;
 }
 
 int neutrino_timer_gettime(timer_t timer, struct itimerspec *value) {
     const struct timer *t = timer_of(timer);
-    return !t ? -1 : t->fd ? timerfd_gettime(t->fd, value) : hosts_gettime(t->hosts, value);
+    return !t ? -1 : t->fd != -1 ? timerfd_gettime(t->fd, value) : hosts_gettime(t->hosts, value);
 }
 
 int neutrino_timer_getoverrun(timer_t timer) {
     const struct timer *t = timer_of(timer);
-    return !t ? -1 : t->fd ? t->overruns : hosts_getoverrun(t->hosts);
+    return !t ? -1 : t->fd != -1 ? t->overruns : hosts_getoverrun(t->hosts);
 }
 
 int TimerDestroy(timer_t id) {
     hold();
     struct timer *t = timer_of(id);
-    if (t && t->fd) close(t->fd);
+    if (t && t->fd != -1) close(t->fd);
     else if (t) hosts_delete(t->hosts);
     if (t) t->is_used = false;
     release();
@@ -131,16 +134,19 @@ int TimerInfo(pid_t pid, timer_t id, int flags, struct _timer_info *info) {
     return id;
 }
 
-/* Sends the pulses of a timer's expiries. By the front's own thread. */
+/* Sends the pulses of a timer's expiries, and counts those that it can't send, unless the timer was set meanwhile. By
+ * the front's own thread. */
 static void expire(struct timer *t) {
     uint64_t times = 0;
     hold();
+    unsigned settings = t->settings;
     struct sigevent event = t->event;
     if (!t->is_used || read(t->fd, &times, sizeof times) != sizeof times) times = 0;
     release();
     for (; times && !send_event_pulse(&event); times--) continue;
     hold();
     t->overruns = times < INT_MAX ? (int)times : INT_MAX;
+    if (t->settings != settings) t->overruns = 0;
     release();
 }
 

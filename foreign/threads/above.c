@@ -9,6 +9,8 @@ void neutrino_interrupt(void) {
     if (self && self->interruptible) interrupt_word(self);
 }
 
+int neutrino_inside(void) { return inside > 0; }
+
 int neutrino_cancel(neutrino *k, int tid) {
     if (refuse(k)) return -1;
     if (tid < 0 || tid > UINT8_MAX || k->place_of[tid] == PLACES) return fail(ESRCH);

@@ -94,10 +94,12 @@ neutrino *neutrino_open_version(uint32_t version, const struct neutrino_thread *
     return NULL;
 }
 
-int neutrino_join(neutrino *k, int tid) {
-    if (refuse(k)) return -1;
-    if (self) return fail(EBUSY);
-    if (tid < 0 || tid > UINT8_MAX || k->place_of[tid] == PLACES) return fail(ESRCH);
+/* Takes the place of a thread. Returns null and sets errno on an error. */
+static struct place *take_place(neutrino *k, int tid) {
+    if (tid < 0 || tid > UINT8_MAX || k->place_of[tid] == PLACES) {
+        errno = ESRCH;
+        return NULL;
+    }
     struct place *p = &k->places[k->place_of[tid]];
     lock(k);
     bool is_taken = p->joined;
@@ -105,11 +107,29 @@ int neutrino_join(neutrino *k, int tid) {
     p->joined = true;
     k->joined += !is_taken;
     unlock(k);
-    if (is_taken) return fail(EBUSY);
+    if (is_taken) {
+        errno = EBUSY;
+        return NULL;
+    }
+    p->states = 0;
+    p->interruptible = false;
+    return p;
+}
+
+static void leave_place(neutrino *k, struct place *p) {
+    lock(k);
+    p->joined = false;
+    k->joined--;
+    unlock(k);
+}
+
+int neutrino_join(neutrino *k, int tid) {
+    if (refuse(k)) return -1;
+    if (self) return fail(EBUSY);
+    struct place *p = take_place(k, tid);
+    if (!p) return -1;
     kernel = k;
     self = p;
-    self->states = 0;
-    self->interruptible = false;
     if (!pthread_setspecific(ending, p)) return 0;
     neutrino_leave();
     return fail(ENOMEM);
@@ -117,12 +137,24 @@ int neutrino_join(neutrino *k, int tid) {
 
 int neutrino_leave(void) {
     if (refuse_call()) return -1;
-    lock(kernel);
-    self->joined = false;
-    kernel->joined--;
+    struct place *p = self;
     self = NULL;
-    unlock(kernel);
+    leave_place(kernel, p);
     pthread_setspecific(ending, NULL);
+    return 0;
+}
+
+int neutrino_act_as(neutrino *k, int tid, void (*work)(void *argument), void *argument) {
+    if (refuse(k)) return -1;
+    struct place *own = self, *p = take_place(k, tid);
+    neutrino *own_kernel = kernel;
+    if (!p) return -1;
+    kernel = k;
+    self = p;
+    work(argument);
+    kernel = own_kernel;
+    self = own;
+    leave_place(k, p);
     return 0;
 }
 

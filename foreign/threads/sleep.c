@@ -13,7 +13,13 @@
 #define WORD_LOOKS 2000
 #endif
 
-static void pause_briefly(void) { __builtin_ia32_pause(); }
+static void pause_briefly(void) {
+#ifdef __x86_64__
+    __builtin_ia32_pause();
+#else
+    atomic_signal_fence(memory_order_seq_cst); /* looks without a pause, on a processor that this isn't tested on */
+#endif
+}
 
 static void lock(neutrino *k) {
     inside++;

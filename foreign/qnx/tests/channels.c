@@ -142,3 +142,22 @@ void disconnects(void) {
     check(pulse.code == _PULSE_CODE_DISCONNECT && pulse.scoid > 0 && ConnectDetach(pulse.scoid) == 0);
     check(ChannelDestroy(chid) == 0);
 }
+
+static void *destroy(void *chid) {
+    check(ChannelDestroy(*(int *)chid) == 0);
+    return NULL;
+}
+
+/* Where there is room for a channel, there is room for one that is told of ends, also beside a ChannelDestroy. */
+void at_the_limit(void) {
+    enum { ALL = 64, TOLD = _NTO_CHF_COID_DISCONNECT };
+    int chids[ALL], chid;
+    for (int at = 0; at < ALL; at++) check((chids[at] = ChannelCreate(TOLD)) > 0);
+    for (int turn = 0; turn < 20 + rounds / 10; turn++) {
+        pthread_t other = start(destroy, &chids[turn % ALL]);
+        while ((chid = ChannelCreate(0)) == -1) check(errno == EAGAIN);
+        check(ChannelDestroy(chid) == 0 && (chid = ChannelCreate(TOLD)) > 0 && result_of(other) == 0);
+        chids[turn % ALL] = chid;
+    }
+    for (int at = 0; at < ALL; at++) check(ChannelDestroy(chids[at]) == 0);
+}

@@ -14,6 +14,8 @@ static const struct { const char *name; void (*run)(void); } tests[] = {
     TEST(deaths), TEST(first_calls), TEST(forks), TEST(delays), TEST(sleepers), TEST(interrupted), TEST(handlers),
     TEST(in_handlers), TEST(many_signals), TEST(cancelled), TEST(many_cancelled), TEST(lives), TEST(crowds),
     TEST(echo_1_1), TEST(echo_40_8), TEST(headers), TEST(names), TEST(shown), TEST(circles), TEST(quits),
+    TEST(at_the_limit), TEST(many_notes), TEST(set_anew), TEST(file_0), TEST(created), TEST(jumps),
+    TEST(forks_in_handlers), TEST(small_stacks),
 };
 
 pthread_t start(void *(*work)(void *), void *argument) {

@@ -52,6 +52,17 @@ void notes(void) {
     }
 }
 
+/* The turns of notes begin again after 524,286 of them. */
+void many_notes(void) {
+    int chid = ChannelCreate(0), coid = attach(chid);
+    for (int sent = 0; sent < 530000; sent++) {
+        check(MsgSendPulse(coid, 1, -5, sent) == 0);
+        struct _pulse pulse = next(chid);
+        check(pulse.code == -5 && pulse.value.sival_int == sent);
+    }
+    check(ConnectDetach(coid) == 0 && ChannelDestroy(chid) == 0);
+}
+
 void pulse_errors(void) {
     int chid = ChannelCreate(0), coid = attach(chid);
     fails(MsgSendPulse(coid, 0, 1, 0), EINVAL);

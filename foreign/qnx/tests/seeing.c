@@ -30,7 +30,11 @@ void shown(void) {
     neutrino_show(ends[1]);
     snprintf(line, sizeof line, "%8d   2 a client          10 REPLY    chid %d, thread 1 (", getpid(), chid);
     check(reads_to(ends[0], line) && strstr(text, "pid tid name") == text + 5);
-    check(strstr(text, "   1 longer than 15    10 READY\n") && pthread_setname_np(pthread_self(), "tests") == 0);
+    check(strstr(text, "   1 longer than 15    10 READY\n"));
+    check(pthread_setname_np(pthread_self(), "e\033[1m\n\302\233\177") == 0);
+    neutrino_show(ends[1]);
+    check(reads_to(ends[0], line) && strstr(text, "   1 e?[1m????         10 READY\n"));
+    check(pthread_setname_np(pthread_self(), "tests") == 0);
     check(MsgReply(rcvid, 0, NULL, 0) == 0);
     end_send(&first);
     begin_send(&second, coid);

@@ -1,6 +1,10 @@
 /* Signals and cancellations that end calls. */
 #include "tests.h"
 
+#include <setjmp.h>
+#include <sys/time.h>
+#include <sys/wait.h>
+
 static _Atomic int handled, chid_of_all, ends;
 
 static void count(int signo) {
@@ -121,6 +125,101 @@ void in_handlers(void) {
     check(MsgReceivePulse(chid, &pulse, sizeof pulse, NULL) == 0 && pulse.code == 9 && getprio(0) == 33);
     check(signal(SIGUSR1, SIG_DFL) == call_within && ConnectDetach(over_all) == 0);
     check(ChannelDestroy(chid) == 0 && ChannelDestroy(other) == 0);
+}
+
+static sigjmp_buf left;
+
+static void jump(int signo) { siglongjmp(left, signo); }
+
+static void jump_from_within(int signo) {
+    (void)signo;
+    raise(SIGUSR2);
+}
+
+/* Sends a pulse from further down the stack than handlers are. */
+static __attribute__((noinline)) void send_deep(void) {
+    volatile char deep[20000];
+    deep[0] = 9;
+    check(MsgSendPulse(over_all, -1, deep[0], 0) == 0);
+}
+
+/* Leaves handlers by a jump, and sends a pulse, which has the thread's own priority. */
+static void send_after_jump(int chid, void (*first)(int), int flags) {
+    struct _pulse pulse;
+    handle(SIGUSR1, first, flags);
+    handle(SIGUSR2, jump, flags);
+    if (!sigsetjmp(left, 1)) raise(SIGUSR1);
+    check(setprio(0, 33) > 0);
+    if (flags & SA_NODEFER) check(MsgSendPulse(over_all, -1, 9, 0) == 0);
+    else send_deep();
+    check(MsgReceivePulse(chid, &pulse, sizeof pulse, NULL) == 0 && pulse.code == 9 && getprio(0) == 33);
+}
+
+/* A jump within a handler leaves the one that it interrupted, and no other. */
+static void send_in_outer(int signo) {
+    if (!sigsetjmp(left, 1)) raise(SIGUSR2);
+    send_within(signo);
+}
+
+static void in_outer(int chid) {
+    struct _pulse pulse;
+    handle(SIGUSR1, send_in_outer, 0);
+    handle(SIGUSR2, jump, 0);
+    check(setprio(0, 33) > 0 && raise(SIGUSR1) == 0);
+    check(MsgReceivePulse(chid, &pulse, sizeof pulse, NULL) == 0 && pulse.code == 8 && getprio(0) == 10);
+}
+
+/* A thread is in no handler that it has left by a jump. */
+void jumps(void) {
+    static char other[65536];
+    stack_t stack = {.ss_sp = other, .ss_size = sizeof other}, before;
+    int chid = ChannelCreate(0);
+    over_all = attach(chid);
+    check(sigaltstack(&stack, &before) == 0);
+    send_after_jump(chid, jump, 0);
+    send_after_jump(chid, jump, SA_ONSTACK);
+    send_after_jump(chid, jump, SA_NODEFER);
+    send_after_jump(chid, jump, SA_NODEFER | SA_ONSTACK);
+    send_after_jump(chid, jump_from_within, 0);
+    send_after_jump(chid, jump_from_within, SA_ONSTACK);
+    in_outer(chid);
+    for (int sent = 0; sent < 1024; sent++) check(MsgSendPulse(over_all, 10, 1, 1) == 0);
+    fails(MsgSendPulse(over_all, 10, 1, 1), EAGAIN);
+    check(sigaltstack(&before, NULL) == 0 && signal(SIGUSR1, SIG_DFL) != SIG_ERR && signal(SIGUSR2, SIG_DFL) == jump);
+    check(setprio(0, 10) > 0 && ConnectDetach(over_all) == 0 && ChannelDestroy(chid) == 0);
+}
+
+static _Atomic int forked;
+
+static void fork_within(int signo) {
+    int before = errno, status;
+    (void)signo;
+    pid_t child = fork();
+    if (child == 0) {
+        int chid = ChannelCreate(0); /* in a kernel of the child's own, if the handler has interrupted no call */
+        _exit(chid > 0 || errno == EDEADLK ? 0 : 1);
+    }
+    check(waitpid(child, &status, 0) == child && WIFEXITED(status) && WEXITSTATUS(status) == 0);
+    atomic_fetch_add(&forked, 1);
+    errno = before;
+}
+
+/* A handler may fork wherever it has interrupted the front. The calls here take no memory: the host's fork waits for its
+ * allocator. */
+void forks_in_handlers(void) {
+    struct itimerval often = {{0, 1000}, {0, 1000}}, never = {{0, 0}, {0, 0}};
+    struct _server_info info;
+    int chid = ChannelCreate(0), wanted = 20 + rounds / 10;
+    atomic_store(&forked, 0);
+    handle(SIGALRM, fork_within, SA_RESTART);
+    check(setitimer(ITIMER_REAL, &often, NULL) == 0);
+    while (atomic_load(&forked) < wanted) {
+        int coid = attach(chid);
+        check(ConnectServerInfo(0, coid, &info) == coid && ConnectFlags(0, coid, 0, 0) == 0);
+        check(ConnectDetach(coid) == 0);
+    }
+    check(setitimer(ITIMER_REAL, &never, NULL) == 0 && signal(SIGALRM, SIG_DFL) == fork_within);
+    check(ChannelDestroy(chid) == 0);
 }
 
 static void *receive_often(void *argument) {

@@ -49,17 +49,19 @@ void end_send(struct client *client);
 int receive(int chid); /* a message into a buffer of its own */
 
 /* The tests, by file. */
-void channels(void), connections(void), flags(void), peers(void), limits(void), disconnects(void);
+void channels(void), connections(void), flags(void), peers(void), limits(void), disconnects(void), at_the_limit(void);
 void sends(void), receives(void), replies(void), reads(void), infos(void), restarts(void), keys(void);
 void vectors(void), wrong_parts(void), not_cancelled(void);
-void codes(void), values(void), notes(void), pulse_errors(void), pulses_received(void);
+void codes(void), values(void), notes(void), many_notes(void), pulse_errors(void), pulses_received(void);
 void events(void), event_errors(void), verified(void);
-void pulse_timers(void), host_timers(void), timer_errors(void), timer_calls(void), clocks(void);
+void pulse_timers(void), host_timers(void), timer_errors(void), timer_calls(void), set_anew(void), file_0(void);
+void clocks(void);
 void timeouts(void), join_timeouts(void), timeout_errors(void);
 void priorities(void), inherited(void), policies(void), attributes(void), controls(void);
-void seats(void), reserved(void), deaths(void), first_calls(void), forks(void), delays(void);
+void seats(void), reserved(void), deaths(void), first_calls(void), forks(void), delays(void), created(void);
 void sleepers(void);
-void interrupted(void), handlers(void), in_handlers(void), many_signals(void), cancelled(void), many_cancelled(void);
+void interrupted(void), handlers(void), in_handlers(void), jumps(void), many_signals(void), cancelled(void);
+void many_cancelled(void), forks_in_handlers(void), small_stacks(void);
 void lives(void), crowds(void), echo_1_1(void), echo_40_8(void);
 void headers(void), names(void), shown(void), circles(void), quits(void);
 

@@ -198,10 +198,42 @@ void reserved(void) {
     enum { MANY = 80 };
     _Atomic int go = 0;
     pthread_t threads[MANY];
+    check(setprio(0, 33) == 10);
     for (int at = 0; at < MANY; at++) threads[at] = start(hold_still, &go);
-    for (int at = 0; at < 70; at++) check(result_of(start(answer_priority, NULL)) == 10);
+    check(result_of(start(answer_priority, NULL)) == 10); /* it takes a place that was reserved for another thread */
+    for (int at = 0; at < 70; at++) check(result_of(start(answer_priority, NULL)) == 33);
     atomic_store(&go, 1);
     for (int at = 0; at < MANY; at++) result_of(threads[at]);
+    check(setprio(0, 10) == 33);
+}
+
+/* A thread that ends what its creator has of it. */
+struct life {
+    pthread_t id;
+    _Atomic int *ends;
+};
+
+static void *end_life(void *argument) {
+    struct life *life = argument;
+    check(pthread_equal(life->id, pthread_self()));
+    _Atomic int *ends_of_all = life->ends;
+    check(pthread_detach(life->id) == 0);
+    memset(life, 0, sizeof *life);
+    free(life);
+    atomic_fetch_add(ends_of_all, 1);
+    return NULL;
+}
+
+/* A new thread finds its id where its creator wants it, which nobody writes once its function has begun. */
+void created(void) {
+    _Atomic int ended = 0;
+    for (int turn = 1; turn <= 5 * rounds; turn++) {
+        struct life *life = calloc(1, sizeof *life);
+        check(life);
+        life->ends = &ended;
+        check(pthread_create(&life->id, NULL, end_life, life) == 0);
+        while (atomic_load(&ended) < turn) sched_yield();
+    }
 }
 
 static void *do_nothing(void *argument) { return argument; }
@@ -246,7 +278,9 @@ static void in_the_child(int chid, int coid) {
     struct _pulse pulse;
     struct sigevent event;
     timer_t id;
+    int state;
     alarm(HANGS);
+    check(pthread_setcancelstate(PTHREAD_CANCEL_ENABLE, &state) == 0 && state == PTHREAD_CANCEL_ENABLE);
     fails(MsgReceivePulse(chid + 64, &pulse, sizeof pulse, NULL), ESRCH);
     fails(MsgSendPulse(coid, 1, 1, 0), EBADF);
     int own = ChannelCreate(_NTO_CHF_THREAD_DEATH), over = attach(own);

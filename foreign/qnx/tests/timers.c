@@ -38,6 +38,34 @@ void pulse_timers(void) {
     check(timer_delete(ticks) == 0);
 }
 
+/* A timer that is set anew begins without overruns, also if it was being sent as it was set. */
+void set_anew(void) {
+    struct itimerspec never = {{0, 0}, {1000, 0}};
+    int chid = ChannelCreate(0), coid = attach(chid);
+    check(ConnectDetach(coid) == 0 && ChannelDestroy(chid) == 0);
+    for (int turn = 0; turn < 20; turn++) {
+        timer_t ticks = pulse_timer(coid, 4, 1000000, 1000000);
+        while (timer_getoverrun(ticks) == 0) usleep(100); /* it has no connection */
+        check(timer_settime(ticks, 0, &never, NULL) == 0 && timer_getoverrun(ticks) == 0);
+        usleep(2000);
+        check(timer_getoverrun(ticks) == 0 && timer_delete(ticks) == 0);
+    }
+}
+
+/* A timer of pulses whose file is 0, as the program has closed that. */
+void file_0(void) {
+    struct _pulse pulse;
+    struct itimerspec left;
+    int chid = ChannelCreate(0), coid = attach(chid), saved = dup(STDIN_FILENO);
+    close(STDIN_FILENO);
+    timer_t once = pulse_timer(coid, 3, 1000000, 0);
+    check(MsgReceivePulse(chid, &pulse, sizeof pulse, NULL) == 0 && pulse.code == 3);
+    check(timer_gettime(once, &left) == 0 && left.it_value.tv_nsec == 0 && timer_getoverrun(once) == 0);
+    check(timer_delete(once) == 0 && dup(STDERR_FILENO) == STDIN_FILENO && close(STDIN_FILENO) == 0);
+    if (saved != -1) check(dup2(saved, STDIN_FILENO) == STDIN_FILENO && close(saved) == 0);
+    check(ConnectDetach(coid) == 0 && ChannelDestroy(chid) == 0);
+}
+
 static _Atomic int expired;
 
 static void expire(int signo) { atomic_store(&expired, signo); }

@@ -99,6 +99,13 @@ int neutrino_interruptible(void);
  * pulse. Does nothing if it waits in none. For signal handlers; does not change errno. */
 void neutrino_interrupt(void);
 
+/* Returns 1 if the calling thread is in a call, so a signal handler that asks has interrupted one, or else 0. */
+int neutrino_inside(void);
+
+/* Calls work, which makes its calls as the thread with this number, which nobody has joined as. The calling thread need
+ * not have joined; as what it has joined, it is again afterwards. The errors are those of neutrino_join but ENOMEM. */
+int neutrino_act_as(neutrino *kernel, int tid, void (*work)(void *argument), void *argument);
+
 /* Ends, in the same way, the call that this thread waits in, and each later one that has to wait, unless cancellation
  * is disabled there. ESRCH: no such thread has joined. The caller need not have joined. */
 int neutrino_cancel(neutrino *kernel, int tid);

@@ -93,6 +93,65 @@ void cancelled(void) {
     close_few(kernel);
 }
 
+static int chid_of_other;
+
+static void create_as(void *flags) { chid_of_other = ChannelCreate(*(unsigned *)flags); }
+
+static void call_again(void *kernel) {
+    fails(neutrino_act_as(kernel, 2, create_as, kernel), EBUSY);
+    fails(neutrino_join(kernel, 3), EBUSY);
+}
+
+/* A thread acts as another, and is itself again, with its timeout and its cancellation. */
+void acts(void) {
+    neutrino *kernel = neutrino_open(few, 4);
+    char room[8];
+    unsigned flags = 0;
+    check(neutrino_act_as(kernel, 2, create_as, &flags) == 0 && chid_of_other > 0); /* it has not joined */
+    fails(ChannelDestroy(chid_of_other), EPERM);
+    check(neutrino_join(kernel, 1) == 0 && neutrino_interruptible() == 0);
+    fails(ChannelDestroy(chid_of_other), EINVAL); /* of another process */
+    fails(neutrino_act_as(kernel, 1, create_as, &flags), EBUSY);
+    fails(neutrino_act_as(kernel, 9, create_as, &flags), ESRCH);
+    fails(neutrino_act_as(kernel, -1, create_as, &flags), ESRCH);
+    check(neutrino_act_as(kernel, 2, call_again, kernel) == 0 && neutrino_inside() == 0);
+    int chid = ChannelCreate(0);
+    set_timeout(_NTO_TIMEOUT_RECEIVE, 1000000);
+    check(neutrino_act_as(kernel, 2, create_as, &flags) == 0);
+    fails(MsgReceive(chid, room, 8, NULL), ETIMEDOUT);
+    check(neutrino_cancel(kernel, 1) == 0 && neutrino_act_as(kernel, 2, create_as, &flags) == 0);
+    fails(MsgReceive(chid, room, 8, NULL), EINTR);
+    become(kernel, 2); /* whose place is free again */
+    close_few(kernel);
+}
+
+/* A channel that is full of pulses takes no unblock pulse, so its server isn't asked for anything until there is room. */
+void full_channels(void) {
+    neutrino *kernel = open_few();
+    struct sigaction action;
+    struct _msg_info info;
+    struct _pulse pulse;
+    char room[8];
+    memset(&action, 0, sizeof action);
+    action.sa_handler = interrupt;
+    check(sigaction(SIGUSR1, &action, NULL) == 0);
+    int chid = ChannelCreate(_NTO_CHF_UNBLOCK), coid = ConnectAttach(0, 0, chid, 0, 0);
+    struct job job = {.kernel = kernel, .tid = 2, .chid = chid, .states = 1};
+    pthread_t thread = begin(&job, STATE_SEND);
+    int rcvid = MsgReceive(chid, room, sizeof room, NULL);
+    for (int at = 0; at < 1024; at++) check(MsgSendPulse(coid, 10, 1, at) == 0);
+    atomic_store(&interrupted, 0);
+    check(pthread_kill(thread, SIGUSR1) == 0);
+    while (!atomic_load(&interrupted)) usleep(50);
+    usleep(20000);
+    check(MsgInfo(rcvid, &info) == 0 && info.flags == 0 && neutrino_state(2) == STATE_REPLY);
+    check(MsgReceivePulse(chid, &pulse, sizeof pulse, NULL) == 0 && pulse.code == 1);
+    do check(MsgInfo(rcvid, &info) == 0); /* it is tried again */
+    while (info.flags != _NTO_MI_UNBLOCK_REQ);
+    check(MsgReply(rcvid, 6, NULL, 0) == 0 && result_of(thread) == 6);
+    close_few(kernel);
+}
+
 void looks(void) {
     neutrino *kernel = open_few();
     struct neutrino_blocked all[256];

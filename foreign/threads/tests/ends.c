@@ -106,6 +106,12 @@ void timeout_states(void) {
     int rcvid = MsgReceive(chid, room, sizeof room, NULL);
     check(result_of(client) == -ETIMEDOUT);
     fails(MsgReply(rcvid, 0, NULL, 0), ESRCH);
+    job.states = _NTO_TIMEOUT_RECEIVE | _NTO_TIMEOUT_REPLY;
+    client = start(send_once, &job);
+    until_state(2, STATE_SEND);
+    usleep(20000);
+    check(neutrino_state(2) == STATE_SEND && MsgReceive(chid, room, sizeof room, NULL) > 0);
+    check(result_of(client) == -ETIMEDOUT);
     job.states = _NTO_TIMEOUT_SEND;
     job.time = 5 * SHORT;
     client = start(send_to_receiver, &job);

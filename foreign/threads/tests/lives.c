@@ -260,6 +260,29 @@ void signals(void) {
     close_few(kernel);
 }
 
+enum { LONG_REPLY = 100000 };
+
+static void *send_with_room(void *argument) {
+    struct job *job = argument;
+    char *reply = malloc(LONG_REPLY);
+    check(reply && neutrino_join(job->kernel, 2) == 0);
+    int coid = ConnectAttach(0, SERVER, job->chid, 0, 0);
+    check(MsgSend(coid, "hello", 5, reply, LONG_REPLY) == 3 && reply[LONG_REPLY - 1] == 'e');
+    check(neutrino_leave() == 0);
+    free(reply);
+    return NULL;
+}
+
+/* What was refused is not kept for the calls of others. */
+static void send_long_after(neutrino *kernel, int chid) {
+    struct job job = {.kernel = kernel, .chid = chid};
+    char room[8];
+    pthread_t client = start(send_with_room, &job);
+    int rcvid = MsgReceive(chid, room, sizeof room, NULL);
+    check(rcvid > 0 && MsgWrite(rcvid, "e", 1, LONG_REPLY - 1) == 1 && MsgReply(rcvid, 3, NULL, 0) == 0);
+    result_of(client);
+}
+
 /* Buffers that the allocator refuses: the call fails, and the next is as ever. */
 void memory(void) {
     neutrino *kernel = open_few();
@@ -271,5 +294,6 @@ void memory(void) {
     fails(MsgSend(coid, buffer, 4, buffer, SIZE_MAX), ENOMEM);
     check(neutrino_state(0) == STATE_READY && MsgSendPulse(coid, -1, 1, 1) == 0);
     check(MsgReceive(chid, buffer, sizeof buffer, NULL) == 0);
+    send_long_after(kernel, chid);
     close_few(kernel);
 }

@@ -12,7 +12,7 @@ static const struct { const char *name; void (*run)(void); } tests[] = {
     TEST(detaches),   TEST(destroys),   TEST(shutdowns),    TEST(forks),          TEST(cancels),
     TEST(exits),      TEST(signals),    TEST(memory),       TEST(interrupts),     TEST(cancelled),
     TEST(looks),      TEST(hooks),      TEST(echo_1_1),     TEST(echo_8_4),       TEST(echo_32_16),
-    TEST(late_8_4),   TEST(late_40_8),  TEST(parts),
+    TEST(late_8_4),   TEST(late_40_8),  TEST(parts),    TEST(acts),           TEST(full_channels),
 };
 
 neutrino *open_few(void) {

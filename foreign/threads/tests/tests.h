@@ -53,7 +53,7 @@ void messages(void), lengths(void), long_messages(void), pulses(void), prioritie
 void unblocks(void), timeouts(void), timeout_states(void), detaches(void), destroys(void), parts(void);
 void shutdowns(void);
 void forks(void), cancels(void), exits(void), signals(void), memory(void);
-void interrupts(void), cancelled(void), looks(void), hooks(void);
+void interrupts(void), cancelled(void), acts(void), full_channels(void), looks(void), hooks(void);
 void echo_1_1(void), echo_8_4(void), echo_32_16(void), late_8_4(void), late_40_8(void);
 
 #endif
