@@ -51,8 +51,8 @@ static bool is_of_user(pid_t pid, uid_t uid) {
     return found && effective == uid;
 }
 
-#ifndef SO_PEERPIDFD
-#define SO_PEERPIDFD 77 /* since Linux 6.5 */
+#ifndef PEER_PIDFD
+#define PEER_PIDFD 77 /* SO_PEERPIDFD, since Linux 6.5 */
 #endif
 
 /* Opens the pidfd of the process that connected a socket. Returns it, or -1 if that has ended. An older host only finds
@@ -60,7 +60,7 @@ static bool is_of_user(pid_t pid, uid_t uid) {
 static int open_pidfd(int fd, const struct ucred *peer) {
     int pidfd = -1;
     socklen_t length = sizeof pidfd;
-    bool is_exact = !getsockopt(fd, SOL_SOCKET, SO_PEERPIDFD, &pidfd, &length);
+    bool is_exact = !getsockopt(fd, SOL_SOCKET, PEER_PIDFD, &pidfd, &length);
     if (!is_exact && errno == ENOPROTOOPT) pidfd = (int)syscall(SYS_pidfd_open, peer->pid, 0);
     if (pidfd == -1) return -1;
     if ((is_exact || is_of_user(peer->pid, peer->uid)) && !has_ended(pidfd)) return pidfd;

@@ -18,7 +18,7 @@ use std::sync::{Arc, Mutex, Weak};
 use std::time::Duration;
 use std::{hint, process, ptr, thread};
 
-const VERSION: i32 = 3;
+const VERSION: i32 = 4;
 const MOST: usize = 1 << 20;
 const PROCESS: u32 = 1;
 const THREAD: u32 = 2;
@@ -28,6 +28,9 @@ pub(crate) const UNNAME: u32 = 6;
 pub(crate) const FIND: u32 = 7;
 const CANCELLED: u8 = 1;
 const CODE: u8 = 2;
+/// The bits that each scoid has, and the bits of a program's place.
+const SCOID: u32 = 0x6000_0000;
+const PLACE_BITS: u32 = 5;
 /// The states that time out: SEND, RECEIVE and REPLY.
 const STATES: i32 = 28;
 const ASLEEP: u32 = 1;
@@ -208,7 +211,7 @@ fn program(path: &Path) -> io::Result<Arc<Program>> {
     let socket = connect_to(path)?;
     let (answer, _) = exchange(&socket, &Ask { op: PROCESS, number: VERSION, ..Ask::default() })?;
     let (path, taken) = (path.to_owned(), Mutex::new([false; 256]));
-    let program = Arc::new(Program { path, _socket: socket, process: answer.result as u8, taken });
+    let program = Arc::new(Program { path, _socket: socket, process: (answer.result & ((1 << PLACE_BITS) - 1)) as u8, taken });
     programs.push(Arc::downgrade(&program));
     Ok(program)
 }
@@ -413,9 +416,14 @@ fn error_of(answer: &Answer) -> CallError {
     if answer.how == CANCELLED { CallError::Cancelled(errno) } else { CallError::Refused(errno) }
 }
 
+/// The number of a program, from its scoid. The first program of each place has that as its number.
+fn program_of(scoid: i32) -> u32 {
+    (scoid as u32 & !SCOID).wrapping_sub(1 << PLACE_BITS)
+}
+
 fn info_of(info: &MsgInfo, copied: usize) -> Info {
     Info {
-        process: info.scoid as u8,
+        process: program_of(info.scoid),
         thread: info.tid as u8,
         priority: info.priority as u8,
         connection: ConnectionId(info.coid as u64),
@@ -431,7 +439,7 @@ fn pulse_of(answer: &Answer, bytes: &[u8]) -> Mark {
     let code = bytes.get(4).map_or(0, |code| *code as i8);
     let what = match code {
         -1 => What::Unblock(ReceiveId(number(8) as u64)),
-        -2 => What::Disconnect(number(16) as u8),
+        -2 => What::Disconnect(program_of(number(16))),
         code => What::User { code, value: number(8) },
     };
     Mark::Pulse { number: 0, pulse: Pulse { priority: answer.priority, what } }

@@ -103,8 +103,8 @@ impl Port {
     /// Joins the kernel of the `balsaeuchred` whose socket has this path, as a further thread of this program, with the
     /// priority 10. Servers and clients may be programs of their own then, in Rust or C: a server gives its channel a
     /// name ([`name_attach`](Port::name_attach)), by which a client finds it ([`name_find`](Port::name_find)), and a
-    /// channel's number has the pid of its program in its upper half. What differs: [`Thread::process`] is the daemon's
-    /// number of a program, and [`sched_set`](Port::sched_set), [`unblock`](Port::unblock) and [`state`](Port::state)
+    /// channel's number has the pid of its program in its upper half. What differs: [`Thread::process`] is the
+    /// place of a program in the daemon, [`Info::process`](crate::Info::process) a number that no later program gets, and [`sched_set`](Port::sched_set), [`unblock`](Port::unblock) and [`state`](Port::state)
     /// know the threads of this program alone. [`shutdown`](Port::shutdown) is refused with `Inval`. A port that is
     /// dropped leaves the kernel, and with the last one the program has ended for all others, who need not wait for it.
     ///

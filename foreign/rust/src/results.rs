@@ -74,15 +74,15 @@ pub enum What {
     },
     /// The sender of this held message is to be unblocked.
     Unblock(ReceiveId),
-    /// This process detached its last connection to the channel.
-    Disconnect(u8),
+    /// This process detached its last connection to the channel, or has ended.
+    Disconnect(u32),
 }
 
 /// The sender, the connection and the lengths of a held message.
 #[derive(Clone, Copy, Debug, PartialEq, Eq)]
 pub struct Info {
-    /// The sender's process.
-    pub process: u8,
+    /// The sender's process. With a daemon it is the number of a program, which no later program gets.
+    pub process: u32,
     /// The sender's thread.
     pub thread: u8,
     /// The priority with which the message was received.

@@ -31,7 +31,7 @@ fn a_message_is_answered() {
             let Request { rcvid, info, .. } = request;
             let connection = to;
             let expected =
-                Info { process: CLIENT, thread: 2, priority: 20, connection, msglen: 3, srcmsglen: 5, dstmsglen: 8 };
+                Info { process: CLIENT.into(), thread: 2, priority: 20, connection, msglen: 3, srcmsglen: 5, dstmsglen: 8 };
             assert_eq!((info, server.msg_info(rcvid)), (expected, Ok(expected)));
             assert_eq!(server.state(2), Ok(State { state: ThreadState::ReplyBlocked(channel), priority: 20 }));
             assert_eq!(server.msg_read(rcvid, 3, &mut buffer), Ok(&b"lo"[..]));
@@ -216,7 +216,7 @@ fn limits() {
             let connections: Vec<_> = (0..1024).map(|_| client.connect_attach(channel).unwrap()).collect();
             assert_eq!(client.connect_attach(channel), refused(Errno::Again));
             connections.into_iter().for_each(|connection| client.connect_detach(connection).unwrap());
-            assert_eq!(server.msg_receive_pulse(channel).map(|pulse| pulse.what), Ok(What::Disconnect(CLIENT)));
+            assert_eq!(server.msg_receive_pulse(channel).map(|pulse| pulse.what), Ok(What::Disconnect(CLIENT.into())));
         }
         let to = client.connect_attach(channel).unwrap();
         (0..1024).for_each(|value| client.msg_send_pulse(to, 1, 1, value).unwrap());

@@ -99,7 +99,7 @@ fn two_programs() {
             Received::Message(request) => {
                 let info = server.msg_info(request.rcvid).unwrap();
                 assert_eq!(info, request.info);
-                assert_ne!(info.process, server.thread().process);
+                assert_ne!(info.process, server.thread().process.into());
                 assert_eq!(info.srcmsglen, request.copied);
                 server.msg_reply(request.rcvid, request.copied as i64, request.bytes()).unwrap();
             }
@@ -109,6 +109,40 @@ fn two_programs() {
     assert_eq!(pulses[0], Pulse { priority: 11, what: What::User { code: 5, value: -6 } });
     assert!(matches!(pulses[1].what, What::Disconnect(_)));
     assert!(child.wait().unwrap().success());
+}
+
+/// Programs one after another get the same place, but each has a number of its own.
+#[test]
+fn numbers_of_programs() {
+    if let Some((_, mut client)) = spawned() {
+        let channel = find(&mut client, "server");
+        let connection = client.connect_attach(channel).unwrap();
+        client.msg_send(connection, b"", &mut []).unwrap();
+        return;
+    }
+    let Some(daemon) = Daemon::start("numbers") else { return };
+    let mut server = daemon.connect();
+    let channel = server.channel_create(ChannelFlags::DISCONNECT).unwrap();
+    server.name_attach(channel, "server").unwrap();
+    let (mut all, mut ended) = (Vec::new(), Vec::new());
+    for at in 0..3 {
+        let mut child = daemon.spawn("numbers_of_programs", "client");
+        while ended.len() <= at {
+            match server.msg_receive(channel, &mut []).unwrap() {
+                Received::Message(request) => {
+                    all.push(request.info.process);
+                    server.msg_reply(request.rcvid, 0, b"").unwrap();
+                }
+                Received::Pulse(pulse) => {
+                    let What::Disconnect(process) = pulse.what else { panic!("{pulse:?}") };
+                    ended.push(process);
+                }
+            }
+        }
+        assert!(child.wait().unwrap().success());
+    }
+    assert_eq!(all, ended);
+    assert!(all[0] != all[1] && all[0] != all[2] && all[1] != all[2]);
 }
 
 #[test]

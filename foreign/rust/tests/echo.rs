@@ -17,7 +17,7 @@ const LATE: i32 = -9;
 fn answer(port: &mut Port, to: ConnectionId, request: Request<'_>) {
     let Request { rcvid, info, .. } = request;
     let bytes = request.bytes();
-    assert_eq!((info.process, info.thread, info.connection), (CLIENT, bytes[0], to));
+    assert_eq!((info.process, info.thread, info.connection), (CLIENT.into(), bytes[0], to));
     assert_eq!((info.msglen, info.srcmsglen, info.dstmsglen), (4, 4, 8));
     match port.msg_reply(rcvid, bytes[2].into(), &[bytes[0], bytes[1] ^ 0xff, bytes[2], bytes[3]]) {
         Ok(()) | Err(CallError::Refused(Errno::Srch)) => (),

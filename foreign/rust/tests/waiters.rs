@@ -147,7 +147,7 @@ fn detached_under() {
             other.connect_detach(to).unwrap();
             assert_eq!(sent.join().unwrap(), Some(CallError::Cancelled(Errno::Badf)));
         });
-        assert_eq!(server.msg_receive_pulse(channel), Ok(Pulse { priority: 30, what: What::Disconnect(CLIENT) }));
+        assert_eq!(server.msg_receive_pulse(channel), Ok(Pulse { priority: 30, what: What::Disconnect(CLIENT.into()) }));
         let to = client.connect_attach(channel).unwrap();
         thread::scope(|scope| {
             let sent = scope.spawn(|| client.msg_send(to, b"a", &mut []).err());
