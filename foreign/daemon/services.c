@@ -73,8 +73,8 @@ static int process_of_rcvid(const struct client *c, int rcvid) {
     int process = rcvid ? rcvid & ((1 << SLOT_BITS) - 1) : c->process;
     const struct process *of = &processes[process];
     if (rcvid < 0 || !of->peer.pid || of->ended_as) return 0;
-    if (rcvid && !is_since(number_of_rcvid(rcvid), of)) return 0;
-    return process == c->process || is_client(process, c->process) ? process : 0;
+    if (process == c->process) return process;
+    return is_since(number_of_rcvid(rcvid), of) && is_client(process, c->process) ? process : 0;
 }
 
 /* The answer brings the pidfd, so that the host asks whether the server may signal that program, and no pid leads to a

@@ -6,6 +6,7 @@
 #include "tests.h"
 
 #include <sys/mman.h>
+#include <sys/prctl.h>
 #include <time.h>
 
 enum { SERVERS = 4, WORKERS = 12, LIVES = 1 << 16, HELD = 4, RECEIVED = 4096 };
@@ -70,15 +71,21 @@ static void deliver_any(void) {
 
 static void take_message(rcvid_t rcvid, const struct message *m, const struct _msg_info *info) {
     struct _client_info client;
-    check(info->pid == m->pid);
-    check(ConnectClientInfo(info->scoid, &client, 0) == 0 ? client.pid == m->pid : errno == EINVAL);
+    bool is_open = m->type == _IO_CONNECT;
+    check(is_open || info->pid == m->pid);
+    check(ConnectClientInfo(info->scoid, &client, 0) == 0 ? client.pid == info->pid : errno == EINVAL);
     struct received *message = &received[receipts++ % RECEIVED];
-    *message = (struct received){rcvid, info->scoid, m->pid, false, m->event};
+    *message = (struct received){rcvid, info->scoid, info->pid, false, m->event};
+    if (is_open) {
+        message->event.sigev_notify = SIGEV_NONE;
+        check(MsgReply(rcvid, EOK, NULL, 0) == 0 || errno == ESRCH);
+        return;
+    }
     struct received *place = &held[rand() % HELD];
     if (place->rcvid) answer(place);
     if (rand() % 4 == 0) *place = *message;
     else answer(&(struct received){.rcvid = rcvid, .pid = m->pid});
-    if (rand() % 8 == 0) deliver_any();
+    if (rand() % 2 == 0) deliver_any();
 }
 
 static void take_unblock(const struct _pulse *pulse) {
@@ -132,7 +139,7 @@ static void serve(void) {
             union { struct _pulse pulse; struct message message; } room;
             struct _msg_info info;
             set_timeout(1 + rand() % 20);
-            rcvid_t rcvid = receive_answering_opens(name->chid, &room, sizeof room, &info);
+            rcvid_t rcvid = MsgReceive(name->chid, &room, sizeof room, &info);
             check(rcvid >= 0 || errno == ETIMEDOUT);
             all->count[worker]++;
             if (rcvid > 0) take_message(rcvid, &room.message, &info);
@@ -223,6 +230,7 @@ static pid_t begin(int at) {
         while (at >= SERVERS && all->life[life].pid != child) usleep(50);
         return child;
     }
+    prctl(PR_SET_PDEATHSIG, SIGKILL); /* a test that fails leaves nobody */
     worker = at;
     srand((unsigned)getpid());
     if (at < SERVERS) serve();

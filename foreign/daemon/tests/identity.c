@@ -188,6 +188,44 @@ static void forked(void) {
     check(kill(shared->pid, SIGKILL) == 0 && name_detach(name, 0) == 0);
 }
 
+static void *send_on(void *coid) {
+    MsgSend((int)(intptr_t)coid, &(struct message){.type = _IO_MAX + 1}, sizeof(struct message), NULL, 0);
+    return NULL;
+}
+
+static void leave_blocked(void *unused) {
+    pthread_t thread;
+    (void)unused;
+    check(pthread_create(&thread, NULL, send_on, (void *)(intptr_t)open_name("server")) == 0);
+    until_seen(1);
+    int child = (int)syscall(SYS_fork);
+    if (child) {
+        shared->pid = child;
+        _exit(0);
+    }
+    sleep(PATIENCE);
+    _exit(0);
+}
+
+/* The same while a thread of it is REPLY-blocked. */
+static void forked_blocked(void) {
+    struct _msg_info info;
+    struct message m;
+    struct _pulse pulse;
+    name_attach_t *name = name_attach(NULL, "server", 0);
+    pid_t one = spawn(leave_blocked, NULL);
+    rcvid_t rcvid = receive_answering_opens(name->chid, &m, sizeof m, &info);
+    check(rcvid > 0);
+    shared->seen = 1;
+    expect_end(one);
+    set_timeout(LATE);
+    check(MsgReceivePulse(name->chid, &pulse, sizeof pulse, NULL) == 0 && pulse.code == _PULSE_CODE_UNBLOCK);
+    check(pulse.value.sival_int == rcvid && pulse.scoid == info.scoid && MsgReply(rcvid, 0, NULL, 0) == 0);
+    set_timeout(LATE);
+    check(MsgReceivePulse(name->chid, &pulse, sizeof pulse, NULL) == 0 && pulse.code == _PULSE_CODE_DISCONNECT);
+    check(kill(shared->pid, SIGKILL) == 0 && name_detach(name, 0) == 0);
+}
+
 static int connect_raw(void) {
     struct sockaddr_un address = {.sun_family = AF_UNIX};
     int fd = socket(AF_UNIX, SOCK_SEQPACKET, 0);
@@ -365,7 +403,7 @@ static void of_users(void) {
 
 #define TEST(name) {#name, name}
 static const struct { const char *name; void (*run)(void); } tests[] = {
-    TEST(disconnects), TEST(scoids), TEST(events), TEST(forked), TEST(reused_pids), TEST(of_users),
+    TEST(disconnects), TEST(scoids), TEST(events), TEST(forked), TEST(forked_blocked), TEST(reused_pids), TEST(of_users),
 };
 
 static void run(void *at) { tests[(intptr_t)at].run(); }
