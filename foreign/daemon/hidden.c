@@ -142,8 +142,7 @@ static int make_hidden(balsaeuchre_request request) {
 
 /* Sends a pulse by a thread that is no program's. Returns 0 or an errno. */
 static int send_pulse(balsaeuchre_request request, const struct note *content) {
-    int note = -1;
-    if (has_room(content->chid)) note = new_note(content->chid, content->scoid, content->code, content->value);
+    int note = new_note(content->chid, content->scoid, content->code, content->value);
     if (note == -1) return EAGAIN;
     request.kind = BALSAEUCHRE_PULSE;
     request.pulse_code = NOTED;
@@ -171,11 +170,15 @@ static int tell_of_ends(int chid, unsigned flags) {
     return 0;
 }
 
-/* Sends a pulse to each channel of a process that has this flag. It is lost where there is no room. */
+/* Sends a pulse to each channel of a process that has this flag. It is lost where there is no room beside the disconnects
+ * of those who are connected. */
 static void tell_process(int process, unsigned flag, int code, int value) {
     for (int place = 0; place < CHANNEL_PLACES; place++) {
         const struct name *channel = &k->channels[place];
         if (!channel->id || channel->owner != process || !(told[place].flags & flag)) continue;
+        bool owes = flags_of[place] & BALSAEUCHRE_TELL_DISCONNECT;
+        uint32_t connected = owes ? connected_to(chid_at(place), NULL) : 0;
+        if (pulses[place] + __builtin_popcount(connected) >= WAITING) continue;
         balsaeuchre_request request = balsaeuchre_request_of(BALSAEUCHRE_PULSE, SYSTEM, told[place].connection);
         request.priority = USUAL;
         struct note content = {.chid = chid_at(place), .scoid = processes[process].scoid, .code = (int8_t)code};

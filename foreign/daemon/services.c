@@ -96,7 +96,7 @@ static void deliver_event(struct client *c, const struct wire_ask *a) {
     struct note content = {.chid = chid, .scoid = processes[c->process].scoid, .code = a->request.pulse_code};
     content.value = (int64_t)a->value;
     int error = !process ? ESRCH : !id ? EBADF : !request.priority ? EINVAL : 0;
-    if (!error && !(a->flags & WIRE_TESTS)) error = send_pulse(request, &content);
+    if (!error && !(a->flags & WIRE_TESTS)) error = has_room(chid) ? send_pulse(request, &content) : EAGAIN;
     put_result(c, error, 0);
 }
 
