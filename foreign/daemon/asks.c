@@ -57,7 +57,23 @@ int neutrino_remote_client(int scoid, struct wire_client *client) {
     return (int)ask_daemon(&ask, (struct iovec){NULL, 0}, &answer, (struct iovec){client, sizeof *client});
 }
 
-pid_t neutrino_remote_sender(int rcvid) { return (pid_t)ask_about(OP_SENDER, rcvid); }
+/* Asks by the program's socket, as a box brings no file. */
+int neutrino_remote_sender(int rcvid, pid_t *pid) {
+    int cancel, ignored, found[2] = {-1, -1};
+    struct iovec none = {NULL, 0};
+    struct wire_ask ask = {.op = OP_SENDER, .number = rcvid};
+    struct wire_answer answer;
+    if (inside || program_socket == -1) return fail(inside ? EDEADLK : ESHUTDOWN);
+    pthread_setcancelstate(PTHREAD_CANCEL_DISABLE, &cancel);
+    inside++;
+    pthread_mutex_lock(&asking);
+    *pid = (pid_t)exchange(program_socket, &ask, none, &answer, none, found);
+    pthread_mutex_unlock(&asking);
+    int error = errno;
+    inside--;
+    pthread_setcancelstate(cancel, &ignored);
+    return *pid == -1 ? fail(error) : found[0];
+}
 
 int neutrino_remote_deliver(int rcvid, const struct sigevent *event, bool delivers) {
     balsaeuchre_request pulse = pulse_of(event->sigev_priority, event->sigev_code);

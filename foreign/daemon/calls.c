@@ -13,7 +13,7 @@ static enum table table_of(uint8_t kind) {
     return kind < sizeof tables ? tables[kind] : TABLES;
 }
 
-/* A receive id has its sender's process below the layer's number. So it leads there after the answer, too. */
+/* A receive id has its sender's place below the layer's number. So it leads there after the answer, too. */
 static int rcvid_of(int number, int process) { return number ? number << SLOT_BITS | process : 0; }
 
 static int number_of_rcvid(int rcvid) { return rcvid > 0 ? rcvid >> SLOT_BITS : 0; }
@@ -29,7 +29,7 @@ static struct place *sender_of(int number) {
 /* The process of a host's pid, or 0. */
 static int process_of(pid_t pid) {
     for (int at = 1; at <= limits.processes; at++) {
-        if (pid && processes[at].peer.pid == pid && !processes[at].ends) return at;
+        if (pid && processes[at].peer.pid == pid && !processes[at].ended_as) return at;
     }
     return 0;
 }
@@ -62,21 +62,24 @@ static size_t length_of_answer(const struct client *c) {
 /* Puts the host's numbers where the layer has the kernel's. */
 static void complete_info(struct _msg_info *info) {
     const struct client *sender = info->tid ? client_of[k->place_of[info->tid]] : NULL;
+    info->scoid = processes[info->pid].scoid;
     info->pid = processes[info->pid].peer.pid;
     info->tid = sender ? sender->tid : 0;
     if (info->coid) info->coid = coid_at(place_in(&k->tables[CONNECTIONS], info->coid));
 }
 
-/* The pulse that a receive got: one that asks to unblock names a message. */
-static void complete_unblock(struct client *c) {
+/* A receive got a pulse that the kernel made: its note says who it is from. */
+static void complete_kernel_pulse(struct client *c, const balsaeuchre_ending *row) {
+    bool is_unblock = row->what == BALSAEUCHRE_WHAT_UNBLOCK;
     struct _pulse pulse;
-    if (c->call.room_len < sizeof pulse) return;
-    memcpy(&pulse, c->call.room, sizeof pulse);
-    const struct place *sender = sender_of(pulse.value.sival_int);
-    if (pulse.code != _PULSE_CODE_UNBLOCK || pulse.scoid) return;
-    pulse.value.sival_int = sender ? rcvid_of(sender->rcvid, sender->pid) : 0;
-    pulse.scoid = sender ? SCOID | sender->pid : 0;
-    memcpy(c->call.room, &pulse, sizeof pulse);
+    memset(&pulse, 0, sizeof pulse);
+    pulse.type = _PULSE_TYPE;
+    pulse.code = is_unblock ? _PULSE_CODE_UNBLOCK : _PULSE_CODE_DISCONNECT;
+    struct note note = take_kernel_pulse(c->place->number, pulse.code, is_unblock ? row->rcvid : row->id);
+    pulse.value.sival_int = (int)note.value;
+    pulse.scoid = note.scoid;
+    size_t length = c->call.room_len < sizeof pulse ? c->call.room_len : sizeof pulse;
+    if (length) memcpy(c->call.room, &pulse, length);
 }
 
 /* What the ending of a call says besides its result. */
@@ -89,6 +92,7 @@ static void complete_answer(struct client *c) {
         a->how = row->mark == BALSAEUCHRE_ERRORED ? WIRE_CODE : is_cut ? WIRE_CUT : 0;
         a->priority = row->priority;
         a->count = row->mark == BALSAEUCHRE_REPLIED ? (uint32_t)row->count : 0;
+        if (row->mark == BALSAEUCHRE_PULSED && row->what != BALSAEUCHRE_WHAT_USER) complete_kernel_pulse(c, row);
         if (row->mark != BALSAEUCHRE_THREAD_STATE || !row->id) continue;
         a->count = (uint32_t)number_of(k, CHANNELS, row->id);
         a->info.pid = k->channels[place_in(&k->tables[CHANNELS], (int)a->count)].owner;
@@ -104,8 +108,6 @@ static void end_call(struct client *c) {
     int sender = c->answer.info.pid;
     complete_answer(c);
     size_t length = length_of_answer(c);
-    if (!p->error && length && !result && (kind == BALSAEUCHRE_RECEIVE || kind == BALSAEUCHRE_RECEIVE_PULSE))
-        complete_unblock(c);
     if (!p->error && kind == BALSAEUCHRE_RECEIVE && result) result = rcvid_of((int)result, sender);
     put_answer(c, p->error, result, c->call.room, length);
     drop_bytes(c);
@@ -124,10 +126,33 @@ static uint64_t tell(neutrino *of, uint64_t ended) {
 
 /* ---- calls */
 
+/* Whether the message of a thread is held on a channel that is told before the call ends. */
+static bool is_guarded(const struct place *p) {
+    bool is_held = p->call && p->kind == BALSAEUCHRE_SEND && p->rcvid;
+    return is_held && flags_of[place_in(&k->tables[CHANNELS], p->chid)] & BALSAEUCHRE_TELL_UNBLOCK;
+}
+
+/* Before an Unblock: notes the pulse that it makes, if it makes one. Returns an errno or 0. */
+static int note_unblock_pulse(const struct place *p) {
+    if (!is_guarded(p) || p->asked) return 0;
+    if (!has_room(p->chid)) return EAGAIN;
+    uint64_t id = id_of(k, MESSAGES, p->rcvid, 0);
+    note_kernel_pulse(p->chid, processes[p->pid].scoid, _PULSE_CODE_UNBLOCK, rcvid_of(p->rcvid, p->pid), id);
+    return 0;
+}
+
+/* After it: the kernel may have refused the pulse. */
+static void drop_unblock_pulse(const struct place *p) {
+    if (is_guarded(p) && !p->asked) take_kernel_pulse(p->chid, _PULSE_CODE_UNBLOCK, id_of(k, MESSAGES, p->rcvid, 0));
+}
+
 /* Unblocks a thread that is in a call. */
 static void interrupt(struct client *c, enum woken woken) {
-    uint64_t again = end_early(k, c->place, woken);
+    if (woken == WAS_INTERRUPTED) c->call.interrupted = true;
+    bool noted = !note_unblock_pulse(c->place);
+    uint64_t again = noted ? end_early(k, c->place, woken) : now() + RETRY * 1000000u;
     if (c->place->call) c->call.until = again;
+    drop_unblock_pulse(c->place);
 }
 
 /* Takes the note of a pulse, and looks whether the process may have one channel or connection more. */
@@ -139,16 +164,21 @@ static int prepare_call(struct client *c) {
     if (kind == BALSAEUCHRE_CONNECT_ATTACH && process->connections >= limits.connections) return EAGAIN;
     if (kind == BALSAEUCHRE_CHANNEL_CREATE) call->request.flags = (uint8_t)c->ask.value;
     if (kind == BALSAEUCHRE_CONNECT_ATTACH && !(call->owner = (uint8_t)process_of(c->ask.pid))) return ESRCH;
+    bool attaches = kind == BALSAEUCHRE_CONNECT_ATTACH && id_of(k, CHANNELS, call->number, call->owner);
+    if (attaches && !may_attach(c->process, call->number)) return EAGAIN;
     if (call->table == CONNECTIONS) call->number &= ~SIDE;
     if (call->table == MESSAGES) call->number = number_of_rcvid(call->number);
     if (kind == BALSAEUCHRE_PRIORITY_SET || kind == BALSAEUCHRE_STATE || kind == BALSAEUCHRE_UNBLOCK) {
         const struct client *target = thread_of(c->process, call->request.target);
         if (!target) return ESRCH;
         call->request.target = target->place->tid;
+        if (kind == BALSAEUCHRE_UNBLOCK) return note_unblock_pulse(target->place);
     }
     if (kind != BALSAEUCHRE_PULSE) return 0;
     const struct name *connection = &k->connections[place_in(&k->tables[CONNECTIONS], call->number)];
-    int note = new_note(connection->peer, SCOID | c->process, call->request.pulse_code, (int64_t)c->ask.value);
+    if (id_of(k, CONNECTIONS, call->number, c->process) && !has_room(connection->peer)) return EAGAIN;
+    int scoid = processes[c->process].scoid;
+    int note = new_note(connection->peer, scoid, call->request.pulse_code, (int64_t)c->ask.value);
     call->request.pulse_code = NOTED;
     call->request.value = note;
     return note == -1 ? EAGAIN : 0;
@@ -161,6 +191,10 @@ static void finish_call(struct client *c) {
     int kind = c->call.request.kind;
     if (p->error && kind == BALSAEUCHRE_PULSE) end_note(c->call.request.value);
     if (p->error || p->call) return;
+    if (kind == BALSAEUCHRE_CONNECT_DETACH)
+        note_detach(&k->connections[place_in(&k->tables[CONNECTIONS], c->call.number)], k->event.done.call);
+    if (kind == BALSAEUCHRE_CHANNEL_CREATE)
+        flags_of[place_in(&k->tables[CHANNELS], (int)p->result)] = c->call.request.flags;
     process->channels += (kind == BALSAEUCHRE_CHANNEL_CREATE) - (kind == BALSAEUCHRE_CHANNEL_DESTROY);
     process->connections += (kind == BALSAEUCHRE_CONNECT_ATTACH) - (kind == BALSAEUCHRE_CONNECT_DETACH);
     if (kind == BALSAEUCHRE_CONNECT_ATTACH) {
@@ -207,6 +241,8 @@ static void make_call(struct client *c) {
         error = make_under_lock(k, c->place, &c->call, &k->event, &ended);
         if (error && kind == BALSAEUCHRE_PULSE) end_note(c->call.request.value);
     }
+    if (kind == BALSAEUCHRE_UNBLOCK && k->place_of[c->call.request.target] != PLACES)
+        drop_unblock_pulse(&k->places[k->place_of[c->call.request.target]]);
     if (error) {
         drop_bytes(c);
         put_result(c, error, -1);

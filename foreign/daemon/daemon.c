@@ -62,7 +62,8 @@ static uint32_t open_all(void) {
     }
     roster[length++] = (balsaeuchre_thread){SYSTEM, SYSTEM, USUAL};
     open_tables(k);
-    k->tables[MESSAGES].turns >>= SLOT_BITS; /* an rcvid has the process below */
+    k->tables[MESSAGES].turns >>= SLOT_BITS;    /* an rcvid has the process below */
+    k->tables[CONNECTIONS].turns >>= 1;         /* an scoid has a bit that no coid has */
     k->hooks.pulse = complete_pulse;
     open_notes();
     record_roster(roster, length);
@@ -99,6 +100,7 @@ static void take_packets(bool sleeps) {
         struct client *c = ready[at].data.ptr;
         if (!c) accept_client();
         else if (c == (const void *)&stops) stops = true;
+        else if (is_place(c)) look_at_program((void *)c);
         else if (c != (const void *)&bell && c->fd != -1) read_packet(c);
     }
     end_rest();
@@ -125,7 +127,7 @@ static void serve_once(void) {
     leave_seats();
     if (ending && now() >= retry) {
         for (int process = 1; process <= limits.processes; process++) {
-            if (processes[process].ends) end_connections(process);
+            if (processes[process].retries) end_connections(process, false);
         }
         retry = now() + RETRY * 1000000u;
     }

@@ -20,7 +20,9 @@
 enum { CLIENTS = 256, PROCESSES = 32, CLOCKS = 100, SYSTEM = 200, RETRY = 10 }; /* RETRY: milliseconds */
 enum { USUAL = 10, SIDE = SCOID };
 enum { LONG_ASK = 1 << 16, KEPT = 64 << 20 }; /* bytes; KEPT: of free memory that the host doesn't get back */
-enum { CHANNEL_PLACES = 1 << CHANNEL_BITS, CONNECTION_PLACES = 1 << CONNECTION_BITS, SLOT_BITS = 6 };
+enum { CHANNEL_PLACES = 1 << CHANNEL_BITS, CONNECTION_PLACES = 1 << CONNECTION_BITS };
+enum { WAITING = 1024 }; /* pulses of a channel, at most */
+_Static_assert(PROCESSES <= 1 << SLOT_BITS, "a process in the bits of a place");
 
 /* A socket. */
 struct client {
@@ -46,10 +48,15 @@ struct client {
 
 static const struct client no_client = {.fd = -1, .bell = -1};
 
-/* A process of the kernel: a program of the host. */
+/* A process of the kernel, which is a place for a program of the host. */
 struct process {
     struct ucred peer; /* pid 0: it is free */
-    bool ends;
+    int pidfd;         /* of the program; -1: it has ended */
+    int scoid;
+    uint64_t came_as;  /* the number of the accept of its socket */
+    uint64_t first;    /* the serial of the first message that may be from it */
+    uint64_t ended_as; /* counts the ends of programs; 0: it has not ended */
+    bool retries;      /* what the kernel refused as it ended is tried again */
     size_t bytes;
     int channels, connections;
     uint32_t ngroups;
@@ -69,7 +76,7 @@ static neutrino kernel_of_all, *const k = &kernel_of_all;
 static struct client clients[CLIENTS];
 static struct client *client_of[PLACES]; /* by place */
 static struct process processes[PROCESSES];
-static int gone, ending; /* clients whose socket has ended; processes that end */
+static int gone, ending; /* clients whose socket has ended; processes whose end is tried again */
 
 static uint8_t clock_of(int process) { return (uint8_t)(CLOCKS + process); }
 

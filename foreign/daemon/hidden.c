@@ -1,10 +1,12 @@
 /* Calls of threads that are no program's: clocks, and the daemon's own. Pulses, with notes of what the kernel does not
  * know of them. Tested, not proved.
  *
- * Each pulse has the code NOTED in the kernel, and as its value the number of a note. There are as many notes as pulses
- * may wait: 1,024 on each of 64 channels, besides one for each seat whose pulse is refused.
+ * Each pulse that a program sends has the code NOTED in the kernel, and as its value the number of a note. The pulses
+ * that the kernel makes, of disconnects and to unblock, have notes, too, which are found by what the kernel says of
+ * them: who they are from is not always in the place still as they are received. There are as many notes as pulses may
+ * wait: 1,024 on each of 64 channels, besides one for each seat whose pulse is refused.
  */
-enum { NOTED = 127, NOTES = 65536 + PLACES, TAKEN = -2 };
+enum { NOTED = 127, NOTES = WAITING * CHANNEL_PLACES + PLACES, TAKEN = -2 };
 
 struct note {
     int next; /* the next free one, -1: none; TAKEN: it is not free */
@@ -12,17 +14,22 @@ struct note {
     int32_t scoid;
     int8_t code;
     int64_t value;
+    uint64_t id; /* of a pulse of the kernel: of a disconnect the number of the call that made it, else the message's */
+    int later;   /* the next such note of the channel, -1: none */
 };
 
 static struct note notes[NOTES];
 static int free_note = -1;
-static int pulses[CHANNEL_PLACES]; /* notes of a channel, by its place */
+static int pulses[CHANNEL_PLACES]; /* notes of a channel, by its place: the pulses that wait there */
+static int listed[CHANNEL_PLACES]; /* the first of those whose pulses the kernel made, or -1 */
+static uint8_t flags_of[CHANNEL_PLACES]; /* of the kernel's channel */
 
 static int chid_at(int place) { return (int)(k->channels[place].turn << CHANNEL_BITS) | place; }
 
 static int *pulses_of(int chid) { return &pulses[place_in(&k->tables[CHANNELS], chid)]; }
 
 static void open_notes(void) {
+    for (int place = 0; place < CHANNEL_PLACES; place++) listed[place] = -1;
     for (int at = NOTES - 1; at >= 0; at--) {
         notes[at].next = free_note;
         free_note = at;
@@ -34,7 +41,7 @@ static int new_note(int chid, int scoid, int code, int64_t value) {
     int at = free_note;
     if (at == -1) return -1;
     free_note = notes[at].next;
-    notes[at] = (struct note){TAKEN, chid, scoid, (int8_t)code, value};
+    notes[at] = (struct note){TAKEN, chid, scoid, (int8_t)code, value, 0, -1};
     ++*pulses_of(chid);
     return at;
 }
@@ -50,6 +57,63 @@ static void end_notes(int chid) {
     for (int at = 0; at < NOTES && *pulses_of(chid); at++) {
         if (notes[at].chid == chid) end_note(at);
     }
+    listed[place_in(&k->tables[CHANNELS], chid)] = -1;
+}
+
+/* Notes a pulse that the kernel makes. */
+static void note_kernel_pulse(int chid, int scoid, int code, int64_t value, uint64_t id) {
+    int at = new_note(chid, scoid, code, value), *first = &listed[place_in(&k->tables[CHANNELS], chid)];
+    if (at == -1) return;
+    notes[at].id = id;
+    notes[at].later = *first;
+    *first = at;
+}
+
+/* Ends the note of such a pulse. Returns what it had; the scoid is 0 if there is none. */
+static struct note take_kernel_pulse(int chid, int code, uint64_t id) {
+    int *link = &listed[place_in(&k->tables[CHANNELS], chid)];
+    while (*link != -1 && (notes[*link].code != code || notes[*link].id != id)) link = &notes[*link].later;
+    int at = *link;
+    if (at == -1) return (struct note){.scoid = 0};
+    struct note found = notes[at];
+    *link = found.later;
+    end_note(at);
+    return found;
+}
+
+/* Whether one more pulse may wait on a channel. Where processes' disconnects are pulses, one place is kept for each. */
+static bool has_room(int chid) {
+    int place = place_in(&k->tables[CHANNELS], chid);
+    int kept = flags_of[place] & BALSAEUCHRE_TELL_DISCONNECT ? limits.processes : 0;
+    return pulses[place] < WAITING - kept;
+}
+
+/* The processes that are connected to a channel, each as a bit, but for one connection. */
+static uint32_t connected_to(int chid, const struct name *but) {
+    uint32_t found = 0;
+    for (int at = 0; at < CONNECTION_PLACES; at++) {
+        const struct name *name = &k->connections[at];
+        if (name->id && name->peer == chid && name != but) found |= 1u << name->owner;
+    }
+    return found;
+}
+
+/* Whether a process may connect to a channel: its disconnect has to have a place there, too. */
+static bool may_attach(int process, int chid) {
+    int place = place_in(&k->tables[CHANNELS], chid);
+    if (!(flags_of[place] & BALSAEUCHRE_TELL_DISCONNECT) || pulses[place] < WAITING - PROCESSES) return true;
+    uint32_t connected = connected_to(chid, NULL);
+    return connected >> process & 1 || pulses[place] + __builtin_popcount(connected) < WAITING;
+}
+
+/* A connection was detached by this call of the kernel. If it was the last one of its process to a channel that is told
+ * so, the kernel has made a pulse. */
+static void note_detach(const struct name *name, uint64_t call) {
+    int place = place_in(&k->tables[CHANNELS], name->peer);
+    bool is_open = k->channels[place].id && chid_at(place) == name->peer;
+    if (!is_open || !(flags_of[place] & BALSAEUCHRE_TELL_DISCONNECT)) return;
+    if (connected_to(name->peer, name) >> name->owner & 1) return;
+    note_kernel_pulse(name->peer, processes[name->owner].scoid, _PULSE_CODE_DISCONNECT, 0, call);
 }
 
 /* The layer's hook: a pulse is received. */
@@ -70,6 +134,8 @@ static int make_hidden(balsaeuchre_request request) {
         const balsaeuchre_ending *row = &k->event.rows[at];
         if (row->thread == request.thread && row->mark == BALSAEUCHRE_FAILED) error = row->errno_;
     }
+    int coid = !error && request.kind == BALSAEUCHRE_CONNECT_DETACH ? number_of(k, CONNECTIONS, request.id) : 0;
+    if (coid) note_detach(&k->connections[place_in(&k->tables[CONNECTIONS], coid)], k->event.done.call);
     tell(k, deliver_all(k));
     return host_error(error);
 }
@@ -104,14 +170,20 @@ static int tell_of_ends(int chid, unsigned flags) {
     return 0;
 }
 
-/* Sends a pulse to each channel of a process that has this flag. It is lost where 1,024 wait. */
+/* Sends a pulse to each channel of a process that has this flag. It is lost where there is no room beside the disconnects
+ * of those who are connected. */
 static void tell_process(int process, unsigned flag, int code, int value) {
     for (int place = 0; place < CHANNEL_PLACES; place++) {
         const struct name *channel = &k->channels[place];
         if (!channel->id || channel->owner != process || !(told[place].flags & flag)) continue;
+        bool owes = flags_of[place] & BALSAEUCHRE_TELL_DISCONNECT;
+        uint32_t connected = owes ? connected_to(chid_at(place), NULL) : 0;
+        if (pulses[place] + __builtin_popcount(connected) >= WAITING) continue;
         balsaeuchre_request request = balsaeuchre_request_of(BALSAEUCHRE_PULSE, SYSTEM, told[place].connection);
         request.priority = USUAL;
-        send_pulse(request, &(struct note){0, chid_at(place), SCOID | process, (int8_t)code, value});
+        struct note content = {.chid = chid_at(place), .scoid = processes[process].scoid, .code = (int8_t)code};
+        content.value = value;
+        send_pulse(request, &content);
     }
 }
 
@@ -129,6 +201,7 @@ static void end_channel(int chid) {
     int place = place_in(&k->tables[CHANNELS], chid);
     *names[place] = 0;
     end_notes(chid);
+    flags_of[place] = 0;
     balsaeuchre_request detach = balsaeuchre_request_of(BALSAEUCHRE_CONNECT_DETACH, SYSTEM, told[place].connection);
     if (told[place].flags) make_hidden(detach);
     told[place].flags = 0;

@@ -64,7 +64,8 @@ static long exchange(int fd, struct wire_ask *ask, struct iovec sent, struct wir
     while (length == -1 && (errno == EINTR || errno == ECONNRESET));
     if (length < (ssize_t)sizeof *answer || answer->length > room.iov_len) return fail(ESHUTDOWN);
     if (answer->error) return fail(answer->error);
-    if (files && rights.head.cmsg_len != CMSG_LEN(2 * sizeof *files)) return fail(ESHUTDOWN);
-    if (files) memcpy(files, CMSG_DATA(&rights.head), 2 * sizeof *files);
+    size_t count = ask->op == OP_SENDER ? 1 : 2;
+    if (files && rights.head.cmsg_len != CMSG_LEN(count * sizeof *files)) return fail(ESHUTDOWN);
+    if (files) memcpy(files, CMSG_DATA(&rights.head), count * sizeof *files);
     return (long)answer->result;
 }

@@ -11,7 +11,10 @@ static bool serve(struct client *c, const struct wire_ask *a, const uint8_t *byt
     case OP_UNNAME: detach_name(c, a); break;
     case OP_FIND: look_up_name(c, a, bytes); break;
     case OP_CLIENT: tell_client(c, a); break;
-    case OP_SENDER: tell_sender(c, a); break;
+    case OP_SENDER:
+        if (c->box) return false; /* which brings no file */
+        tell_sender(c, a);
+        break;
     case OP_EVENT: deliver_event(c, a); break;
     case OP_DEATH:
         tell_process(c->process, THREAD_DEATH, CODE_THREADDEATH, a->number);

@@ -28,8 +28,8 @@ int neutrino_remote_find(const char *name, pid_t *pid);
 
 int neutrino_remote_client(int scoid, struct wire_client *client);
 
-/* Returns the pid of the program that an rcvid is from. */
-pid_t neutrino_remote_sender(int rcvid);
+/* Returns a new pidfd of the program that an rcvid is from, and writes its pid. */
+int neutrino_remote_sender(int rcvid, pid_t *pid);
 
 /* Delivers a pulse, or only tests whether it could be. */
 int neutrino_remote_deliver(int rcvid, const struct sigevent *event, bool delivers);

@@ -41,8 +41,8 @@ static void look_up_name(struct client *c, const struct wire_ask *a, const uint8
 }
 
 static void tell_client(struct client *c, const struct wire_ask *a) {
-    int process = a->number & ~SCOID;
-    bool known = a->number > SCOID && process <= limits.processes && processes[process].peer.pid;
+    int process = a->number & ((1 << SLOT_BITS) - 1);
+    bool known = process && processes[process].peer.pid && processes[process].scoid == a->number;
     const struct process *of = &processes[known ? process : 0];
     struct wire_client told_client = {of->peer.pid, of->peer.uid, of->peer.gid, of->ngroups, {0}};
     for (uint32_t at = 0; at < of->ngroups; at++) told_client.groups[at] = of->groups[at];
@@ -60,16 +60,30 @@ static bool is_client(int process, int server) {
     return false;
 }
 
-/* The process that an rcvid of this program is from: the program itself for 0. 0: there is none. */
-static int process_of_rcvid(const struct client *c, int rcvid) {
-    int process = rcvid ? rcvid & ((1 << SLOT_BITS) - 1) : c->process;
-    if (rcvid < 0 || process < 1 || process > limits.processes || !processes[process].peer.pid) return 0;
-    return process == c->process || is_client(process, c->process) ? process : 0;
+/* Whether a message's number was given since a program joined. Of the serials that have this number, it is the last. */
+static bool is_since(int number, const struct process *of) {
+    const struct names *names = &k->tables[MESSAGES];
+    int back = number_at(names, k->next[MESSAGES] - 1) - number;
+    if (back < 0) back += (int)(names->turns << names->bits);
+    return number > 0 && of->first + (uint64_t)back < k->next[MESSAGES];
 }
 
+/* The process that an rcvid of this program is from: the program itself for 0. 0: there is none, or it has ended. */
+static int process_of_rcvid(const struct client *c, int rcvid) {
+    int process = rcvid ? rcvid & ((1 << SLOT_BITS) - 1) : c->process;
+    const struct process *of = &processes[process];
+    if (rcvid < 0 || !of->peer.pid || of->ended_as) return 0;
+    if (process == c->process) return process;
+    return is_since(number_of_rcvid(rcvid), of) && is_client(process, c->process) ? process : 0;
+}
+
+/* The answer brings the pidfd, so that the host asks whether the server may signal that program, and no pid leads to a
+ * later process. */
 static void tell_sender(struct client *c, const struct wire_ask *a) {
     int process = process_of_rcvid(c, a->number);
-    put_result(c, process ? 0 : ESRCH, processes[process].peer.pid);
+    c->answer.error = process ? 0 : ESRCH;
+    c->answer.result = process ? processes[process].peer.pid : -1;
+    send_answer(c, NULL, &processes[process].pidfd, process ? 1 : 0);
 }
 
 static void deliver_event(struct client *c, const struct wire_ask *a) {
@@ -79,9 +93,10 @@ static void deliver_event(struct client *c, const struct wire_ask *a) {
     balsaeuchre_request request = balsaeuchre_request_of(BALSAEUCHRE_PULSE, clock_of(process), id);
     request.priority = a->request.priority;
     if (a->flags & WIRE_OWN_PRIORITY) request.priority = c->place ? priority_of(k, c->place) : USUAL;
-    struct note content = {0, chid, SCOID | c->process, a->request.pulse_code, (int64_t)a->value};
+    struct note content = {.chid = chid, .scoid = processes[c->process].scoid, .code = a->request.pulse_code};
+    content.value = (int64_t)a->value;
     int error = !process ? ESRCH : !id ? EBADF : !request.priority ? EINVAL : 0;
-    if (!error && !(a->flags & WIRE_TESTS)) error = send_pulse(request, &content);
+    if (!error && !(a->flags & WIRE_TESTS)) error = has_room(chid) ? send_pulse(request, &content) : EAGAIN;
     put_result(c, error, 0);
 }
 

@@ -58,16 +58,16 @@ static void close_box(struct client *c) {
     c->bell = -1;
 }
 
-/* Sends an answer as a packet, with files or without. */
-static void send_answer(struct client *c, const void *bytes, const int files[2]) {
+/* Sends an answer as a packet, with up to two files. */
+static void send_answer(struct client *c, const void *bytes, const int *files, size_t count) {
     struct iovec parts[] = {{&c->answer, sizeof c->answer}, {(void *)(uintptr_t)bytes, c->answer.length}};
     union { struct cmsghdr head; char room[CMSG_SPACE(2 * sizeof *files)]; } rights = {.head = {0}};
     struct msghdr packet = {.msg_iov = parts, .msg_iovlen = 2};
-    if (files) {
-        rights.head = (struct cmsghdr){CMSG_LEN(2 * sizeof *files), SOL_SOCKET, SCM_RIGHTS};
-        memcpy(CMSG_DATA(&rights.head), files, 2 * sizeof *files);
+    if (count) {
+        rights.head = (struct cmsghdr){CMSG_LEN(count * sizeof *files), SOL_SOCKET, SCM_RIGHTS};
+        memcpy(CMSG_DATA(&rights.head), files, count * sizeof *files);
         packet.msg_control = &rights;
-        packet.msg_controllen = sizeof rights.room;
+        packet.msg_controllen = CMSG_SPACE(count * sizeof *files);
     }
     /* A socket that takes no answer has not read the last ones. */
     if (sendmsg(c->fd, &packet, MSG_NOSIGNAL | MSG_DONTWAIT) < 0) shutdown(c->fd, SHUT_RDWR);
@@ -101,7 +101,7 @@ static void put_answer(struct client *c, int error, int64_t result, const void *
     c->answer.result = error ? -1 : result;
     c->answer.length = (uint32_t)length;
     if (c->box) put_in_box(c, bytes);
-    else if (c->fd != -1) send_answer(c, bytes, NULL);
+    else if (c->fd != -1) send_answer(c, bytes, NULL, 0);
 }
 
 static void put_result(struct client *c, int error, int64_t result) {

@@ -11,7 +11,7 @@
 #include "balsaeuchre.h"
 #include "sys/neutrino.h"
 
-enum { WIRE_VERSION = 4, WIRE_OLDEST = 3, WIRE_MOST = 1 << 20, WIRE_NAME = 256, WIRE_GROUPS = 8 };
+enum { WIRE_VERSION = 4, WIRE_MOST = 1 << 20, WIRE_NAME = 256, WIRE_GROUPS = 8 };
 
 enum wire_op {
     OP_PROCESS = 1, /* the first of a program's socket: number is WIRE_VERSION; the result is its scoid. Of an earlier
@@ -23,12 +23,16 @@ enum wire_op {
     OP_UNNAME,      /* number is a chid */
     OP_FIND,        /* the bytes are a name; the result is its chid, and info has its pid */
     OP_CLIENT,      /* number is an scoid; the bytes of the answer are a wire_client */
-    OP_SENDER,      /* number is an rcvid; the result is the pid of its sender's program */
+    OP_SENDER,      /* of a program's socket: number is an rcvid; the result is the pid of its sender's program, and the
+                       answer brings its pidfd */
     OP_EVENT,       /* a pulse to the program that an rcvid is from, or to itself: number, with the request's coid */
     OP_DEATH,       /* the thread whose tid is number has ended */
     OP_UNBLOCK,     /* unblock the sender of a held message, whose rcvid is number */
     OP_SHOW         /* the bytes of the answer are a text */
 };
+
+/* A program's scoid: both of these bits, which no coid has, then the generation of its place, then the place. */
+enum { WIRE_SCOID = 0x60000000, SLOT_BITS = 5, GENERATION_BITS = 24 };
 
 enum { WIRE_OWN_PRIORITY = 1, WIRE_CANCELS = 2, WIRE_SIDE = 4, WIRE_TESTS = 8 };
 

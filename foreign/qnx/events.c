@@ -22,26 +22,42 @@ static int sender_of(rcvid_t rcvid) {
     return layer_MsgInfo(rcvid, &info) ? -1 : info.tid;
 }
 
-/* Signals a process of the host, or a thread of this one, with the event's value and code. */
-static int queue_signal(pid_t pid, pid_t thread, const struct sigevent *event) {
+/* An event's signal, with its value and code. The host refuses some codes for another process. */
+static siginfo_t signal_of(const struct sigevent *event, bool is_own) {
     siginfo_t info;
     int code = event->sigev_code;
     memset(&info, 0, sizeof info);
     info.si_signo = event->sigev_signo;
-    info.si_code = code < 0 || (code && pid == program) ? code : SI_QUEUE; /* the host refuses others */
+    info.si_code = code < 0 || (code && is_own) ? code : SI_QUEUE;
     info.si_pid = program;
     info.si_uid = getuid();
     info.si_value = event->sigev_value;
-    long result = thread ? syscall(SYS_rt_tgsigqueueinfo, pid, thread, info.si_signo, &info)
-                         : syscall(SYS_rt_sigqueueinfo, pid, info.si_signo, &info);
+    return info;
+}
+
+/* Signals this program, or a thread of it, with the event's value and code. */
+static int queue_signal(pid_t thread, const struct sigevent *event) {
+    siginfo_t info = signal_of(event, true);
+    long result = thread ? syscall(SYS_rt_tgsigqueueinfo, program, thread, info.si_signo, &info)
+                         : syscall(SYS_rt_sigqueueinfo, program, info.si_signo, &info);
     return (int)result;
+}
+
+/* Signals another program by its pidfd, which is closed. By its pid it might be a later program. */
+static int signal_program(int pidfd, const struct sigevent *event) {
+    siginfo_t info = signal_of(event, false);
+    bool has_code = SIGEV_GET_TYPE(event) == SIGEV_SIGNAL_CODE;
+    int result = (int)syscall(SYS_pidfd_send_signal, pidfd, info.si_signo, has_code ? &info : NULL, 0), error = errno;
+    close(pidfd);
+    errno = error;
+    return result;
 }
 
 static int signal_sender(rcvid_t rcvid, const struct sigevent *event) {
     int tid = sender_of(rcvid);
     if (tid == -1) return -1;
     hold();
-    int result = seats[tid].use == TAKEN ? queue_signal(program, seats[tid].host, event) : fail(ESRCH);
+    int result = seats[tid].use == TAKEN ? queue_signal(seats[tid].host, event) : fail(ESRCH);
     release();
     return result;
 }
@@ -64,11 +80,14 @@ int MsgDeliverEvent(rcvid_t rcvid, const struct sigevent *event) {
         tid = sender_of(rcvid);
         return tid == -1 ? -1 : neutrino_unblock(tid);
     }
-    pid_t pid = is_remote ? neutrino_remote_sender(rcvid) : program;
+    pid_t pid = program;
+    int pidfd = is_remote ? neutrino_remote_sender(rcvid, &pid) : -1;
     if (pid == -1) return -1;
-    if (type == SIGEV_SIGNAL) return kill(pid, event->sigev_signo);
-    if (type == SIGEV_SIGNAL_CODE) return queue_signal(pid, 0, event);
-    return pid == program ? signal_sender(rcvid, event) : fail(ENOTSUP);
+    if (pid != program && type != SIGEV_SIGNAL_THREAD) return signal_program(pidfd, event);
+    if (pidfd != -1) close(pidfd);
+    if (pid != program) return fail(ENOTSUP);
+    if (type == SIGEV_SIGNAL) return kill(program, event->sigev_signo);
+    return type == SIGEV_SIGNAL_CODE ? queue_signal(0, event) : signal_sender(rcvid, event);
 }
 
 int MsgVerifyEvent(rcvid_t rcvid, const struct sigevent *event) {

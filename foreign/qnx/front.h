@@ -57,9 +57,13 @@ static int fail(int error) {
 
 static bool is_priority(int priority) { return priority >= LOWEST && priority <= HIGHEST; }
 
-/* The layer numbers connections without the bit of side channels. An scoid has that bit, and at most 255 below it. */
+/* The layer numbers connections without the bit of side channels. An scoid has that bit, and at most 255 below it, or
+ * over the daemon one more bit, which no connection has. */
 static int plain(int coid) { return coid & ~SIDE; }
 
-static bool is_scoid(int coid) { return coid > SIDE && coid <= SIDE + SCOIDS; }
+static bool is_scoid(int coid) {
+    bool is_remote = coid > 0 && (coid & WIRE_SCOID) == WIRE_SCOID && neutrino_remote();
+    return is_remote || (coid > SIDE && coid <= SIDE + SCOIDS);
+}
 
 #endif

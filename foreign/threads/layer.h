@@ -46,7 +46,6 @@ struct names {
     struct name *places;
     uint32_t turns; /* a name's turns go from 1 to this, and begin again */
     int bits;       /* of the place */
-    uint32_t least; /* turns below this are left out */
 };
 
 /* The table in which the id of a call's request has its name. */
@@ -119,7 +118,7 @@ struct neutrino {
     _Alignas(CACHE_LINE) struct names tables[TABLES];
     uint8_t place_of[256];                 /* PLACES: no thread has this number */
     uint8_t clock_of[256];                 /* by process: the thread that unblocks calls that time out */
-    _Alignas(CACHE_LINE) int next[TABLES]; /* where the search for a free place of a table begins */
+    _Alignas(CACHE_LINE) uint64_t next[TABLES]; /* the serial of a table's next number */
     size_t joined;
     size_t promised; /* the sum of the longest buffers: event has room for so many bytes */
     _Alignas(CACHE_LINE) struct name channels[1 << CHANNEL_BITS];

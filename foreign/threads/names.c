@@ -1,43 +1,43 @@
 /* Names: ints for the kernel's ids, which have 40 bits. Tested, not proved.
  *
- * A name is a place in a table and how often that place was taken, so it leads to the id that it was made for and,
- * once that is gone, to none. Places are taken in turn. A name comes again only when its place has been taken 2^25
- * times (of a connection 2^20 times), which is after 2^31 channels or messages, or 2^30 connections, where few are
- * open at a time. All of this is under the lock.
+ * A name is a place in a table and a turn, so it leads to the id that it was made for and, once that is gone, to none.
+ * All names of a table are numbered on, one after another, and a number whose place is taken is left out. So of two
+ * names it is known which one is older. A name comes again after 2^31 channels or messages, or 2^30 connections, of
+ * which those count that are left out: at worst all but one place are taken, and it comes again after 2^25 messages (or
+ * 2^20 connections). All of this is under the lock.
  */
 static void open_tables(neutrino *k) {
-    k->tables[CHANNELS] = (struct names){k->channels, INT_MAX >> CHANNEL_BITS, CHANNEL_BITS, 0};
-    k->tables[CONNECTIONS] = (struct names){k->connections, (SCOID - 1) >> CONNECTION_BITS, CONNECTION_BITS, 0};
-    k->tables[MESSAGES] = (struct names){k->messages, INT_MAX >> MESSAGE_BITS, MESSAGE_BITS, 0};
+    k->tables[CHANNELS] = (struct names){k->channels, INT_MAX >> CHANNEL_BITS, CHANNEL_BITS};
+    k->tables[CONNECTIONS] = (struct names){k->connections, (SCOID - 1) >> CONNECTION_BITS, CONNECTION_BITS};
+    k->tables[MESSAGES] = (struct names){k->messages, INT_MAX >> MESSAGE_BITS, MESSAGE_BITS};
     k->event.rows = k->rows + OWN_ROWS * PLACES;
     k->side.rows = k->event.rows + BALSAEUCHRE_ROWS;
-    /* The first channel is 1, as under QNX: the places but 0, which has no such name, begin with the turn 0. */
-    k->next[CHANNELS] = 1;
-    for (int place = 1; place < 1 << CHANNEL_BITS; place++) k->channels[place].turn = UINT32_MAX;
+    k->next[CHANNELS] = 1; /* as under QNX. The others begin with the turn 1 */
+    k->next[CONNECTIONS] = 1 << CONNECTION_BITS;
+    k->next[MESSAGES] = 1 << MESSAGE_BITS;
 }
 
 static int place_in(const struct names *names, int number) { return number & ((1 << names->bits) - 1); }
 
-/* Returns a free place. There is one if the kernel made an id, as it allows no more ids at a time than places. */
-static int free_place(const struct names *names, int next) {
-    int count = 1 << names->bits;
-    for (int looked = 0; looked < count; looked++) {
-        int place = (next + looked) & (count - 1);
-        if (!names->places[place].id) return place;
-    }
-    abort();
+/* The number that a table has at this serial. Serials don't come again; behind the last number is that of turn 1. */
+static int number_at(const struct names *names, uint64_t serial) {
+    uint64_t first = 1ull << names->bits, count = (uint64_t)names->turns << names->bits;
+    return (int)(serial < first + count ? serial : first + (serial - first) % count);
 }
 
+/* There is a free place if the kernel made an id, as it allows no more ids at a time than places. */
 static int new_name(neutrino *k, enum table table, uint64_t id, uint8_t owner) {
     struct names *names = &k->tables[table];
-    int place = free_place(names, k->next[table]);
-    struct name *name = &names->places[place];
-    k->next[table] = place + 1;
-    name->id = id;
-    name->owner = owner;
-    name->turn = name->turn == names->turns ? 1 : name->turn + 1;
-    if (name->turn < names->least) name->turn = names->least;
-    return (int)(name->turn << names->bits) | place;
+    for (int looked = 0; looked < 1 << names->bits; looked++) {
+        int number = number_at(names, k->next[table]++);
+        struct name *name = &names->places[place_in(names, number)];
+        if (name->id) continue;
+        name->id = id;
+        name->owner = owner;
+        name->turn = (uint32_t)number >> names->bits;
+        return number;
+    }
+    abort();
 }
 
 /* Returns the id of a number, if the owner is 0 or the name's; or 0, which the kernel refuses. */

@@ -10,7 +10,7 @@
 static struct shared {
     volatile int errors[8];
     volatile int seen, sent, received;
-    volatile pid_t pid;
+    volatile int scoid;
 } *shared;
 
 static void until_seen(int count) {
@@ -28,7 +28,21 @@ static void send_twice(void *unused) {
     shared->errors[2 * at + 1] = MsgSend(coid, "hello", 6, reply, sizeof reply) == -1 ? errno : 0;
 }
 
-/* A client dies while it is REPLY-blocked: its server gets the pulse, and its message is gone. */
+static void expect_pulse(int chid, int code, int scoid, int value) {
+    struct _pulse pulse;
+    set_timeout(LATE);
+    check(MsgReceivePulse(chid, &pulse, sizeof pulse, NULL) == 0);
+    check(pulse.code == code && pulse.scoid == scoid && pulse.value.sival_int == value);
+}
+
+static void expect_nothing(int chid) {
+    char room[64];
+    set_timeout(20);
+    fails(MsgReceive(chid, room, sizeof room, NULL), ETIMEDOUT);
+}
+
+/* A client dies while it is REPLY-blocked: its server gets the unblock pulse, and the client is there until the answer.
+ * Then comes the disconnect pulse. */
 static void client_dies(void) {
     char room[64];
     struct _msg_info info;
@@ -40,14 +54,117 @@ static void client_dies(void) {
     check(rcvid > 0 && info.pid == child && info.tid == 1 && strcmp(room, "hello") == 0 && info.msglen == 6);
     check(ConnectClientInfo(info.scoid, &client, 8) == 0 && client.pid == child && client.cred.euid == geteuid());
     kill_child(child);
-    set_timeout(LATE);
-    check(MsgReceive(name->chid, room, sizeof room, NULL) == 0);
-    const struct _pulse *pulse = (const void *)room;
-    check(pulse->code == _PULSE_CODE_DISCONNECT && pulse->scoid == info.scoid);
+    expect_pulse(name->chid, _PULSE_CODE_UNBLOCK, info.scoid, rcvid);
+    check(MsgInfo(rcvid, &info) == 0 && info.flags & _NTO_MI_UNBLOCK_REQ && info.pid == child);
+    check(ConnectClientInfo(info.scoid, &client, 8) == 0 && client.pid == child && client.cred.euid == geteuid());
+    check(MsgRead(rcvid, room, sizeof room, 1) == 5 && strcmp(room, "ello") == 0);
+    expect_nothing(name->chid);
+    check(MsgReply(rcvid, 0, NULL, 0) == 0);
     fails(MsgReply(rcvid, 0, NULL, 0), ESRCH);
+    expect_pulse(name->chid, _PULSE_CODE_DISCONNECT, info.scoid, 0);
     fails(ConnectClientInfo(info.scoid, &client, 0), EINVAL);
+    expect_nothing(name->chid);
+    check(name_detach(name, 0) == 0);
+}
+
+/* On a channel that isn't told, its message is gone at once. */
+static void held_without_flag(void) {
+    char room[64];
+    struct _msg_info info;
+    int to_child[2], chid = ChannelCreate(_NTO_CHF_DISCONNECT);
+    check(pipe(to_child) == 0);
+    pid_t server = getpid(), child = fork();
+    if (child == 0) {
+        check(read(to_child[0], room, 1) == 1);
+        int coid = ConnectAttach(0, server, chid, _NTO_SIDE_CHANNEL, 0);
+        MsgSend(coid, "hello", 6, NULL, 0);
+        _exit(1);
+    }
+    check(write(to_child[1], "", 1) == 1);
+    rcvid_t rcvid = MsgReceive(chid, room, sizeof room, &info);
+    check(rcvid > 0);
+    kill_child(child);
+    expect_pulse(chid, _PULSE_CODE_DISCONNECT, info.scoid, 0);
+    fails(MsgReply(rcvid, 0, NULL, 0), ESRCH);
+    check(ChannelDestroy(chid) == 0);
+}
+
+static void time_out(void *unused) {
+    int coid = open_name("server");
+    (void)unused;
     set_timeout(20);
-    fails(MsgReceive(name->chid, room, sizeof room, NULL), ETIMEDOUT);
+    MsgSend(coid, "hello", 6, NULL, 0);
+}
+
+/* A client that has timed out dies before its server receives the unblock pulse: that names the message still. */
+static void late_client_dies(void) {
+    char room[64];
+    struct _msg_info info;
+    name_attach_t *name = name_attach(NULL, "server", 0);
+    pid_t child = spawn(time_out, NULL);
+    rcvid_t rcvid = receive_answering_opens(name->chid, room, sizeof room, &info);
+    check(rcvid > 0);
+    while (MsgInfo(rcvid, &info) == 0 && !(info.flags & _NTO_MI_UNBLOCK_REQ)) usleep(1000);
+    kill_child(child);
+    usleep(20000);
+    expect_pulse(name->chid, _PULSE_CODE_UNBLOCK, info.scoid, rcvid);
+    check(MsgError(rcvid, EINTR) == 0);
+    expect_pulse(name->chid, _PULSE_CODE_DISCONNECT, info.scoid, 0);
+    expect_nothing(name->chid);
+    check(name_detach(name, 0) == 0);
+}
+
+/* A message that is answered between the death of its client and the receipt of the pulse, which names it still. */
+static void answered_late(void) {
+    char room[64];
+    struct _msg_info info;
+    name_attach_t *name = name_attach(NULL, "server", 0);
+    pid_t child = spawn(send_twice, NULL);
+    rcvid_t rcvid = receive_answering_opens(name->chid, room, sizeof room, &info);
+    kill_child(child);
+    while (MsgInfo(rcvid, &info) == 0 && !(info.flags & _NTO_MI_UNBLOCK_REQ)) usleep(1000);
+    check(MsgReply(rcvid, 0, NULL, 0) == 0);
+    struct _pulse all[2];
+    for (int at = 0; at < 2; at++) {
+        set_timeout(LATE);
+        check(MsgReceivePulse(name->chid, &all[at], sizeof all[at], NULL) == 0 && all[at].scoid == info.scoid);
+    }
+    check(all[0].code == _PULSE_CODE_UNBLOCK && all[0].value.sival_int == rcvid);
+    check(all[1].code == _PULSE_CODE_DISCONNECT);
+    check(name_detach(name, 0) == 0);
+}
+
+static void join_and_end(void *unused) {
+    (void)unused;
+    _exit(ChannelCreate(0) > 0 ? 0 : errno);
+}
+
+/* Servers that never answer: dead clients keep their places, but only while there are others. The one that has been
+ * dead the longest goes first; its server's pulses are as ever. */
+static void never_answered(void) {
+    enum { MOST = 40 };
+    char room[64];
+    struct _client_info client;
+    int scoids[MOST], count = 0, rcvids[MOST];
+    name_attach_t *name = name_attach(NULL, "server", 0);
+    for (; count < MOST; count++) { /* until one more than fit has come */
+        struct _msg_info info;
+        pid_t child = spawn(send_twice, NULL);
+        rcvids[count] = receive_answering_opens(name->chid, room, sizeof room, &info);
+        while (rcvids[count] == 0) { /* pulses of those before */
+            rcvids[count] = receive_answering_opens(name->chid, room, sizeof room, &info);
+        }
+        check(rcvids[count] > 0 && info.pid == child);
+        scoids[count] = info.scoid;
+        kill_child(child);
+        if (count && ConnectClientInfo(scoids[0], &client, 0)) break;
+    }
+    check(count >= 2 && count < MOST);
+    fails(MsgReply(rcvids[0], 0, NULL, 0), ESRCH);
+    for (int at = 1; at <= count; at++) check(ConnectClientInfo(scoids[at], &client, 0) == 0);
+    expect_end(spawn(join_and_end, NULL));
+    fails(ConnectClientInfo(scoids[1], &client, 0), EINVAL);
+    for (int at = 2; at <= count; at++) check(MsgReply(rcvids[at], 0, NULL, 0) == 0);
     check(name_detach(name, 0) == 0);
 }
 
@@ -124,34 +241,62 @@ static void fill(void *unused) {
     int coid = open_name("server"), sent = 0;
     (void)unused;
     while (MsgSendPulse(coid, 10, 1, sent) == 0) sent++;
-    check(errno == EAGAIN && sent == 1024);
+    check(errno == EAGAIN);
+    shared->sent = sent;
     shared->seen = 1;
     pause();
 }
 
-/* The disconnect pulse of a client that dies would be the 1,025th: it comes once there is room, and nobody waits. */
+/* A channel full of pulses keeps no place of others: each client that dies is gone at once, and its disconnect has room. */
 static void full_channel(void) {
     struct _pulse pulse;
+    struct _client_info client;
+    struct _msg_info info;
     char room[64];
     name_attach_t *name = name_attach(NULL, "server", 0);
     pid_t child = spawn(fill, NULL);
-    rcvid_t rcvid = MsgReceive(name->chid, room, sizeof room, NULL);
+    rcvid_t rcvid = MsgReceive(name->chid, room, sizeof room, &info);
     check(rcvid > 0 && MsgReply(rcvid, EOK, NULL, 0) == 0);
     until_seen(1);
+    check(shared->sent > 900 && shared->sent < 1024);
     kill_child(child);
+    while (ConnectClientInfo(info.scoid, &client, 0) == 0) usleep(1000);
     for (int turn = 0; turn < 100; turn++) { /* all others go on */
         int chid = ChannelCreate(0), coid = ConnectAttach(0, 0, chid, _NTO_SIDE_CHANNEL, 0);
         check(chid > 0 && MsgSendPulse(coid, 10, 1, 1) == 0 && MsgReceivePulse(chid, &pulse, sizeof pulse, NULL) == 0);
         check(ConnectDetach(coid) == 0 && ChannelDestroy(chid) == 0);
     }
-    for (int at = 0; at < 1024; at++) {
+    for (int at = 0; at < shared->sent; at++) {
         check(MsgReceivePulse(name->chid, &pulse, sizeof pulse, NULL) == 0);
-        check(pulse.code == 1 && pulse.value.sival_int == at);
-        if (at == 0) usleep(50000);
+        check(pulse.code == 1 && pulse.value.sival_int == at && pulse.scoid == info.scoid);
     }
-    set_timeout(LATE);
-    check(MsgReceivePulse(name->chid, &pulse, sizeof pulse, NULL) == 0 && pulse.code == _PULSE_CODE_DISCONNECT);
+    expect_pulse(name->chid, _PULSE_CODE_DISCONNECT, info.scoid, 0);
     check(name_detach(name, 0) == 0);
+}
+
+static void attach_often(void *chid) {
+    struct _server_info info;
+    int coid;
+    while ((coid = ConnectAttach(0, getppid(), (int)(intptr_t)chid, _NTO_SIDE_CHANNEL, 0)) != -1) {
+        check(ConnectServerInfo(0, coid, &info) == coid && ConnectDetach(coid) == 0);
+        shared->sent++;
+        shared->scoid = info.scoid;
+    }
+    check(errno == EAGAIN);
+}
+
+/* So many disconnects wait that the next one would have no room: who would owe it can't connect. */
+static void full_of_disconnects(void) {
+    struct _pulse pulse;
+    int chid = ChannelCreate(_NTO_CHF_DISCONNECT);
+    expect_end(spawn(attach_often, (void *)(intptr_t)chid));
+    check(shared->sent == 1024);
+    fails(ConnectAttach(0, 0, chid, _NTO_SIDE_CHANNEL, 0), EAGAIN);
+    for (int at = 0; at < 1024; at++) expect_pulse(chid, _PULSE_CODE_DISCONNECT, shared->scoid, 0);
+    int coid = ConnectAttach(0, 0, chid, _NTO_SIDE_CHANNEL, 0);
+    check(coid != -1 && ConnectDetach(coid) == 0);
+    check(MsgReceivePulse(chid, &pulse, sizeof pulse, NULL) == 0 && pulse.code == _PULSE_CODE_DISCONNECT);
+    check(ChannelDestroy(chid) == 0);
 }
 
 static void *send_and_stay(void *coid) {
@@ -302,7 +447,8 @@ static void daemon_dies(void) {
 
 #define TEST(name) {#name, name}
 static const struct { const char *name; void (*run)(void); } tests[] = {
-    TEST(client_dies), TEST(sender_dies), TEST(server_dies), TEST(connection_dies), TEST(full_channel),
+    TEST(client_dies), TEST(held_without_flag), TEST(late_client_dies), TEST(answered_late), TEST(never_answered),
+    TEST(sender_dies), TEST(server_dies), TEST(connection_dies), TEST(full_channel), TEST(full_of_disconnects),
     TEST(thread_ends), TEST(fork_and_exec), TEST(interrupted), TEST(shown), TEST(daemon_dies),
 };
 

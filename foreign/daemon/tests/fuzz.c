@@ -10,6 +10,7 @@ static int far[SOCKETS];        /* the clients' ends */
 static int results[2 * SOCKETS]; /* of the last answers, which later packets may name */
 
 static struct client *open_socket(int at) {
+    static uint64_t came;
     int ends[2];
     struct wire_ask ask = {.op = at ? OP_THREAD : OP_PROCESS, .number = at ? at : WIRE_VERSION, .value = USUAL};
     if (socketpair(AF_UNIX, SOCK_SEQPACKET | SOCK_NONBLOCK, 0, ends)) abort();
@@ -18,6 +19,7 @@ static struct client *open_socket(int at) {
     c->is_used = true;
     c->fd = ends[0];
     c->peer.pid = getpid();
+    c->came_as = ++came;
     if (!watch(c->fd, EPOLLIN, c)) abort();
     far[at] = ends[1];
     if (!take_packet(c, (const uint8_t *)&ask, sizeof ask)) abort();

@@ -6,7 +6,7 @@ use std::mem::offset_of;
 use std::sync::atomic::AtomicU32;
 
 /// The version of the wire.
-pub(crate) const VERSION: i32 = 3;
+pub(crate) const VERSION: i32 = 4;
 /// The most bytes of a message, and of a reply.
 pub(crate) const MOST: usize = 1 << 20;
 /// Room for a name with the zero at its end.

@@ -33,22 +33,27 @@ static int all_at_once(enum table table, int count) {
     return 0;
 }
 
-/* Names that are made and ended one by one: all places are taken in turn, and none comes again before a place's
- * turns are over. */
-static int one_by_one(enum table table) {
+/* Names that are made and ended one by one: all places are taken in turn, and none comes again before the turns are
+ * over, also where a name stays. */
+static int one_by_one(enum table table, bool one_stays) {
     struct names *names = &k.tables[table];
-    int count = 1 << names->bits, first = 0;
-    k.next[table] = 0;
-    for (int place = 0; place < count; place++) names->places[place].turn = names->turns - 2;
-    for (int at = 0; at < 3 * count; at++) {
+    int count = 1 << names->bits, first = 0, before = 0, stays = 0;
+    k.next[table] = (uint64_t)(names->turns - 1) << names->bits;
+    if (one_stays) stays = new_name(&k, table, 1ull << 39, 1);
+    for (int at = one_stays; at < 3 * count; at++) {
+        if (one_stays && at % count == 0) continue;
         int number = new_name(&k, table, (uint64_t)at + 1, 1);
         check(number > 0 && place_in(names, number) == at % count && id_of(&k, table, number, 0) == (uint64_t)at + 1);
         check(table != CONNECTIONS || number < SCOID);
-        if (at == 0) first = number;
+        check(at >= 2 * count ? number < 2 * count : number > before);
+        if (!first) first = number;
         else check(number != first && id_of(&k, table, first, 0) == 0);
+        before = number;
         end_name(&k, table, number);
     }
-    check(names->places[0].turn == 1); /* and not 0: no number is less than 1 */
+    check(names->places[1].turn == 1); /* and not 0: no number is less than 1 */
+    check(!one_stays || id_of(&k, table, stays, 0) == 1ull << 39);
+    if (one_stays) end_name(&k, table, stays);
     return 0;
 }
 
@@ -66,7 +71,8 @@ int main(void) {
     open_tables(&k);
     if (from_one()) return 1;
     for (int table = CHANNELS; table < TABLES; table++) {
-        if (all_at_once((enum table)table, 1 << k.tables[table].bits) || one_by_one((enum table)table)) return 1;
+        if (all_at_once((enum table)table, 1 << k.tables[table].bits)) return 1;
+        if (one_by_one((enum table)table, false) || one_by_one((enum table)table, true)) return 1;
     }
     printf("names\n");
     return 0;
