@@ -36,6 +36,7 @@ static uint64_t now(void) {
 #include "processes.c"
 #include "services.c"
 #include "show.c"
+#include "turns.c"
 #include "packets.c"
 
 static bool stops;     /* a signal has asked for the end; its address is what the epoll says of signals */
@@ -93,6 +94,7 @@ static void take_packets(bool sleeps) {
     uint64_t next = first_of(end_late_calls(), rests_until), time = now();
     wake_threads(); /* whose calls have ended just now */
     if (ending) next = first_of(next, time + RETRY * 1000000u);
+    if (has_later) next = first_of(next, time + SOON);
     uint64_t left = sleeps && next > time ? next - time : 0;
     struct timespec until = {(time_t)(left / 1000000000u), (long)(left % 1000000000u)};
     int count = epoll_pwait2(events, ready, 64, !sleeps || next ? &until : NULL, NULL);
@@ -110,8 +112,9 @@ static void take_packets(bool sleeps) {
 static void serve_once(void) {
     static uint64_t awake_until, due; /* due: when the sockets are looked at */
     static uint64_t retry;            /* when those that could not end are tried again */
-    uint64_t time = now();
-    bool found = look_at_boxes(), sleeps = !found && time >= awake_until;
+    bool found = look_at_boxes();
+    uint64_t time = turn;
+    bool sleeps = !found && time >= awake_until;
     if (sleeps) {
         want_bells();
         found = look_at_boxes();

@@ -57,6 +57,8 @@ struct process {
     uint64_t first;    /* the serial of the first message that may be from it */
     uint64_t ended_as; /* counts the ends of programs; 0: it has not ended */
     bool retries;      /* what the kernel refused as it ended is tried again */
+    uint64_t asked_at; /* the time of its last ask */
+    uint64_t due;      /* the time until which its long asks are paid for, see turns.c */
     size_t bytes;
     int channels, connections;
     uint32_t ngroups;

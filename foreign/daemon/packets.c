@@ -61,11 +61,22 @@ static void read_packet(struct client *c) {
     if (length <= 0 || !take_packet(c, packet, (size_t)length)) hang_up(c);
 }
 
+/* Takes an ask of a thread's box. */
+static void take_from_box(struct client *c, const struct wire_ask *a) {
+    int process = c->process;
+    bool is_long = (uint64_t)a->sent_len + a->room_len > LONG_ASK;
+    uint64_t since = is_long ? now() : 0;
+    processes[process].asked_at = turn;
+    if (!take_ask(c, a, c->box->bytes)) hang_up(c);
+    else if (is_long) pay_for_ask(process, since);
+}
+
 /* Takes what is new in a thread's box: an ask, or that it wants its call to end. Returns whether there was any. */
 static bool read_box(struct client *c) {
     struct wire_box *box = c->box;
     uint32_t asked = atomic_load(&box->asked), given_up = atomic_load(&box->given_up);
     bool is_ask = asked != c->asked, gives_up = given_up != c->given_up;
+    if (is_ask && !has_turn(c->process)) return false;
     c->asked = asked;
     c->given_up = given_up;
     if (is_ask) {
@@ -73,7 +84,7 @@ static bool read_box(struct client *c) {
         copy_once(&a, &box->ask, sizeof a);
         if (c->rings) atomic_store_explicit(&box->rings, 0, memory_order_relaxed);
         c->rings = false;
-        if (!take_ask(c, &a, box->bytes)) hang_up(c);
+        take_from_box(c, &a);
     } else if (gives_up && c->place->call && c->ask.call == given_up) {
         interrupt(c, WAS_INTERRUPTED);
     }
@@ -83,6 +94,8 @@ static bool read_box(struct client *c) {
 /* Looks at each box. Returns whether there was any news. */
 static bool look_at_boxes(void) {
     bool found = false;
+    turn = now();
+    has_later = false;
     for (int at = 0; at < PLACES; at++) {
         if (client_of[at] && client_of[at]->box) found |= read_box(client_of[at]);
     }

@@ -115,6 +115,64 @@ static void idle(void) {
     check(ChannelDestroy(chid) == 0 && pthread_join(thread, NULL) == 0);
 }
 
+/* ---- long asks of one program */
+
+enum { LONG = 1 << 20, ROUNDS = 2000, TURNS = 5 };
+
+static void echo(void *name) {
+    static char bytes[LONG + 64];
+    struct _msg_info info;
+    name_attach_t *attached = name_attach(NULL, name, 0);
+    check(attached);
+    for (;;) {
+        rcvid_t rcvid = receive_answering_opens(attached->chid, bytes, sizeof bytes, &info);
+        if (rcvid > 0) check(MsgReply(rcvid, 0, bytes, (size_t)info.msglen) == 0 || errno == ESRCH);
+    }
+}
+
+static void send_long(void *name) {
+    static char sent[LONG], got[LONG];
+    int coid = open_name(name);
+    for (;;) check(MsgSend(coid, sent, LONG, got, LONG) == 0);
+}
+
+/* The microseconds of a round trip of four bytes. */
+static double round_trip(int coid) {
+    char bytes[4] = "abc";
+    double start = seconds(CLOCK_MONOTONIC);
+    for (int round = 0; round < ROUNDS; round++) check(MsgSend(coid, bytes, 4, bytes, 4) == 0);
+    return (seconds(CLOCK_MONOTONIC) - start) * 1e6 / ROUNDS;
+}
+
+static int compare(const void *a, const void *b) {
+    double first = *(const double *)a, second = *(const double *)b;
+    return first < second ? -1 : first > second;
+}
+
+/* Another program's messages of 1 MiB make a round trip little longer: the median of the differences is compared with the
+ * time that one of them takes while nobody else asks. */
+static void greedy(void) {
+    static char sent[LONG], got[LONG];
+    pid_t server = spawn(echo, "short"), long_server = spawn(echo, "long");
+    int coid = open_name("short"), long_coid = open_name("long");
+    double start = seconds(CLOCK_MONOTONIC), more[TURNS];
+    for (int round = 0; round < 20; round++) check(MsgSend(long_coid, sent, LONG, got, LONG) == 0);
+    double one = (seconds(CLOCK_MONOTONIC) - start) * 1e6 / 20;
+    for (int turn = 0; turn < TURNS; turn++) {
+        double alone = round_trip(coid);
+        pid_t client = spawn(send_long, "long");
+        usleep(50000);
+        double beside = round_trip(coid);
+        kill_child(client);
+        more[turn] = beside - alone;
+        if (getenv("VERBOSE")) fprintf(stderr, "%.1f us, %.1f beside; 1 MiB %.0f\n", alone, beside, one);
+    }
+    qsort(more, TURNS, sizeof *more, compare);
+    check(more[TURNS / 2] < one / 20);
+    kill_child(server);
+    kill_child(long_server);
+}
+
 /* ---- whose daemon it is */
 
 static struct shared { volatile int came; } *shared;
@@ -444,7 +502,7 @@ static void not_again(void) { start_again(false); }
 
 #define TEST(name) {#name, name}
 static const struct { const char *name; void (*run)(void); } tests[] = {
-    TEST(timeouts), TEST(idle), TEST(owners), TEST(places), TEST(longest), TEST(no_place), TEST(no_thread),
+    TEST(timeouts), TEST(idle), TEST(greedy), TEST(owners), TEST(places), TEST(longest), TEST(no_place), TEST(no_thread),
     TEST(closed_files), TEST(strangers), TEST(told_channels), TEST(again), TEST(not_again),
 };
 
