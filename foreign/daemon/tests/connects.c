@@ -117,7 +117,7 @@ static void idle(void) {
 
 /* ---- long asks of one program */
 
-enum { LONG = 1 << 20, ROUNDS = 2000, TURNS = 5 };
+enum { LONG = 1 << 20, ROUNDS = 2000, PAIRS = 5 };
 
 static void echo(void *name) {
     static char bytes[LONG + 64];
@@ -155,10 +155,10 @@ static void greedy(void) {
     static char sent[LONG], got[LONG];
     pid_t server = spawn(echo, "short"), long_server = spawn(echo, "long");
     int coid = open_name("short"), long_coid = open_name("long");
-    double start = seconds(CLOCK_MONOTONIC), more[TURNS];
+    double start = seconds(CLOCK_MONOTONIC), more[PAIRS];
     for (int round = 0; round < 20; round++) check(MsgSend(long_coid, sent, LONG, got, LONG) == 0);
     double one = (seconds(CLOCK_MONOTONIC) - start) * 1e6 / 20;
-    for (int turn = 0; turn < TURNS; turn++) {
+    for (int turn = 0; turn < PAIRS; turn++) {
         double alone = round_trip(coid);
         pid_t client = spawn(send_long, "long");
         usleep(50000);
@@ -167,8 +167,8 @@ static void greedy(void) {
         more[turn] = beside - alone;
         if (getenv("VERBOSE")) fprintf(stderr, "%.1f us, %.1f beside; 1 MiB %.0f\n", alone, beside, one);
     }
-    qsort(more, TURNS, sizeof *more, compare);
-    check(more[TURNS / 2] < one / 20);
+    qsort(more, PAIRS, sizeof *more, compare);
+    check(more[PAIRS / 2] < one / 20);
     kill_child(server);
     kill_child(long_server);
 }
