@@ -399,7 +399,8 @@ fn over_a_mebibyte() {
             assert_eq!(server.msg_reply(rcvid, 5, &long), Err(REFUSED(Errno::Inval)));
             server.msg_reply(rcvid, 5, &long[..MOST]).unwrap();
         });
-        let answer = client.msg_send(connection, &long[..MOST], &mut room[..MOST]).unwrap();
+        let patient = client.timeout(Duration::from_secs(30));
+        let answer = patient.msg_send(connection, &long[..MOST], &mut room[..MOST]).unwrap();
         assert_eq!((answer.status, answer.bytes()), (5, &long[..MOST]));
         serving.join().unwrap();
     });
