@@ -86,9 +86,13 @@ void neutrino_remote_death(int tid) { ask_about(OP_DEATH, tid); }
 int neutrino_remote_unblock(int rcvid) { return (int)ask_about(OP_UNBLOCK, rcvid); }
 
 int neutrino_remote_show(int fd) {
-    char text[16384 + 64 * WIRE_NAME];
+    enum { MOST_TEXT = 16384 + 64 * WIRE_NAME };
+    struct iovec none = {NULL, 0}, text = {malloc(MOST_TEXT), MOST_TEXT}; /* too much for the stacks of some threads */
     struct wire_ask ask = {.op = OP_SHOW};
     struct wire_answer answer;
-    if (ask_daemon(&ask, (struct iovec){NULL, 0}, &answer, (struct iovec){text, sizeof text}) == -1) return -1;
-    return write(fd, text, answer.length) < 0 ? -1 : 0;
+    if (!text.iov_base) return fail(ENOMEM);
+    bool told = ask_daemon(&ask, none, &answer, text) != -1 && write(fd, text.iov_base, answer.length) >= 0;
+    int error = errno;
+    free(text.iov_base);
+    return told ? 0 : fail(error);
 }

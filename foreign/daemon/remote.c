@@ -153,8 +153,7 @@ static void forget_sockets(void) {
     own.box = NULL; /* a child doesn't have it */
     own.is_lost = false;
     open_call = 0;
-    inside = 0;
-    self = NULL;
+    self = NULL; /* where a handler has interrupted a call, the child is inside it still, and may make no other */
     is_remote = false;
     pthread_mutex_init(&asking, NULL);
 }
