@@ -420,9 +420,10 @@ fn a_daemon_of_another_user() {
     if unsafe { geteuid() } != 0 {
         return;
     }
-    // The other user may not enter the folder that the program is in.
+    // The other user may not enter the folder that the program is in. Another program copies it: a file that this one
+    // writes can't be run while a child that another test forks still has it open.
     let copy = env::temp_dir().join(format!("balsaeuchred-{}", std::process::id()));
-    fs::copy(program, &copy).unwrap();
+    assert!(Command::new("install").args(["-m", "755"]).arg(program).arg(&copy).status().unwrap().success());
     let mut command = Command::new(&copy);
     command.uid(NOBODY).gid(0).args(["--group", "root"]);
     let daemon = Daemon::start_by("another", command).unwrap();
