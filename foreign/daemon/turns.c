@@ -4,7 +4,7 @@
  * for the time of its long asks: while other programs ask, too, it gets one part in SHARE of the daemon's time, and as
  * much as BURST at once. Its further asks wait in its boxes. Programs that have to wait for their own turn hold up no
  * other, and where nobody else asks, nobody waits. */
-enum { SHARE = 20, BURST = 1000000, ACTIVE = 2000000 }; /* the last two: nanoseconds */
+enum { SHARE = 20, BURST = 1000000, ACTIVE = 10000000 }; /* the last two: nanoseconds */
 enum { SOON = 500000 };                                 /* nanoseconds: when asks that wait are looked at again */
 
 static uint64_t turn;  /* the time at which the boxes are looked at */

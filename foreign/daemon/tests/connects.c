@@ -117,7 +117,7 @@ static void idle(void) {
 
 /* ---- long asks of one program */
 
-enum { LONG = 1 << 20, ROUNDS = 2000, PAIRS = 5 };
+enum { LONG = 1 << 20, ROUNDS = 400, PAIRS = 5 };
 
 static void echo(void *name) {
     static char bytes[LONG + 64];
