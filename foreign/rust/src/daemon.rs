@@ -16,35 +16,28 @@ use std::ops::Deref;
 use std::os::fd::{AsRawFd, FromRawFd, OwnedFd};
 use std::path::{Path, PathBuf, absolute};
 use std::sync::atomic::{AtomicU32, Ordering};
-use std::sync::{Arc, Mutex, MutexGuard, Weak};
+use std::sync::{Arc, Mutex, MutexGuard, TryLockError, Weak};
 use std::time::Duration;
-use std::{hint, process, ptr};
+use std::{hint, process, ptr, thread};
 
 /// Whether the other end of a socket is closed, which may have sent a packet before.
 fn is_closed(error: &io::Error) -> bool {
     matches!(error.kind(), io::ErrorKind::BrokenPipe | io::ErrorKind::ConnectionReset)
 }
 
-/// Asks by a packet, and waits for the answer and the two files that come with it, if there are any. A daemon that
-/// refuses a socket closes it after an answer that may be there before the ask.
-fn exchange(socket: &OwnedFd, ask: &Ask) -> io::Result<(Answer, Option<[c_int; 2]>)> {
+/// Waits for an answer and the two files that come with it, if there are any.
+fn receive(socket: &OwnedFd) -> io::Result<(Answer, Option<[c_int; 2]>)> {
     let (mut answer, mut rights) = (Answer::default(), Rights::default());
     let mut part = Part { iov_base: ptr::from_mut(&mut answer).cast(), iov_len: size_of::<Answer>() };
     // SAFETY: zeros are a packet.
     let mut packet = Packet { msg_iov: &mut part, msg_iovlen: 1, ..unsafe { zeroed() } };
     packet.msg_control = ptr::from_mut(&mut rights).cast();
     packet.msg_controllen = size_of::<Rights>();
-    let fd = socket.as_raw_fd();
-    let bytes = ptr::from_ref(ask).cast();
-    // SAFETY: an ask with its length.
-    let sent = uninterrupted(|| unsafe { host::send(fd, bytes, size_of::<Ask>(), host::MSG_NOSIGNAL) });
-    if sent.as_ref().is_err_and(|error| !is_closed(error)) {
-        sent?;
-    }
     // SAFETY: the packet's parts have their lengths, and any bytes are an answer and numbers.
-    let mut receive = || uninterrupted(|| unsafe { host::recvmsg(fd, &mut packet, host::MSG_CMSG_CLOEXEC) });
+    let mut once =
+        || uninterrupted(|| unsafe { host::recvmsg(socket.as_raw_fd(), &mut packet, host::MSG_CMSG_CLOEXEC) });
     // The host says once that the other end was closed, and then gives what was sent before.
-    let came = receive().or_else(|error| if is_closed(&error) { receive() } else { Err(error) })?;
+    let came = once().or_else(|error| if is_closed(&error) { once() } else { Err(error) })?;
     if came < size_of::<Answer>() {
         return Err(io::ErrorKind::ConnectionAborted.into());
     }
@@ -52,6 +45,18 @@ fn exchange(socket: &OwnedFd, ask: &Ask) -> io::Result<(Answer, Option<[c_int; 2
         return Err(io::Error::from_raw_os_error(answer.error));
     }
     Ok((answer, rights.files()))
+}
+
+/// Asks by a packet, and waits. A daemon that refuses a socket closes it after an answer that may be there before the
+/// ask.
+fn exchange(socket: &OwnedFd, ask: &Ask) -> io::Result<(Answer, Option<[c_int; 2]>)> {
+    let bytes = ptr::from_ref(ask).cast();
+    // SAFETY: an ask with its length.
+    let send = || unsafe { host::send(socket.as_raw_fd(), bytes, size_of::<Ask>(), host::MSG_NOSIGNAL) };
+    match uninterrupted(send) {
+        Err(error) if !is_closed(&error) => Err(error),
+        _ => receive(socket),
+    }
 }
 
 /// The variable that names the user of a daemon that is neither root's nor one's own.
@@ -90,7 +95,15 @@ struct Program {
 
 static PROGRAMS: Mutex<Vec<Weak<Program>>> = Mutex::new(Vec::new());
 
+/// Takes a lock. ThreadSanitizer sees only the part of it that is inlined here, so under it no thread sleeps for one.
 fn lock<T>(mutex: &Mutex<T>) -> MutexGuard<'_, T> {
+    while cfg!(tsan) {
+        match mutex.try_lock() {
+            Ok(locked) => return locked,
+            Err(TryLockError::Poisoned(poisoned)) => return poisoned.into_inner(),
+            Err(TryLockError::WouldBlock) => thread::yield_now(),
+        }
+    }
     mutex.lock().unwrap_or_else(|poisoned| poisoned.into_inner())
 }
 

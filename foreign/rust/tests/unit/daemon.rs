@@ -3,7 +3,6 @@
 use super::*;
 use std::io::Read;
 use std::os::unix::net::UnixStream;
-use std::thread;
 
 /// While a thread may open the program's next socket, the last one is known, or it has ended.
 #[test]
@@ -39,7 +38,8 @@ fn a_refusal_before_the_ask() {
             unsafe { host::send(one.as_raw_fd(), ptr::from_ref(&Ask::default()).cast(), size_of::<Ask>(), 0) };
         }
         drop(other);
-        assert_eq!(exchange(&one, &Ask::default()).err().unwrap().raw_os_error(), Some(host::EAGAIN));
+        let answer = if is_asked { receive(&one) } else { exchange(&one, &Ask::default()) };
+        assert_eq!(answer.err().unwrap().raw_os_error(), Some(host::EAGAIN));
     }
 }
 
