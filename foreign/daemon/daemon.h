@@ -59,6 +59,7 @@ struct process {
     bool retries;      /* what the kernel refused as it ended is tried again */
     uint64_t asked_at; /* the time of its last ask */
     uint64_t due;      /* the time until which its long asks are paid for, see turns.c */
+    uint32_t partners; /* the processes that are connected to it, or it to them, each as a bit, as of its last long ask */
     size_t bytes;
     int channels, connections;
     uint32_t ngroups;
