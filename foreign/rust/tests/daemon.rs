@@ -60,6 +60,7 @@ impl Drop for Daemon {
         let _ = self.process.kill();
         let _ = self.process.wait();
         let _ = fs::remove_file(&self.path);
+        let _ = fs::remove_file(format!("{}.lock", self.path.display()));
     }
 }
 
@@ -390,8 +391,9 @@ fn over_a_mebibyte() {
     assert_eq!(client.timeout(soon).msg_send(connection, b"", &mut room), Err(REFUSED(Errno::Inval)));
     thread::scope(|scope| {
         let serving = scope.spawn(|| {
-            let mut buffer = vec![0; MOST + 1];
-            let Received::Message(request) = server.msg_receive(channel, &mut buffer).unwrap() else { panic!() };
+            let (mut buffer, patience) = (vec![0; MOST + 1], Duration::from_secs(30));
+            let received = server.timeout(patience).msg_receive(channel, &mut buffer);
+            let Ok(Received::Message(request)) = received else { panic!("{received:?}") };
             let (rcvid, copied) = (request.rcvid, request.copied);
             assert_eq!((copied, server.msg_read(rcvid, 0, &mut buffer).unwrap().len()), (MOST, MOST));
             assert_eq!(server.msg_write(rcvid, 1, &long), Err(REFUSED(Errno::Inval)));
