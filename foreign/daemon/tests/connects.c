@@ -171,7 +171,7 @@ static void greedy(void) {
     qsort(usual, PAIRS, sizeof *usual, compare);
     /* Programs whose round trips take longer than this don't count as others that ask: nothing can be told then. */
     if (usual[PAIRS / 2] > 2000) fprintf(stderr, "greedy: the machine is too busy to tell\n");
-    else check(more[PAIRS / 2] < one / 20);
+    else check(more[PAIRS / 2] < one / 40 + usual[PAIRS / 2]);
     kill_child(server);
     kill_child(long_server);
 }
