@@ -14,6 +14,15 @@ use std::rt::Clock;
 use std::sync::Wait;
 use std::time::{Duration, Instant};
 
+/// What a stopwatch keeps of a call.
+#[derive(Clone, Copy, Debug, Default, PartialEq, Eq, Drop)]
+struct Made {
+    /// Whether the call is a Send.
+    sends: bool,
+    /// The time just before it, if it is timed and its completion isn't collected yet.
+    start: Option<Instant>,
+}
+
 /// The times of a thread's round trips, by a clock, and their count. A round trip begins with the call of a Send and
 /// ends when its ending is collected.
 #[derive(Drop)]
@@ -22,10 +31,8 @@ pub struct Stopwatch<'c, C> {
     /// Whether anything is timed.
     on: bool,
     progress: &'c Progress,
-    /// Whether the latest call is a Send.
-    sending: bool,
-    /// The time of the Send that isn't collected yet.
-    start: Option<Instant>,
+    /// The latest call that was made.
+    latest: Made,
     /// The nanoseconds of each round trip.
     trips: Vec<u64>,
     /// An error if there was no memory for one, or the clock couldn't be read.
@@ -39,29 +46,45 @@ impl<'c, C: Clock> Stopwatch<'c, C> {
             clock,
             on,
             progress,
-            sending: false,
-            start: None,
+            latest: Made::default(),
             trips: Vec::new(alloc),
             all: Ok(Tally::default()),
         }
     }
 
-    /// Notes that a call is about to be made.
-    fn called(&mut self, call: &Call) {
-        self.start = None;
-        self.sending = matches!(call, Call::Send { .. });
-        if !self.on || !self.sending {
-            return;
+    /// Returns what is kept of a call that is about to be made.
+    fn begin(&mut self, call: &Call) -> Made {
+        let sends = matches!(call, Call::Send { .. });
+        if !self.on || !sends {
+            return Made { sends, start: None };
         }
         match Instant::now(self.clock) {
-            Ok(start) => self.start = Some(start),
-            Err(_) => self.all = Err(WorkerFault::Unexpected),
+            Ok(start) => Made {
+                sends,
+                start: Some(start),
+            },
+            Err(_) => {
+                self.all = Err(WorkerFault::Unexpected);
+                Made { sends, start: None }
+            }
+        }
+    }
+
+    /// Notes the outcome of a call. A call that was refused isn't made: the one before it is still the latest.
+    fn note_outcome(&mut self, made: Made, called: &Called) {
+        match called {
+            Called::Refused(_, _) => {}
+            Called::Blocked => self.latest = made,
+            Called::Done(_) => {
+                self.latest = made;
+                self.note_ending();
+            }
         }
     }
 
     /// Notes that an ending was collected.
     fn note_ending(&mut self) {
-        if let Some(start) = self.start.take() {
+        if let Some(start) = self.latest.start.take() {
             match start.elapsed(self.clock) {
                 Ok(taken) => {
                     if self.trips.push(nanoseconds_of(taken)).is_err() {
@@ -71,7 +94,7 @@ impl<'c, C: Clock> Stopwatch<'c, C> {
                 Err(_) => self.all = Err(WorkerFault::Unexpected),
             }
         }
-        if self.sending {
+        if self.latest.sends {
             self.progress.round();
         }
     }
@@ -94,7 +117,7 @@ pub fn nanoseconds_of(duration: Duration) -> u64 {
 }
 
 /// Passes calls on, times each Send, and counts a round for each whose ending was collected. If a call is made before
-/// the ending of the one before is collected, only the second is timed.
+/// the ending of the one before it is collected, only the second is timed.
 #[derive(Drop)]
 pub struct Timed<'c, E, C> {
     pub inner: E,
@@ -115,28 +138,21 @@ impl<'c, E: Endpoint, C: Clock> Endpoint for Timed<'c, E, C> {
     }
 
     fn call<R: Wait>(&mut self, rt: &R, call: Call) -> Called {
-        self.stopwatch.called(&call);
+        let made = self.stopwatch.begin(&call);
         let called = self.inner.call(rt, call);
-        if matches!(called, Called::Done(_)) {
-            self.stopwatch.note_ending();
-        }
+        self.stopwatch.note_outcome(made, &called);
         called
     }
 
     fn call_both<R: Wait>(&mut self, rt: &R, first: Call, second: Call) -> CalledBoth {
-        let sends_first = matches!(first, Call::Send { .. });
-        self.stopwatch.called(&second);
+        let sends = matches!(first, Call::Send { .. });
+        let made = self.stopwatch.begin(&second);
         let both = self.inner.call_both(rt, first, second);
-        let called = match &both {
-            CalledBoth::Both(_, called) => called,
-            CalledBoth::First(called, _) => {
-                self.stopwatch.start = None;
-                self.stopwatch.sending = sends_first;
-                called
-            }
-        };
-        if matches!(called, Called::Done(_)) {
-            self.stopwatch.note_ending();
+        match &both {
+            CalledBoth::Both(_, called) => self.stopwatch.note_outcome(made, called),
+            CalledBoth::First(called, _) => self
+                .stopwatch
+                .note_outcome(Made { sends, start: None }, called),
         }
         both
     }
