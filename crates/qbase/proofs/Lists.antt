@@ -1,4 +1,4 @@
--- Lists and options, whatever they are of.
+-- Lemmas about lists and options of any type.
 use Rattle.std.proofs.Common.{◌≡◌, ◌≤◌, ℕ, suc, List, [], ◌∷◌, ◌++◌, map, refl, ap, sym, ◌∙◌, arith, length, cond, Bool, true, false, eqb, inl, inr}
 use Rattle.std.specs.Prelude.{Option, None, Some, is_some, ◌&&◌, ◌||◌, filter}
 use Rattle.std.specs.List.{list_any, filter_map, cons_option, AllByRecursion}
@@ -25,7 +25,7 @@ pub some_of : {A : Type 0} (o : Option A) → is_some o ≡ true → (x : A) × 
 some_of None e = absurd (true≢false (sym e))
 some_of (Some x) e = (x, refl)
 
--- what isn't something is nothing
+-- an option that isn't Some is None
 pub none_of : {A : Type 0} (o : Option A) → is_some o ≡ false → o ≡ None
 none_of None e = refl
 none_of (Some x) e = absurd (true≢false e)
@@ -34,7 +34,7 @@ pub or_none : {A : Type 0} (o : Option A) → option_or o None ≡ o
 or_none None = refl
 or_none (Some x) = refl
 
--- ---- any of what a function gives of each
+-- ---- list_any of a filter_map
 
 pub any_filter_map : {X Y : Type 0} (p : Y → Bool) (f : X → Option Y) (xs : List X) → ((x : X) (y : Y) → f x ≡ Some y → p y ≡ false) → list_any p (filter_map f xs) ≡ false
 any_filter_map p f [] h = refl
@@ -61,13 +61,13 @@ any_filter_map_at {Y} p f (x ∷ xs) u y h e q =
           ]
     ]
 
--- ---- any of a list
+-- ---- list_any
 
 pub any_never : {X : Type 0} (p : X → Bool) (xs : List X) → ((x : X) → p x ≡ false) → list_any p xs ≡ false
 any_never p [] h = refl
 any_never p (x ∷ xs) h = rw (h x) (any_never p xs h)
 
--- where just one may pass, any passes exactly if it does
+-- if no number but u may pass the test, some number passes it exactly if u does
 pub any_only : (p : ℕ → Bool) (xs : List ℕ) (u : ℕ) → is_among xs u ≡ true → ((v : ℕ) → eqb v u ≡ false → p v ≡ false) → list_any p xs ≡ p u
 any_only p [] u m h = absurd (true≢false (sym m))
 any_only p (x ∷ xs) u m h =
@@ -81,7 +81,7 @@ any_only p (x ∷ xs) u m h =
       | inr other ↦ rw (h x other) (any_only p xs u (rw other at m) h)
     ]
 
--- ---- what is true of each element
+-- ---- AllByRecursion
 
 pub all_filter_map : {X Y : Type 0} (P : Y → Type 0) (f : X → Option Y) (xs : List X) → ((x : X) (y : Y) → f x ≡ Some y → P y) → AllByRecursion P (filter_map f xs)
 all_filter_map P f [] h = tt
@@ -107,7 +107,7 @@ all_filter P p (x ∷ xs) a =
       | false ↦ all_filter P p xs a.1
     ]
 
--- of each that passes it is also true that it passes
+-- each element that a filter keeps also passes the test
 pub all_passing : {X : Type 0} (P : X → Type 0) (p : X → Bool) (xs : List X) → AllByRecursion P xs → AllByRecursion (λ x. P x × (p x ≡ true)) (filter p xs)
 all_passing P p [] a = tt
 all_passing {X} P p (x ∷ xs) a =
@@ -124,7 +124,7 @@ pub all_every : {X : Type 0} (P : X → Type 0) (xs : List X) → ((x : X) → P
 all_every P [] h = tt
 all_every P (x ∷ xs) h = (h x, all_every P xs h)
 
--- ---- what a function gives
+-- ---- the length of a filter_map
 
 pub length-filter_map : {X Y : Type 0} (f : X → Option Y) (xs : List X) → length (filter_map f xs) ≤ length xs
 length-filter_map f [] = omega arith
@@ -134,12 +134,12 @@ length-filter_map f (x ∷ xs) =
 
 -- ---- filters
 
--- tests that agree on each element leave the same
+-- tests that agree on each element keep the same elements
 pub filter_same : {X : Type 0} (p q : X → Bool) (xs : List X) → AllByRecursion (λ x. p x ≡ q x) xs → filter p xs ≡ filter q xs
 filter_same p q [] h = refl
 filter_same p q (x ∷ xs) h = rw (h.0, filter_same p q xs h.1) refl
 
--- one test after another is both
+-- two filters, one after the other, keep the elements that pass both tests
 pub filter_twice : {X : Type 0} (p q : X → Bool) (xs : List X) → filter q (filter p xs) ≡ filter (λ x. p x && q x) xs
 filter_twice p q [] = refl
 filter_twice {X} p q (x ∷ xs) =
@@ -148,11 +148,11 @@ filter_twice {X} p q (x ∷ xs) =
       | false ↦ filter_twice p q xs
     ]
 
--- a test that each element passes leaves all
+-- a test that each element passes keeps all
 pub filter_all : {X : Type 0} (p : X → Bool) (xs : List X) → AllByRecursion (λ x. p x ≡ true) xs → filter p xs ≡ xs
 filter_all p [] h = refl
 filter_all p (x ∷ xs) h = rw (h.0, filter_all p xs h.1) refl
 
--- a test that everything passes leaves all
+-- a test that every value passes keeps all
 pub filter_whole : {X : Type 0} (p : X → Bool) (xs : List X) → ((x : X) → p x ≡ true) → filter p xs ≡ xs
 filter_whole p xs h = filter_all p xs (all_every (λ x. p x ≡ true) xs h)

@@ -1,7 +1,7 @@
 -- Copying of bytes over other bytes.
 use Rattle.std.specs.Prelude.{ℕ, ◌+◌, ◌-◌, min, List, ◌++◌, length, take, drop}
 
--- how many bytes of d fit into b from index at on; 0 past b's end
+-- how many bytes of d fit into b from index at on; this is 0 past b's end
 abbrev pub laid_count : List ℕ → ℕ → List ℕ → ℕ
 laid_count b at d = min (length d) (length b - at)
 

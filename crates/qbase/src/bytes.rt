@@ -7,8 +7,8 @@ use crate::laying::{lay, take};
 use std::alloc::{AllocError, Global};
 use std::marker::Model;
 
-/// A message, a buffer or the data of a reply. Contracts see the list of the bytes, but neither their address nor the
-/// capacity.
+/// A message, a buffer or the data of a reply. Contracts see the list of the bytes, but neither their address
+/// nor the capacity.
 #[derive(Debug, Drop)]
 pub struct Bytes {
     items: Vec<u8>,
@@ -86,8 +86,8 @@ impl Bytes {
         self.items.is_empty()
     }
 
-    /// Copies `bytes` over these bytes from index `at` on, and returns how many it copied: as many as fit before the
-    /// end, and 0 if `at` is at or past the end. The length stays as it is.
+    /// Copies `bytes` over these bytes from index `at` on, until either ends. Returns how many bytes it
+    /// copied; that is 0 if `at` is at or past the end. The length doesn't change.
     pub fn lay(&mut self, at: usize, bytes: &[u8]) -> usize
         ensures after { self.new ≡ lay_over self.old at bytes.now }
         ensures count { result ≡ laid_count self.old at bytes.now }
@@ -95,8 +95,8 @@ impl Bytes {
         lay(&mut self.items, at, bytes)
     }
 
-    /// Copies `source` from index `at` on over the front of these bytes, and returns how many it copied: as many as fit
-    /// before the end, and 0 if `at` is at or past the end of `source`. The length stays as it is.
+    /// Copies `source`, from index `at` on, over the front of these bytes, until either ends. Returns how
+    /// many bytes it copied; that is 0 if `at` is at or past the end of `source`. The length doesn't change.
     pub fn take(&mut self, source: &[u8], at: usize) -> usize
         ensures after { self.new ≡ lay_over self.old 0 (drop at source.now) }
         ensures count { result ≡ laid_count self.old 0 (drop at source.now) }

@@ -11,6 +11,6 @@ pub enum ThreadState {
     SendBlocked(ChannelId),
     /// The thread waits for a message or a pulse.
     ReceiveBlocked(ChannelId),
-    /// The thread's message was received and isn't answered.
+    /// The thread's message was received and has no reply yet.
     ReplyBlocked(ChannelId),
 }
