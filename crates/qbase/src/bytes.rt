@@ -48,7 +48,8 @@ impl Bytes {
         })
     }
 
-    /// Makes a `Bytes` with `len` copies of one byte, such as a buffer of zeros; error if the allocator refuses.
+    /// Makes a `Bytes` with `len` copies of one byte, such as a buffer of zeros; error if the allocator
+    /// refuses.
     pub fn filled(alloc: Global, byte: u8, len: usize) -> Result<Bytes, AllocError>
         ensures { IfOk result (λ bytes. bytes ≡ replicate len byte) }
     {

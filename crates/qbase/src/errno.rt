@@ -12,11 +12,11 @@ pub enum Errno {
     /// There is no such thread, channel or held message. Or the call was cancelled: its channel was
     /// destroyed, or the kernel was shut down.
     Srch,
-    /// There is no such connection, or its channel was destroyed. Or the Send was cancelled: its connection was
-    /// detached.
+    /// There is no such connection, or its channel was destroyed. Or the Send was cancelled: its connection
+    /// was detached.
     Badf,
-    /// An argument is out of range, or the caller's process has no such channel to destroy, or no such connection
-    /// to detach.
+    /// An argument is out of range, or the caller's process has no such channel to destroy, or no such
+    /// connection to detach.
     Inval,
     /// A limit is reached.
     Again,

@@ -1,4 +1,5 @@
-//! The types that all crates of the kernel share: ids, errors, thread states, channel flags, priorities and bytes.
+//! The types that all crates of the kernel share: ids, errors, thread states, channel flags, priorities and
+//! bytes.
 #![tactic(auto)]
 
 pub mod byte_set;

@@ -5,7 +5,8 @@ ghost use Rattle.qbase.specs.Priority.{priority_of};
 
 use std::marker::Model;
 
-/// A priority from 1 to 255; a greater one is more urgent. The idle thread's 0 isn't allowed. Contracts see the number.
+/// A priority from 1 to 255; a greater one is more urgent. The idle thread's 0 isn't allowed. Contracts see
+/// the number.
 #[derive(Clone, Copy, Debug, PartialEq, Eq)]
 pub struct Priority {
     level: u8,

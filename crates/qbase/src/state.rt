@@ -2,7 +2,8 @@
 
 use crate::ids::ChannelId;
 
-/// A thread's state, named as in the QNX Neutrino System Architecture, with the channel on which it is blocked.
+/// A thread's state, named as in the QNX Neutrino System Architecture, with the channel on which it is
+/// blocked.
 #[derive(Clone, Copy, Debug, PartialEq, Eq)]
 pub enum ThreadState {
     /// The thread isn't blocked in the kernel.
