@@ -5,7 +5,7 @@ ghost use Rattle.qmodel.specs.Kinds.{kind_named, script_word, sorts_of};
 
 use crate::operands::Operand;
 
-/// A call without its operands. The variants are named as those of `Call`.
+/// A call without its operands. The variants have the names of the variants of `Call`.
 #[derive(Clone, Copy, Debug, PartialEq, Eq)]
 pub enum CallKind {
     ChannelCreate,
@@ -48,7 +48,7 @@ pub const KINDS: [CallKind; 17] = [
     CallKind::ConnectDetach,
 ];
 
-/// All kinds, as texts list them.
+/// All kinds, in the order in which texts list them.
 pub const LISTED: [CallKind; 17] = [
     CallKind::ChannelCreate,
     CallKind::ConnectAttach,
@@ -69,7 +69,7 @@ pub const LISTED: [CallKind; 17] = [
     CallKind::Shutdown,
 ];
 
-/// What a call makes that another call can name, or that another thread can receive.
+/// The thing that a call makes, if another call can name it or another thread can receive it.
 #[derive(Clone, Copy, Debug, PartialEq, Eq)]
 pub enum Product {
     Nothing,
@@ -91,7 +91,7 @@ pub struct Form {
     pub product: Product,
 }
 
-/// A row: the word, QNX's names, the operands, and what the call makes.
+/// A row of the table: the word, QNX's names, the operands, and the product of the call.
 macro_rules! form {
     ($word:literal, [$($name:literal),*], [$($operand:ident),*], $product:ident) => {
         Form {

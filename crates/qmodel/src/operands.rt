@@ -27,7 +27,8 @@ pub enum Operand {
     Data,
 }
 
-/// The numbers among a call's operands. One that the call doesn't have is 0, or the lowest priority.
+/// The numbers among a call's operands. A number that the call doesn't have is 0, and a priority that it
+/// doesn't have is the lowest.
 #[derive(Clone, Copy, Debug)]
 pub struct Operands {
     /// A channel, a connection or a receive id.
@@ -44,7 +45,7 @@ pub struct Operands {
 }
 
 impl Operands {
-    /// Returns the numbers of a call that has none.
+    /// Returns the numbers of a call that has none: 0, and the lowest priority.
     pub fn none() -> Operands
         ensures { result ≡ no_operands }
     {
@@ -82,7 +83,7 @@ impl Operands {
         }
     }
 
-    /// Returns the number of flags, of a thread, or else the id.
+    /// Returns the number of an operand of this sort: the flags, the thread, or the id for any other sort.
     pub fn number(&self, sort: Operand) -> u64
         ensures { result ≡ number_at self.now sort }
     {
