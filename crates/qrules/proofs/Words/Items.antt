@@ -1,5 +1,5 @@
--- Items, and the receipt that a call causes, which isn't part of its answer: the facts after the call depend on
--- it.
+-- Items, and the receipt that a call causes, which isn't part of its answer: the facts after the call depend
+-- on it.
 pub use Rattle.qrules.specs.Records.{disconnect_item, pulses_among, wait_on, is_after, is_last_wait}
 pub use Rattle.qrules.specs.Records.{is_newest, newest_receiver_among, takes_into, takes, cancel_where}
 pub use Rattle.qrules.specs.Records.{error_mark, receive_of}

@@ -79,7 +79,8 @@ abbrev pub carried_priority : (ChannelId → Option OpenChannel) → Option Sent
 carried_priority channel made =
     option_and_then (λ m. if is_fixed (channel m.channel) then None else Some m.item.priority) made
 
--- the priority that thread t takes by a completion, given the priority, or none, that each received item carries
+-- the priority that thread t takes by a completion, given the priority, or none, that each received item
+-- carries
 abbrev pub priority_from_completion : (CallNo → Option Priority) → ThreadNo → Completion → Option Priority
 priority_from_completion priority t x =
     if x.thread == t then option_and_then (λ r. priority r.number) (item_in x.mark) else None

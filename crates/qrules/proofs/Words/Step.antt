@@ -47,8 +47,8 @@ after_unblock m (Some thread) u o = if (u == thread) && is_some m then option_ma
 abbrev pub unless : Bool → Option OpenCall → Option OpenCall
 unless b o = if b then None else o
 
--- what the caller t, which is thread u, waits for after its call: its request, with the receipt if the message
--- is received at once; nothing if the call has ended
+-- what the caller t, which is thread u, waits for after its call: its request, with the receipt if the
+-- message is received at once; nothing if the call has ended
 abbrev pub own_call_after : Facts → ThreadNo → Call → ThreadNo → Option OpenCall
 own_call_after f t c u = unless (is_some (row_of f t c).own)
     (after_receipt (receipt_of f t c) u (asks f.number t (channel_of (makes f t c)) c))

@@ -11,7 +11,8 @@ use Rattle.qmodel.specs.declared.open_call.OpenSend.{OpenSend}
 pub tells_open : (o : Option OpenChannel) → tells_unblock o ≡ true → is_some o ≡ true
 tells_open o e = grind arith
 
--- the item is the pulse for the message that the open call waits with, which is held on a channel with the unblock flag and has had none
+-- the item is the pulse for the message that the open call waits with, which is held on a channel with the
+-- unblock flag and has had none
 pub record IsDue (f : Facts) (o : Option OpenCall) (m : SentItem) : Type 0 where
   pub send : OpenSend
   pub is : o ≡ Some (Send send)

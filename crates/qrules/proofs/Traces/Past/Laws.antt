@@ -21,7 +21,8 @@ pub record BeginsToWait (n t h : ℕ) (o : OpenCall) : Type 0 where
   pub fresh : is_settled o ≡ not (is_for_answer o)
   pub channel : is_for_answer o ≡ true → is_on h o ≡ true
 
--- an item has the number of the call that makes it, and where such a call waits, it is for the answer to a message
+-- an item has the number of the call that makes it, and where such a call waits, it is for the answer to a
+-- message
 pub record MakesItem (n : ℕ) (c : Call) (m : SentItem) : Type 0 where
   pub number : m.item.number ≡ n
   pub waits : (t h : ℕ) (o : OpenCall) → asks n t h c ≡ Some o → is_for_answer o ≡ true
@@ -82,7 +83,8 @@ pub record IsReceipt (caused : Option Received) (u : ℕ) (p : ReceivedItem) : T
   pub item : p.number ≡ receipt.item
   pub copied : p.copied ≡ receipt.kept.copied
 
--- the item that is received is the one that this call makes; only a message has a sender, which waits for its answer
+-- the item that is received is the one that this call makes; only a message has a sender, which waits for its
+-- answer
 pub record IsNew (f : Facts) (t : ℕ) (c : Call) (r : Received) (item : Item) : Type 0 where
   pub made : makes f t c ≡ Some (record { item = item; channel = r.channel })
   pub sender_is : r.sender ≡ option_map (λ o. t) (asks f.number t r.channel c)

@@ -1,4 +1,5 @@
--- Numbers of events and of what they begin and make: none is beyond the length of the trace, and each is one event's.
+-- Numbers of events and of what they begin and make: none is beyond the length of the trace, and each is one
+-- event's.
 use Rattle.qrules.proofs.Common.{◌≡◌, ℕ, ◌+◌, ◌<◌, ◌≤◌, List, [], ◌∷◌, length, refl, sym, subst, ◌∙◌, arith, Bool, true, false, eqb, ◌⊎◌, inl, inr, number_of, eqb-true, ne_eqb, and_parts, none-some, Member, call_at, Event, Trace, Call, OpenCall, eqb_same, channel_of, Option, None, Some, is_some, not, ◌&&◌}
 use Rattle.qrules.proofs.Words.Past.{is_accepted, accepted_at, block, item_of}
 use Rattle.qrules.proofs.Words.Facts.{is_for_answer}

@@ -1,4 +1,5 @@
--- What could be taken from a channel: items of that channel, and so of the connections over which they were sent.
+-- What could be taken from a channel: items of that channel, and so of the connections over which they were
+-- sent.
 use Rattle.qrules.proofs.Common.{arith, ◌≡◌, ◌∙◌, ℕ, ◌+◌, List, [], ◌∷◌, length, ap, sym, subst, cond, eqb, true, false, connection_of, takeable, AllByRecursion, none-some, same_Some, Item, Connection, Member, call_at, effect_of, SentItem, Event, Trace, Call, all_append, all_more, Option, Some, is_some}
 use Rattle.std.specs.Option.{option_and_then, option_map, option_or}
 use Rattle.qrules.proofs.Basics.{makes, item_of, pending_items, priority_before, attached_connection, made_on, message_numbered, pulse_item, item_sent_over, before_earlier, before_newest, item_accepted, IsPending, item_at, item_below, item_earlier, item_newest, item_priority, made_by, pending_all, pending_each, Facts, facts_of}

@@ -1,4 +1,5 @@
--- The messages and buffers of open calls are those that their calls brought, and a message that is pending has its Send open.
+-- The messages and buffers of open calls are those that their calls brought, and a message that is pending
+-- has its Send open.
 use Rattle.qrules.proofs.Common.{arith, ◌≡◌, ◌∙◌, ℕ, ◌+◌, List, [], ◌∷◌, length, refl, ap, sym, subst, cond, eqb, true, false, Option, message_in, message_of, held_call, with_buffer, buffer_at, message_at, buffer_of, none-some, is_pulse, Item, Member, effect_of, SentItem, Event, Trace, Call, OpenCall, Receipt, eqb_same, channel_of, buffer_in, None, Some, is_some, not, ◌&&◌}
 use Rattle.std.specs.Option.{option_and_then, option_map_or}
 use Rattle.std.proofs.lemmas.Bool.{eqb-true, or_parts, and_parts}

@@ -1,4 +1,5 @@
--- A completion that receives an item: the caller's own of what was pending, or of a thread that waited for what the call makes.
+-- A completion that receives an item: the caller's own of what was pending, or of a thread that waited for
+-- what the call makes.
 use Rattle.qrules.proofs.Basics.{pulse_same, sent_same, unblocked_same, message_item, item_in, Facts, message, route, number_of, makes, Delivers, delivery_meets, ReceiveTakes, receive_takes, detach_ends, sent_way}
 use Rattle.qrules.proofs.Common.{arith, ◌≡◌, ◌∙◌, ℕ, List, [], ap, refl, sym, eqb, true, false, inl, inr, ◌⊎◌, none-some, best_of, may_take, Item, Kind, Any, PulseOnly, completion_to, row_of, effect_of, ReceiveRequest, number_received, SentItem, Call, Completion, OpenCall, ReceivedItem, Option, None, Some}
 use Rattle.qmodel.specs.declared.call.Call.TheVariants.{Send, Receive, ReceivePulse, Pulse, Unblock, ConnectDetach}

@@ -1,4 +1,5 @@
--- The receiver that began to wait last: it waits, no other that waits began later, and there is one where any waits.
+-- The receiver that began to wait last: it waits, no other that waits began later, and there is one where any
+-- waits.
 use Rattle.qrules.proofs.Common.{◌≡◌, ◌<◌, ◌≤◌, ◌∙◌, ℕ, List, [], ◌∷◌, refl, ap, sym, arith, eqb, true, false, inl, inr, Receive, is_after, is_newest, newest_receiver_among, wait_on, list_any, none-some, or-true, may_take, Item, OpenCall, newest_receiver, eqb_same, is_among, Option, None, Some, is_some, ◌⊎◌, nat_lt, Bool, find}
 use Rattle.std.proofs.lemmas.Bool.{cases_Bool, eqb-true, le-ltb, lt-ltb, ltb-true, or_cases, true≢false}
 use Rattle.qrules.proofs.Words.Facts.{Facts, threads_of}

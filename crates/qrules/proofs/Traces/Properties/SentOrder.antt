@@ -1,4 +1,5 @@
--- Of what was sent over one connection and has one priority as it is received, what was sent first is received first.
+-- Of what was sent over one connection and has one priority as it is received, what was sent first is
+-- received first.
 use Rattle.qrules.proofs.Common.{◌≡◌, ◌∙◌, ℕ, ◌≤◌, List, [], ◌∷◌, ap, sym, subst, arith, true, inl, inr, cases_eq, connection_of, number_received, takeable, BestFirst, IsEarliest, SentOrder, TakesBest, TakesSent, Some, AllByRecursion, same_Some, best_of, may_take, IsRising, Item, Kind, Any, best-at, IsRoster, Member, ReceiveRequest, Event, Trace, Completion, all_more}
 use Rattle.qrules.proofs.Basics.{IsLawful, priority_before}
 use Rattle.qrules.proofs.Traces.Past.Best.{best_earliest, some_number}

@@ -38,7 +38,8 @@ ends_length f t c u y p e = grind arith
 
 -- ---- an event's endings
 
--- the buffer that thread u gets back if its call ends in call c of thread t: the one of that call, or of the call that it is blocked in
+-- the buffer that thread u gets back if its call ends in call c of thread t: the one of that call, or of the
+-- call that it is blocked in
 abbrev pub buffer_brought : List Member → Trace → ℕ → Call → ℕ → List ℕ
 buffer_brought roster past t c u = cond (eqb u t) (buffer_of c) (buffer_of_open (open_call roster past u))
 

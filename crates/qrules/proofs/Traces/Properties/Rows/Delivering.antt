@@ -5,7 +5,8 @@ use Rattle.qrules.proofs.Words.Facts.{Facts}
 use Rattle.qrules.proofs.Traces.Properties.Receivers.{WaitsOn, newest_waits}
 use Rattle.qmodel.specs.declared.open_call.OpenReceive.{OpenReceive}
 
--- thread u waits on the channel, is the newest that does and may take the item, and its call ends by taking it
+-- thread u waits on the channel, is the newest that does and may take the item, and its call ends by taking
+-- it
 pub record Delivers (f : Facts) (o : Option ℕ) (item : Item) (message : List ℕ) (u : ℕ) (y : Completion) : Type 0 where
   pub channel : ℕ
   pub leads : o ≡ Some channel
