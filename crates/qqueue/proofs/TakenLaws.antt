@@ -14,7 +14,8 @@ module _ (first : Bool → ℕ → Option ℕ) (s removed : Slab Node) (key : �
     pub there : get s key ≡ Some node
     pub gone : Updates s removed key None
 
-  -- the ring that the node stands on, from it on: the keys behind it and in front of it, and what its links are
+  -- the ring that the node stands on, from it on: the keys behind it and in front of it, and what its links
+  -- are
   pub record Turned (rest : List ℕ) : Type 0 where
     pub ring : Ring s (key ∷ rest)
     pub apart : Apart (key ∷ rest)

@@ -19,8 +19,8 @@ AreRings first nodes =
     (pulse : Bool) (level : ℕ) → (first pulse level ≡ first_of (keys_on pulse level (places_of nodes)))
     × Ring nodes (keys_on pulse level (places_of nodes))
 
--- each item has a number of its own and is on exactly one ring; the slab has at least the counted room; if
--- there are nodes or room for them, there is room for the first keys
+-- each item has a number of its own and is on exactly one ring. The slab has at least the counted room. If
+-- there are nodes or room for them, there is room for the first keys.
 pub record IsKept (lists : Lists) : Type 0 where
   pub rises : Rises (places_of lists.nodes)
   pub rings : AreRings (first_at lists.messages lists.pulses) lists.nodes

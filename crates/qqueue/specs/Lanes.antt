@@ -1,4 +1,4 @@
--- The first keys of the levels that a lane has.
+-- The first keys of a lane's levels.
 use Rattle.std.specs.Prelude.{◌≡◌, ℕ, ◌<◌, ◌==◌, ◌&&◌, ◌||◌, nat_lt, Option, None, Some, if◌then◌else◌}
 use Rattle.std.specs.Prelude.{slice_index}
 use Rattle.qqueue.specs.declared.item.Item.{Item}
@@ -13,8 +13,8 @@ first_in lane level = if has lane.levels level then Some (slice_index lane.first
 abbrev pub IsForemost : (ℕ → Option ℕ) → ℕ × ℕ → Type 0
 IsForemost first found = (first found.0 ≡ Some found.1) × ((above : ℕ) → found.0 < above → first above ≡ None)
 
--- given a message and a pulse, each with its level and key, the chosen key is that of the greater level, or
--- of the lesser number if both have one level
+-- given a message and a pulse, each with its level and key, the chosen key belongs to the greater level, or
+-- to the lesser number if both have one level
 abbrev pub IsEarlier : ℕ × ℕ → Item → ℕ × ℕ → Item → ℕ → Type 0
 IsEarlier message m pulse p chosen =
     chosen ≡ (if nat_lt pulse.0 message.0 || ((message.0 == pulse.0) && nat_lt m.number p.number)

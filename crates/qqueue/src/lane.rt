@@ -7,16 +7,16 @@ ghost use Rattle.qqueue.specs.Lanes.{first_in, IsForemost};
 use qbase::byte_set::ByteSet;
 use std::alloc::{AllocError, Global};
 
-/// The number of levels: the priorities, and 0, which none has.
+/// The number of levels: the priorities from 1 to 255, and 0, which no item has.
 const LEVELS: usize = 256;
 
-/// The set of levels that have nodes, and the key of each level's first node. A key has a meaning only if its level is
-/// in the set.
+/// The set of levels that have nodes, and the key of each level's first node. A key has a meaning only if its
+/// level is in the set.
 #[derive(Debug, Drop)]
 pub struct Lane {
     /// The levels that have a node.
     pub levels: ByteSet,
-    /// The keys of the first nodes, by level; empty until `make` is called.
+    /// The keys of the first nodes, by level. The list is empty until `make` is called.
     pub firsts: Vec<usize>,
 }
 
@@ -33,7 +33,7 @@ impl Lane {
         }
     }
 
-    /// Makes room for the keys, if there is none yet; error if the allocator refuses.
+    /// Makes room for the keys of all levels, if there is none yet; error if the allocator refuses.
     pub fn make(&mut self) -> Result<(), AllocError>
         requires { vec_len self.old.firsts ≤ 256 }
         ensures made { OnOk result (vec_len self.new.firsts ≡ 256) }
@@ -75,7 +75,8 @@ impl Lane {
         self.levels.remove(level);
     }
 
-    /// Returns the greatest level that has a node, with the key of its first node; `None` if no level has one.
+    /// Returns the greatest level that has a node, with the key of its first node; `None` if no level has
+    /// one.
     pub fn foremost(&self) -> Option<(u8, usize)>
         requires { (level key : ℕ) → first_in self.now level ≡ Some key → vec_len self.now.firsts ≡ 256 }
         ensures some { IfSome result (λ found. IsForemost (first_in self.now) found) }

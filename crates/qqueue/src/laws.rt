@@ -1,5 +1,5 @@
-//! Laws of the order of receipt. The functions do nothing: the contract of each is a law, proved of all items and all
-//! lists of items.
+//! Laws of the order of receipt. The functions do nothing: the contract of each is a law, proved for all
+//! items and all lists of items.
 
 ghost use Rattle.qqueue.specs.Order.{JustOneComesBefore, BeforeIsTransitive, NoneBeforeItself, BestIsFirst, NoBestIfNoneMayBeTaken};
 
@@ -10,8 +10,8 @@ pub fn order_is_total()
     ensures strict { NoneBeforeItself }
 {}
 
-/// In a list of rising numbers, the best item may be taken and comes before all other items that may be taken. There is
-/// no best item exactly if no item may be taken.
+/// In a list of rising numbers, the best item may be taken and comes before all other items that may be
+/// taken. There is no best item exactly if no item may be taken.
 pub fn best_comes_first()
     ensures first { BestIsFirst }
     ensures none { NoBestIfNoneMayBeTaken }

@@ -1,4 +1,4 @@
-//! The messages and pulses that wait to be received on one channel.
+//! The queue of one channel: the messages and pulses that were sent to it and not yet received.
 #![tactic(auto)]
 
 pub mod item;

@@ -1,4 +1,4 @@
-//! The nodes and rings of a queue: adds items, takes them out, changes their priority, and finds the best one.
+//! The nodes and rings of a queue: adds items, removes them, changes their priority, and finds the best one.
 
 ghost use Rattle.std.specs.Prelude.{◌≡◌, ◌≢◌, ◌+◌, ◌<◌, ◌≤◌, ℕ, [], ◌∷◌, ◌++◌, None, Some, IfSome, IfNone, IsSome, OnOk, OnErr, IsOk, if◌then◌else◌, unwrap_or};
 ghost use Rattle.std.specs.List.{AllByRecursion};
@@ -17,15 +17,15 @@ use qbase::priority::Priority;
 use slab::Slab;
 use std::alloc::{AllocError, Global};
 
-/// The nodes of a queue, with a ring of messages and a ring of pulses for each level of priority. Each ring is in
-/// rising number.
+/// The nodes of a queue. For each level of priority the messages are linked in one ring, and the pulses in
+/// another. Each ring is in rising number.
 #[derive(Debug, Drop)]
 pub struct Lists {
     /// The rings of messages.
     pub messages: Lane,
     /// The rings of pulses.
     pub pulses: Lane,
-    /// The nodes of both.
+    /// The nodes of all rings.
     pub nodes: Slab<Node>,
     /// The number of nodes that can still be added without taking memory.
     pub room: usize,
@@ -38,8 +38,8 @@ fn room_of(nodes: &Slab<Node>) -> usize
     nodes.capacity() - nodes.len()
 }
 
-/// Moves a node that is a ring of its own to a level's ring: before the node `next`, or behind all others if `next` is
-/// `None`.
+/// Moves a node that is a ring of its own to a level's ring: before the node `next`, or to the end if `next`
+/// is `None`.
 fn join(lane: &mut Lane, nodes: &mut Slab<Node>, level: u8, key: usize, next: Option<usize>)
     requires made { vec_len lane.old.firsts ≡ 256 }
     requires there { IsSome (item_of nodes.old key) }
@@ -89,15 +89,15 @@ fn close_up(lane: &mut Lane, nodes: &mut Slab<Node>, key: usize, node: Node)
     }
 }
 
-/// Returns the key of the first node with a greater number than the item's, in the ring that begins at the key `first`;
-/// `None` if no number is greater. The ring is that of the item's kind and level.
+/// Returns the key of the first node whose number is greater than the item's; `None` if no number is greater.
+/// The ring of the item's kind and level begins at the key `first`.
 fn next_from(nodes: &Slab<Node>, first: usize, item: &Item) -> Option<usize>
     requires rises { Rises (places_of nodes.now) }
     requires first { first_of (keys_on (is_pulse item.now.what) item.now.priority (places_of nodes.now)) ≡ Some first }
     requires ring { Ring nodes.now (keys_on (is_pulse item.now.what) item.now.priority (places_of nodes.now)) }
     ensures { result ≡ first_of (keys_on (is_pulse item.now.what) item.now.priority (places_after item.now.number (places_of nodes.now))) }
 {
-    // The numbers rise: if the last isn't greater than the item's, none is, and no walk is needed.
+    // The numbers rise. If the last one isn't greater than the item's, none is, and no walk is needed.
     let last = nodes[first].before;
     if nodes[last].item.number <= item.number {
         return None;
@@ -110,8 +110,8 @@ fn next_from(nodes: &Slab<Node>, first: usize, item: &Item) -> Option<usize>
     Some(key)
 }
 
-/// Returns the key of the foremost message or the foremost pulse, whichever is received first: the one of the greater
-/// level, or of the lesser number if both have one level.
+/// Returns the key of the foremost message or of the foremost pulse, whichever is received first. The greater
+/// level is received first, or the lesser number if both have one level.
 fn earlier(nodes: &Slab<Node>, message: (u8, usize), pulse: (u8, usize)) -> usize
     requires message_there { IsSome (item_of nodes.now message.1) }
     requires pulse_there { IsSome (item_of nodes.now pulse.1) }
@@ -152,8 +152,8 @@ impl Lists {
         }
     }
 
-    /// Makes room for `n` more nodes and, the first time, for the keys of the first nodes; error if the allocator
-    /// refuses.
+    /// Makes room for `n` more nodes and, the first time, for the keys of the first nodes; error if the
+    /// allocator refuses.
     pub fn reserve(&mut self, n: usize) -> Result<(), AllocError>
         requires { IsKept self.old }
         ensures kept { IsKept self.new }
@@ -173,7 +173,7 @@ impl Lists {
         Ok(())
     }
 
-    /// Adds an item behind all others, and returns its key. Takes no memory, for there is room.
+    /// Adds an item after all others, and returns its key. Takes no memory, because there is room.
     pub fn append(&mut self, item: Item) -> usize
         requires kept { IsKept self.old }
         requires room { 0 < self.old.room }
@@ -186,7 +186,7 @@ impl Lists {
         self.put(item, None)
     }
 
-    /// Adds an item at its place by number, and returns its key. Takes no memory, for there is room.
+    /// Adds an item at its place by number, and returns its key. Takes no memory, because there is room.
     fn insert(&mut self, item: Item) -> usize
         requires kept { IsKept self.old }
         requires room { 0 < self.old.room }
@@ -200,8 +200,8 @@ impl Lists {
         self.put(item, next)
     }
 
-    /// Adds an item before the node `next` of its kind and level, or behind all of them if `next` is `None`, and
-    /// returns its key. Takes no memory, for there is room.
+    /// Adds an item before the node `next` of its kind and level, or after all of them if `next` is `None`.
+    /// Returns its key. Takes no memory, because there is room.
     fn put(&mut self, item: Item, next: Option<usize>) -> usize
         requires kept { IsKept self.old }
         requires room { 0 < self.old.room }
@@ -224,7 +224,8 @@ impl Lists {
         key
     }
 
-    /// Returns the key of the first item of the same kind and level that has a greater number; `None` if there is none.
+    /// Returns the key of the first item of the same kind and level that has a greater number; `None` if
+    /// there is none.
     fn next_of(&self, item: &Item) -> Option<usize>
         requires kept { IsKept self.now }
         requires room { 0 < self.now.room }
@@ -239,7 +240,7 @@ impl Lists {
         next_from(&self.nodes, first?, item)
     }
 
-    /// Takes the item under a key out, and returns it.
+    /// Removes the item under this key, and returns it.
     pub fn take_out(&mut self, key: usize) -> Item
         requires kept { IsKept self.old }
         requires there { IsSome (item_of self.old.nodes key) }
@@ -261,8 +262,8 @@ impl Lists {
         node.item
     }
 
-    /// Changes the priority of the item under a key. It moves to its place by number among the items of that priority,
-    /// and keeps its key.
+    /// Changes the priority of the item under this key. The item moves to its place by number among the items
+    /// of that priority, and keeps its key.
     pub fn requeue(&mut self, key: usize, priority: Priority)
         requires kept { IsKept self.old }
         requires there { IsSome (item_of self.old.nodes key) }
@@ -276,12 +277,12 @@ impl Lists {
         let item = self.take_out(key);
         // The key that was vacated last is used first, so the item gets its own key again.
         self.insert(Item { priority, ..item });
-        // The item that was taken out left room for itself, so the reserved room is the same.
+        // The item that was removed left room for itself, so the reserved room is the same.
         self.room = room;
     }
 
-    /// Returns the key of the item that a receive of this kind takes, the first of the greatest level; `None` if there
-    /// is none. Looks only at the sets of levels.
+    /// Returns the key of the item that a receive of this kind takes, the first of the greatest level; `None`
+    /// if there is none. It searches only the sets of levels.
     pub fn best(&self, kind: Kind) -> Option<usize>
         requires { IsKept self.now }
         ensures best { item_at self.now.nodes result ≡ best_of kind (items_at (places_of self.now.nodes)) }
