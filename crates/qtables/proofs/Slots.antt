@@ -1,4 +1,5 @@
--- Entries in slots under the keys of an index: what a look-up, a new entry, a write and a removal make of both.
+-- Entries in slots under the keys of an index: what a look-up, a new entry, a write and a removal make of
+-- both.
 use Rattle.qtables.proofs.Common.{◌≡◌, ◌≢◌, inl, inr, ℕ, zero, suc, ◌+◌, ◌<◌, true, false, cond, not, eqb, List, [], ◌∷◌, ◌++◌, length, refl, sym, ap, ◌∙◌, arith, length-append, subst, option_map, is_some, AllByRecursion, ne_eqb, eq-eqb, eqb-true, eqb-false, cases_eq, sum_by-set, entry_at, with_record, without_entry, IsRising}
 use Rattle.std.specs.Prelude.{Option, None, Some, slice_get, slice_index_or, filter_map, count_by}
 use Rattle.slab.specs.Slab.{Slab, get, slab_len, ContainsKey, Updates, with_value}

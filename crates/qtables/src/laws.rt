@@ -1,5 +1,5 @@
-//! Laws of the definitions that the contracts of this crate use. The functions do nothing: the contract of each is a
-//! law.
+//! Laws of the definitions that the contracts of this crate use. The functions do nothing: the contract of
+//! each is a law.
 
 ghost use Rattle.std.specs.Prelude.{◌≡◌, ◌<◌, ℕ, ◌==◌, List, [], ◌∷◌, ◌++◌, None, Some, if◌then◌else◌, option_map};
 ghost use Rattle.std.specs.List.{AllByRecursion};
@@ -7,7 +7,8 @@ ghost use Rattle.qtables.specs.Entries.{entry_at, with_record, without_entry};
 ghost use Rattle.qtables.specs.declared.member.Member.{Member};
 ghost use Rattle.qtables.specs.Members.{member_at, with_member, IsRoster};
 
-/// Adding a thread that isn't in the roster adds its own entry and changes no other; the members still rise in number.
+/// Adding a thread that isn't in the roster adds its own entry and changes no other. The members are still in
+/// rising number.
 pub fn joins_just_its_own()
     ensures own { (m : Member) (roster : List Member) (thread : ℕ) → member_at roster m.thread ≡ None →
         member_at (with_member m roster) thread ≡ (if m.thread == thread then Some m else member_at roster thread) }

@@ -11,12 +11,12 @@ use qbase::priority::Priority;
 use std::alloc::Global;
 use std::marker::Model;
 
-/// The greatest number of threads in a roster (own profile).
+/// The greatest number of threads in a roster, by this kernel's own choice.
 pub const THREAD_LIMIT: usize = 64;
 
 /// The threads, each with its process and the priority that it begins with. Contracts see the members in
 /// rising thread number.
-/// `first_message.rt` of `crates/balsaeuchre_uses` makes one.
+/// `first_message.rt` of `crates/balsaeuchre_uses` makes a roster.
 #[derive(Drop)]
 pub struct Roster {
     members: ArrayVec<Member, THREAD_LIMIT, Global>,
@@ -46,8 +46,9 @@ impl Roster {
         }
     }
 
-    /// Adds a thread; takes no memory. Error: `Inval` if the thread is in the roster already, or else `Again` if the
-    /// roster has 64 threads. `first_message.rt` of `crates/balsaeuchre_uses` adds two.
+    /// Adds a thread; takes no memory. The error is `Inval` if the thread is in the roster already, and
+    /// otherwise `Again` if the roster has 64 threads.
+    /// `first_message.rt` of `crates/balsaeuchre_uses` adds two.
     pub fn add(
         &mut self,
         thread: ThreadNo,
@@ -78,7 +79,8 @@ impl Roster {
         }
     }
 
-    /// Returns a thread's process and the priority that it begins with; `None` if the thread isn't in the roster.
+    /// Returns a thread's process and the priority that it begins with; `None` if the thread isn't in the
+    /// roster.
     pub fn get(&self, thread: ThreadNo) -> Option<(ProcessNo, Priority)>
         ensures { result ≡ option_map (λ m. (m.process, m.priority)) (member_at self.now thread) }
     {
@@ -115,7 +117,7 @@ impl Roster {
         self.members.is_empty()
     }
 
-    // Returns the place of a thread, or as an error the place where it would be inserted.
+    // Returns the place of a thread; the error is the place where it would be inserted.
     fn search(&self, thread: ThreadNo) -> Result<usize, usize>
         ensures there { IfOk result (λ i.
             (i < length self.now)
