@@ -9,7 +9,8 @@ use Rattle.qlaws.proofs.Lists.{count_cons, fewer_left}
 
 -- ---- counts
 
--- of the items of L some stay, those that don't go; where one that stays afterwards counts only if it did so before, the count falls by what goes
+-- of the items of L some stay, those that don't go; where one that stays afterwards counts only if it did so
+-- before, the count falls by what goes
 all_fall : (S P : Item → Type 0) (before g gone : Item → Bool) (n k : Item → Item) (L : List Item) → AllByRecursion S L → AllByRecursion P (map n (filter (λ y. not (gone y)) L))
     → ((y : Item) → S y → (g (n y) ≡ g y) × (gone y ≡ true → g y ≡ true) × (P (n y) → g y ≡ false → before (k y) ≡ true → before (n y) ≡ true))
     → count_by before (map k (filter (λ y. not (g y)) L)) + count_by before (filter g (map n (filter (λ y. not (gone y)) L))) ≤ count_by before (map n (filter (λ y. not (gone y)) L))

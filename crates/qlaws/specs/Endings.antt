@@ -1,5 +1,5 @@
--- Laws of the endings of one event: the threads that get them, what they may receive, and the threads that
--- wait afterwards.
+-- Laws of the completions of one event: the threads that get them, the items that they receive, and the
+-- threads that are blocked afterwards.
 use Rattle.std.specs.Prelude.{◌&&◌, ◌+◌, ◌==◌, ◌||◌, ◌∷◌, ◌≡◌, ◌↔◌, if◌then◌else◌}
 use Rattle.qrules.specs.Words.{[], false, is_some, length, list_any, member_at, option_map}
 use Rattle.qrules.specs.Words.{option_map_or, true, AllByRecursion, Bool, Completion, Down, List}
@@ -15,17 +15,17 @@ use Rattle.qlaws.specs.Lawful.{InEachNewest}
 use Rattle.qlaws.specs.OpenCalls.{waiting_number}
 pub use Rattle.qrules.specs.Trace.{thread_at, AreApart, gets, RiseByThread}
 
--- P holds of each completion of each event
+-- P holds for each completion of each event
 abbrev pub OfEachEnding : (List Member → Trace → Event → Completion → Type 0) → Type 0
 OfEachEnding P = InEachNewest (λ roster past e. AllByRecursion (P roster past e) e.endings)
 
--- ---- the threads that get them
+-- ---- the threads that get completions
 
--- each completion goes to the thread that made the call that it ends
+-- each completion goes to the thread that made the completed call
 abbrev pub EndingsNameOwnCalls : Type 0
 EndingsNameOwnCalls = OfEachEnding (λ roster past e x. thread_at (e ∷ past) x.call ≡ Some x.thread)
 
--- the thread numbers of the endings rise in each event
+-- the completions of each event are in rising thread number
 abbrev pub EndingsRiseByThread : Type 0
 EndingsRiseByThread = InEachNewest (λ roster past e. RiseByThread e.endings)
 
@@ -33,29 +33,29 @@ EndingsRiseByThread = InEachNewest (λ roster past e. RiseByThread e.endings)
 abbrev pub EndingsAreApart : Type 0
 EndingsAreApart = InEachNewest (λ roster past e. AreApart e.endings)
 
--- a call of thread u may end in an event of thread t: it is the event's own, or u waits in it
+-- a call of thread u may complete in an event of thread t: u is t, or u is blocked
 abbrev pub may_end : Facts → ThreadNo → ThreadNo → Bool
 may_end f t u = (u == t) || is_blocked f u
 
--- each completion goes to a thread of the roster whose call may end
+-- each completion goes to a thread of the roster whose call may complete
 abbrev pub EndingsGoToBlocked : Type 0
 EndingsGoToBlocked = OfEachEnding (λ roster past e x.
     (is_some (member_at roster x.thread) ≡ true) × (may_end (facts_of roster past) e.thread x.thread ≡ true))
 
--- ---- the threads that wait afterwards
+-- ---- the threads that are blocked afterwards
 
--- after an event of a thread that didn't wait, the threads that wait are those whose calls might have ended
--- in it and didn't
+-- after an event of a thread that wasn't blocked, the blocked threads are those threads whose calls may
+-- complete in the event and didn't
 abbrev pub BlockedUnlessEnded : Type 0
 BlockedUnlessEnded = InEachNewest (λ roster past e. is_blocked (facts_of roster past) e.thread ≡ false
     → (u : ThreadNo) → is_blocked (facts_of roster (e ∷ past)) u
     ≡ (if gets e.endings u then false else may_end (facts_of roster past) e.thread u))
 
--- one of the endings is that of the event's own call
+-- one of the completions is of the event's own call
 abbrev pub ends_itself : Trace → Event → Bool
 ends_itself past e = list_any (λ x. x.call == length past + 1) e.endings
 
--- either a call ends in its own event, or its thread waits in it afterwards
+-- either a call completes in its own event, or its thread is blocked in it afterwards
 abbrev pub EndsOrWaits : Type 0
 EndsOrWaits = InEachNewest (λ roster past e. (ends_itself past e ≡ false)
     ↔ (waiting_number (facts_of roster (e ∷ past)) e.thread ≡ Some (length past + 1)))
@@ -64,27 +64,27 @@ EndsOrWaits = InEachNewest (λ roster past e. (ends_itself past e ≡ false)
 abbrev pub CallerGetsItsOwn : Type 0
 CallerGetsItsOwn = InEachNewest (λ roster past e. gets e.endings e.thread ≡ ends_itself past e)
 
--- ---- their buffers
+-- ---- the buffers of completions
 
--- the buffer of the call that thread u waits in
+-- the buffer of the call in which thread u is blocked
 abbrev pub waiting_buffer : Facts → ThreadNo → Bytes
 waiting_buffer f u = option_map_or buffer_in (f.open_call u) []
 
--- each completion's buffer is as long as the one that its thread passed in, with this call or with the one
--- that it waits in
+-- each completion's buffer is as long as the buffer that its thread passed in, with this call or with the
+-- call in which it is blocked
 abbrev pub EndingsKeepLength : Type 0
 EndingsKeepLength = OfEachEnding (λ roster past e x. length x.buffer
     ≡ length (if x.thread == e.thread then buffer_of e.call
     else waiting_buffer (facts_of roster past) x.thread))
 
--- ---- what they receive
+-- ---- the items that completions receive
 
 -- connection k was attached to channel h
 abbrev pub LeadsTo : List Member → Trace → ConnectionId → ChannelId → Type 0
 LeadsTo roster past k h = option_map (λ c. c.channel) (attached_connection roster past k) ≡ Some h
 
--- item i, which the completion receives, was made by then on the channel on which the ended call receives; if
--- it was sent over a connection, that leads to this channel
+-- item i, which the completion receives, was made by then for the channel of the completed receive. If it was
+-- sent over a connection, the connection leads to this channel.
 pub record WasSent (roster : List Member) (past : Trace) (x : Completion) (i : CallNo) : Type 0 where
   pub request : ReceiveRequest
   pub call : request_of past x.call ≡ Some request
@@ -92,7 +92,7 @@ pub record WasSent (roster : List Member) (past : Trace) (x : Completion) (i : C
       list_any (λ m. (m.item.number == i) && (m.channel == request.channel)) (items roster past) ≡ true
   pub sent : (k : ConnectionId) → connection_of past i ≡ Some k → LeadsTo roster past k request.channel
 
--- each item that is received was sent in this way
+-- each received item was sent in this way
 abbrev pub ReceivedWasSent : Type 0
 ReceivedWasSent = OfEachEnding (λ roster past e x. (i : CallNo) → number_received x ≡ Some i
     → WasSent roster (e ∷ past) x i)
@@ -103,15 +103,15 @@ NothingFromDestroyed = OfEachEnding (λ roster past e x. (h : ChannelId) (i : Ca
     → is_destroyed (e ∷ past) h ≡ true → number_received x ≡ Some i
     → option_map (λ m. m.channel) (item_among (items roster (e ∷ past)) i) ≡ Some h → ⊥)
 
--- ---- refusals
+-- ---- calls that fail
 
--- a refused call changes nothing but the number of calls
+-- a call that fails changes only the number of calls
 abbrev pub RefusedChangesNothing : Type 0
 RefusedChangesNothing = InEachNewest (λ roster past e. is_accepted e past ≡ false
     → facts_of roster (e ∷ past)
     ≡ record (facts_of roster past) { number = (facts_of roster past).number + 1 })
 
--- after an accepted Shutdown each call is refused with Down, gets its buffer back, and ends no other
+-- after an accepted Shutdown each call fails with Down, gets its buffer back, and completes no other call
 abbrev pub OnlyRefusedWhenDown : Type 0
 OnlyRefusedWhenDown = InEachNewest (λ roster past e. was_done (λ f. f.shuts_down) past ≡ true
     → e.endings ≡ own_completion (facts_of roster past) e.thread (mark.Failed Down) (buffer_of e.call)

@@ -1,4 +1,4 @@
--- Laws of ids: of the channels that are open, and of the connections that are live.
+-- Laws of ids: of open channels and live connections.
 use Rattle.std.specs.Prelude.{◌++◌, ◌≡◌, ◌≤◌}
 use Rattle.qrules.specs.Words.{is_some, length, true, AllByRecursion, Bool, List, Mark, None, Option, ℕ}
 use Rattle.qrules.specs.Words.mark
@@ -11,7 +11,7 @@ use Rattle.qlaws.specs.Lawful.{AfterEach}
 
 -- ---- how many there are
 
--- at most n ids have a value: no more different ones can be listed
+-- at most n ids have a value: a list of different ids that have one has at most n elements
 abbrev pub AtMost : {A : Type 0} → ℕ → (ℕ → Option A) → Type 0
 AtMost n at = (ids : List ℕ) → AllDifferent ids → AllByRecursion (λ i. is_some (at i) ≡ true) ids
     → length ids ≤ n
@@ -24,22 +24,22 @@ ChannelsAreLimited = AfterEach (λ roster past. AtMost 64 (facts_of roster past)
 abbrev pub ConnectionsAreLimited : Type 0
 ConnectionsAreLimited = AfterEach (λ roster past. AtMost 1024 (facts_of roster past).connection)
 
--- ---- those that are gone
+-- ---- ids of destroyed channels and detached connections
 
--- connection k is detached
+-- connection k has been detached
 abbrev pub is_detached : Trace → ConnectionId → Bool
 is_detached past k = was_done (λ e. is_number e.detaches k) past
 
--- an id that is gone never has a value again, and no later completion has the mark that gives it
+-- once an id is gone, it never has a value again, and no later completion has the result that returns it
 abbrev pub StaysGone : {A : Type 0} → (Trace → ℕ → Bool) → (Facts → ℕ → Option A) → (ℕ → Mark) → Type 0
 StaysGone is_gone at given = (past later : Trace) (i : ℕ) → is_gone past i ≡ true
     → AfterEach (λ roster after. after ≡ later ++ past → (at (facts_of roster after) i ≡ None)
     × AllByRecursion (λ x. x.mark ≡ given i → ⊥) (endings_of later))
 
--- a channel that is destroyed stays so, and its id isn't given again
+-- a destroyed channel stays destroyed, and its id isn't returned again
 abbrev pub DestroyedStaysDestroyed : Type 0
 DestroyedStaysDestroyed = StaysGone is_destroyed (λ f. f.channel) mark.Channel
 
--- a connection that is detached stays so, and its id isn't given again
+-- a detached connection stays detached, and its id isn't returned again
 abbrev pub DetachedStaysDetached : Type 0
 DetachedStaysDetached = StaysGone is_detached (λ f. f.connection) mark.Connection

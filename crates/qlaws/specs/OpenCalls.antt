@@ -1,4 +1,4 @@
--- Laws of the calls that threads wait in.
+-- Laws of open calls.
 use Rattle.std.specs.Prelude.{◌&&◌, ◌==◌, ◌≡◌, ◌↔◌, ◌≤◌}
 use Rattle.qrules.specs.Words.{false, is_some, length, may_take, not, option_map_or, true}
 use Rattle.qrules.specs.Words.{AllByRecursion, Bool, Call, Connection, None, Some}
@@ -13,9 +13,9 @@ use Rattle.qlaws.specs.Lawful.{AfterEach}
 pub use Rattle.qrules.specs.Facts.{waiting_number}
 pub use Rattle.qrules.specs.Past.{waiter}
 
--- ---- at most one for each thread
+-- ---- at most one open call for each thread
 
--- call i is one of thread t that was accepted, may wait and isn't ended
+-- call i is a call of thread t that was accepted, may block and hasn't completed
 pub record IsUnended (past : Trace) (t : ThreadNo) (i : CallNo) : Type 0 where
   pub waits : accepted_at waiter past i ≡ Some t
   pub going : is_ended past i ≡ false
@@ -25,7 +25,7 @@ abbrev pub AtMostOneOpen : Type 0
 AtMostOneOpen = AfterEach (λ roster past. (t : ThreadNo) (i j : CallNo)
     → IsUnended past t i → IsUnended past t j → i ≡ j)
 
--- a thread waits in exactly that call
+-- a thread is blocked in exactly that call
 abbrev pub OpenIsUnended : Type 0
 OpenIsUnended = AfterEach (λ roster past. (t : ThreadNo) (i : CallNo)
     → (waiting_number (facts_of roster past) t ≡ Some i) ↔ IsUnended past t i)
@@ -44,7 +44,7 @@ abbrev pub OpenSendsAreRouted : Type 0
 OpenSendsAreRouted = AfterEach (λ roster past. AllByRecursion (IsRouted (facts_of roster past))
     (open_sends (facts_of roster past)))
 
--- message i is received, and its Send isn't ended
+-- message i has been received, and its Send hasn't completed
 abbrev pub is_held : Trace → ReceiveId → Bool
 is_held past i = is_received past i && not (is_ended past i)
 
@@ -66,7 +66,7 @@ pub record IsNewest (f : Facts) (m : SentItem) (t : ThreadNo) : Type 0 where
   pub may : may_receive m receive ≡ true
   pub last : AllByRecursion (λ s. may_receive m s ≡ true → s.number ≤ receive.number) (open_receives f)
 
--- the newest receiver of an item waits in such a receive
+-- the newest receiver of an item is blocked in such a receive
 abbrev pub NewestIsLast : Type 0
 NewestIsLast = AfterEach (λ roster past. (m : SentItem) (t : ThreadNo)
     → newest_receiver (facts_of roster past) m.channel m.item ≡ Some t → IsNewest (facts_of roster past) m t)
@@ -77,7 +77,7 @@ NoneIsNewest = AfterEach (λ roster past. (m : SentItem)
     → (newest_receiver (facts_of roster past) m.channel m.item ≡ None)
     ↔ AllByRecursion (λ r. may_receive m r ≡ false) (open_receives (facts_of roster past)))
 
--- no item that an open receive may take is pending on its channel
+-- no item that an open receive may take is queued on the receive's channel
 abbrev pub NothingPendingForWaiting : Type 0
 NothingPendingForWaiting = AfterEach (λ roster past. AllByRecursion
     (λ r. AllByRecursion (λ item. may_take r.kind item ≡ false) ((facts_of roster past).pending r.channel))
@@ -85,7 +85,7 @@ NothingPendingForWaiting = AfterEach (λ roster past. AllByRecursion
 
 -- ---- buffers
 
--- this buffer of call i is as long as the one that was passed in
+-- this buffer of call i is as long as the buffer that was passed in
 pub record IsAsLong (past : Trace) (i : CallNo) (buffer : Bytes) : Type 0 where
   pub call : Call
   pub is : call_at past i ≡ Some call
@@ -103,7 +103,7 @@ ReceiveBuffersKeepLength = AfterEach (λ roster past.
 
 -- ---- after a shutdown
 
--- after an accepted Shutdown no thread waits
+-- after an accepted Shutdown no thread is blocked
 abbrev pub NobodyWaitsAfterShutdown : Type 0
 NobodyWaitsAfterShutdown = AfterEach (λ roster past. was_done (λ e. e.shuts_down) past ≡ true
     → (t : ThreadNo) → is_blocked (facts_of roster past) t ≡ false)

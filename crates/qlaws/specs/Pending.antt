@@ -1,4 +1,4 @@
--- Laws of the items that wait to be received.
+-- Laws of queued items.
 use Rattle.std.specs.Prelude.{◌&&◌, ◌++◌, ◌+◌, ◌∷◌, ◌≡◌, ◌≤◌, if◌then◌else◌}
 use Rattle.qrules.specs.Words.{count_by, false, filter, is_pulse, map, may_take, not, true}
 use Rattle.qrules.specs.Words.{with_priority, AllByRecursion, Bool, Completion, Item, List, Member, None}
@@ -16,18 +16,18 @@ use Rattle.qqueue.specs.Order.{comes_before}
 use Rattle.qlaws.specs.Lawful.{AfterEach, InEachNewest}
 use Rattle.qlaws.specs.OpenCalls.{is_held}
 
--- P holds of each item that is pending on a channel
+-- P holds for each item that is queued on a channel
 abbrev pub OfEachPending : (List Member → Trace → Item → Type 0) → Type 0
 OfEachPending P = AfterEach (λ roster past. (h : ChannelId)
     → AllByRecursion (P roster past) ((facts_of roster past).pending h))
 
--- ---- what is pending
+-- ---- the queued items
 
--- the items of a channel are pending in rising number
+-- the queued items of a channel are in rising number
 abbrev pub PendingRises : Type 0
 PendingRises = AfterEach (λ roster past. (h : ChannelId) → IsRising ((facts_of roster past).pending h))
 
--- at most 1,024 of the items that are pending on a channel are pulses
+-- at most 1,024 of the items that are queued on a channel are pulses
 abbrev pub PulsesAreLimited : Type 0
 PulsesAreLimited = AfterEach (λ roster past. (h : ChannelId)
     → count_by (λ x. is_pulse x.what) ((facts_of roster past).pending h) ≤ 1024)
@@ -37,11 +37,11 @@ abbrev pub OneUnblockPulse : Type 0
 OneUnblockPulse = AfterEach (λ roster past. (i : ReceiveId)
     → count_by (λ m. is_unblock_for i m.item.what) (items roster past) ≤ 1)
 
--- no item is both pending and held
+-- no item is both queued and held
 abbrev pub NonePendingIsHeld : Type 0
 NonePendingIsHeld = OfEachPending (λ roster past item. is_held past item.number ≡ false)
 
--- the sender of message i waits in its Send, which has no receipt
+-- the sender of message i is blocked in its Send, which has no receipt
 pub record IsUnreceived (roster : List Member) (past : Trace) (i : ReceiveId) : Type 0 where
   pub send : OpenSend
   pub number : send.number ≡ i
@@ -49,12 +49,12 @@ pub record IsUnreceived (roster : List Member) (past : Trace) (i : ReceiveId) : 
   pub is_open : send_of (facts_of roster past) send.thread ≡ Some send
   pub unread : send.receipt ≡ None
 
--- each pending message is unreceived in this sense
+-- each queued message is unreceived in this sense
 abbrev pub PendingIsOpen : Type 0
 PendingIsOpen =
     OfEachPending (λ roster past item. is_pulse item.what ≡ false → IsUnreceived roster past item.number)
 
--- a pending message has the present priority of its sender
+-- a queued message has the current priority of its sender
 abbrev pub PendingFollowsItsSender : Type 0
 PendingFollowsItsSender = OfEachPending (λ roster past item. is_pulse item.what ≡ false
     → (t : ThreadNo) → sender_of past item.number ≡ Some t
@@ -70,13 +70,13 @@ pub record TakesBeside (past : Trace) (z : Completion) (i : CallNo) (h : Channel
   pub may : may_take request.kind x ≡ true
   pub item : number_received z ≡ Some i
 
--- the priority in x is the present priority of the item of its number
+-- the priority in x is the current priority of the item of its number
 abbrev pub HasPriority : List Member → Trace → Item → Type 0
 HasPriority roster past x =
     priority_of_item (item_among (items_by_now past (items roster past)) x.number) ≡ x.priority
 
--- if x and y were pending on a channel, x comes before y, and both still have their priorities, then no call
--- that may take x receives y before x is gone
+-- let x and y be queued on a channel, let x come before y, and let both still have their priorities. Then no
+-- call that may take x receives y before x is gone.
 abbrev pub FirstGoesFirst : Type 0
 FirstGoesFirst = (past : Trace) → InEachNewest (λ roster after e. (later : List Event) → after ≡ later ++ past
     → (h : ChannelId) → AllByRecursion (λ x. AllByRecursion (λ y. comes_before x y ≡ true
@@ -86,7 +86,7 @@ FirstGoesFirst = (past : Trace) → InEachNewest (λ roster after e. (later : Li
 
 -- ---- places
 
--- the place of item x among these items: how many of them are received before it
+-- the place of item x among these items: how many of them come before it in the order of receipt
 abbrev pub place : Item → List Item → ℕ
 place x items = count_by (λ y. comes_before y x) items
 
@@ -95,8 +95,8 @@ abbrev pub as_set_by : Event → Trace → Item → Item
 as_set_by e past y = with_priority
     (unwrap_or (option_and_then (priority_set_by e past) (sender_of past y.number)) y.priority) y
 
--- on channel h event e puts nothing before item x: the item that it makes there, if that waits, doesn't come
--- before x, nor does a pending one whose priority it sets, unless that came before x already
+-- event e puts nothing before item x on channel h. If the item that it makes there is queued, it doesn't come
+-- before x. If it sets the priority of a queued item, this item comes before x only if it did already.
 pub record PutsNoneBefore (roster : List Member) (past : Trace) (e : Event) (h : ChannelId) (x : Item) : Type
     0 where
   pub made : (m : SentItem) → item_made_by (facts_of roster past) e past ≡ Some m → m.channel ≡ h
@@ -104,8 +104,8 @@ pub record PutsNoneBefore (roster : List Member) (past : Trace) (e : Event) (h :
   pub set : AllByRecursion (λ y. comes_before (as_set_by e past y) x ≡ true → comes_before y x ≡ true)
       ((facts_of roster past).pending h)
 
--- if an event puts nothing before x, the place of x falls by one, at least, for each pending item before it
--- that is gone afterwards
+-- if an event puts nothing before x, the place of x falls by at least one for each queued item before it that
+-- is gone afterwards
 abbrev pub PlacesFall : Type 0
 PlacesFall = InEachNewest (λ roster past e. (h : ChannelId) (x : Item) → PutsNoneBefore roster past e h x
     → place x ((facts_of roster (e ∷ past)).pending h)
@@ -118,19 +118,19 @@ PlacesFall = InEachNewest (λ roster past e. (h : ChannelId) (x : Item) → Puts
 abbrev pub is_message_of : Trace → ThreadNo → Item → Bool
 is_message_of past t item = not (is_pulse item.what) && is_number (sender_of past item.number) t
 
--- P holds of each accepted PrioritySet and each channel, given the items that are pending there before and
+-- P holds for each accepted PrioritySet and each channel, given the items that are queued there before and
 -- after it
 abbrev pub OfEachSetting : (Trace → ThreadNo → Priority → List Item → List Item → Type 0) → Type 0
 OfEachSetting P = InEachNewest (λ roster past e. is_accepted e past ≡ true
     → (t : ThreadNo) (priority : Priority) → e.call ≡ calls.PrioritySet t priority → (h : ChannelId)
     → P past t priority ((facts_of roster past).pending h) ((facts_of roster (e ∷ past)).pending h))
 
--- a PrioritySet sets the priority of its thread's pending message, and changes no other pending item
+-- a PrioritySet sets the priority of its thread's queued message, and changes no other queued item
 abbrev pub SettingMovesItsOwn : Type 0
 SettingMovesItsOwn = OfEachSetting (λ past t priority before after. after
     ≡ map (λ item. if is_message_of past t item then with_priority priority item else item) before)
 
--- so the other items stay as they were, in the same order
+-- so the other items don't change, and keep their order
 abbrev pub OthersKeepTheirOrder : Type 0
 OthersKeepTheirOrder = OfEachSetting (λ past t priority before after.
     filter (λ item. not (is_message_of past t item)) after

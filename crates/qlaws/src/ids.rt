@@ -1,4 +1,4 @@
-//! Laws of ids: of the channels that are open, and of the connections that are live.
+//! Laws of ids: of open channels and live connections.
 
 ghost use Rattle.qlaws.specs.Ids.{ChannelsAreLimited, ConnectionsAreLimited, DestroyedStaysDestroyed, DetachedStaysDetached};
 
@@ -14,8 +14,8 @@ pub fn connections_are_limited()
     ensures { ConnectionsAreLimited }
 {}
 
-/// A channel that is destroyed is never open again, and no later call returns its id. A connection that is detached is
-/// never live again, and no later call returns its id.
+/// A destroyed channel is never open again, and no later call returns its id. A detached connection is never
+/// live again, and no later call returns its id.
 pub fn destroyed_stays_destroyed()
     ensures channels { DestroyedStaysDestroyed }
     ensures connections { DetachedStaysDetached }

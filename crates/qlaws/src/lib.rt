@@ -1,6 +1,6 @@
-//! Laws of every lawful trace, which follow from the rules of the kernel's calls. The functions do nothing: the
-//! contract of each is a law. No code of a kernel uses them; they show a reader that the definitions mean what they
-//! should.
+//! Laws of every valid history, which follow from the rules of the kernel's calls. The functions do nothing:
+//! the contract of each is a law. No code of a kernel uses them; they show a reader that the definitions have
+//! the intended meaning.
 #![tactic(auto)]
 
 pub mod endings;
