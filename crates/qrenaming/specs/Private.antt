@@ -1,3 +1,3 @@
--- Words of the proofs: renaming of the facts and rows of `qmodel`.
+-- Definitions that the proofs use: renaming of facts and rows.
 pub mod Renaming
 pub mod Laws
