@@ -1,11 +1,11 @@
--- An offset at the end or past it copies nothing. An Error answers a message with a code and no bytes; the
+-- An offset at the end or past it copies nothing. An Error replies to a message with a code and no bytes; the
 -- code 0 is like a reply of status 0.
 use Rattle.qworked.specs.Words.{List, [], pos, Send, Receive, Error, Read, Write, Event, event, ended}
 use Rattle.qworked.specs.Words.{connected}
 use Rattle.std.specs.Prelude.{◌∷◌}
 use Rattle.qmodel.specs.declared.call.Mark.TheVariants as mark
 
--- nine calls, of both threads of the server
+-- nine calls; both threads of the server work on the messages
 abbrev pub events : List Event
 events = connected (event 2 (Send 2 (0x01 ∷ 0x02 ∷ []) (0x00 ∷ 0x00 ∷ [])) []
     ∷ event 1 (Receive 1 []) (ended 4 1 (mark.Message 3 0) [] ∷ [])

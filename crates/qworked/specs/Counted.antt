@@ -1,4 +1,5 @@
--- The limits count what is open, live or pending at the time, and nothing else.
+-- The limits count only channels that are open, connections that are live and pulses that are queued at the
+-- time.
 use Rattle.qworked.specs.Words.{count_by, ℕ, List, [], pos, negsuc, Srch, Inval, ChannelCreate}
 use Rattle.qworked.specs.Words.{ChannelDestroy, ConnectAttach, ConnectDetach, Send, ReceivePulse, Pulse}
 use Rattle.qworked.specs.Words.{Facts, facts_of, followed_by, Event, event, ended, flags_of}
@@ -8,9 +9,9 @@ use Rattle.qmodel.specs.declared.call.Mark.TheVariants as mark
 use Rattle.qqueue.specs.Best.{is_pulse}
 use Rattle.qworked.specs.ThreeProcesses.{attached, roster}
 
--- three ChannelCreates, one of them refused, and a ChannelDestroy; four ConnectAttaches, one of them refused,
--- and a ConnectDetach; two pulses and a message are pending on channel 1, where a third pulse was received,
--- and a pulse on channel 4
+-- one of three ChannelCreates fails, and one channel is destroyed. One of four ConnectAttaches fails, and one
+-- connection is detached. Two pulses and a message are queued on channel 1, where a third pulse was received.
+-- A pulse is queued on channel 4.
 abbrev pub events : List Event
 events = attached (event 35 (ChannelCreate (flags_of 0)) (ended 4 35 (mark.Channel 4) [] ∷ [])
     ∷ event 54 (ConnectAttach 4) (ended 5 54 (mark.Connection 5) [] ∷ [])
@@ -33,6 +34,6 @@ events = attached (event 35 (ChannelCreate (flags_of 0)) (ended 4 35 (mark.Chann
 abbrev pub facts : Facts
 facts = facts_of roster (followed_by [] events)
 
--- how many pulses are pending on channel h after them
+-- how many pulses are queued on channel h after these events
 abbrev pub pulses_on : ℕ → ℕ
 pulses_on h = count_by (λ x. is_pulse x.what) (facts.pending h)

@@ -1,4 +1,4 @@
--- A message that is received, the bytes of a Write and a reply are cut if they don't fit the buffer.
+-- A received message, the bytes of a Write and a reply are truncated if they don't fit into the buffer.
 use Rattle.qworked.specs.Words.{List, [], pos, negsuc, Send, Receive, Reply, Write, Event, event, ended}
 use Rattle.qworked.specs.Words.{connected}
 use Rattle.std.specs.Prelude.{◌∷◌}

@@ -1,4 +1,4 @@
--- A ChannelDestroy ends the calls that are blocked on the channel, and later calls on it are refused.
+-- A ChannelDestroy cancels the calls that are blocked on the channel, and later calls on it fail.
 use Rattle.qworked.specs.Words.{List, [], pos, Srch, Badf, Inval, ChannelCreate, ConnectAttach, Send, Receive}
 use Rattle.qworked.specs.Words.{Reply, ReceivePulse, Pulse, ChannelDestroy, Event, event, ended, flags_of}
 use Rattle.qworked.specs.Words.{connected}
@@ -6,8 +6,8 @@ use Rattle.std.specs.Prelude.{◌∷◌}
 use Rattle.qqueue.specs.declared.item.What.TheVariants as what
 use Rattle.qmodel.specs.declared.call.Mark.TheVariants as mark
 
--- a held message, a pending one and a receiver; then calls that name the channel, its connection and its
--- messages
+-- there are a held message, a queued message and a receiver; then calls name the channel, its connection and
+-- its messages
 abbrev pub events : List Event
 events = connected (event 2 (Send 2 (0xaa ∷ []) []) []
     ∷ event 1 (Receive 1 []) (ended 4 1 (mark.Message 3 0) [] ∷ [])
@@ -24,7 +24,8 @@ events = connected (event 2 (Send 2 (0xaa ∷ []) []) []
     ∷ event 1 (Reply 3 (pos 0) []) (ended 13 1 (mark.Failed Srch) [] ∷ [])
     ∷ event 3 (ConnectAttach 1) (ended 14 3 (mark.Failed Srch) [] ∷ []) ∷ [])
 
--- a receiver waits on a second channel as its fellow destroys the first one, where a pulse is pending
+-- a receiver is blocked on a second channel when its fellow destroys the first one, on which a pulse is
+-- queued
 abbrev pub others_stay : List Event
 others_stay = connected (event 1 (ChannelCreate (flags_of 0)) (ended 3 1 (mark.Channel 3) [] ∷ [])
     ∷ event 1 (ReceivePulse 3) []

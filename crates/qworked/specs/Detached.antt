@@ -7,7 +7,7 @@ use Rattle.std.specs.Prelude.{◌∷◌}
 use Rattle.qqueue.specs.declared.item.What.TheVariants as what
 use Rattle.qmodel.specs.declared.call.Mark.TheVariants as mark
 
--- message 3 isn't received: it leaves the channel, and the connection isn't live any more
+-- message 3 hasn't been received: it leaves the channel, and the connection is no longer live
 abbrev pub waiting : List Event
 waiting = connected (event 3 (Send 2 (0xaa ∷ []) (0x00 ∷ 0x00 ∷ [])) []
     ∷ event 2 (ConnectDetach 2) (ended 4 2 mark.Ok [] ∷ ended 3 3 (mark.Failed Badf) (0x00 ∷ 0x00 ∷ []) ∷ [])
@@ -15,12 +15,12 @@ waiting = connected (event 3 (Send 2 (0xaa ∷ []) (0x00 ∷ 0x00 ∷ [])) []
     ∷ event 3 (Send 2 [] (0x09 ∷ [])) (ended 6 3 (mark.Failed Badf) (0x09 ∷ []) ∷ [])
     ∷ event 1 (Receive 1 []) [] ∷ [])
 
--- the server waits for a message
+-- the server is blocked in its Receive
 abbrev pub nothing_there : List Blocked
 nothing_there = blocked 7 1 (ReceiveBlocked 1) ∷ []
 
--- message 3 is held; its server can't detach the client's connection; after the client has detached it, there
--- is nothing to answer; the message over another connection of the client is answered
+-- message 3 is held. Its server can't detach the client's connection. After the client has detached it, a
+-- Reply to the message fails. A message over another connection of the client gets its reply.
 abbrev pub held : List Event
 held = connected (event 3 (Send 2 (0xaa ∷ []) (0x00 ∷ [])) []
     ∷ event 1 (Receive 1 []) (ended 4 1 (mark.Message 3 0) [] ∷ [])
@@ -39,7 +39,7 @@ twice_attached events = connected (event 1 (ChannelCreate (flags_of 4)) (ended 3
     ∷ event 2 (ConnectAttach 3) (ended 4 2 (mark.Connection 4) [] ∷ [])
     ∷ event 3 (ConnectAttach 3) (ended 5 3 (mark.Connection 5) [] ∷ []) ∷ events)
 
--- the first ConnectDetach makes no pulse, and the second makes one, which waits
+-- the first ConnectDetach makes no pulse, and the second makes one, which is queued
 abbrev pub told_once : List Event
 told_once = twice_attached (event 3 (ConnectDetach 4) (ended 6 3 mark.Ok [] ∷ [])
     ∷ event 2 (ConnectDetach 5) (ended 7 2 mark.Ok [] ∷ [])
@@ -50,7 +50,7 @@ told_once = twice_attached (event 3 (ConnectDetach 4) (ended 6 3 mark.Ok [] ∷ 
 abbrev pub no_more : List Blocked
 no_more = blocked 9 1 (ReceiveBlocked 3) ∷ []
 
--- a server that waits takes the pulse at once, in the event that cancels the Send over the connection
+-- a blocked server takes the pulse at once, in the event that cancels the Send over the connection
 abbrev pub taken_at_once : List Event
 taken_at_once = twice_attached (event 3 (ConnectDetach 4) (ended 6 3 mark.Ok [] ∷ [])
     ∷ event 3 (Send 5 [] (0x07 ∷ [])) []
@@ -60,8 +60,8 @@ taken_at_once = twice_attached (event 3 (ConnectDetach 4) (ended 6 3 mark.Ok [] 
     (mark.Failed Badf) (0x07 ∷ []) ∷ [])
     ∷ event 1 (Receive 3 []) [] ∷ [])
 
--- a client's process has connections 2 and 3 to one channel; an Info of a message that was sent over
--- connection 3 returns that connection, and the message stays held when connection 2 is detached
+-- a client's process has connections 2 and 3 to one channel. An Info of a message that was sent over
+-- connection 3 returns that connection. The message stays held when connection 2 is detached.
 abbrev pub beside_another : List Event
 beside_another = connected (event 3 (ConnectAttach 1) (ended 3 3 (mark.Connection 3) [] ∷ [])
     ∷ event 2 (Send 3 (0xaa ∷ []) (0x00 ∷ 0x00 ∷ [])) []
@@ -71,9 +71,9 @@ beside_another = connected (event 3 (ConnectAttach 1) (ended 3 3 (mark.Connectio
     ∷ event 1 (Reply 4 (pos 0) (0xbb ∷ []))
     (ended 8 1 mark.Ok [] ∷ ended 4 2 (mark.Replied (pos 0) 1) (0xbb ∷ 0x00 ∷ []) ∷ []) ∷ [])
 
--- a client's process has connections 2 and 3 to one channel; an Info of a message that was sent over the
--- older one, 2, returns that connection; the message stays held when connection 3 is detached, and its Send
--- ends when connection 2 is detached
+-- a client's process has connections 2 and 3 to one channel. An Info of a message that was sent over the
+-- older one, 2, returns that connection. The message stays held when connection 3 is detached, and its Send
+-- is cancelled when connection 2 is detached.
 abbrev pub beside_a_newer : List Event
 beside_a_newer = connected (event 2 (ConnectAttach 1) (ended 3 2 (mark.Connection 3) [] ∷ [])
     ∷ event 2 (Send 2 (0xaa ∷ []) (0x00 ∷ 0x00 ∷ [])) []

@@ -17,11 +17,11 @@ events = event 1 (ChannelCreate (flags_of 0)) (ended 1 1 (mark.Channel 1) [] ∷
     ∷ event 1 (Receive 1 []) (ended 4 1 (mark.Message 3 0) [] ∷ [])
     ∷ event 1 (Reply 3 (pos 0) []) (ended 5 1 mark.Ok [] ∷ ended 3 2 (mark.Replied (pos 0) 0) [] ∷ []) ∷ []
 
--- the sender gets no completion for the answer to its message
+-- the sender gets no completion for the reply to its message
 abbrev pub one_left_out : List Event
 one_left_out = with_endings 5 (ended 5 1 mark.Ok [] ∷ []) events
 
--- the Send ends at once, too
+-- the Send completes at once, too
 abbrev pub one_added : List Event
 one_added = with_endings 3 (ended 3 2 (mark.Replied (pos 0) 0) [] ∷ []) events
 
@@ -33,7 +33,7 @@ mark_changed = with_endings 4 (ended 4 1 (mark.Message 2 0) [] ∷ []) events
 abbrev pub thread_changed : List Event
 thread_changed = with_endings 4 (ended 4 2 (mark.Message 3 0) [] ∷ []) events
 
--- the message is answered when it is received, and not when the server replies
+-- the Send completes when its message is received, and not when the server replies
 abbrev pub one_moved : List Event
 one_moved = with_endings 5 (ended 5 1 mark.Ok [] ∷ [])
     (with_endings 4 (ended 4 1 (mark.Message 3 0) [] ∷ ended 3 2 (mark.Replied (pos 0) 0) [] ∷ []) events)

@@ -1,5 +1,5 @@
--- The server receives the pending message of greatest priority first, and among equals the one that was sent
--- first.
+-- The server receives the queued message of greatest priority first, and among equals the message that was
+-- sent first.
 use Rattle.qworked.specs.Words.{List, [], ReplyBlocked, ConnectAttach, Send, Receive, Blocked, Event, event}
 use Rattle.qworked.specs.Words.{ended, blocked, with_endings, connected}
 use Rattle.std.specs.Prelude.{◌∷◌}
@@ -13,11 +13,11 @@ events = connected (event 4 (ConnectAttach 1) (ended 3 4 (mark.Connection 3) [] 
     ∷ event 1 (Receive 1 []) (ended 6 1 (mark.Message 5 0) [] ∷ [])
     ∷ event 1 (Receive 1 []) (ended 7 1 (mark.Message 4 0) [] ∷ []) ∷ [])
 
--- the second Receive doesn't end
+-- the second Receive doesn't complete
 abbrev pub one_left_out : List Event
 one_left_out = with_endings 7 [] events
 
--- the first Receive ends for the other thread of its process, too
+-- the first Receive completes for the other thread of its process, too
 abbrev pub one_added : List Event
 one_added = with_endings 6 (ended 6 1 (mark.Message 5 0) [] ∷ ended 6 4 (mark.Message 5 0) [] ∷ []) events
 
@@ -25,16 +25,16 @@ one_added = with_endings 6 (ended 6 1 (mark.Message 5 0) [] ∷ ended 6 4 (mark.
 abbrev pub mark_changed : List Event
 mark_changed = with_endings 6 (ended 6 1 (mark.Message 4 0) [] ∷ []) events
 
--- the first Receive ends for the other thread of its process
+-- the first Receive completes for the other thread of its process
 abbrev pub thread_changed : List Event
 thread_changed = with_endings 6 (ended 6 4 (mark.Message 5 0) [] ∷ []) events
 
--- the first Receive ends only with the second
+-- the first Receive completes only with the second
 abbrev pub one_moved : List Event
 one_moved = with_endings 6 []
     (with_endings 7 (ended 6 1 (mark.Message 5 0) [] ∷ ended 7 1 (mark.Message 4 0) [] ∷ []) events)
 
--- two of three messages are of equal priority
+-- two of three messages have equal priority
 abbrev pub ties : List Event
 ties = connected (event 4 (ConnectAttach 1) (ended 3 4 (mark.Connection 3) [] ∷ [])
     ∷ event 4 (Send 3 (0x01 ∷ []) []) []

@@ -1,4 +1,4 @@
--- Info, Read and Write are allowed on a held message until it is answered.
+-- Info, Read and Write are allowed on a held message until the reply.
 use Rattle.qworked.specs.Words.{List, [], pos, Srch, Send, Receive, Reply, Read, Write, Info, Event, ended}
 use Rattle.qworked.specs.Words.{event, info, connected}
 use Rattle.std.specs.Prelude.{◌∷◌}

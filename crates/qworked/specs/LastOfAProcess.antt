@@ -7,10 +7,10 @@ use Rattle.qqueue.specs.declared.item.What.TheVariants as what
 use Rattle.qmodel.specs.declared.call.Mark.TheVariants as mark
 use Rattle.qworked.specs.ThreeProcesses.{attached}
 
--- two Sends are open, over connections 4 and 3: the detach of connection 2 ends neither, and that of
--- connection 4 ends its own. The disconnect pulse names the process and has the present priority of the
--- detaching thread. The pulse that was sent over the connection before its end is still received, and so is
--- the other process's message
+-- two Sends are open, over connections 4 and 3. The detach of connection 2 cancels neither, and the detach of
+-- connection 4 cancels the Send over it. The disconnect pulse names the process and has the current priority
+-- of the detaching thread. The pulse that was sent over the connection before its end is still received, and
+-- so is the other process's message.
 abbrev pub two_processes : List Event
 two_processes = attached (event 42 (ConnectAttach 1) (ended 4 42 (mark.Connection 4) [] ∷ [])
     ∷ event 42 (Send 4 (0xaa ∷ []) (0x11 ∷ [])) []
@@ -23,7 +23,7 @@ two_processes = attached (event 42 (ConnectAttach 1) (ended 4 42 (mark.Connectio
     ∷ event 31 (ReceivePulse 1) (ended 12 31 (mark.Pulse 10 38 (what.Disconnect 152)) [] ∷ [])
     ∷ event 35 (Receive 1 (0x00 ∷ 0x00 ∷ [])) (ended 13 35 (mark.Message 6 1) (0xbb ∷ 0x00 ∷ []) ∷ []) ∷ [])
 
--- a connection whose channel is destroyed is still detached, once
+-- a connection whose channel is destroyed can still be detached, once
 abbrev pub destroyed : List Event
 destroyed = attached (event 43 (Send 2 [] (0x11 ∷ [])) []
     ∷ event 31 (ChannelDestroy 1) (ended 5 31 mark.Ok [] ∷ ended 4 43 (mark.Failed Srch) (0x11 ∷ []) ∷ [])

@@ -1,4 +1,5 @@
--- A thread has the last priority that was set for it or that it took with a receipt.
+-- A thread has the priority that was last set for it, or that it last took with a receipt, whichever is
+-- later.
 use Rattle.qworked.specs.Words.{List, [], pos, Ready, ChannelCreate, ConnectAttach, Send, Receive}
 use Rattle.qworked.specs.Words.{ReceivePulse, Pulse, PrioritySet, State, Event, event, ended, flags_of}
 use Rattle.std.specs.Prelude.{◌∷◌}

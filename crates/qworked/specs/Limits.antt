@@ -1,4 +1,4 @@
--- The results of calls at a limit: 64 open channels, 1,024 live connections, or 1,024 pulses that are pending
+-- The results of calls at a limit: 64 open channels, 1,024 live connections, or 1,024 pulses that are queued
 -- on a channel.
 use Rattle.qworked.specs.Words.{ℕ, List, [], replicate, pos, ChannelCreate, ChannelDestroy, ConnectDetach}
 use Rattle.qworked.specs.Words.{Completion, Facts, facts_of, followed_by, Event, event, ended, flags_of}
@@ -18,7 +18,7 @@ use Rattle.qworked.specs.UnblockPulse.{held}
 abbrev pub facts_after : List Event → Facts
 facts_after events = facts_of roster (followed_by [] events)
 
--- the only answer to the call is a refusal with this error
+-- the call can only fail with this error
 abbrev pub IsRefusedWith : Facts → ℕ → Call → Errno → Type 0
 IsRefusedWith f t c e = Answers f t c (ended f.number t (mark.Failed e) (buffer_of c) ∷ [])
     × ((endings : List Completion) → Answers f t c endings → endings ≡ ended f.number t (mark.Failed e)
@@ -34,7 +34,7 @@ creations n (Prim.Native.Nat.suc k) = event 1 (ChannelCreate (flags_of 0))
 abbrev pub channels : List Event
 channels = connected (creations 3 63)
 
--- the same run, after which one of the channels is destroyed
+-- the same run, and then one of the channels is destroyed
 abbrev pub one_destroyed : List Event
 one_destroyed = connected (creations 3 63 ++ (event 1 (ChannelDestroy 5) (ended 66 1 mark.Ok [] ∷ []) ∷ []))
 
@@ -46,23 +46,23 @@ with_connections n = record (facts_after (connected [])) { live_connections = n 
 abbrev pub pulses : ℕ → ℕ → List Item
 pulses n h = replicate n (record { number = 0; priority = 1; what = User (pos 0) (pos 0) })
 
--- the facts, with this number of pulses pending on each channel
+-- the facts, with this number of pulses queued on each channel
 abbrev pub with_pulses : ℕ → Facts
 with_pulses n = record (facts_after (connected [])) { pending = pulses n }
 
--- the facts in which a message is held on a channel with the unblock flag, with this number of pulses pending
+-- the facts in which a message is held on a channel with the unblock flag, with this number of pulses queued
 -- on each channel
 abbrev pub held_with_pulses : ℕ → Facts
 held_with_pulses n = record (facts_after (held [])) { pending = pulses n }
 
--- the facts, with 64 messages and this number of pulses pending on each channel
+-- the facts, with 64 messages and this number of pulses queued on each channel
 abbrev pub with_messages_and_pulses : ℕ → Facts
 with_messages_and_pulses n = record (facts_after (connected [])) {
   pending = λ h. replicate 64 (record { number = 0; priority = 1; what = Message }) ++ pulses n h;
 }
 
 -- the facts in which a process has connections 4 and 5 to a channel with the disconnect flag, with this
--- number of pulses pending on each channel
+-- number of pulses queued on each channel
 abbrev pub twice_with_pulses : ℕ → Facts
 twice_with_pulses n = record (facts_after (twice_attached [])) { pending = pulses n }
 

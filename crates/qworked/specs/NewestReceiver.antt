@@ -1,11 +1,11 @@
--- An item goes to the receiver that began to wait last, among those that may take it.
+-- An item goes to the newest receiver that may take it.
 use Rattle.qworked.specs.Words.{List, [], pos, ReceiveBlocked, ReplyBlocked, Send, Receive, ReceivePulse}
 use Rattle.qworked.specs.Words.{Pulse, Blocked, Event, event, ended, blocked, connected}
 use Rattle.std.specs.Prelude.{◌∷◌}
 use Rattle.qqueue.specs.declared.item.What.TheVariants as what
 use Rattle.qmodel.specs.declared.call.Mark.TheVariants as mark
 
--- two receivers wait, and the later one takes a message
+-- two receivers are blocked, and the later one takes a message
 abbrev pub newest : List Event
 newest = connected (event 1 (Receive 1 []) []
     ∷ event 4 (Receive 1 []) []
@@ -19,6 +19,6 @@ passed_over = connected (event 1 (Receive 1 (0x00 ∷ [])) []
     ∷ event 3 (Pulse 2 5 (pos 0) (pos 0))
     (ended 6 3 mark.Ok [] ∷ ended 4 4 (mark.Pulse 6 5 (what.User (pos 0) (pos 0))) [] ∷ []) ∷ [])
 
--- the earlier receiver is blocked, and the client, which waits for its answer
+-- the earlier receiver is still blocked, and the client waits for its reply
 abbrev pub still_waiting : List Blocked
 still_waiting = blocked 3 1 (ReceiveBlocked 1) ∷ blocked 5 2 (ReplyBlocked 1) ∷ []

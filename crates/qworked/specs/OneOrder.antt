@@ -1,5 +1,5 @@
--- Messages and pulses wait in one order: the greatest priority first, and among equals the one that was sent
--- first.
+-- Messages and pulses are queued in one order: the greatest priority first, and among equals the item that
+-- was sent first.
 use Rattle.qworked.specs.Words.{List, [], pos, negsuc, ReplyBlocked, Send, Receive, Pulse, PrioritySet}
 use Rattle.qworked.specs.Words.{Blocked, Event, event, ended, blocked, connected}
 use Rattle.std.specs.Prelude.{◌∷◌}
@@ -21,7 +21,7 @@ message_first = connected (event 2 (Send 2 (0xaa ∷ []) []) []
     ∷ event 1 (Receive 1 []) (ended 5 1 (mark.Message 3 0) [] ∷ [])
     ∷ event 1 (Receive 1 []) (ended 6 1 (mark.Pulse 4 20 (what.User (pos 1) (negsuc 99))) [] ∷ []) ∷ [])
 
--- only the client is blocked then, as its message is held
+-- then only the client is blocked, because its message is held
 abbrev pub waits_for_answer : List Blocked
 waits_for_answer = blocked 3 2 (ReplyBlocked 1) ∷ []
 

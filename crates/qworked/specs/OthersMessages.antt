@@ -1,11 +1,11 @@
--- A call on a message is refused if the message isn't received yet, is held by another process, or is
--- answered.
+-- A call on a message fails if the message hasn't been received yet, is held by another process, or has its
+-- reply already.
 use Rattle.qworked.specs.Words.{List, [], pos, Srch, Send, Receive, Reply, Error, Read, Write, Info, Event}
 use Rattle.qworked.specs.Words.{event, ended, connected}
 use Rattle.std.specs.Prelude.{◌∷◌}
 use Rattle.qmodel.specs.declared.call.Mark.TheVariants as mark
 
--- calls on a message, from its sending until after its answer
+-- calls on a message, from its sending until after its reply
 abbrev pub events : List Event
 events = connected (event 2 (Send 2 (0x01 ∷ []) (0x00 ∷ [])) []
     ∷ event 1 (Read 3 0 (0x07 ∷ [])) (ended 4 1 (mark.Failed Srch) (0x07 ∷ []) ∷ [])

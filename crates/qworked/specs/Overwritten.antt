@@ -1,5 +1,5 @@
--- A later Write goes over an earlier one, and the reply over both. A message is answered with a negative
--- code.
+-- A later Write copies over an earlier one, and the reply over both. An Error replies to a message with a
+-- negative code.
 use Rattle.qworked.specs.Words.{List, [], pos, negsuc, Send, Receive, Reply, Error, Write, Event, event}
 use Rattle.qworked.specs.Words.{ended}
 use Rattle.std.specs.Prelude.{◌∷◌}
@@ -15,7 +15,7 @@ events = attached (event 43 (Send 2 [] (0x00 ∷ 0x00 ∷ 0x00 ∷ 0x00 ∷ []))
     ∷ event 35 (Reply 4 (pos 61) (0xdd ∷ 0xee ∷ []))
     (ended 8 35 mark.Ok [] ∷ ended 4 43 (mark.Replied (pos 61) 2) (0xdd ∷ 0xee ∷ 0xcc ∷ 0x00 ∷ []) ∷ []) ∷ [])
 
--- the code -4, after a byte was written
+-- an Error has the code -4, after a byte was written
 abbrev pub negative_code : List Event
 negative_code = attached (event 43 (Send 2 [] (0x00 ∷ 0x00 ∷ [])) []
     ∷ event 31 (Receive 1 []) (ended 5 31 (mark.Message 4 0) [] ∷ [])

@@ -1,12 +1,13 @@
--- An offset at the end or past it copies nothing, in a Read and in a Write, and is no error.
+-- In a Read or a Write, an offset at the end or past it copies nothing and isn't an error.
 use Rattle.qworked.specs.Words.{List, [], pos, Send, Receive, Reply, Read, Write, Info, Event, ended, event}
 use Rattle.qworked.specs.Words.{info}
 use Rattle.std.specs.Prelude.{◌∷◌}
 use Rattle.qmodel.specs.declared.call.Mark.TheVariants as mark
 use Rattle.qworked.specs.ThreeProcesses.{attached}
 
--- a message of three bytes is read, and its reply buffer of two is written over, each at the end, one byte
--- past it, and at the greatest offset; both lengths stay, and so does the reply buffer
+-- a message of three bytes is read, and its reply buffer of two bytes is written over. Each is done at the
+-- end, one byte past it, and at the greatest offset. Neither length changes, and neither does the reply
+-- buffer.
 abbrev pub events : List Event
 events = attached (event 43 (Send 2 (0x01 ∷ 0x02 ∷ 0x03 ∷ []) (0x11 ∷ 0x22 ∷ [])) []
     ∷ event 31 (Receive 1 []) (ended 5 31 (mark.Message 4 0) [] ∷ [])

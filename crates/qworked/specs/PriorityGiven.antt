@@ -1,4 +1,4 @@
--- A receiver that waits takes the priority of a pulse when that is sent, and keeps it until its priority is
+-- A blocked receiver takes the priority of a pulse when the pulse is sent, and keeps it until its priority is
 -- set.
 use Rattle.qworked.specs.Words.{List, [], pos, Srch, Ready, Receive, Pulse, PrioritySet, State, Event, event}
 use Rattle.qworked.specs.Words.{ended, connected}

@@ -1,12 +1,12 @@
--- A server takes the priority of a message that it receives, and sends with it, unless the channel leaves
--- priorities as they are.
+-- A server takes the priority of a message that it receives, and sends with it, unless the channel fixes
+-- priorities.
 use Rattle.qworked.specs.Words.{List, [], Ready, ReplyBlocked, ChannelCreate, ConnectAttach, Send, Receive}
 use Rattle.qworked.specs.Words.{Info, PrioritySet, State, Blocked, Event, blocked, ended, event, flags_of}
 use Rattle.qworked.specs.Words.{info, connected}
 use Rattle.std.specs.Prelude.{◌∷◌}
 use Rattle.qmodel.specs.declared.call.Mark.TheVariants as mark
 
--- a client of greater priority sends to the server, which sends on to a channel of the client's process
+-- a client of greater priority sends to the server, and the server sends to a channel of the client's process
 abbrev pub carried_on : List Event
 carried_on = connected (event 2 (PrioritySet 2 40) (ended 3 2 mark.Ok [] ∷ [])
     ∷ event 2 (Send 2 (0xaa ∷ []) []) []

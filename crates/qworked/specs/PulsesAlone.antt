@@ -1,4 +1,4 @@
--- A ReceivePulse takes a pulse though a message was sent before it, and waits though a message is pending.
+-- A ReceivePulse takes a pulse though a message was sent before it, and blocks though a message is queued.
 use Rattle.qworked.specs.Words.{List, [], pos, ReceiveBlocked, ReplyBlocked, Send, Receive, ReceivePulse}
 use Rattle.qworked.specs.Words.{Pulse, Blocked, Event, event, ended, blocked, connected}
 use Rattle.std.specs.Prelude.{◌∷◌}
@@ -13,6 +13,6 @@ events = connected (event 2 (Send 2 (0xaa ∷ []) []) []
     ∷ event 4 (ReceivePulse 1) []
     ∷ event 1 (Receive 1 (0x00 ∷ [])) (ended 7 1 (mark.Message 3 1) (0xaa ∷ []) ∷ []) ∷ [])
 
--- the client waits for its answer, and the second receive for a pulse
+-- the client waits for its reply, and the second receive waits for a pulse
 abbrev pub still_waiting : List Blocked
 still_waiting = blocked 3 2 (ReplyBlocked 1) ∷ blocked 6 4 (ReceiveBlocked 1) ∷ []

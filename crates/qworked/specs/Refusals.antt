@@ -1,10 +1,10 @@
--- Calls that are refused: each gets its buffer back as it was, and changes nothing.
+-- Calls that fail: each gets its buffer back as it was, and changes nothing.
 use Rattle.qworked.specs.Words.{List, [], pos, Srch, Badf, Inval, Busy, ChannelCreate, ConnectAttach, Send}
 use Rattle.qworked.specs.Words.{Receive, Reply, Event, event, ended, flags_of, connected}
 use Rattle.std.specs.Prelude.{◌∷◌}
 use Rattle.qmodel.specs.declared.call.Mark.TheVariants as mark
 
--- eight refused calls, a Send among them that is accepted, and the receipt of its message
+-- eight calls that fail, a Send among them that is accepted, and the receipt of its message
 abbrev pub events : List Event
 events = connected (
     event 2 (Receive 1 (0x07 ∷ 0x08 ∷ [])) (ended 3 2 (mark.Failed Srch) (0x07 ∷ 0x08 ∷ []) ∷ [])

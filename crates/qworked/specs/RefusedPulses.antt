@@ -1,11 +1,11 @@
--- Refused pulses, with a negative code or over another process's connection, and refused calls on another
+-- Pulses that fail, with a negative code or over another process's connection, and calls that fail on another
 -- process's channel.
 use Rattle.qworked.specs.Words.{List, [], pos, negsuc, Srch, Badf, Inval, Receive, ReceivePulse, Pulse}
 use Rattle.qworked.specs.Words.{ChannelDestroy, Event, event, ended, connected}
 use Rattle.std.specs.Prelude.{◌∷◌}
 use Rattle.qmodel.specs.declared.call.Mark.TheVariants as mark
 
--- calls that are all refused, and a Receive that finds the channel open and no pulse pending
+-- calls that all fail, and a Receive that finds the channel open and no pulse queued
 abbrev pub events : List Event
 events = connected (event 2 (Pulse 2 20 (negsuc 0) (pos 0)) (ended 3 2 (mark.Failed Inval) [] ∷ [])
     ∷ event 1 (Pulse 2 20 (negsuc 0) (pos 0)) (ended 4 1 (mark.Failed Badf) [] ∷ [])

@@ -1,4 +1,4 @@
--- The words in which runs are written out.
+-- Definitions with which runs are written out.
 use Rattle.std.specs.Prelude.{◌≡◌, ◌⊎◌, ℕ, ◌-◌, ◌==◌, List, [], ◌∷◌, take, filter_map, Option, option_map}
 use Rattle.std.specs.Prelude.{if◌then◌else◌}
 use Rattle.qbase.specs.declared.errno.Errno.TheVariants.{NoMemory}
@@ -20,16 +20,16 @@ use Rattle.qrules.specs.Trace.{followed_by, Event}
 abbrev pub member : ℕ → ℕ → ℕ → Member
 member t p priority = record { thread = t; process = p; priority = priority }
 
--- thread t makes a call, with these endings
+-- thread t makes a call, with these completions
 abbrev pub event : ℕ → Call → List Completion → Event
 event t c endings = record { thread = t; call = c; endings = endings }
 
--- call n of thread t ends
+-- call n of thread t completes
 abbrev pub ended : ℕ → ℕ → Mark → List ℕ → Completion
 ended n t mark buffer = record { call = n; thread = t; mark = mark; buffer = buffer }
 
--- what Info returns: the sender's process, its thread and its connection, the bytes that were received, those
--- of the message and of the reply buffer, and the priority
+-- the result of an Info: the sender's process, thread and connection, how many bytes were received, the
+-- lengths of the message and of the reply buffer, and the priority
 abbrev pub info : ℕ → ℕ → ℕ → ℕ → ℕ → ℕ → ℕ → Mark
 info p t k received sent room priority = mark.Info (record {
   process = p;
@@ -45,19 +45,19 @@ info p t k received sent room priority = mark.Info (record {
 abbrev pub blocked : ℕ → ℕ → ThreadState → Blocked
 blocked n t state = record { number = n; thread = t; state = state }
 
--- flags of these bits
+-- flags with these bits
 abbrev pub flags_of : ℕ → ChannelFlags
 flags_of bits = record { 0 = bits }
 
--- the events, the oldest first, are a lawful trace
+-- the events, the oldest first, are a valid history
 abbrev pub IsLawfulRun : List Member → List Event → Type 0
 IsLawfulRun roster events = IsLawful roster (followed_by [] events)
 
--- the events aren't a lawful trace
+-- the events aren't a valid history
 abbrev pub IsUnlawfulRun : List Member → List Event → Type 0
 IsUnlawfulRun roster events = IsLawfulRun roster events → ⊥
 
--- the record of thread t as blocked, if it waits in an open call
+-- the record of thread t as blocked, if it has an open call
 abbrev pub blocked_in : Facts → ℕ → Option Blocked
 blocked_in f t = option_map (λ n. blocked n t (state_of f t)) (waiting_number f t)
 
@@ -66,38 +66,38 @@ abbrev pub blocked_after : List Member → List Event → List Blocked
 blocked_after roster events = filter_map (blocked_in (facts_of roster (followed_by [] events)))
     (threads_of roster)
 
--- ---- other endings
+-- ---- other completions
 
--- these events, with other endings of event n
+-- these events, with other completions of event n
 abbrev pub with_endings : ℕ → List Completion → List Event → List Event
 with_endings n endings [] = []
 with_endings n endings (e ∷ events) = if n == 1 then event e.thread e.call endings ∷ events else e
     ∷ with_endings (n - 1) endings events
 
--- the completions that tell returns for event n; none if there is no such event
+-- the completions that the function returns for event n; none if there is no such event
 abbrev pub of_event : (Event → List Completion) → ℕ → List Event → List Completion
 of_event tell n [] = []
 of_event tell n (e ∷ events) = if n == 1 then tell e else of_event tell (n - 1) events
 
--- the endings of event n
+-- the completions of event n
 abbrev pub endings_at : ℕ → List Event → List Completion
 endings_at n events = of_event (λ e. e.endings) n events
 
--- the endings of event n if memory runs out: the call is refused, with its buffer as it was
+-- the completions of event n if memory runs out: the call fails, with its buffer as it was
 abbrev pub refused_at : ℕ → List Event → List Completion
 refused_at n events = of_event
     (λ e. ended n e.thread (mark.Failed NoMemory) (buffer_of e.call) ∷ []) n events
 
--- the events up to event n are a lawful trace if event n has these endings
+-- the events up to event n, with these completions of event n, are a valid history
 abbrev pub MayEnd : List Member → List Event → ℕ → List Completion → Type 0
 MayEnd roster events n endings = IsLawfulRun roster (with_endings n endings (take n events))
 
--- event n can have only the endings that are written: none is changed, left out or added
+-- event n can have only the completions that are written: none is changed, left out or added
 abbrev pub EndsOnlySo : List Member → List Event → ℕ → Type 0
 EndsOnlySo roster events n = (endings : List Completion) → MayEnd roster events n endings → endings
     ≡ endings_at n events
 
--- event n can only be refused for lack of memory, or have the endings that are written
+-- event n can only fail for lack of memory, or have the completions that are written
 abbrev pub EndsOnlySoWithMemory : List Member → List Event → ℕ → Type 0
 EndsOnlySoWithMemory roster events n = MayEnd roster events n (refused_at n events)
     × ((endings : List Completion) → MayEnd roster events n endings → (endings ≡ endings_at n events) ⊎

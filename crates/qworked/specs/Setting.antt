@@ -1,4 +1,4 @@
--- The beginning of most runs.
+-- The first events of most runs.
 use Rattle.std.specs.Prelude.{List, [], ◌∷◌}
 use Rattle.qtables.specs.declared.member.Member.{Member}
 use Rattle.qmodel.specs.declared.call.Call.TheVariants.{ChannelCreate, ConnectAttach}
@@ -6,7 +6,7 @@ use Rattle.qmodel.specs.declared.call.Mark.TheVariants as mark
 use Rattle.qrules.specs.Trace.{Event}
 use Rattle.qworked.specs.Runs.{member, event, ended, flags_of}
 
--- a server's process of threads 1 and 4, and a client's of threads 2 and 3
+-- a server's process with threads 1 and 4, and a client's process with threads 2 and 3
 abbrev pub roster : List Member
 roster = member 1 1 10 ∷ member 2 2 20 ∷ member 3 2 20 ∷ member 4 1 10 ∷ []
 

@@ -1,11 +1,10 @@
--- A call of a blocked thread is refused with Busy. A shutdown ends every open call, and every later call is
--- refused.
+-- A call of a blocked thread fails with Busy. A shutdown cancels every open call, and every later call fails.
 use Rattle.qworked.specs.Words.{List, [], Srch, Busy, Down, ChannelCreate, Send, Receive, Write, ReceivePulse}
 use Rattle.qworked.specs.Words.{State, Shutdown, Event, event, ended, flags_of, connected}
 use Rattle.std.specs.Prelude.{◌∷◌}
 use Rattle.qmodel.specs.declared.call.Mark.TheVariants as mark
 
--- the calls of a receiver are refused with Busy until the client shuts the kernel down
+-- a call of a blocked receiver fails with Busy, and then the client shuts the kernel down
 abbrev pub events : List Event
 events = connected (event 1 (Receive 1 []) []
     ∷ event 1 (State 1) (ended 4 1 (mark.Failed Busy) [] ∷ [])
@@ -14,7 +13,8 @@ events = connected (event 1 (Receive 1 []) []
     ∷ event 2 (Send 2 (0xaa ∷ []) (0x09 ∷ [])) (ended 7 2 (mark.Failed Down) (0x09 ∷ []) ∷ [])
     ∷ event 3 Shutdown (ended 8 3 (mark.Failed Down) [] ∷ []) ∷ [])
 
--- a held message with bytes written, a pending one and a receiver that waits for pulses
+-- there are a held message with bytes written over its reply buffer, a queued message, and a receiver that
+-- waits for pulses
 abbrev pub all_ended : List Event
 all_ended = connected (event 2 (Send 2 (0xaa ∷ []) (0x07 ∷ [])) []
     ∷ event 1 (Receive 1 []) (ended 4 1 (mark.Message 3 0) [] ∷ [])

@@ -1,4 +1,4 @@
--- A call on the id of a message whose sender was unblocked is refused, even while the sender waits in another
+-- A call on the id of a message whose sender was unblocked fails, even while the sender is blocked in another
 -- Send.
 use Rattle.qworked.specs.Words.{List, [], pos, Srch, Intr, ReplyBlocked, Send, Receive, Reply, Unblock}
 use Rattle.qworked.specs.Words.{Blocked, Event, event, ended, blocked, connected}
@@ -14,6 +14,6 @@ events = connected (event 2 (Send 2 (0xaa ∷ []) (0x00 ∷ [])) []
     ∷ event 1 (Reply 3 (pos 0) (0xff ∷ [])) (ended 7 1 (mark.Failed Srch) [] ∷ [])
     ∷ event 1 (Receive 1 (0x00 ∷ [])) (ended 8 1 (mark.Message 6 1) (0xbb ∷ []) ∷ []) ∷ [])
 
--- the second message waits for its answer
+-- the sender of the second message waits for its reply
 abbrev pub waits_for_answer : List Blocked
 waits_for_answer = blocked 6 2 (ReplyBlocked 1) ∷ []

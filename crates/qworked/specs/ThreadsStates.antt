@@ -1,10 +1,10 @@
--- The results of State for another thread, through a receipt and an answer.
+-- The results of State for another thread, through a receipt and a reply.
 use Rattle.qworked.specs.Words.{List, [], pos, Ready, SendBlocked, ReceiveBlocked, ReplyBlocked, Send}
 use Rattle.qworked.specs.Words.{Receive, Reply, State, Event, event, ended, connected}
 use Rattle.std.specs.Prelude.{◌∷◌}
 use Rattle.qmodel.specs.declared.call.Mark.TheVariants as mark
 
--- a server waits, a message is received, and a second one is sent
+-- a server is blocked, a message is received, and a second message is sent
 abbrev pub events : List Event
 events = connected (event 1 (Receive 1 []) []
     ∷ event 4 (State 1) (ended 4 4 (mark.State (ReceiveBlocked 1) 10) [] ∷ [])

@@ -5,8 +5,8 @@ use Rattle.qworked.specs.Words.{flags_of}
 use Rattle.std.specs.Prelude.{◌∷◌}
 use Rattle.qmodel.specs.declared.call.Mark.TheVariants as mark
 
--- a server's process 107 of threads 31 and 35, a client's 152 of threads 42 and 43, and another client's 189
--- of thread 54
+-- a server's process 107 with threads 31 and 35, a client's process 152 with threads 42 and 43, and another
+-- client's process 189 with thread 54
 abbrev pub roster : List Member
 roster = member 31 107 14 ∷ member 35 107 17 ∷ member 42 152 20 ∷ member 43 152 23 ∷ member 54 189 26 ∷ []
 

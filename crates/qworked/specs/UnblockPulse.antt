@@ -1,4 +1,4 @@
--- On a channel with the unblock flag the client of a held message stays blocked, and its server gets one
+-- On a channel with the unblock flag, the client of a held message stays blocked, and its server gets one
 -- pulse.
 use Rattle.qworked.specs.Words.{List, [], pos, ReceiveBlocked, ChannelCreate, ConnectAttach, Send, Receive}
 use Rattle.qworked.specs.Words.{Reply, ReceivePulse, Unblock, Blocked, Event, event, ended, blocked, flags_of}
@@ -14,7 +14,7 @@ held events = connected (event 1 (ChannelCreate (flags_of 2)) (ended 3 1 (mark.C
     ∷ event 2 (Send 4 (0xaa ∷ []) []) []
     ∷ event 1 (Receive 3 []) (ended 6 1 (mark.Message 5 0) [] ∷ []) ∷ events)
 
--- the client is to be unblocked three times: before the pulse is received, and after it
+-- the client is to be unblocked three times, before the pulse is received and after it
 abbrev pub once : List Event
 once = held (event 3 (Unblock 2) (ended 7 3 mark.Ok [] ∷ [])
     ∷ event 3 (Unblock 2) (ended 8 3 mark.Ok [] ∷ [])
@@ -27,7 +27,7 @@ once = held (event 3 (Unblock 2) (ended 7 3 mark.Ok [] ∷ [])
 abbrev pub still_waiting : List Blocked
 still_waiting = blocked 10 1 (ReceiveBlocked 3) ∷ []
 
--- a server that waits takes the pulse at once, and no second one
+-- a blocked server takes the pulse at once, and gets no second one
 abbrev pub taken_at_once : List Event
 taken_at_once = held (event 1 (Receive 3 (0x00 ∷ [])) []
     ∷ event 3 (Unblock 2)

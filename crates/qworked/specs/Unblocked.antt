@@ -1,12 +1,13 @@
--- A thread that waits in a Send or a receive is unblocked; nothing happens to one that doesn't wait.
+-- A thread that is blocked in a Send or a receive is unblocked. Nothing happens to a thread that isn't
+-- blocked.
 use Rattle.qworked.specs.Words.{List, [], pos, Srch, Intr, Send, Receive, ReceivePulse, Pulse, Unblock, Event}
 use Rattle.qworked.specs.Words.{event, ended, connected}
 use Rattle.std.specs.Prelude.{◌∷◌}
 use Rattle.qqueue.specs.declared.item.What.TheVariants as what
 use Rattle.qmodel.specs.declared.call.Mark.TheVariants as mark
 
--- a message is cancelled before its receipt and never received; another process's thread and an unknown one
--- are refused
+-- a message is cancelled before its receipt and never received; an Unblock of another process's thread fails,
+-- and so does an Unblock of an unknown thread
 abbrev pub events : List Event
 events = connected (event 2 (Send 2 (0xaa ∷ []) (0x00 ∷ [])) []
     ∷ event 3 (Unblock 2) (ended 3 2 (mark.Failed Intr) (0x00 ∷ []) ∷ ended 4 3 mark.Ok [] ∷ [])

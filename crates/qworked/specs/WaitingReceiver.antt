@@ -1,4 +1,4 @@
--- A server that waits takes a message when that is sent. The message is copied over the front of the server's
+-- A blocked server takes a message when it is sent. The message is copied over the front of the server's
 -- buffer, and the reply over the front of the sender's.
 use Rattle.qworked.specs.Words.{List, [], ℕ, replicate, pos, Send, Receive, Reply, Event, event, ended}
 use Rattle.qworked.specs.Words.{connected}

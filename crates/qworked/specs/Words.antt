@@ -1,4 +1,5 @@
--- The words of the library, of the rules and of the calls that the worked runs use. Declares none of its own.
+-- The names of the library, of the rules and of the calls that the worked runs use. The module defines none
+-- itself.
 pub use Rattle.qbase.specs.declared.errno.Errno.TheVariants.{Badf, Busy, Down, Intr, Inval, Srch}
 pub use Rattle.qbase.specs.declared.state.ThreadState.TheVariants.{Ready, ReceiveBlocked, ReplyBlocked}
 pub use Rattle.qbase.specs.declared.state.ThreadState.TheVariants.{SendBlocked}

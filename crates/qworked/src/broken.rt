@@ -1,4 +1,5 @@
-//! Runs that break one of the properties of lawful traces. Each contract says that the property doesn't hold of them.
+//! Runs that break one of the properties of valid histories. Each contract says that the property doesn't
+//! hold for them.
 
 ghost use Rattle.std.specs.Prelude.{[]};
 ghost use Rattle.qrules.specs.Properties.{AnsweredToSender, BestFirst, CopiedExactly, ReceivedOnce, SentOrder, ShutForGood};
@@ -13,7 +14,7 @@ ghost use Rattle.qworked.specs.FirstRun as first;
 ghost use Rattle.qworked.specs.Runs.{refused_at, with_endings};
 ghost use Rattle.qworked.specs.ThreeProcesses.{roster};
 
-/// No item is received twice or too early, and no call is ended twice.
+/// These runs break the property that no item is received twice or too early, and no call completes twice.
 pub fn received_once()
     ensures message_twice { ReceivedOnce roster received.message_twice → ⊥ }
     ensures pulse_twice { ReceivedOnce roster received.pulse_twice → ⊥ }
@@ -21,7 +22,8 @@ pub fn received_once()
     ensures ended_twice { ReceivedOnce roster received.ended_twice → ⊥ }
 {}
 
-/// A message is answered once, by a call that names it and may answer it, and to its sender.
+/// These runs break the property that a message gets one reply, by a call that names it and may reply to it,
+/// and that its sender gets this reply.
 pub fn answered_to_sender()
     ensures to_another_thread { AnsweredToSender roster answered.to_another_thread → ⊥ }
     ensures by_another_process { AnsweredToSender roster answered.by_another_process → ⊥ }
@@ -37,7 +39,7 @@ pub fn answered_to_sender()
     ensures after_the_end { AnsweredToSender roster answered.after_the_end → ⊥ }
 {}
 
-/// Every byte and every count is exactly as the copying requires.
+/// These runs break the property that every byte and every count is exactly as the copying requires.
 pub fn copied_exactly()
     ensures message_byte { CopiedExactly copied.message_byte → ⊥ }
     ensures message_rest { CopiedExactly copied.message_rest → ⊥ }
@@ -61,7 +63,8 @@ pub fn copied_exactly()
     ensures counted_nothing { CopiedExactly copied.counted_nothing → ⊥ }
 {}
 
-/// No receipt takes an item of lesser priority, a later one of equal priority, or one that it may not take.
+/// These runs break the property that no receipt takes an item of lesser priority, a later item of equal
+/// priority, or an item that it may not take.
 pub fn best_first()
     ensures lesser { BestFirst roster taken.lesser → ⊥ }
     ensures later { BestFirst roster taken.later → ⊥ }
@@ -70,7 +73,8 @@ pub fn best_first()
     ensures raised_passed_over { BestFirst roster taken.raised_passed_over → ⊥ }
 {}
 
-/// The later of two items of equal priority over one connection isn't received first.
+/// These runs break the property that the later of two items of equal priority over one connection isn't
+/// received first.
 pub fn sent_order()
     ensures overtaken { SentOrder roster taken.overtaken → ⊥ }
     ensures overtaken_by_a_pulse { SentOrder roster taken.overtaken_by_a_pulse → ⊥ }
@@ -78,7 +82,8 @@ pub fn sent_order()
     ensures overtaken_when_lowered { SentOrder roster taken.overtaken_when_lowered → ⊥ }
 {}
 
-/// Nothing is received from a destroyed channel, and no thread stays blocked on it.
+/// These runs break the property that nothing is received from a destroyed channel, and no thread stays
+/// blocked on it.
 pub fn shut_for_good()
     ensures received { ShutForGood roster shut.received → ⊥ }
     ensures send_left { ShutForGood roster shut.send_left → ⊥ }
@@ -87,13 +92,13 @@ pub fn shut_for_good()
     ensures detached_left { ShutForGood roster shut.detached_left → ⊥ }
 {}
 
-/// A run in which a call was refused with `NoMemory` doesn't meet `HadMemory`; the first run does.
+/// A run in which a call failed with `NoMemory` doesn't meet `HadMemory`; the first run does.
 pub fn had_memory()
     ensures had { HadMemory first.events }
     ensures had_none { HadMemory (with_endings 3 (refused_at 3 first.events) first.events) → ⊥ }
 {}
 
-/// The beginnings of the broken runs are lawful.
+/// The first events of the broken runs are valid.
 pub fn lawful_so_far()
     ensures attached { IsLawful roster (run_of []) }
     ensures sent { IsLawful roster (sent []) }

@@ -1,4 +1,4 @@
-//! Lawful runs in which every buffer and every count is exactly as the copying requires.
+//! Valid runs in which every buffer and every count is exactly as the copying requires.
 
 ghost use Rattle.std.specs.Prelude.{[]};
 ghost use Rattle.qrules.specs.Properties.{CopiedExactly};
@@ -9,8 +9,8 @@ ghost use Rattle.qworked.specs.Overwritten as overwritten;
 ghost use Rattle.qworked.specs.PastTheEnd as past_the_end;
 ghost use Rattle.qworked.specs.UnblockPulse as unblock_pulse;
 
-/// A receipt of a pulse leaves the buffer as it was; a receipt of a message, a Read, a Write and an answer copy as many
-/// bytes as they count.
+/// A receipt of a pulse leaves the buffer as it was. A receipt of a message, a Read, a Write and a reply copy
+/// as many bytes as they count.
 pub fn copied_exactly()
     ensures pulse { CopiedExactly (followed_by [] unblock_pulse.taken_at_once) }
     ensures held { CopiedExactly (followed_by [] held.events) }

@@ -1,4 +1,4 @@
-//! Blocked calls that are ended by an Unblock, by the end of a connection or a channel, or by a shutdown.
+//! Open calls that are cancelled by an Unblock, by the end of a connection or a channel, or by a shutdown.
 
 ghost use Rattle.std.specs.Prelude.{◌≡◌};
 ghost use Rattle.qworked.specs.DestroyedChannel as destroyed;
@@ -9,7 +9,7 @@ ghost use Rattle.qworked.specs.Unblocked as unblocked;
 ghost use Rattle.qworked.specs.Runs.{EndsOnlySo, EndsOnlySoWithMemory, IsLawfulRun, blocked_after};
 ghost use Rattle.qworked.specs.Setting.{roster};
 
-/// A call on the id of a message whose sender was unblocked is refused.
+/// A call on the id of a message whose sender was unblocked fails.
 pub fn stale_id()
     ensures lawful { IsLawfulRun roster stale.events }
     ensures unblocked { EndsOnlySo roster stale.events 5 }
@@ -19,7 +19,7 @@ pub fn stale_id()
     ensures blocked { blocked_after roster stale.events ≡ stale.waits_for_answer }
 {}
 
-/// A thread that waits in a Send or a receive is unblocked.
+/// A thread that is blocked in a Send or a receive is unblocked.
 pub fn unblocked()
     ensures lawful { IsLawfulRun roster unblocked.events }
     ensures cancelled { EndsOnlySo roster unblocked.events 4 }
@@ -31,7 +31,7 @@ pub fn unblocked()
     ensures message_gone { EndsOnlySo roster unblocked.events 11 }
 {}
 
-/// A ConnectDetach ends the Sends over the connection whose messages aren't received.
+/// A ConnectDetach cancels the Sends over the connection whose messages haven't been received.
 pub fn detached_connection()
     ensures lawful { IsLawfulRun roster detached.waiting }
     ensures cancelled { EndsOnlySo roster detached.waiting 4 }
@@ -41,7 +41,7 @@ pub fn detached_connection()
     ensures blocked { blocked_after roster detached.waiting ≡ detached.nothing_there }
 {}
 
-/// A ConnectDetach also ends the Sends whose messages were received, and none over other connections.
+/// A ConnectDetach also cancels the Sends whose messages were received, but no Send over another connection.
 pub fn detached_while_held()
     ensures lawful { IsLawfulRun roster detached.held }
     ensures of_others { EndsOnlySo roster detached.held 5 }
@@ -51,7 +51,7 @@ pub fn detached_while_held()
     ensures of_none { EndsOnlySo roster detached.held 11 }
 {}
 
-/// A ConnectDetach ends no Send over another connection of its process to the same channel.
+/// A ConnectDetach cancels no Send over another connection of its process to the same channel.
 pub fn held_beside_another_connection()
     ensures lawful { IsLawfulRun roster detached.beside_another }
     ensures told { EndsOnlySo roster detached.beside_another 6 }
@@ -59,8 +59,8 @@ pub fn held_beside_another_connection()
     ensures answered { EndsOnlySo roster detached.beside_another 8 }
 {}
 
-/// An Info of a message that was sent over the older of two connections returns that connection, and its ConnectDetach
-/// ends the Send.
+/// An Info of a message that was sent over the older of two connections returns that connection. A
+/// ConnectDetach of that connection cancels the Send.
 pub fn held_beside_a_newer_connection()
     ensures lawful { IsLawfulRun roster detached.beside_a_newer }
     ensures told { EndsOnlySo roster detached.beside_a_newer 6 }
@@ -70,7 +70,8 @@ pub fn held_beside_a_newer_connection()
     ensures answered { EndsOnlySo roster detached.beside_a_newer 10 }
 {}
 
-/// The server of a channel with the disconnect flag gets one pulse, when a process detaches its last connection.
+/// The server of a channel with the disconnect flag gets one pulse, when a process detaches its last
+/// connection.
 pub fn told_of_the_last_detach()
     ensures lawful { IsLawfulRun roster detached.told_once }
     ensures first { EndsOnlySo roster detached.told_once 6 }
@@ -80,7 +81,7 @@ pub fn told_of_the_last_detach()
     ensures blocked { blocked_after roster detached.told_once ≡ detached.no_more }
 {}
 
-/// A server that waits takes the disconnect pulse in the event of the detach.
+/// A blocked server takes the disconnect pulse in the event of the detach.
 pub fn disconnect_pulse_taken_at_once()
     ensures lawful { IsLawfulRun roster detached.taken_at_once }
     ensures first { EndsOnlySo roster detached.taken_at_once 6 }
@@ -88,7 +89,7 @@ pub fn disconnect_pulse_taken_at_once()
     ensures message_gone { EndsOnlySo roster detached.taken_at_once 10 }
 {}
 
-/// A ChannelDestroy ends the calls that are blocked on the channel.
+/// A ChannelDestroy cancels the calls that are blocked on the channel.
 pub fn destroyed_channel()
     ensures lawful { IsLawfulRun roster destroyed.events }
     ensures destroyed { EndsOnlySo roster destroyed.events 7 }
@@ -101,7 +102,7 @@ pub fn destroyed_channel()
     ensures attached { EndsOnlySo roster destroyed.events 14 }
 {}
 
-/// Threads that wait on another channel than the destroyed one still wait.
+/// Threads that are blocked on another channel than the destroyed one stay blocked.
 pub fn other_channel_stays()
     ensures lawful { IsLawfulRun roster destroyed.others_stay }
     ensures destroyed { EndsOnlySo roster destroyed.others_stay 6 }
@@ -109,7 +110,7 @@ pub fn other_channel_stays()
     ensures pulse { EndsOnlySo roster destroyed.others_stay 8 }
 {}
 
-/// A call of a blocked thread is refused with `Busy`, and every call after a shutdown with `Down`.
+/// A call of a blocked thread fails with `Busy`, and every call after a shutdown fails with `Down`.
 pub fn busy_and_shut_down()
     ensures lawful { IsLawfulRun roster down.events }
     ensures busy { EndsOnlySo roster down.events 4 }
@@ -119,7 +120,7 @@ pub fn busy_and_shut_down()
     ensures shut_down_again { EndsOnlySo roster down.events 8 }
 {}
 
-/// A shutdown ends every open call.
+/// A shutdown cancels every open call.
 pub fn shut_down_ends_all()
     ensures lawful { IsLawfulRun roster down.all_ended }
     ensures shut_down { EndsOnlySo roster down.all_ended 8 }

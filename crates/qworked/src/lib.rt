@@ -1,7 +1,7 @@
-//! Runs written out by hand, with the result of each call. The functions do nothing: the contract of each says that the
-//! run is lawful, and that the calls that it shows can't end in any other way, with a completion changed, left out or
-//! added. The runs of `broken` aren't lawful: each breaks one of the properties of all lawful traces, and its contract
-//! says that the property doesn't hold of it.
+//! Runs written out by hand, with the result of each call. The functions do nothing: their contracts are the
+//! tests. Each contract says that its runs are valid, and that the calls that it names can't complete in any
+//! other way: no completion may be changed, left out or added. The runs of `broken` aren't valid: each breaks
+//! one of the properties of all valid histories, and its contract says that the property doesn't hold for it.
 #![tactic(auto)]
 
 pub mod broken;

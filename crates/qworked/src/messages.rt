@@ -1,4 +1,4 @@
-//! Messages: sent, received, worked on and answered.
+//! Messages: sending, receiving, work on held messages, and replies.
 
 ghost use Rattle.std.specs.Prelude.{◌≡◌};
 ghost use Rattle.qworked.specs.AnsweredWithCode as code;
@@ -40,7 +40,7 @@ pub fn greatest_priority_first()
     ensures moved { IsUnlawfulRun roster greatest.one_moved }
 {}
 
-/// The message that was sent first is received first among messages of equal priority.
+/// Among messages of equal priority, the message that was sent first is received first.
 pub fn first_among_equals()
     ensures lawful { IsLawfulRun roster greatest.ties }
     ensures first { EndsOnlySo roster greatest.ties 7 }
@@ -49,7 +49,7 @@ pub fn first_among_equals()
     ensures blocked { blocked_after roster greatest.ties ≡ greatest.all_wait }
 {}
 
-/// A server that waits takes a message as it is sent, into the front of its buffer.
+/// A blocked server takes a message when it is sent, into the front of its buffer.
 pub fn waiting_receiver_takes_at_once()
     ensures lawful { IsLawfulRun roster waiting.events }
     ensures waits { EndsOnlySo roster waiting.events 3 }
@@ -57,7 +57,7 @@ pub fn waiting_receiver_takes_at_once()
     ensures answered { EndsOnlySo roster waiting.events 5 }
 {}
 
-/// The receiver that began to wait last takes a message.
+/// The newest receiver takes a message.
 pub fn newest_receiver_takes()
     ensures lawful { IsLawfulRun roster receivers.newest }
     ensures waits { EndsOnlySo roster receivers.newest 4 }
@@ -65,7 +65,8 @@ pub fn newest_receiver_takes()
     ensures blocked { blocked_after roster receivers.newest ≡ receivers.still_waiting }
 {}
 
-/// A message that doesn't fit its receiver's buffer is cut, and so is a Write past the end of the reply buffer.
+/// A message that doesn't fit into its receiver's buffer is truncated, and so is a Write past the end of the
+/// reply buffer.
 pub fn cut_to_fit()
     ensures lawful { IsLawfulRun roster cut.events }
     ensures received { EndsOnlySo roster cut.events 4 }
@@ -73,14 +74,14 @@ pub fn cut_to_fit()
     ensures answered { EndsOnlySo roster cut.events 6 }
 {}
 
-/// A reply that doesn't fit the sender's buffer is cut.
+/// A reply that doesn't fit into the sender's buffer is truncated.
 pub fn reply_cut_to_fit()
     ensures lawful { IsLawfulRun roster cut.reply_cut }
     ensures received { EndsOnlySo roster cut.reply_cut 4 }
     ensures answered { EndsOnlySo roster cut.reply_cut 5 }
 {}
 
-/// Info, Read and Write are allowed on a held message until it is answered.
+/// Info, Read and Write are allowed on a held message until the reply.
 pub fn held_message()
     ensures lawful { IsLawfulRun roster held.events }
     ensures received { EndsOnlySo roster held.events 4 }
@@ -104,7 +105,7 @@ pub fn past_the_end()
     ensures answered { EndsOnlySo three.roster past_the_end.events 13 }
 {}
 
-/// An offset past the end copies nothing. An Error answers a message with a code and no bytes.
+/// An offset past the end copies nothing. An Error replies to a message with a code and no bytes.
 pub fn answered_with_code()
     ensures lawful { IsLawfulRun roster code.events }
     ensures written_past_the_end { EndsOnlySo roster code.events 5 }

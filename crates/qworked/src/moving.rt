@@ -1,4 +1,4 @@
-//! Pending messages that move when the priority of their sender is set.
+//! Queued messages that move when the priority of their sender is set.
 
 ghost use Rattle.qworked.specs.MovedMessage as moved;
 ghost use Rattle.qworked.specs.Runs.{EndsOnlySo, IsLawfulRun};
@@ -15,7 +15,7 @@ pub fn raised_over_another()
     ensures second { EndsOnlySo roster moved.raised 11 }
 {}
 
-/// A message that is lowered beneath another is received after it.
+/// A message that is lowered below another is received after it.
 pub fn lowered_beneath_another()
     ensures lawful { IsLawfulRun roster moved.lowered }
     ensures set { EndsOnlySo roster moved.lowered 6 }
@@ -33,7 +33,8 @@ pub fn set_twice()
     ensures taken { EndsOnlySo roster moved.set_twice 10 }
 {}
 
-/// A message that is raised comes between those of its new priority that were sent before and after it.
+/// A message that is raised comes between the messages of its new priority that were sent before and after
+/// it.
 pub fn raised_between_two()
     ensures lawful { IsLawfulRun roster moved.between }
     ensures first { EndsOnlySo roster moved.between 8 }
@@ -48,7 +49,7 @@ pub fn set_to_the_same()
     ensures second { EndsOnlySo roster moved.set_the_same 9 }
 {}
 
-/// A held message keeps the priority of its receipt, and its unblock pulse has it.
+/// A held message keeps the priority of its receipt, and its unblock pulse has the same priority.
 pub fn held_stays()
     ensures lawful { IsLawfulRun roster moved.held_stays }
     ensures set { EndsOnlySo roster moved.held_stays 7 }
@@ -65,7 +66,7 @@ pub fn pulse_stays()
     ensures taken { EndsOnlySo roster moved.pulse_stays 8 }
 {}
 
-/// A message has the priority that its thread has as it sends, whatever was set before that.
+/// A message has the priority that its thread has when it sends, whatever was set before that.
 pub fn set_before_it_is_sent()
     ensures lawful { IsLawfulRun roster moved.set_before }
     ensures first { EndsOnlySo roster moved.set_before 9 }
@@ -73,7 +74,7 @@ pub fn set_before_it_is_sent()
     ensures taken { EndsOnlySo roster moved.set_before 11 }
 {}
 
-/// A refused call moves no message.
+/// A call that fails moves no message.
 pub fn set_refused()
     ensures lawful { IsLawfulRun roster moved.set_refused }
     ensures busy { EndsOnlySo roster moved.set_refused 6 }

@@ -1,4 +1,5 @@
-//! Priorities and states: a server takes the priority of an item that it receives, and State returns a thread's state.
+//! Priorities and states: a server takes the priority of an item that it receives, and State returns a
+//! thread's state.
 
 ghost use Rattle.std.specs.Prelude.{◌≡◌};
 ghost use Rattle.qworked.specs.PriorityGiven as given;
@@ -7,7 +8,7 @@ ghost use Rattle.qworked.specs.ThreadsStates as states;
 ghost use Rattle.qworked.specs.Runs.{EndsOnlySo, EndsOnlySoWithMemory, IsLawfulRun, blocked_after};
 ghost use Rattle.qworked.specs.Setting.{roster};
 
-/// A server takes the priority of a message that it receives, and sends with it.
+/// A server takes the priority of a message that it receives, and sends with this priority.
 pub fn priority_carried_on()
     ensures lawful { IsLawfulRun roster taken.carried_on }
     ensures set { EndsOnlySo roster taken.carried_on 3 }
@@ -28,7 +29,7 @@ pub fn priority_left()
     ensures kept { EndsOnlySo roster taken.fixed 7 }
 {}
 
-/// A waiting server takes the priority of a pulse, and loses it as its priority is set.
+/// A blocked server takes the priority of a pulse, and loses it when its priority is set.
 pub fn priority_given()
     ensures lawful { IsLawfulRun roster given.events }
     ensures pulsed { EndsOnlySo roster given.events 4 }

@@ -26,7 +26,7 @@ pub fn message_before_pulse()
     ensures blocked { blocked_after roster order.message_first ≡ order.waits_for_answer }
 {}
 
-/// A pulse of greater priority is received before a message, and one of lesser priority after it.
+/// A pulse of greater priority is received before a message, and a pulse of lesser priority after it.
 pub fn greater_pulse_first()
     ensures lawful { IsLawfulRun roster order.greater_first }
     ensures greater { EndsOnlySo roster order.greater_first 6 }
@@ -43,7 +43,7 @@ pub fn pulses_alone()
     ensures blocked { blocked_after roster pulses_alone.events ≡ pulses_alone.still_waiting }
 {}
 
-/// A message passes over a thread that waits in a ReceivePulse.
+/// A message skips a thread that is blocked in a ReceivePulse.
 pub fn passed_over_by_message()
     ensures lawful { IsLawfulRun roster receivers.passed_over }
     ensures waits { EndsOnlySo roster receivers.passed_over 4 }
@@ -51,7 +51,7 @@ pub fn passed_over_by_message()
     ensures pulse { EndsOnlySo roster receivers.passed_over 6 }
 {}
 
-/// An unblock pulse is sent once, and the client stays blocked until it is answered.
+/// An unblock pulse is sent once, and the client stays blocked until the reply.
 pub fn unblock_pulse_once()
     ensures lawful { IsLawfulRun roster unblock_pulse.once }
     ensures first { EndsOnlySoWithMemory roster unblock_pulse.once 7 }
@@ -63,7 +63,7 @@ pub fn unblock_pulse_once()
     ensures blocked { blocked_after roster unblock_pulse.once ≡ unblock_pulse.still_waiting }
 {}
 
-/// A server that waits takes an unblock pulse at once, and no second one.
+/// A blocked server takes an unblock pulse at once, and gets no second one.
 pub fn unblock_pulse_taken_at_once()
     ensures lawful { IsLawfulRun roster unblock_pulse.taken_at_once }
     ensures first { EndsOnlySo roster unblock_pulse.taken_at_once 8 }

@@ -1,4 +1,4 @@
-//! Calls that are refused, with the first error that applies.
+//! Calls that fail, with the first error that applies.
 
 ghost use Rattle.std.specs.Prelude.{◌≡◌, [], ◌∷◌, pos, negsuc};
 ghost use Rattle.qbase.specs.declared.errno.Errno.TheVariants.{Again, Inval, Srch};
@@ -15,7 +15,7 @@ ghost use Rattle.qworked.specs.Runs.{EndsOnlySo, EndsOnlySoWithMemory, IsLawfulR
 ghost use Rattle.qworked.specs.Setting.{roster};
 ghost use Rattle.qworked.specs.ThreeProcesses as three;
 
-/// Calls that are refused, with their buffers given back.
+/// Calls that fail, and get their buffers back.
 pub fn refusals()
     ensures lawful { IsLawfulRun roster refusals.events }
     ensures received { EndsOnlySo roster refusals.events 3 }
@@ -30,7 +30,7 @@ pub fn refusals()
     ensures still_pending { EndsOnlySo roster refusals.events 12 }
 {}
 
-/// A call on a message that isn't held, or that another process holds, is refused.
+/// A call on a message that isn't held, or that another process holds, fails.
 pub fn others_messages()
     ensures lawful { IsLawfulRun roster others.events }
     ensures read_too_early { EndsOnlySo roster others.events 4 }
@@ -44,7 +44,7 @@ pub fn others_messages()
     ensures written_late { EndsOnlySo roster others.events 13 }
 {}
 
-/// Pulses that are refused, and refused calls on another process's channel.
+/// Pulses that fail, and calls that fail on another process's channel.
 pub fn refused_pulses()
     ensures lawful { IsLawfulRun roster refused_pulses.events }
     ensures negative { EndsOnlySo roster refused_pulses.events 3 }
@@ -56,7 +56,7 @@ pub fn refused_pulses()
     ensures waits { EndsOnlySo roster refused_pulses.events 9 }
 {}
 
-/// The limits count only what is open, live or pending.
+/// The limits count only channels that are open, connections that are live and pulses that are queued.
 pub fn counted()
     ensures lawful { IsLawfulRun three.roster counted.events }
     ensures channels { counted.facts.open_channels ≡ 2 }
@@ -66,7 +66,8 @@ pub fn counted()
     ensures pulses_nowhere { counted.pulses_on 8 ≡ 0 }
 {}
 
-/// The results of ChannelCreate and ConnectAttach at the limits of channels and connections, and just below them.
+/// The results of ChannelCreate and ConnectAttach at the limits of channels and connections, and just below
+/// them.
 pub fn limits()
     ensures channels { IsLawfulRun roster limits.channels }
     ensures no_more_channels { IsRefusedWith (facts_after limits.channels) 1 (ChannelCreate (flags_of 0)) Again }

@@ -1,4 +1,5 @@
-//! Runs of three processes in which no number is used for two things, most of them on a channel with all three flags.
+//! Runs of three processes in which no number is used for two things. Most runs are on a channel with all
+//! three flags.
 
 ghost use Rattle.std.specs.Prelude.{◌≡◌};
 ghost use Rattle.qworked.specs.AllFlags as flags;
@@ -8,7 +9,8 @@ ghost use Rattle.qworked.specs.Overwritten as overwritten;
 ghost use Rattle.qworked.specs.Runs.{EndsOnlySo, EndsOnlySoWithMemory, IsLawfulRun, blocked_after};
 ghost use Rattle.qworked.specs.ThreeProcesses.{roster};
 
-/// An Info of a held message and its unblock pulse have the priority that it was received with, whatever is set later.
+/// An Info of a held message and its unblock pulse have the priority that the message was received with,
+/// whatever is set later.
 pub fn held_with_all_flags()
     ensures lawful { IsLawfulRun roster flags.held }
     ensures received { EndsOnlySo roster flags.held 6 }
@@ -34,7 +36,7 @@ pub fn not_held_with_all_flags()
     ensures itself { EndsOnlySo roster flags.not_held 10 }
 {}
 
-/// The receiver that began to wait last takes an item, though its thread has the lesser number.
+/// The newest receiver takes an item, though its thread has the lesser number.
 pub fn waiting_with_all_flags()
     ensures lawful { IsLawfulRun roster flags.waiting }
     ensures waits { EndsOnlySo roster flags.waiting 5 }
@@ -46,7 +48,8 @@ pub fn waiting_with_all_flags()
     ensures blocked { blocked_after roster flags.waiting ≡ flags.still_waiting }
 {}
 
-/// The server gets a pulse when a process detaches its last connection, though another process is still attached.
+/// The server gets a pulse when a process detaches its last connection, though another process is still
+/// attached.
 pub fn last_connection_of_a_process()
     ensures lawful { IsLawfulRun roster last.two_processes }
     ensures first { EndsOnlySo roster last.two_processes 7 }
@@ -67,7 +70,7 @@ pub fn connection_to_a_destroyed_channel()
     ensures others { EndsOnlySo roster last.destroyed 8 }
 {}
 
-/// A later Write goes over an earlier one, and the reply over both.
+/// A later Write copies over an earlier one, and the reply over both.
 pub fn overwritten()
     ensures lawful { IsLawfulRun roster overwritten.events }
     ensures written { EndsOnlySo roster overwritten.events 6 }
@@ -75,13 +78,14 @@ pub fn overwritten()
     ensures answered { EndsOnlySo roster overwritten.events 8 }
 {}
 
-/// A message is answered with a negative code.
+/// An Error replies to a message with a negative code.
 pub fn answered_with_negative_code()
     ensures lawful { IsLawfulRun roster overwritten.negative_code }
     ensures answered { EndsOnlySo roster overwritten.negative_code 7 }
 {}
 
-/// A thread has the last priority that was set for it or that it took with a receipt.
+/// A thread has the priority that was last set for it, or that it last took with a receipt, whichever is
+/// later.
 pub fn later_priority()
     ensures lawful { IsLawfulRun roster later.events }
     ensures set { EndsOnlySo roster later.events 8 }

@@ -1,4 +1,4 @@
--- An item is received twice or too early, or a call is ended twice.
+-- An item is received twice or too early, or a call completes twice.
 use Rattle.qworked.specs.Words.{[], pos, Srch, Send, Receive, Reply, ReceivePulse, Pulse, Shutdown, Trace}
 use Rattle.qworked.specs.Words.{event, ended}
 use Rattle.std.specs.Prelude.{◌∷◌}
@@ -6,11 +6,11 @@ use Rattle.qqueue.specs.declared.item.What.TheVariants as what
 use Rattle.qmodel.specs.declared.call.Mark.TheVariants as mark
 use Rattle.qworked.specs.Broken.Held.{run_of, held}
 
--- message 4 is received by a second Receive
+-- message 4 is received again, by a second Receive
 abbrev pub message_twice : Trace
 message_twice = held (event 35 (Receive 1 []) (ended 6 35 (mark.Message 4 0) [] ∷ []) ∷ [])
 
--- a pulse ends both receivers that wait
+-- a pulse completes the calls of both blocked receivers
 abbrev pub pulse_twice : Trace
 pulse_twice = run_of (event 31 (ReceivePulse 1) []
     ∷ event 35 (ReceivePulse 1) []
@@ -23,7 +23,7 @@ abbrev pub early : Trace
 early = run_of (event 31 (Receive 1 []) (ended 4 31 (mark.Message 5 0) [] ∷ [])
     ∷ event 43 (Send 2 [] []) [] ∷ [])
 
--- message 4 is answered, and its Send fails after that
+-- message 4 gets its reply, and its Send fails after that
 abbrev pub ended_twice : Trace
 ended_twice = held (event 31 (Reply 4 (pos 61) [])
     (ended 6 31 mark.Ok [] ∷ ended 4 43 (mark.Replied (pos 61) 0) (0x11 ∷ 0x22 ∷ 0x33 ∷ []) ∷ [])

@@ -1,17 +1,17 @@
--- A channel is destroyed, and calls on it go on.
+-- A channel is destroyed, and calls on it continue.
 use Rattle.qworked.specs.Words.{[], Srch, ConnectDetach, Receive, ReceivePulse, ChannelDestroy, Trace, event}
 use Rattle.qworked.specs.Words.{ended}
 use Rattle.std.specs.Prelude.{◌∷◌}
 use Rattle.qmodel.specs.declared.call.Mark.TheVariants as mark
 use Rattle.qworked.specs.Broken.Held.{held, run_of, sent}
 
--- message 4 is received after its Send has failed with the channel
+-- message 4 is received after the end of the channel has cancelled its Send
 abbrev pub received : Trace
 received = sent (event 31 (ChannelDestroy 1)
     (ended 5 31 mark.Ok [] ∷ ended 4 43 (mark.Failed Srch) (0x11 ∷ 0x22 ∷ 0x33 ∷ []) ∷ [])
     ∷ event 31 (Receive 1 []) (ended 6 31 (mark.Message 4 0) [] ∷ []) ∷ [])
 
--- a Send whose message isn't received stays open
+-- a Send whose message hasn't been received stays open
 abbrev pub send_left : Trace
 send_left = sent (event 31 (ChannelDestroy 1) (ended 5 31 mark.Ok [] ∷ []) ∷ [])
 
