@@ -1,8 +1,9 @@
-//! Runs worked scripts, whose output was written below their lines by hand, and compares.
+//! Runs worked scripts, and compares their output with the output that was written by hand below their lines.
 //!
-//! Standard input has the scripts one after another. `== NAME` begins a script, and `=? NAME` one whose fault is also
-//! explained. A line that begins with `> ` is output; every other line is one of the script. `@ FIRST LAST LINE` stands
-//! for LINE once for each number from FIRST to LAST, which replaces each N in it.
+//! Standard input has the scripts, one after another. `== NAME` begins a script, and `=? NAME` a script whose
+//! fault is also explained. A line that begins with `> ` is output; every other line belongs to the script.
+//! `@ FIRST LAST LINE` means LINE once for each number from FIRST to LAST, with this number in place of each
+//! N in it.
 #![tactic(auto)]
 
 mod row;
@@ -20,7 +21,8 @@ fn main(rt: HostRuntime) -> ExitCode {
     }
 }
 
-/// Runs the scripts of standard input, prints a line for each, and returns whether each printed its written output.
+/// Runs the scripts of standard input, prints the outcome of each, and returns whether each printed its
+/// written output.
 fn compare_all<R: Input + Print + AllocGlobal>(rt: &R) -> io::Result<bool> {
     let mut text = Vec::new(rt.alloc());
     rt.reader().read_to_end(&mut text)?;
@@ -40,7 +42,8 @@ fn compare_all<R: Input + Print + AllocGlobal>(rt: &R) -> io::Result<bool> {
     Ok(compare(rt, &row)? && all)
 }
 
-/// Runs the row's script, if there is one, prints whether it passed, and returns whether it printed its output.
+/// Runs the row's script, if there is one, prints whether it passed, and returns whether it printed its
+/// output.
 fn compare<R: Print + AllocGlobal>(rt: &R, row: &Option<Row>) -> io::Result<bool> {
     let Some(row) = row else {
         return Ok(true);

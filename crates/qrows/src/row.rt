@@ -17,7 +17,7 @@ pub struct Row {
 }
 
 impl Row {
-    /// Returns the row that this line begins, if it begins one.
+    /// Returns the row that this line begins; `None` if it begins none.
     pub fn begun_by(alloc: Global, line: &str) -> Result<Option<Row>, AllocError> {
         let (name, explained) = match (line.strip_prefix("== "), line.strip_prefix("=? ")) {
             (Some(name), _) => (name, false),
@@ -45,7 +45,7 @@ impl Row {
         self.wanted.as_str() == printed
     }
 
-    /// Returns what the script prints, or its fault.
+    /// Returns the output of the script, or its fault.
     pub fn printed(&self, alloc: Global) -> io::Result<String> {
         let mut reader = Watched::new(self.script.as_bytes());
         let mut writer = Watched::new(Vec::new(alloc));
@@ -73,7 +73,8 @@ impl Row {
     }
 }
 
-/// Returns the first and the last number for which a line stands once each, and what it repeats, if it repeats a line.
+/// Returns the first number, the last number and the repeated line of `@ FIRST LAST LINE`; `None` if the line
+/// isn't of this form.
 fn repeat_of(line: &str) -> Option<(u64, u64, &str)> {
     let rest = line.strip_prefix("@ ")?;
     let (first, rest) = rest.split_once(" ")?;
@@ -81,7 +82,7 @@ fn repeat_of(line: &str) -> Option<(u64, u64, &str)> {
     Some((first.parse().ok()?, last.parse().ok()?, line))
 }
 
-/// Adds the line, or each that it stands for.
+/// Adds the line, or each line that it means by repetition.
 fn add_lines(text: &mut String, line: &str) -> io::Result<()> {
     let Some((first, last, repeated)) = repeat_of(line) else {
         text.push_str(line)?;

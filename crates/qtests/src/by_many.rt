@@ -25,13 +25,13 @@ use std::sync::Wait;
 use std::thread;
 use std::thread::{Threads, join};
 
-/// The first client; the servers have numbers below it.
+/// The number of the first client; the servers have lower numbers.
 const FIRST_CLIENT: u8 = 17;
 
-/// The thread that creates the channel, and stops all.
+/// The thread that creates the channel, stops the servers and shuts the kernel down.
 const MAIN: u8 = 64;
 
-/// How many threads do what, and how often.
+/// The number of servers and of clients, and of the rounds of each client.
 #[derive(Clone, Copy)]
 struct Size {
     servers: u8,
@@ -39,7 +39,7 @@ struct Size {
     rounds: u64,
 }
 
-/// Joins so many threads of a process, from the first on.
+/// Adds this many threads of a process to the roster, beginning with the number `first`.
 fn join_threads(rt: &impl Abort, roster: &mut Roster, first: u8, many: u8, process: u8) {
     for k in 0..many {
         let joined = roster.add(
@@ -51,7 +51,7 @@ fn join_threads(rt: &impl Abort, roster: &mut Roster, first: u8, many: u8, proce
     }
 }
 
-/// Servers and the main thread of process 1, and clients of process 2.
+/// Returns the roster: servers and the main thread in process 1, and clients in process 2.
 fn roster(rt: &impl Abort, alloc: Global, size: Size) -> Roster {
     let mut roster = Roster::new(alloc);
     join_threads(rt, &mut roster, 1, size.servers, 1);
@@ -60,7 +60,7 @@ fn roster(rt: &impl Abort, alloc: Global, size: Size) -> Roster {
     roster
 }
 
-/// Each of these ports serves in a thread of its own until it is stopped.
+/// Serves with each of these ports in a thread of its own, until it is stopped.
 fn serve_all<K: Tie + Send + Sync, L: Log + Send, R: Threads + Wait + Abort + Sync>(
     rt: &R,
     alloc: Global,
@@ -75,7 +75,8 @@ fn serve_all<K: Tie + Send + Sync, L: Log + Send, R: Threads + Wait + Abort + Sy
     .expect(rt, "memory")
 }
 
-/// Each of these ports is a client in a thread of its own. Then so many servers are stopped.
+/// Runs a client with each of these ports in a thread of its own. Then the main thread stops the servers,
+/// with a pulse for each.
 fn call_all<K: Tie + Send + Sync, L: Log + Send, R: Threads + Wait + Abort + Sync>(
     rt: &R,
     alloc: Global,
@@ -105,7 +106,7 @@ fn call_all<K: Tie + Send + Sync, L: Log + Send, R: Threads + Wait + Abort + Syn
     ports
 }
 
-/// The last of the ports destroys the channel and shuts the kernel down.
+/// Destroys the channel with the last of the ports, and shuts the kernel down.
 fn shut_down<K: Tie, L: Log>(
     rt: &(impl Wait + Abort),
     shared: &Shared<K, L>,
@@ -120,7 +121,8 @@ fn shut_down<K: Tie, L: Log>(
     assert!(rt; ports.push(main).is_ok());
 }
 
-/// Servers and clients, each in a thread of its own, from the channel to the shutdown. It gives all ports back.
+/// Runs servers and clients, each in a thread of its own, from the channel's creation to the shutdown.
+/// Returns all ports.
 fn all_threads<K: Tie + Send + Sync, L: Log + Send, R: Threads + Wait + Abort + Sync>(
     rt: &R,
     alloc: Global,
@@ -148,7 +150,7 @@ fn all_threads<K: Tie + Send + Sync, L: Log + Send, R: Threads + Wait + Abort + 
     ports
 }
 
-/// All threads on a kernel that keeps its past.
+/// Runs all threads on a kernel that keeps its history.
 fn many<K: Tie + Send + Sync, R: Threads + Wait + Abort + Sync>(
     rt: &R,
     alloc: Global,
@@ -162,7 +164,7 @@ fn many<K: Tie + Send + Sync, R: Threads + Wait + Abort + Sync>(
     finished(rt, shared, ports)
 }
 
-/// All threads on a kernel that keeps no past, for so many processors.
+/// Runs all threads on a kernel that keeps no history, for this number of processors.
 fn many_and_no_past<K: Tie + Send + Sync, R: Threads + Wait + Abort + Sync>(
     rt: &R,
     alloc: Global,
@@ -178,7 +180,8 @@ fn many_and_no_past<K: Tie + Send + Sync, R: Threads + Wait + Abort + Sync>(
     tallied(rt, shared, ports)
 }
 
-/// So many servers and clients make a run that one thread could have made.
+/// Asserts that the servers and clients make a run that one thread could have made. Returns its number of
+/// events.
 fn made_together(rt: &(impl Threads + Wait + Abort + Sync), alloc: Global, size: Size) -> usize {
     let roster = roster(rt, alloc, size);
     let parts = parts(rt, alloc, &roster, 1_048_576);
@@ -188,7 +191,8 @@ fn made_together(rt: &(impl Threads + Wait + Abort + Sync), alloc: Global, size:
     report.trace.len()
 }
 
-/// Four servers and eight clients, with 20,000 messages of each client and every call among them.
+/// Runs four servers and eight clients; each client sends 20,000 messages, with every kind of call among
+/// them.
 #[test]
 fn four_servers_and_eight_clients(rt: HostRuntime) {
     let size = Size {
@@ -200,7 +204,7 @@ fn four_servers_and_eight_clients(rt: HostRuntime) {
     assert!(rt; events > 480_000);
 }
 
-/// All 64 threads at once.
+/// Runs all 64 threads at once.
 #[test]
 fn sixty_four_threads(rt: HostRuntime) {
     let size = Size {
@@ -212,7 +216,7 @@ fn sixty_four_threads(rt: HostRuntime) {
     assert!(rt; events > 70_000);
 }
 
-/// The sum of counts.
+/// Returns the sum of the counts.
 fn sum_of(counts: &[u64]) -> u64 {
     let mut sum: u64 = 0;
     for count in counts {
@@ -221,8 +225,8 @@ fn sum_of(counts: &[u64]) -> u64 {
     sum
 }
 
-/// Two servers and four clients on a kernel that keeps no past, for so many processors. Each message is three calls at
-/// least: a Send, a Receive and an answer.
+/// Runs two servers and four clients on a kernel that keeps no history, for this number of processors. Each
+/// message takes at least three calls: a Send, a Receive and a reply.
 fn all_are_answered(
     rt: &(impl Threads + Wait + Abort + Sync),
     alloc: Global,
@@ -243,13 +247,13 @@ fn all_are_answered(
     assert!(rt; sum_of(tally.calls.as_slice()) > rounds.saturating_mul(12));
 }
 
-/// 50,000 messages of each client.
+/// Each client sends 50,000 messages.
 #[test]
 fn no_past_is_kept(rt: HostRuntime) {
     all_are_answered(&rt, rt.alloc(), 50_000, 4);
 }
 
-/// 5,000 messages of each client, on a kernel for one processor, whose threads sleep whenever they wait.
+/// Each client sends 5,000 messages, on a kernel for one processor, whose threads sleep whenever they wait.
 #[test]
 fn all_threads_sleep(rt: HostRuntime) {
     all_are_answered(&rt, rt.alloc(), 5_000, 1);

@@ -1,4 +1,4 @@
-//! The cells with the kernel's completions, by many threads.
+//! Tests of the cells, through which threads get the kernel's completions.
 
 mod crossing;
 mod making;

@@ -12,10 +12,10 @@ use std::alloc::Global;
 use std::process::Abort;
 use std::sync::Wait;
 
-/// After how many rounds a client begins again with what it asks for beside its messages.
+/// The number of rounds after which a client's other calls repeat.
 const ERRANDS: u64 = 16;
 
-/// The message was replied to with its own bytes, or answered with the code 1, or the client was unblocked.
+/// Asserts that the reply to the message has its own bytes or the code 1, or that the client was unblocked.
 fn was_answered(rt: &impl Abort, completion: &Completion, message: &[u8]) {
     match completion.mark {
         Mark::Replied { status, copied } => {
@@ -28,7 +28,7 @@ fn was_answered(rt: &impl Abort, completion: &Completion, message: &[u8]) {
     }
 }
 
-/// Sends a message of four bytes with room for eight, and looks at its answer.
+/// Sends a message of four bytes with room for eight, and checks its reply.
 fn send<K: Tie, L: Log>(
     rt: &(impl Wait + Abort),
     alloc: Global,
@@ -47,7 +47,7 @@ fn send<K: Tie, L: Log>(
     was_answered(rt, &ended(rt, shared, port, send), &message);
 }
 
-/// What a client asks for beside its message, by the number of the round.
+/// Makes the other call of this round, if there is one. The round's number chooses its kind.
 fn errand<K: Tie, L: Log>(
     rt: &(impl Wait + Abort),
     shared: &Shared<K, L>,
@@ -76,7 +76,7 @@ fn errand<K: Tie, L: Log>(
     done(rt, port.call(shared, rt, call));
 }
 
-/// Attaches, sends so many messages, and detaches.
+/// Attaches, sends this many messages, and detaches.
 pub fn client<K: Tie, L: Log>(
     rt: &(impl Wait + Abort),
     alloc: Global,

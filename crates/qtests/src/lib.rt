@@ -1,5 +1,5 @@
-//! Tests for which the machine code of the proved build matters: cells between threads, waking, and a kernel of 64
-//! threads that makes every call. All other tests are in `tests/unproved`.
+//! Tests for which the machine code of the proved build matters: cells between threads, wake-ups, and a
+//! kernel of 64 threads that makes every call. All other tests are in `tests/unproved`.
 #![tactic(auto)]
 
 #[cfg(test)]

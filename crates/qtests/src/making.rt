@@ -1,4 +1,4 @@
-//! Parts of a kernel, calls with bytes, and what a call must have come to.
+//! Makes parts of a kernel and calls with bytes, and checks how calls complete.
 
 ghost use Rattle.std.specs.Prelude.{◌≡◌};
 
@@ -19,22 +19,22 @@ use std::alloc::Global;
 use std::process::Abort;
 use std::sync::Wait;
 
-/// A priority, which is 1 to 255.
+/// Returns the priority of this number, which must be 1 to 255.
 pub fn priority(rt: &impl Abort, number: u8) -> Priority {
     Priority::new(number).expect(rt, "a priority")
 }
 
-/// The parts of a kernel with these threads.
+/// Returns the parts of a kernel with these threads, whose history has at most `trace_limit` events.
 pub fn parts(rt: &impl Abort, alloc: Global, roster: &Roster, trace_limit: u32) -> Parts {
     Parts::new(alloc, roster, trace_limit).expect(rt, "parts")
 }
 
-/// A copy of these bytes.
+/// Returns a copy of these bytes.
 pub fn bytes(rt: &impl Abort, alloc: Global, from: &[u8]) -> Bytes {
     Bytes::copied(alloc, from).expect(rt, "a copy")
 }
 
-/// The ending of a call that was done at once.
+/// Returns the completion of a call that must have completed at once.
 pub fn done(rt: &impl Abort, called: Called) -> Completion {
     match called {
         Called::Done(completion) => completion,
@@ -42,7 +42,7 @@ pub fn done(rt: &impl Abort, called: Called) -> Completion {
     }
 }
 
-/// How a call ended, at once or after a wait.
+/// Makes a call, and returns its completion, which comes at once or after a wait.
 pub fn ended<K: Tie, L: Log>(
     rt: &(impl Wait + Abort),
     shared: &Shared<K, L>,
@@ -56,7 +56,7 @@ pub fn ended<K: Tie, L: Log>(
     }
 }
 
-/// Attaches to a channel. It gives the connection.
+/// Attaches to a channel, and returns the connection.
 pub fn attached<K: Tie, L: Log>(
     rt: &(impl Wait + Abort),
     shared: &Shared<K, L>,
@@ -69,7 +69,7 @@ pub fn attached<K: Tie, L: Log>(
     }
 }
 
-/// The report of a kernel whose ports are all of these.
+/// Returns the report of a kernel; these must be all of its ports.
 pub fn finished<K: Tie>(
     rt: &impl Abort,
     shared: Shared<K, Kept<K>>,
@@ -81,7 +81,7 @@ pub fn finished<K: Tie>(
     shared.finish(ports)
 }
 
-/// The same of a kernel that keeps no past.
+/// Returns the tally of a kernel that keeps no history; these must be all of its ports.
 pub fn tallied<K: Tie>(
     rt: &impl Abort,
     shared: Shared<K, Unkept<K>>,

@@ -1,4 +1,4 @@
-//! A report's trace, made again by one thread.
+//! The calls of a report's history, made again by one thread.
 
 use qkernel::call::Completion;
 use qkernel::kernel::Kernel;
@@ -8,7 +8,7 @@ use qtables::roster::Roster;
 use std::alloc::Global;
 use std::process::Abort;
 
-/// Two endings are the same.
+/// Asserts that two completions are the same.
 fn are_same(rt: &impl Abort, one: &Completion, other: &Completion) {
     assert!(rt; one.call == other.call && one.thread == other.thread);
     assert!(rt; one.mark == other.mark, "the call {}", one.call);
@@ -19,7 +19,7 @@ fn are_same(rt: &impl Abort, one: &Completion, other: &Completion) {
     );
 }
 
-/// The same endings, in the same order.
+/// Asserts that two lists have the same completions, in the same order.
 fn have_same(rt: &impl Abort, ones: &[Completion], others: &[Completion]) {
     assert!(rt; ones.len() == others.len());
     for (one, other) in ones.iter().zip(others) {
@@ -27,7 +27,8 @@ fn have_same(rt: &impl Abort, ones: &[Completion], others: &[Completion]) {
     }
 }
 
-/// One thread that makes the calls of a trace in their order gets the same endings, call by call.
+/// Asserts that one thread that makes the calls of a history in their order gets the same completions, call
+/// by call.
 pub fn could_be_made_by_one(rt: &impl Abort, alloc: Global, roster: &Roster, trace: &Trace) {
     let mut calls = Vec::with_capacity(alloc, trace.len()).expect(rt, "room");
     for k in 0..trace.len() {

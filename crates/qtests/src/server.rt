@@ -1,4 +1,4 @@
-//! A server that answers until it gets a pulse that stops it.
+//! A server that replies until it gets a pulse that stops it.
 
 use crate::making::{attached, bytes, done, ended, priority};
 use qbase::bytes::Bytes;
@@ -17,7 +17,7 @@ use std::sync::Wait;
 /// The code of the pulse that stops a server.
 pub const STOP: i8 = 127;
 
-/// Creates a channel, sends a pulse over a connection to it, receives that, and takes both away.
+/// Creates a channel, sends a pulse over a connection to it, receives the pulse, and removes both.
 fn errand<K: Tie, L: Log>(rt: &(impl Wait + Abort), shared: &Shared<K, L>, port: &mut Port<K>) {
     let create = Call::ChannelCreate(ChannelFlags::of(0));
     let chid = match done(rt, port.call(shared, rt, create)).mark {
@@ -46,7 +46,8 @@ fn errand<K: Tie, L: Log>(rt: &(impl Wait + Abort), shared: &Shared<K, L>, port:
     done(rt, port.call(shared, rt, Call::ChannelDestroy(chid)));
 }
 
-/// Answers a message by its number, after a look or a write. An answer fails if the client was unblocked.
+/// Replies to a message in a way that depends on its number: after an Info, a Read, a Write or a State, or
+/// with an Error. The reply fails if the client was unblocked.
 fn answer<K: Tie, L: Log>(
     rt: &(impl Wait + Abort),
     alloc: Global,
@@ -83,7 +84,7 @@ fn answer<K: Tie, L: Log>(
     done(rt, port.call(shared, rt, reply));
 }
 
-/// Receives on channel 1 and answers, until it is stopped.
+/// Receives on channel 1 and replies, until it is stopped.
 pub fn server<K: Tie, L: Log>(
     rt: &(impl Wait + Abort),
     alloc: Global,

@@ -1,4 +1,4 @@
-//! One call that ends the calls of eight threads that sleep must wake all of them.
+//! One call that cancels the calls of eight sleeping threads must wake all of them.
 
 ghost use Rattle.qshared.specs.Naming.{AreParts};
 
@@ -23,19 +23,20 @@ use std::sync::atomic::{AtomicU64, Ordering};
 use std::thread;
 use std::thread::{Threads, join};
 
-/// Threads 1 to 4 receive, 5 to 8 send, and thread 9 ends their calls.
+/// The number of threads that sleep: 1 to 4 receive, and 5 to 8 send. Thread 9 cancels their calls.
 const SLEEPERS: u8 = 8;
 
-/// The first that sends.
+/// The first thread that sends.
 const FIRST_CLIENT: u8 = 5;
 
-/// How often the ninth asks for a thread's state, so that the others have time to fall asleep: some milliseconds.
+/// How often thread 9 asks for a thread's state, which gives the others some milliseconds to fall asleep.
 const QUIET: u32 = 20_000;
 
-/// How often it then looks whether all are awake: some seconds.
+/// How often thread 9 then checks whether all are awake: this takes some seconds.
 const PATIENCE: u32 = 20_000_000;
 
-/// Eight threads that sleep, and the one that wakes them, which owns the channel as the servers do.
+/// Returns the roster: eight threads that sleep, and thread 9, which wakes them. Thread 9 is in the servers'
+/// process, which owns the channel.
 fn roster(rt: &impl Abort, alloc: Global) -> Roster {
     let mut roster = Roster::new(alloc);
     for number in 1..10u8 {
@@ -50,7 +51,7 @@ fn roster(rt: &impl Abort, alloc: Global) -> Roster {
     roster
 }
 
-/// A server takes messages and answers none, until its Receive is ended by force.
+/// Receives messages and replies to none, until its Receive is cancelled.
 fn serve<K: Tie, L: Log>(
     rt: &(impl Wait + Abort),
     alloc: Global,
@@ -72,7 +73,7 @@ fn serve<K: Tie, L: Log>(
     }
 }
 
-/// A client sends a message, which is never answered: its Send is ended by force.
+/// Sends a message that gets no reply: its Send is cancelled.
 fn send<K: Tie, L: Log>(
     rt: &(impl Wait + Abort),
     alloc: Global,
@@ -89,7 +90,7 @@ fn send<K: Tie, L: Log>(
     assert!(rt; ending.mark == Mark::Failed(Errno::Srch));
 }
 
-/// Serves or sends until the call is ended by force, and counts itself as awake.
+/// Serves or sends until the call is cancelled, and counts itself as awake.
 fn sleep<K: Tie, L: Log>(
     rt: &(impl Wait + Abort),
     alloc: Global,
@@ -107,7 +108,7 @@ fn sleep<K: Tie, L: Log>(
     port
 }
 
-/// Whether the thread is blocked in the call that it is to be woken from.
+/// Returns whether the thread is blocked in the call from which it is to be woken.
 fn is_asleep<K: Tie, L: Log>(
     rt: &(impl Wait + Abort),
     shared: &Shared<K, L>,
@@ -129,7 +130,8 @@ fn is_asleep<K: Tie, L: Log>(
     }
 }
 
-/// Waits until all eight are blocked and had time to fall asleep, makes the last call, and waits until all are awake.
+/// Waits until all eight threads are blocked and had time to fall asleep, makes the last call, and waits
+/// until all are awake.
 fn wake_all<K: Tie, L: Log>(
     rt: &(impl Wait + Abort),
     shared: &Shared<K, L>,
@@ -158,7 +160,8 @@ fn wake_all<K: Tie, L: Log>(
     panic!(rt; "not all are awake")
 }
 
-/// All nine threads on a kernel that keeps no past, up to the call that ends the eight others' calls.
+/// Runs all nine threads on a kernel that keeps no history, up to the call that cancels the calls of eight
+/// threads.
 fn sleep_and_wake<K: Tie + Send + Sync, R: Threads + Wait + Abort + Sync>(
     rt: &R,
     alloc: Global,

@@ -71,7 +71,7 @@ fn put_round(
     }
 }
 
-/// Puts the completions of so many calls, from 0 on, into each cell.
+/// Puts the completions of this many calls, numbered from 0, into each cell.
 fn put_all(
     rt: &(impl Wait + Abort),
     alloc: Global,
@@ -88,7 +88,7 @@ fn put_all(
     kernel
 }
 
-/// Takes the completions of so many calls, from 0 on, in order.
+/// Takes the completions of this many calls, numbered from 0, in order.
 fn take_all(
     rt: &(impl Wait + Abort),
     cells: &Cells<Completion>,
@@ -106,7 +106,7 @@ fn take_all(
     seat
 }
 
-/// One thread puts 100,000 completions and another takes them: in order, with their bytes, and none is left.
+/// One thread puts 100,000 completions and another takes them, in order and with their bytes; none is left.
 #[test]
 fn one_puts_and_one_takes(rt: HostRuntime) {
     let alloc = rt.alloc();
@@ -121,7 +121,7 @@ fn one_puts_and_one_takes(rt: HostRuntime) {
     assert_eq!(rt; cells.close(kernel, seats).len(), 0);
 }
 
-/// Each thread takes the completions of so many calls. It gives how many threads there were.
+/// Each thread takes the completions of this many calls. Returns the number of threads.
 fn take_each<R: Threads + Wait + Abort + Sync>(
     rt: &R,
     cells: &Cells<Completion>,
@@ -140,7 +140,7 @@ fn take_each<R: Threads + Wait + Abort + Sync>(
     taken.expect(rt, "memory").len()
 }
 
-/// 64 threads take at once what one puts for each of them in turn.
+/// One thread puts completions for 64 threads in turn, which take them at the same time.
 #[test]
 fn one_puts_and_sixty_four_take(rt: HostRuntime) {
     let alloc = rt.alloc();

@@ -1,4 +1,4 @@
-//! Cells with their seats, and completions.
+//! Cells with their tokens, and completions.
 
 ghost use Rattle.std.specs.Prelude.{◌≡◌, ◌<◌, ◌+◌, length};
 ghost use Rattle.qhandoff.specs.Words.{cells_id, count, thread_of, IsKernelOf, IsThreadOf, IsRow};
@@ -11,7 +11,7 @@ use qmodel::call::{Completion, Mark};
 use std::alloc::Global;
 use std::process::Abort;
 
-/// Cells for so many threads, with their seats.
+/// Returns cells for this many threads, with their tokens.
 pub fn cells(
     rt: &impl Abort,
     alloc: Global,
@@ -31,7 +31,7 @@ pub fn cells(
     made
 }
 
-/// The seat of the last thread that is left.
+/// Removes and returns the token of the last thread.
 pub fn last_seat(
     cells: &Cells<Completion>,
     seats: &mut Vec<ThreadSeat<Completion>>,
@@ -49,7 +49,7 @@ pub fn last_seat(
     seat
 }
 
-/// Puts the seat of the next thread behind the others.
+/// Adds the token of the next thread at the end.
 pub fn seat_back(
     rt: &impl Abort,
     cells: &Cells<Completion>,
@@ -67,12 +67,12 @@ pub fn seat_back(
     }
 }
 
-/// The buffer of the completion of a call.
+/// Returns the buffer of this call's completion.
 fn buffer_of(call: u64) -> [u8; 8] {
     call.to_be_bytes()
 }
 
-/// A completion of the call of this number, with a buffer that says which.
+/// Returns a completion of this call, with a buffer that has the call's number.
 pub fn completion(rt: &impl Abort, alloc: Global, call: u64) -> Completion {
     Completion {
         call,
@@ -82,7 +82,7 @@ pub fn completion(rt: &impl Abort, alloc: Global, call: u64) -> Completion {
     }
 }
 
-/// Whether it is that completion.
+/// Returns whether this is the completion that `completion` makes for the call.
 pub fn is_of(completion: &Completion, call: u64) -> bool {
     completion.call == call
         && completion.thread == ThreadNo(1)
