@@ -1,4 +1,4 @@
--- The best of the items, by the first ones of the greatest levels.
+-- The best item is the first item of the greatest level.
 use Rattle.qqueue.proofs.Common.{◌≡◌, ◌≢◌, ℕ, ◌<◌, ◌≤◌, ◌⊎◌, List, [], ◌∷◌, map, Bool, true, false, cond, refl, ap, sym, subst, ◌∙◌, inl, inr, arith, AllByRecursion, cases_Bool, cases_eq, cases_lt, lt-ltb, le-ltb, true≢false, nat_tests, Slab, all_more, Item, Kind, Node, is_pulse, may_take, first_of_two, best_of, comes_before, IsForemost, places_of, items_at, Rises, is_on, item_of, item_at, first_of, AreRings}
 use Rattle.std.specs.Prelude.{Option, None, Some, filter, nat_lt, ◌==◌, ◌&&◌, ◌||◌, IfSome}
 use Rattle.qqueue.specs.declared.item.Kind.TheVariants.{Any, PulseOnly}
@@ -16,7 +16,7 @@ before_turned a b differs not_before = grind (arith, nat_tests)
 abbrev pub IsBehind : Item → Item → Type 0
 IsBehind x item = (item ≡ x) ⊎ (comes_before x item ≡ true)
 
--- what may be taken and comes before all others that may be taken is the best
+-- an item that may be taken and comes before all others that may be taken is the best
 best_is : (kind : Kind) (x : Item) (k : ℕ) (places : List (Item × ℕ)) → Rises places → In (x, k) places → may_take kind x ≡ true → AllByRecursion (λ p. may_take kind p.0 ≡ true → IsBehind x p.0) places → best_of kind (items_at places) ≡ Some x
 best_is kind x k [] up within may all = absurd within
 best_is kind x k (q ∷ places) up within may all =
@@ -56,7 +56,8 @@ best_is kind x k (q ∷ places) up within may all =
       ]
     ]
 
--- the first of a filter
+-- under key k is the first item that passes the filter: it passes, and all others that pass have greater
+-- numbers
 record Front (f : Item × ℕ → Bool) (places : List (Item × ℕ)) (k : ℕ) : Type 0 where
   item : Item
   there : In (item, k) places
@@ -90,7 +91,7 @@ none_of_filter f (p ∷ places) none =
     ] refl none
 
 module _ (first : Bool → ℕ → Option ℕ) (s : Slab Node) (up : Rises (places_of s)) (rings : AreRings first s) where
-  -- an item of this kind that comes before all others of it
+  -- under the found key is an item of this kind that comes before all others of the kind
   pub record IsTop (pulse : Bool) (found : ℕ × ℕ) : Type 0 where
     pub item : Item
     pub there : item_of s found.1 ≡ Some item
@@ -135,7 +136,7 @@ module _ (first : Bool → ℕ → Option ℕ) (s : Slab Node) (up : Rises (plac
       let out = none_of_filter (is_on pulse p.0.priority) places (sym (rings pulse p.0.priority).0 ∙ none p.0.priority) in
       true≢false (sym (on_from pulse p.0.priority p kind refl) ∙ all_at (λ q. is_on pulse p.0.priority q ≡ false) p places out within))
 
-  -- of pulses alone
+  -- the foremost pulse is the best item for a ReceivePulse
   pub best_pulse : (found : ℕ × ℕ) → IsForemost (first true) found → item_at s (Some found.1) ≡ best_of PulseOnly (items_at (places_of s))
   best_pulse found foremost =
       let t = top true found foremost in
@@ -146,7 +147,7 @@ module _ (first : Bool → ℕ → Option ℕ) (s : Slab Node) (up : Rises (plac
       sym (may-none PulseOnly (items_at (places_of s)) (all_items (λ w. is_pulse w.what ≡ false) (places_of s)
       (all_more (λ p. is_pulse p.0.what ≡ true → ⊥) (λ p. is_pulse p.0.what ≡ false) (places_of s) (no_top true none) (λ p out. elim (cases_Bool (is_pulse p.0.what)) [ inl is ↦ absurd (out is) | inr not ↦ not ]))))
 
-  -- of both kinds
+  -- if x comes before all other pulses and all other messages, it comes before all other items
   both : (x : Item) (places : List (Item × ℕ)) → AllByRecursion (λ p. is_pulse p.0.what ≡ true → IsBehind x p.0) places → AllByRecursion (λ p. is_pulse p.0.what ≡ false → IsBehind x p.0) places → AllByRecursion (λ p. true ≡ true → IsBehind x p.0) places
   both x [] pulses messages = tt
   both x (p ∷ places) pulses messages =
@@ -179,7 +180,7 @@ module _ (first : Bool → ℕ → Option ℕ) (s : Slab Node) (up : Rises (plac
       empty [] messages pulses = refl
       empty (p ∷ places) messages pulses = elim (cases_Bool (is_pulse p.0.what)) [ inl is ↦ absurd (pulses.0 is) | inr not ↦ absurd (messages.0 not) ]
 
-  -- the choice between the foremost of each kind
+  -- the earlier of the foremost message and the foremost pulse is the best of all items
   pub best_of_two : (message pulse : ℕ × ℕ) (chosen : ℕ) → IsForemost (first false) message → IsForemost (first true) pulse
       → IfSome (item_of s message.1) (λ m. IfSome (item_of s pulse.1) (λ p. chosen ≡ cond (nat_lt pulse.0 message.0 || ((message.0 == pulse.0) && nat_lt m.number p.number)) message.1 pulse.1))
       → item_at s (Some chosen) ≡ best_of Any (items_at (places_of s))

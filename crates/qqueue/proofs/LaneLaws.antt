@@ -1,4 +1,4 @@
--- A change of one lane leaves the other.
+-- A change of one lane doesn't change the other.
 use Rattle.qqueue.proofs.Common.{◌≡◌, ◌≢◌, ℕ, List, Bool, true, false, refl, sym, ap, subst, ◌∙◌, option_map, Slab, first_in, Node, SameLinks, first_at, AreRings, places_from, places_of, keys_on, first_of, Ring}
 use Rattle.std.specs.Prelude.{Option, None, slice_index_or}
 use Rattle.qqueue.specs.declared.lane.Lane.{Lane}
@@ -14,7 +14,7 @@ pub message_others : (messages pulses new : Lane) (level : ℕ) → ((other : �
 message_others messages pulses new level others true other differs = refl
 message_others messages pulses new level others false other differs = others other (λ e. differs refl (sym e))
 
--- the same first keys and slots have the same rings
+-- the rings stay the same if the first keys and the slots do
 pub rings_same : (messages pulses new_messages new_pulses : Lane) (s t : Slab Node) → ((level : ℕ) → first_in new_messages level ≡ first_in messages level) → ((level : ℕ) → first_in new_pulses level ≡ first_in pulses level)
     → t.slots ≡ s.slots → AreRings (first_at messages pulses) s → AreRings (first_at new_messages new_pulses) t
 rings_same messages pulses new_messages new_pulses s t same_messages same_pulses same rings pulse level =

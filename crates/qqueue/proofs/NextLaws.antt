@@ -12,7 +12,7 @@ and_either true false = refl
 and_either false true = refl
 and_either false false = refl
 
--- the order of two tests is the same
+-- the order of two filters makes no difference
 filter_either : {X : Type 0} (p q : X → Bool) (xs : List X) → filter p (filter q xs) ≡ filter q (filter p xs)
 filter_either p q xs =
     filter_twice q p xs
@@ -31,12 +31,12 @@ rises_at : (front : List (Item × ℕ)) (x y : Item × ℕ) (back : List (Item �
 rises_at [] x y back up = up.0.0
 rises_at (z ∷ front) x y back up = rises_at front x y back up.1
 
--- the last of places
+-- the last of these places, with the places before it
 last_place : (p : Item × ℕ) (places : List (Item × ℕ)) → (front : List (Item × ℕ)) × (here : Item) × (p ∷ places ≡ front ++ (here, last_from p.1 (map (λ (q : Item × ℕ). q.1) places)) ∷ [])
 last_place p [] = ([], p.0, refl)
 last_place p (q ∷ places) = let r = last_place q places in (p ∷ r.0, r.1, ap (λ l. p ∷ l) r.2)
 
--- where the last is not greater, none is
+-- if the last number isn't greater, none is
 none_behind : (number : ℕ) (front : List (Item × ℕ)) (p : Item × ℕ) → Rises (front ++ p ∷ []) → p.0.number ≤ number → places_after number (front ++ p ∷ []) ≡ []
 none_behind number [] p up less = rw (le-ltb number p.0.number less) refl
 none_behind number (x ∷ front) p up less =
@@ -44,7 +44,7 @@ none_behind number (x ∷ front) p up less =
     let below : x.0.number ≤ number = omega arith in
     rw (le-ltb number x.0.number below) (none_behind number front p up.1 less)
 
--- where the last is greater, there is one
+-- if the last number is greater, some number is
 some_behind : (number : ℕ) (front : List (Item × ℕ)) (p : Item × ℕ) → number < p.0.number → first_of (map (λ (q : Item × ℕ). q.1) (places_after number (front ++ p ∷ []))) ≡ None → ⊥
 some_behind number [] p less none =
     let one : first_of (map (λ (q : Item × ℕ). q.1) (places_after number (p ∷ []))) ≡ Some p.1 = rw (lt-ltb number p.0.number less) refl in
@@ -56,7 +56,7 @@ some_behind number (x ∷ front) p less none =
       | false ↦ λ e. some_behind number front p less e
     ] none
 
--- ---- what stands after a node of a ring
+-- ---- the node after a node of a ring
 
 after_other : (s : Slab Node) (xs : List ℕ) (key c : ℕ) (ys : List ℕ) → Ring s (xs ++ key ∷ c ∷ ys) → after_of s key ≡ Some c
 after_other s xs key c ys ring = let turned = ring_turn s xs (key ∷ c ∷ ys) ring in turned.0.0
@@ -72,7 +72,7 @@ module _ (s : Slab Node) (item : Item) where
   abbrev mine : List (Item × ℕ)
   mine = filter (is_on (is_pulse item.what) item.priority) (places_of s)
 
-  -- the walk has come to this key, and no number in front of it is greater
+  -- the walk has reached this key, and no number before it is greater
   pub record IsAt (key : ℕ) : Type 0 where
     pub here : Item
     pub front : List (Item × ℕ)
@@ -90,7 +90,7 @@ module _ (s : Slab Node) (item : Item) where
           let whole : mine ≡ (p.0, first) ∷ places = is ∙ ap (λ k. (p.0, k) ∷ places) same in
           record { here = p.0; front = []; back = places; whole = whole; left = ap (places_after item.number) whole }
 
-  -- a node of the ring, with those in front of it and behind it
+  -- the item under a key of the ring, given the places before it and after it
   held_there : (front back : List (Item × ℕ)) (here : Item) (key : ℕ) → mine ≡ front ++ (here, key) ∷ back → item_of s key ≡ Some here
   held_there front back here key whole =
       let all = all_filter (λ p. item_of s p.1 ≡ Some p.0) (is_on (is_pulse item.what) item.priority) (places_of s) (held s) in
@@ -118,21 +118,21 @@ module _ (s : Slab Node) (item : Item) where
   pub number_held : (key : ℕ) (a : IsAt key) → number_at s key ≡ a.here.number
   number_held key a = ap (λ o. unwrap_or (option_map (λ (i : Item). i.number) o) 0) (here_held key a)
 
-  -- the node that is read is the one that it has come to
+  -- the number of the node that is read is the number that the walk has reached
   pub node_number : (key : ℕ) (node : Node) (a : IsAt key) → get s key ≡ Some node → node.item.number ≡ a.here.number
   node_number key node a there = number_there a.here key node (here_held key a) there
 
   keys_after : keys_on (is_pulse item.what) item.priority (places_after item.number (places_of s)) ≡ map (λ (p : Item × ℕ). p.1) (places_after item.number mine)
   keys_after = ap (map (λ (p : Item × ℕ). p.1)) (filter_either (is_on (is_pulse item.what) item.priority) (λ (p : Item × ℕ). nat_lt item.number p.0.number) (places_of s))
 
-  -- the walk ends at a greater number
+  -- if the number is greater, the walk has found the first node with a greater number
   pub found_greater : (key : ℕ) (node : Node) (a : IsAt key) → get s key ≡ Some node → item.number < node.item.number → Some key ≡ first_of (keys_on (is_pulse item.what) item.priority (places_after item.number (places_of s)))
   found_greater key node a there less =
       let more : item.number < a.here.number = omega (arith, node_number key node a there) in
       let on : first_of (map (λ (p : Item × ℕ). p.1) (places_after item.number ((a.here, key) ∷ a.back))) ≡ Some key = rw (lt-ltb item.number a.here.number more) refl in
       sym (ap first_of (keys_after ∙ ap (map (λ (p : Item × ℕ). p.1)) a.left) ∙ on)
 
-  -- a ring of no nodes has none of a greater number
+  -- an empty ring has no greater number
   pub none_greater : first_of (keys_on (is_pulse item.what) item.priority (places_of s)) ≡ None → None ≡ first_of (keys_on (is_pulse item.what) item.priority (places_after item.number (places_of s)))
   none_greater none = sym (ap first_of keys_after ∙ of_none mine none)
     where
@@ -140,7 +140,7 @@ module _ (s : Slab Node) (item : Item) where
       of_none [] is = refl
       of_none (p ∷ places) is = absurd (cc)
 
-  -- the last of the ring
+  -- the key is the last of the ring
   pub record IsLast (key : ℕ) : Type 0 where
     pub here : Item
     pub front : List (Item × ℕ)
@@ -152,7 +152,7 @@ module _ (s : Slab Node) (item : Item) where
   last_number : (key : ℕ) (node : Node) (a : IsLast key) → get s key ≡ Some node → node.item.number ≡ a.here.number
   last_number key node a there = number_there a.here key node (held_there a.front [] a.here key a.whole) there
 
-  -- it is the node before the first
+  -- the key before the first key is the last
   pub at_last : (first key : ℕ) → first_of (keys_on (is_pulse item.what) item.priority (places_of s)) ≡ Some first → Ring s (keys_on (is_pulse item.what) item.priority (places_of s)) → before_of s first ≡ Some key → IsLast key
   at_last first key begins ring before = from mine refl begins ring
     where
@@ -166,7 +166,7 @@ module _ (s : Slab Node) (item : Item) where
           let one : last_from p.1 (map (λ (q : Item × ℕ). q.1) places) ≡ key = cc in
           record { here = end.1; front = end.0; whole = is ∙ end.2 ∙ ap (λ k. end.0 ++ (end.1, k) ∷ []) one }
 
-  -- none is greater where the last is not
+  -- if the last number isn't greater, none is
   pub last_none : (key : ℕ) (node : Node) → Rises (places_of s) → IsLast key → get s key ≡ Some node → node.item.number ≤ item.number → None ≡ first_of (keys_on (is_pulse item.what) item.priority (places_after item.number (places_of s)))
   last_none key node up a there less =
       let below : a.here.number ≤ item.number = omega (arith, last_number key node a there) in
@@ -174,14 +174,14 @@ module _ (s : Slab Node) (item : Item) where
       let none : places_after item.number mine ≡ [] = ap (places_after item.number) a.whole ∙ none_behind item.number a.front (a.here, key) rises below in
       sym (ap first_of (keys_after ∙ ap (map (λ (p : Item × ℕ). p.1)) none))
 
-  -- one is greater where the last is
+  -- if the last number is greater, some number is
   pub last_some : (key : ℕ) (node : Node) → IsLast key → get s key ≡ Some node → item.number < node.item.number → None ≡ first_of (keys_on (is_pulse item.what) item.priority (places_after item.number (places_of s))) → ⊥
   last_some key node a there less none =
       let above : item.number < a.here.number = omega (arith, last_number key node a there) in
       some_behind item.number a.front (a.here, key) above
       (sym (none ∙ ap first_of (keys_after ∙ ap (λ l. map (λ (p : Item × ℕ). p.1) (places_after item.number l)) a.whole)))
 
-  -- one step on: where the last is greater, the walk comes to a greater number than before
+  -- one step: if the last number is greater, the walk goes to a key with a greater number than before
   module _ (up : Rises (places_of s)) (ring : Ring s (keys_on (is_pulse item.what) item.priority (places_of s))) where
     to_next : (key next : ℕ) (a : IsAt key) → (None ≡ first_of (keys_on (is_pulse item.what) item.priority (places_after item.number (places_of s))) → ⊥) → a.here.number ≤ item.number → after_of s key ≡ Some next → (b : IsAt next) × (a.here.number < b.here.number)
     to_next key next a greater more after = by_back a.back (a.whole) (a.left ∙ none_here)

@@ -1,14 +1,14 @@
--- What a queue's lists keep true where one item is put among them.
+-- The invariant of a queue's lists when one item is added.
 use Rattle.qqueue.proofs.Common.{◌≡◌, ◌≢◌, ℕ, List, [], ◌∷◌, ◌++◌, Bool, refl, ap, sym, subst, ◌∙◌, inl, inr, zero-add, AllByRecursion, cases_Bool, true≢false, Slab, all_more, Item, Node, is_pulse, put_place, places_after, places_of, Rises, is_on, keys_on, item_of, after_of, before_of, Linked, Ring, first_of, Relinked, SameLinks, Joined, AreRings}
 use Rattle.std.specs.Prelude.{Option, None, Some, unwrap_or, is_some, IsSome}
 use Rattle.qqueue.proofs.PlaceLaws.{places_put, rises_put}
 use Rattle.qqueue.proofs.RingLaws.{Apart, apart_turn, last_from, last_all, path_end, all_split, all_join, ring_turn, ring_away, ring_between, keys_put_after, keys_put_other, keys_apart}
 use Rattle.qqueue.proofs.KeptLaws.{on_true, on_from, IsOf, held, at_place, keys_used, used_apart, used_not_free}
 
--- ---- where it is put
+-- ---- the place of the new item
 
 module _ (first : Bool → ℕ → Option ℕ) (s : Slab Node) (item : Item) (own : Bool) (next : Option ℕ) where
-  -- next is the first of the item's kind and level that stands behind it
+  -- next is the first key of the item's kind and level with a greater number
   pub record Awaits : Type 0 where
     pub kind : is_pulse item.what ≡ own
     pub up : Rises (places_of s)
@@ -23,7 +23,7 @@ module _ (first : Bool → ℕ → Option ℕ) (s : Slab Node) (item : Item) (ow
     next_is = subst (λ b. next ≡ first_of (keys_on b item.priority (places_after item.number (places_of s)))) kind is;
   }
 
-  -- the keys in front of it and those behind it
+  -- the keys before the new key and after it
   pub record Split (key : ℕ) : Type 0 where
     pub front : List ℕ
     pub back : List ℕ
@@ -31,7 +31,7 @@ module _ (first : Bool → ℕ → Option ℕ) (s : Slab Node) (item : Item) (ow
     pub put : keys_on own item.priority (put_place (item, key) (places_of s)) ≡ front ++ key ∷ back
     pub next_is : next ≡ first_of back
 
-  -- the ring from the next one on, or from its head where there is no next
+  -- the ring from next on, or from its head if there is no next
   pub record Opened (front back : List ℕ) (head : ℕ) : Type 0 where
     pub rest : List ℕ
     pub turned : back ++ front ≡ unwrap_or next head ∷ rest
@@ -71,7 +71,7 @@ module _ (first : Bool → ℕ → Option ℕ) (s : Slab Node) (item : Item) (ow
           used = subst (AllByRecursion (IsOf s own level)) turned.1 (all_join (IsOf s own level) parts.back parts.front used.1 used.0);
         }
 
-    -- what joining a node to its ring asks
+    -- the requirements of joining a node to its ring
     module _ (added : Slab Node) (key : ℕ) (free : item_of s key ≡ None) (items : (x : ℕ) → x ≢ key → item_of added x ≡ item_of s x) where
       used_there : (x : ℕ) → IsOf s own item.priority x → IsSome (item_of added x) × (x ≢ key)
       used_there x at_x =
@@ -89,7 +89,7 @@ module _ (first : Bool → ℕ → Option ℕ) (s : Slab Node) (item : Item) (ow
           let same : last_from c o.rest ≡ prior = cc in
           used_there prior (subst (IsOf s own item.priority) same (last_all (IsOf s own item.priority) c o.rest o.used.0 o.used.1))
 
--- ---- one item more
+-- ---- one more item
 
 module _ (first after_first : Bool → ℕ → Option ℕ) (s added t : Slab Node) (item : Item) (key : ℕ) (own : Bool) (next : Option ℕ) where
   pub record IsPut : Type 0 where
@@ -132,7 +132,7 @@ module _ (first after_first : Bool → ℕ → Option ℕ) (s added t : Slab Nod
     not_key : (keys : List ℕ) → AllByRecursion (IsOf s own item.priority) keys → AllByRecursion (λ k. k ≢ key) keys
     not_key keys used = all_more (IsOf s own item.priority) (λ k. k ≢ key) keys used (λ k at_k. used_not_free s own item.priority k key h.free at_k)
 
-    -- the node's links, and those that changed
+    -- the links of the new node, and the links that changed
     record Between (c : ℕ) (rest : List ℕ) : Type 0 where
       linked : Linked t (last_from c rest) key
       closed : Linked t key c
@@ -146,7 +146,7 @@ module _ (first after_first : Bool → ℕ → Option ℕ) (s added t : Slab Nod
         let j = h.joined.among head last begins (h.before c not_c ∙ path_end s c o.rest c o.ring) in
         record { linked = j.0; closed = j.1; changed = relinked last c j.2 }
 
-    -- where its ring begins from now on
+    -- the first key of the ring after the change
     begins_at : (front back : List ℕ) → first own item.priority ≡ first_of (front ++ back) → next ≡ first_of back → Apart (front ++ back) → after_first own item.priority ≡ first_of (front ++ key ∷ back)
     begins_at [] [] begins is apart = (h.joined.alone begins).0
     begins_at [] (c ∷ back) begins is apart = h.joined.in_front c begins is

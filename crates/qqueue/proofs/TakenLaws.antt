@@ -1,11 +1,11 @@
--- What a queue's lists keep true where one item is taken out.
+-- The invariant of a queue's lists when one item is removed.
 use Rattle.qqueue.proofs.Common.{◌≡◌, ◌≢◌, ℕ, ◌+◌, List, [], ◌∷◌, ◌++◌, Bool, true, cond, refl, ap, sym, subst, ◌∙◌, inl, inr, zero-add, append-nil, AllByRecursion, option_map, cases_eq, cases_Bool, true≢false, Slab, get, Updates, all_more, Item, Node, is_pulse, without_item, put_place, places_of, items_at, pulses_of, Rises, is_on, keys_on, item_of, after_of, before_of, Linked, Ring, first_of, Relinked, SameLinks, ClosedUp, AreRings}
 use Rattle.std.specs.Prelude.{Option, None, Some, is_some, IsSome}
 use Rattle.qqueue.proofs.PlaceLaws.{places_put, places_same, only_place, rises_but_put, without_put, all_places, pulses_put}
 use Rattle.qqueue.proofs.RingLaws.{Apart, apart_turn, last_from, last_all, all_split, all_join, ring_turn, ring_away, ring_but_first, Stands, stands, keys_put, keys_put_other, keys_apart}
 use Rattle.qqueue.proofs.KeptLaws.{on_true, on_from, IsOf, held, placed, at_place, keys_used, used_apart}
 
--- a node taken out of the slab
+-- a node is removed from the slab
 module _ (first : Bool → ℕ → Option ℕ) (s removed : Slab Node) (key : ℕ) (node : Node) (own : Bool) where
   pub record IsRemoved : Type 0 where
     pub kind : is_pulse node.item.what ≡ own
@@ -14,15 +14,14 @@ module _ (first : Bool → ℕ → Option ℕ) (s removed : Slab Node) (key : �
     pub there : get s key ≡ Some node
     pub gone : Updates s removed key None
 
-  -- the ring that the node stands on, from it on: the keys behind it and in front of it, and what its links
-  -- are
+  -- the ring that begins at the removed node, its other keys, and the node's links
   pub record Turned (rest : List ℕ) : Type 0 where
     pub ring : Ring s (key ∷ rest)
     pub apart : Apart (key ∷ rest)
     pub used : AllByRecursion (IsOf s own node.item.priority) rest
     pub links : Stands rest key node.before node.after
 
-  -- where the node stands on its ring
+  -- the place of the node in its ring, before and after the removal
   pub record StandsAt : Type 0 where
     pub front : List ℕ
     pub back : List ℕ
@@ -40,7 +39,7 @@ module _ (first : Bool → ℕ → Option ℕ) (s removed : Slab Node) (key : �
     items : (x : ℕ) → x ≢ key → item_of removed x ≡ item_of s x
     items x differs = ap (option_map (λ n. n.item)) (h.gone.others x differs)
 
-    -- what is left has other numbers
+    -- all other items have other numbers
     apart : (k : ℕ) (other : Item) → item_of removed k ≡ Some other → other.number ≢ node.item.number
     apart k other left same =
         elim (cases_eq k key) [
@@ -95,17 +94,17 @@ module _ (first : Bool → ℕ → Option ℕ) (s removed : Slab Node) (key : �
           λ e. last_all (λ k. k ≢ key) c rest t.apart.0.0 t.apart.0.1 (sym l.1 ∙ e),
         )
 
-    -- a node that isn't alone has neighbours of its kind and level
+    -- a node that isn't the only one of its ring has neighbours of its kind and level
     pub neighbours : node.after ≢ key → IsOf s own node.item.priority node.after × IsOf s own node.item.priority node.before × (node.before ≢ key)
     neighbours among = neighbours_of (stands_at.back ++ stands_at.front) stands_at.turn among
 
-    -- which are still there
+    -- the neighbours are still there
     pub neighbours_there : node.after ≢ key → IsSome (item_of removed node.before) × IsSome (item_of removed node.after)
     neighbours_there among =
         let near = neighbours among in
         (ap is_some (items node.before near.2 ∙ near.1.1), ap is_some (items node.after among ∙ near.0.1))
 
--- its ring closed
+-- the ring of the removed node is closed
 module _ (first after_first : Bool → ℕ → Option ℕ) (s removed t : Slab Node) (key : ℕ) (node : Node) (own : Bool) (h : IsRemoved first s removed key node own) where
   pub record IsClosed : Type 0 where
     pub closed : ClosedUp (first own) (after_first own) removed t key node
@@ -144,7 +143,7 @@ module _ (first after_first : Bool → ℕ → Option ℕ) (s removed t : Slab N
     abbrev IsRing : Bool → ℕ → List ℕ → Type 0
     IsRing pulse level keys = (after_first pulse level ≡ first_of keys) × Ring t keys
 
-    -- where the node's own ring begins from now on
+    -- the first key of the node's ring after the removal
     begins : (front back : List ℕ) → first own node.item.priority ≡ first_of (front ++ key ∷ back) → Apart (key ∷ (back ++ front)) → (c : ℕ) (rest : List ℕ) → back ++ front ≡ c ∷ rest → node.after ≡ c → node.after ≢ key
         → after_first own node.item.priority ≡ first_of (front ++ back)
     begins [] back at_first apart c rest is next among =

@@ -8,7 +8,7 @@ loop-key-init c = at_first c.args.nodes.now c.args.item.now c.args.first c.requi
 pub index-requires : goal.index-requires
 index-requires c = there_at c.args.nodes.now c.args.item.now c.args.first (at_first c.args.nodes.now c.args.item.now c.args.first c.requires.first)
 
--- the node before the first is the last
+-- the node before the first node is the last
 last_is : (c : goal.After-index) → IsLast c.args.nodes.now c.args.item.now c.index.result.now.before
 last_is c = at_last c.args.nodes.now c.args.item.now c.args.first c.index.result.now.before c.requires.first c.requires.ring (ap (option_map (λ n. n.before)) c.index.ensures)
 
@@ -21,7 +21,7 @@ returns-then-index-item c = last_none c.args.nodes.now c.args.item.now c.index.r
 pub index-requires-in-loop-key : goal.index-requires-in-loop-key
 index-requires-in-loop-key c = there_at c.args.nodes.now c.args.item.now c.loop-key.key c.loop-key.invariant
 
--- the walk has come to a greater number
+-- the walk goes to a greater number
 ahead : (c : goal.After-index-in-loop-key-2) → let s = c.args.nodes.now in let item = c.args.item.now in
     (b : IsAt s item c.index-in-loop-key-2.result.now.after) × (c.loop-key.invariant.here.number < b.here.number)
 ahead c =

@@ -10,7 +10,7 @@ insert-requires-clause-apart c =
     all_of_items (λ x. x.number ≢ number) (places_of c.take_out-item.new.self.nodes)
     (subst (AllByRecursion (λ x. x.number ≢ number)) (sym c.take_out-item.ensures.rest) (without_other number (items_at (places_of c.args.self.now.nodes))))
 
--- the item that is put back is the one that was taken out, of another priority
+-- the item that is put back is the removed item with a new priority
 requeued_items : (c : goal.After-self-1) → items_at (places_of c.insert.new.self.nodes) ≡ with_item_priority c.take_out-item.result.number c.args.priority (items_at (places_of c.args.self.now.nodes))
 requeued_items c =
     let x = c.take_out-item.result in

@@ -39,7 +39,7 @@ pub close_up-requires-else-is_pulse-clause-after_there : goal.close_up-requires-
 close_up-requires-else-is_pulse-clause-after_there c among =
     (neighbours_there (first_at c.args.self.now.messages c.args.self.now.pulses) c.args.self.now.nodes c.remove-node.new.self c.args.key c.remove-node.result false (removed_message c) among).1
 
--- what is left is kept, without the item
+-- the lists after the removal keep the invariant, and have all items except this one
 record Left (old : Lists) (key : ℕ) (item : Item) (new : Lists) : Type 0 where
   kept : IsKept new
   places : places_of old.nodes ≡ put_place (item, key) (places_of new.nodes)
