@@ -1,4 +1,4 @@
--- What a look-up by number finds after each change of the entries.
+-- The result of a look-up by number after each change of the entries.
 use Rattle.qtables.proofs.Common.{◌≡◌, ℕ, ◌<◌, true, false, cond, not, eqb, List, [], ◌∷◌, ◌++◌, refl, subst, sym, ◌∙◌, arith, None, Some, AllByRecursion, option_map, ne_eqb, eqb-true, eqb-false, same_Some, entry_at, with_record, without_entry, IsRising}
 use Rattle.qbase.proofs.Lists.{cond_same, eqb_either}
 
@@ -7,7 +7,7 @@ abbrev pub Below : {R : Type 0} → ℕ → List (ℕ × R) → Type 0
 Below n entries = AllByRecursion (λ e. e.0 < n) entries
 
 module _ {R : Type 0} where
-  -- a new entry changes just its own number
+  -- a new entry changes only the look-up of its own number
   pub entry_at-append : (es : List (ℕ × R)) (n : ℕ) (r : R) (id : ℕ) → Below n es → entry_at (es ++ (n, r) ∷ []) id ≡ cond (eqb n id) (Some r) (entry_at es id)
   entry_at-append [] n r id all = refl
   entry_at-append (e ∷ es) n r id all =
@@ -19,7 +19,7 @@ module _ {R : Type 0} where
       ] refl
       )
 
-  -- another record changes just its own number
+  -- another record changes only the look-up of its own number
   pub entry_at-with_record : (es : List (ℕ × R)) (n : ℕ) (r : R) (id : ℕ) → entry_at (with_record es n r) id ≡ cond (eqb n id) (option_map (λ _. r) (entry_at es id)) (entry_at es id)
   entry_at-with_record [] n r id = sym (cond_same (eqb n id) None)
   entry_at-with_record (e ∷ es) n r id =
@@ -30,14 +30,14 @@ module _ {R : Type 0} where
       ] refl
       )
 
-  -- a record that isn't there can't be changed
+  -- writing a record that isn't there changes nothing
   unchanged_below : (n : ℕ) (r : R) (es : List (ℕ × R)) → AllByRecursion (λ e. n < e.0) es → with_record es n r ≡ es
   unchanged_below n r [] above = refl
   unchanged_below n r (e ∷ es) above =
       let high : n < e.0 = above.0 in
       rw (ne_eqb e.0 n (λ same. omega arith), unchanged_below n r es above.1) refl
 
-  -- where the numbers rise, the record that is there already changes nothing
+  -- if the numbers rise, writing the record that is there already changes nothing
   pub unchanged : (es : List (ℕ × R)) (n : ℕ) (r : R) → IsRising es → entry_at es n ≡ Some r → with_record es n r ≡ es
   unchanged [] n r rises is = refl
   unchanged (e ∷ es) n r rises is =
@@ -46,7 +46,7 @@ module _ {R : Type 0} where
         | false ↦ λ differs own. rw (unchanged es n r rises.1 own) refl
       ] refl is
 
-  -- a removal changes just its own number
+  -- a removal changes only the look-up of its own number
   pub entry_at-without_entry : (es : List (ℕ × R)) (n id : ℕ) → entry_at (without_entry es n) id ≡ cond (eqb n id) None (entry_at es id)
   entry_at-without_entry [] n id = sym (cond_same (eqb n id) None)
   entry_at-without_entry (e ∷ es) n id =

@@ -1,4 +1,4 @@
--- Where a thread stands in a roster, or would stand.
+-- The place of a thread in a roster, or the place where it would be inserted.
 use Rattle.qtables.proofs.Common.{◌≡◌, ◌≢◌, ℕ, zero, suc, ◌<◌, ◌≤◌, true, false, cond, eqb, ltb, List, [], ◌∷◌, length, get_or, refl, sym, ap, ◌∙◌, arith, AllByRecursion, IsSearchInRange, IsBinarySearchResult, IsNonDecreasingBy, nat_cmp, ordering_index, ranked, slice_get-get_or, ne_eqb, eq-eqb, eqb-true, eqb-false, lt-ltb, le-ltb, ltb-true, ltb-false, nat_tests}
 use Rattle.std.specs.Prelude.{None, Some, is_some, slice_get, Result, Ok, Err, IfOk, IfErr, insert}
 use Rattle.qtables.specs.declared.member.Member.{Member}
@@ -9,14 +9,14 @@ at_in_all P [] all i d lt = absurd (omega arith)
 at_in_all P (m ∷ ms) all zero d lt = all.0
 at_in_all P (m ∷ ms) all (suc i) d lt = at_in_all P ms all.1 i d (omega arith)
 
--- threads rise
+-- a later place has a greater thread number
 pub rises : (ms : List Member) → IsRoster ms → (i j : ℕ) (d : Member) → i < j → j < length ms → (get_or ms i d).thread < (get_or ms j d).thread
 rises [] up i j d lt within = absurd (omega arith)
 rises (m ∷ ms) up i zero d lt within = absurd (omega arith)
 rises (m ∷ ms) up zero (suc j) d lt within = at_in_all (λ x. m.thread < x.thread) ms up.0 j d (omega arith)
 rises (m ∷ ms) up (suc i) (suc j) d lt within = rises ms up.1 i j d (omega arith) (omega arith)
 
--- a thread that stands at a place is the member of its number
+-- the thread at a place is the member of its number
 pub member_at_place : (ms : List Member) (t i : ℕ) → IsRoster ms → i < length ms → ((d : Member) → (get_or ms i d).thread ≡ t) → slice_get ms i ≡ member_at ms t
 member_at_place [] t i up within here = absurd (omega arith)
 member_at_place (m ∷ ms) t zero up within here = rw (eq-eqb m.thread t (here m))
@@ -24,17 +24,17 @@ member_at_place (m ∷ ms) t (suc i) up within here =
     let lt : m.thread < t = rw (here m) at (at_in_all (λ x. m.thread < x.thread) ms up.0 i m (omega arith)) in
     rw (ne_eqb m.thread t (λ e. omega arith)) (member_at_place ms t i up.1 (omega arith) here)
 
--- a thread that stands at a place is there
+-- the thread at a place is in the roster
 pub is_there : (ms : List Member) (t i : ℕ) → i < length ms → slice_get ms i ≡ member_at ms t → is_some (member_at ms t) ≡ true
 is_there [] t i within e = absurd (omega arith)
 is_there (m ∷ ms) t i within e = rw (← e, slice_get-get_or (m ∷ ms) i m within)
 
--- a thread that no member is
+-- a thread that no member has isn't in the roster
 pub member_at_none : (ms : List Member) (t : ℕ) → ((k : ℕ) (d : Member) → k < length ms → (get_or ms k d).thread ≢ t) → member_at ms t ≡ None
 member_at_none [] t h = refl
 member_at_none (m ∷ ms) t h = rw (ne_eqb m.thread t (h 0 m (omega arith))) (member_at_none ms t (λ k d lt. h (suc k) d (omega arith)))
 
--- a member that goes in between lower and higher threads joins
+-- inserting a member between lower and higher threads adds it to the roster
 pub insert-joined : (ms : List Member) (i : ℕ) (m : Member) → i ≤ length ms → ((k : ℕ) (d : Member) → k < i → (get_or ms k d).thread < m.thread) → ((k : ℕ) (d : Member) → i ≤ k → k < length ms → m.thread < (get_or ms k d).thread) → insert ms i m ≡ with_member m ms
 insert-joined [] zero m le below above = refl
 insert-joined [] (suc i) m le below above = absurd (omega arith)
@@ -68,7 +68,7 @@ IsRoster-joined m (x ∷ ms) up new =
           ] refl
     ] refl new
 
--- it joins just its own entry
+-- a new member changes only the look-up of its own thread
 pub member_at-joined : (m : Member) (ms : List Member) (u : ℕ) → member_at ms m.thread ≡ None → member_at (with_member m ms) u ≡ cond (eqb m.thread u) (Some m) (member_at ms u)
 member_at-joined m [] u new = refl
 member_at-joined m (x ∷ ms) u new =
@@ -92,14 +92,14 @@ module _ (ms : List Member) (up : IsRoster ms) (t : ℕ) where
       let weakly : (get_or ms i d).thread ≤ (get_or ms j d).thread = grind (arith, rises ms up i j d, λ (same : i ≡ j). ap (λ k. (get_or ms k d).thread) same) in
       grind (arith, nat_tests)
 
-  -- a binary search by thread ends at the thread
+  -- a binary search by thread that succeeds returns the thread's place
   pub found : (r : Result ℕ ℕ) → IsSearchInRange r (length ms) → IsBinarySearchResult (λ m. nat_cmp m.thread t) ms r → IfOk r (λ i. (i < length ms) × (slice_get ms i ≡ member_at ms t) × (is_some (member_at ms t) ≡ true))
   found (Ok i) within equal =
       let here = member_at_place ms t i up within (λ d. ranked (get_or ms i d).thread t _ (sym (equal d))) in
       (within, here, is_there ms t i within here)
   found (Err i) within parted = tt
 
-  -- or at the place where it would stand
+  -- if the search fails, it returns the place where the thread would be inserted
   pub missed : (r : Result ℕ ℕ) → IsSearchInRange r (length ms) → IsBinarySearchResult (λ m. nat_cmp m.thread t) ms r → IfErr r (λ i. (i ≤ length ms) × (member_at ms t ≡ None) × ((m : Member) → m.thread ≡ t → (insert ms i m ≡ with_member m ms) × IsRoster (insert ms i m)))
   missed (Ok i) within equal = tt
   missed (Err i) within parted =

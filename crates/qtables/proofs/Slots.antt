@@ -1,5 +1,4 @@
--- Entries in slots under the keys of an index: what a look-up, a new entry, a write and a removal make of
--- both.
+-- Entries in slots under the keys of an index, and both after a look-up, a new entry, a write and a removal.
 use Rattle.qtables.proofs.Common.{◌≡◌, ◌≢◌, inl, inr, ℕ, zero, suc, ◌+◌, ◌<◌, true, false, cond, not, eqb, List, [], ◌∷◌, ◌++◌, length, refl, sym, ap, ◌∙◌, arith, length-append, subst, option_map, is_some, AllByRecursion, ne_eqb, eq-eqb, eqb-true, eqb-false, cases_eq, sum_by-set, entry_at, with_record, without_entry, IsRising}
 use Rattle.std.specs.Prelude.{Option, None, Some, slice_get, slice_index_or, filter_map, count_by}
 use Rattle.slab.specs.Slab.{Slab, get, slab_len, ContainsKey, Updates, with_value}
@@ -10,7 +9,7 @@ no_more : (n id k : ℕ) (ix : List (ℕ × ℕ)) → n ≡ id → AllByRecursio
 no_more n id k [] same all = tt
 no_more n id k (p ∷ ix) same all = let lt : n < p.0 = all.0 in (λ e. absurd (omega arith), no_more n id k ix same all.1)
 
--- a number comes once, with one key
+-- a number occurs once, with one key
 only_key : (ix : List (ℕ × ℕ)) (id k : ℕ) → IsRising ix → entry_at ix id ≡ Some k → AllByRecursion (λ p. p.0 ≡ id → p.1 ≡ k) ix
 only_key [] id k up there = tt
 only_key (p ∷ ix) id k up there =
@@ -51,7 +50,7 @@ module _ {R : Type 0} where
   abbrev pub AllHeld : Slab (ℕ × R) → List (ℕ × ℕ) → Type 0
   AllHeld s ix = AllByRecursion (Holds s) ix
 
-  -- there are as many entries as places
+  -- there are as many entries as places in the index
   pub length-entries_at : (s : Slab (ℕ × R)) (ix : List (ℕ × ℕ)) → AllHeld s ix → length (entries_at s ix) ≡ length ix
   length-entries_at s [] all = refl
   length-entries_at s (p ∷ ix) all = rw all.0.1 (ap suc (length-entries_at s ix all.1))
@@ -62,22 +61,22 @@ module _ {R : Type 0} where
   slice_get-entries_at s (q ∷ ix) zero p all there = let same : q ≡ p = cc in rw (all.0.1, ← same) (sym all.0.1)
   slice_get-entries_at s (q ∷ ix) (suc i) p all there = rw all.0.1 (slice_get-entries_at s ix i p all.1 there)
 
-  -- what holds of all numbers of the index holds of those of the entries
+  -- a statement that holds for all numbers of the index holds for the numbers of the entries
   pub all_entries : (P : ℕ → Type 0) (s : Slab (ℕ × R)) (ix : List (ℕ × ℕ)) → AllHeld s ix → AllByRecursion (λ p. P p.0) ix → AllByRecursion (λ e. P e.0) (entries_at s ix)
   all_entries P s [] all h = tt
   all_entries P s (p ∷ ix) all h = rw all.0.1 (h.0, all_entries P s ix all.1 h.1)
 
-  -- and the other way
+  -- a statement that holds for all numbers of the entries holds for the numbers of the index
   pub all_places : (P : ℕ → Type 0) (s : Slab (ℕ × R)) (ix : List (ℕ × ℕ)) → AllHeld s ix → AllByRecursion (λ e. P e.0) (entries_at s ix) → AllByRecursion (λ p. P p.0) ix
   all_places P s [] all h = tt
   all_places P s (p ∷ ix) all h = let split = rw all.0.1 at h in (split.0, all_places P s ix all.1 split.1)
 
-  -- the entries rise as the index does
+  -- the entries rise if the index does
   pub IsRising-entries_at : (s : Slab (ℕ × R)) (ix : List (ℕ × ℕ)) → AllHeld s ix → IsRising ix → IsRising (entries_at s ix)
   IsRising-entries_at s [] all up = tt
   IsRising-entries_at s (p ∷ ix) all up = rw all.0.1 (all_entries (λ n. p.0 < n) s ix all.1 up.0, IsRising-entries_at s ix all.1 up.1)
 
-  -- a number that the index lacks has no entry
+  -- a number that isn't in the index has no entry
   pub entry_at_none : (s : Slab (ℕ × R)) (ix : List (ℕ × ℕ)) (id : ℕ) → AllHeld s ix → entry_at ix id ≡ None → entry_at (entries_at s ix) id ≡ None
   entry_at_none s [] id all absent = refl
   entry_at_none s (p ∷ ix) id all absent =
@@ -88,7 +87,7 @@ module _ {R : Type 0} where
       ] absent
       )
 
-  -- under the key of a number stands its entry
+  -- the slot under the key of a number has the number's entry
   pub entry_at_key : (s : Slab (ℕ × R)) (ix : List (ℕ × ℕ)) (id k : ℕ) → AllHeld s ix → entry_at ix id ≡ Some k → (r : R) × (get s k ≡ Some (id, r)) × (entry_at (entries_at s ix) id ≡ Some r)
   entry_at_key s [] id k all there = absurd (cc)
   entry_at_key s (p ∷ ix) id k all there =
@@ -149,7 +148,7 @@ module _ {R : Type 0} where
       absurd_entry : {A X : Type 0} {x : X} → Some x ≡ None → A
       absurd_entry e = absurd (cc)
 
-  -- a table as it is after a call took room: the slots are the same
+  -- after a call reserved room, the table is the same, because the slots are
   pub IsIndexed-same : (s t : Slab (ℕ × R)) (ix : List (ℕ × ℕ)) → t.slots ≡ s.slots → IsIndexed s ix → IsIndexed t ix
   IsIndexed-same s t ix same was =
       record {
@@ -161,7 +160,7 @@ module _ {R : Type 0} where
   pub entries_at-same : (s t : Slab (ℕ × R)) (ix : List (ℕ × ℕ)) → t.slots ≡ s.slots → entries_at t ix ≡ entries_at s ix
   entries_at-same s t ix same = ap (λ (xs : List (Option (ℕ × R))). filter_map (λ (p : ℕ × ℕ). slice_index_or xs p.1 None) ix) same
 
-  -- where a number isn't there nothing is removed
+  -- removing a number that isn't there changes nothing
   pub without_none : (es : List (ℕ × R)) (id : ℕ) → entry_at es id ≡ None → without_entry es id ≡ es
   without_none [] id absent = refl
   without_none (e ∷ es) id absent =
@@ -174,19 +173,19 @@ module _ {R : Type 0} where
   pub key_in_use : (s : Slab (ℕ × R)) (ix : List (ℕ × ℕ)) (id k : ℕ) → AllHeld s ix → entry_at ix id ≡ Some k → ContainsKey s k
   key_in_use s ix id k all there = rw (entry_at_key s ix id k all there).1 refl
 
-  -- the entry that stands under the key of a number is the number's
+  -- the entry under the key of a number is the number's entry
   pub entry_known : (s : Slab (ℕ × R)) (ix : List (ℕ × ℕ)) (id k : ℕ) (e : ℕ × R) → AllHeld s ix → entry_at ix id ≡ Some k → get s k ≡ Some e → (e.0 ≡ id) × (entry_at (entries_at s ix) id ≡ Some e.1)
   entry_known s ix id k e all there found =
       let at = entry_at_key s ix id k all there in
       (same_number (get s k) e.0 id e.1 at.0 found at.1, at.2 ∙ ap (option_map (λ (z : ℕ × R). z.1)) (sym at.1 ∙ found))
 
-  -- the place of an index is held
+  -- the key at a place of the index holds the entry of the number there
   pub held_at : (s : Slab (ℕ × R)) (ix : List (ℕ × ℕ)) (i : ℕ) (p : ℕ × ℕ) → AllHeld s ix → slice_get ix i ≡ Some p → Holds s p
   held_at s [] i p all there = absurd (cc)
   held_at s (q ∷ ix) zero p all there = let same : q ≡ p = cc in rw (← same) all.0
   held_at s (q ∷ ix) (suc i) p all there = held_at s ix i p all.1 there
 
-  -- a new entry behind all others
+  -- a new entry at the end
   pub created : (s t : Slab (ℕ × R)) (ix : List (ℕ × ℕ)) (n k : ℕ) (r : R) → IsIndexed s ix → AllByRecursion (λ e. e.0 < n) (entries_at s ix) → get s k ≡ None → Updates s t k (Some (n, r)) → slab_len t ≡ slab_len s + 1 → (entries_at t (ix ++ (n, k) ∷ []) ≡ entries_at s ix ++ (n, r) ∷ []) × IsIndexed t (ix ++ (n, k) ∷ [])
   created s t ix n k r was below free up more =
       let both = added s t n k r free up ix was.held in (
@@ -198,7 +197,7 @@ module _ {R : Type 0} where
         },
       )
 
-  -- the entry of a number is taken out
+  -- the entry of a number is removed
   pub taken : (s t : Slab (ℕ × R)) (ix left : List (ℕ × ℕ)) (id k : ℕ) → IsIndexed s ix → entry_at ix id ≡ Some k → Updates s t k None → slab_len t + 1 ≡ slab_len s → left ≡ without_entry ix id → length left + 1 ≡ length ix → (entries_at t left ≡ without_entry (entries_at s ix) id) × IsIndexed t left
   taken s t ix left id k was there up fewer is short =
       let at = entry_at_key s ix id k was.held there in

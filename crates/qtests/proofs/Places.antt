@@ -1,4 +1,4 @@
--- What stands at a place of a list.
+-- The element at a place of a list.
 use Rattle.std.proofs.Common.{◌≡◌, ℕ, zero, suc, ◌<◌, List, [], ◌∷◌, length, get_or, sym, ap, arith}
 use mathlib.Core.Option.{some}
 use lib.ListN.{get_elem?}

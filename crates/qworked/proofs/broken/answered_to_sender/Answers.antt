@@ -1,7 +1,7 @@
 use Rattle.std.proofs.Common.{refl, arith, ◌≡◌, ◌<◌, ℕ, sym}
 use Rattle.qworked.proofs.broken.answered_to_sender.Goals as goal
 
--- no number is one above it
+-- a number that is less than another isn't equal to it
 apart : (n m : ℕ) → n < m → n ≡ m → ⊥
 apart n m less same = omega arith
 

@@ -10,7 +10,7 @@ use Rattle.qrules.specs.Rule.{ReceiveRequest}
 use Rattle.qrules.specs.Trace.{Event, Trace}
 use Rattle.qworked.proofs.broken.best_first.Goals as goal
 
--- what is received is the best that could be taken by a call that asks so
+-- the received item is the best item that a call with this request could take
 best_by : (roster : List Member) (past : Trace) (e : Event) (x : Completion) (i : ℕ) (request : ReceiveRequest) → TakesBest roster past e x i → request_of (e ∷ past) x.call ≡ Some request
     → option_map (λ item. item.number) (best_of request.kind (takeable roster past e request.channel)) ≡ Some i
 best_by roster past e x i request t is =
