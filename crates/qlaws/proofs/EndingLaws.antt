@@ -1,4 +1,4 @@
--- The laws of the endings of one event.
+-- The laws of the completions of one event.
 use Rattle.qlaws.proofs.Common.{AllByRecursion, Completion, Event, Member, RiseByThread, SentItem, TakesBest, Trace, accepted, all_more, and_from, best_first, completion_to, cons_option, ended_below, ends_own, eq-eqb, filter_map, has_completion_of, is_accepted, is_ended, item_at, item_over, items, laws_of, list_any, made_newest, none-some, none_of, number_received, option_map, or_parts, passes_of, past_follows, row_of, shut_for_good, taken_stands, threads_of, waiter, waits_or_ends, ◌<◌, inl, inr, ◌≡◌, ◌∙◌, ℕ, ◌+◌, List, [], ◌∷◌, length, refl, ap, sym, eqb, subst, Bool, true, false, Option, arith}
 use Rattle.std.specs.Prelude.{None, Some, option_map, ◌&&◌}
 use Rattle.qrules.proofs.Words.Lawful as old
@@ -12,9 +12,9 @@ use Rattle.std.proofs.lemmas.Bool.Decides.{nat_tests}
 use Rattle.std.proofs.lemmas.List.Folds.{list_any-append}
 use Rattle.qlaws.specs.Endings
 
--- ---- whose they are
+-- ---- the threads that get completions
 
--- what is given to threads above n is of threads above n
+-- completions that are given to threads above n have threads above n
 given_above : (g : ℕ → Option Completion) (n : ℕ) (ts : List ℕ) → ((u : ℕ) (y : Completion) → g u ≡ Some y → y.thread ≡ u) → AllByRecursion (λ u. n < u) ts → AllByRecursion (λ y. n < y.thread) (filter_map g ts)
 given_above g n [] names above = tt
 given_above g n (u ∷ ts) names above = grind (arith, names u, given_above g n ts names)
@@ -36,9 +36,9 @@ pub endings_go_to_blocked : Endings.EndingsGoToBlocked
 endings_go_to_blocked roster past e r l =
     all_more _ _ e.endings (blocked.endings_go_to_blocked roster past e r l) (λ x to. (to.known, to.may))
 
--- ---- who waits afterwards
+-- ---- the threads that are blocked afterwards
 
--- a call that doesn't end in its own event is accepted, and may wait
+-- a call that doesn't complete in its own event is accepted and may block
 waits : (roster : List Member) (past : Trace) (e : Event) → old.IsLawful roster (e ∷ past) → has_completion_of e.endings (length past + 1) ≡ false → (is_accepted e past ≡ true) × (waiter e ≡ Some e.thread)
 waits roster past e l none = elim (l.1.1) [
   | inl a ↦
@@ -55,9 +55,9 @@ ends_or_waits roster past e r l =
       λ is. (or_parts (has_completion_of e.endings (length past + 1)) (is_ended past (length past + 1)) (tells.0 is).going).0,
     )
 
--- ---- what they receive
+-- ---- the items that completions receive
 
--- it is among the items
+-- item i is among all items
 among_items : (p : SentItem → Bool) (roster : List Member) (past : Trace) (i : ℕ) (m : SentItem) → item_at roster past i ≡ Some m → p m ≡ true → list_any p (items roster past) ≡ true
 among_items p roster [] i m is passes = absurd (none-some m is)
 among_items p roster (e ∷ past) i m is passes = grind (arith, list_any-append p, among_items p roster past i m)
@@ -84,7 +84,7 @@ all_for Q P (x ∷ xs) f = (λ h i q. (f h q).0 i, all_for Q P xs (λ h q. (f h 
 pub nothing_from_destroyed : Endings.NothingFromDestroyed
 nothing_from_destroyed roster past e r l = all_for _ _ e.endings (λ h closed. ((shut_for_good roster (e ∷ past) r l).1 h closed).none_received)
 
--- ---- refusals
+-- ---- calls that fail
 
 pub refused_changes_nothing : Endings.RefusedChangesNothing
 refused_changes_nothing roster past e r l is =

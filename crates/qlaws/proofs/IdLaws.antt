@@ -1,4 +1,4 @@
--- The laws of ids: of the channels that are open, and of the connections that are live.
+-- The laws of ids: of open channels and live connections.
 use Rattle.qlaws.proofs.Common.{AllByRecursion, Answers, Bool, Call, Completion, Effect, Event, Facts, IsRoster, List, Member, Trace, [], all_append, all_filter_map, all_more, ap, arith, attached_connection, attaches, channel_at, completion_of, completion_to, cond, connection_at, count_to, created_channel, creates, detaches, endings_of, eqb, false, inl, inr, is_number, length, length-append, member_at, nat_tests, names, none-some, one_for, or-true, passes_of, past_follows, refl, row_of, subst, sym, threads_of, true, was_done, ℕ, ◌++◌, ◌+◌, ◌∙◌, ◌∷◌, ◌≡◌, ◌≤◌}
 use Rattle.qrules.proofs.Traces.Rows.{unblocked_same}
 use Rattle.std.specs.Prelude.{Option, None, Some, is_some}
@@ -14,7 +14,7 @@ use Rattle.qrules.proofs.Traces.Past.Numbers.{made_below}
 use Rattle.qrules.specs.Lawful.{IsLawful}
 use Rattle.qlaws.specs.Ids as laws
 
--- ---- how many there are
+-- ---- how many channels are open and connections live
 
 -- neither count is over its limit
 abbrev AreFew : ℕ → ℕ → Type 0
@@ -38,7 +38,7 @@ are_few roster (e ∷ past) r l =
           (omega (arith, k.open_channels, few.0), omega (arith, k.live_connections, few.1))
     ]
 
--- ---- each is counted
+-- ---- each open channel and live connection is counted
 
 module _ {A : Type 0} where
   still_there : (at : ℕ → Option A) (h : ℕ) (ids : List ℕ) → AllByRecursion (λ i. eqb h i ≡ false) ids → AllByRecursion (λ i. is_some (at i) ≡ true) ids → AllByRecursion (λ i. is_some (cond (eqb h i) None (at i)) ≡ true) ids
@@ -66,9 +66,9 @@ pub connections_are_limited : laws.ConnectionsAreLimited
 connections_are_limited roster past r l =
     at_most roster attaches (λ f. f.detaches) past 1024 (are_few roster past r l).1
 
--- ---- an id that a completion gives is the number of its call
+-- ---- an id that a completion returns is the number of its call
 
--- the id of the new channel or connection in a mark
+-- the id of the new channel or connection in a result
 abbrev id_in : Mark → Option ℕ
 id_in (mark.Channel h) = Some h
 id_in (mark.Connection k) = Some k
@@ -88,7 +88,7 @@ ids_given f t c X i (inl a) = subst (AllByRecursion (λ x. id_in x.mark ≡ Some
 ]))
 ids_given f t c X i (inr a) = subst (AllByRecursion (λ x. id_in x.mark ≡ Some i → f.number ≡ i)) (sym a.2) ((λ id. absurd (none-some i id)), tt)
 
--- so an id of the past isn't given later
+-- so no later completion returns an id that is the number of a past call
 never_given : (roster : List Member) (past later : Trace) (i : ℕ) → i ≤ length past → old.IsLawful roster (later ++ past) → AllByRecursion (λ x. id_in x.mark ≡ Some i → ⊥) (endings_of later)
 never_given roster past [] i below l = tt
 never_given roster past (e ∷ later) i below l =
@@ -97,14 +97,14 @@ never_given roster past (e ∷ later) i below l =
     let same : length (later ++ past) + 1 ≡ i = number id in omega (arith, below, length-append later past)))
     (never_given roster past later i below l.0)
 
--- ---- those that are gone
+-- ---- destroyed channels and detached connections
 
 still_done : (is : Effect → Bool) (past later : Trace) → was_done is past ≡ true → was_done is (later ++ past) ≡ true
 still_done is past [] done = done
 still_done is past (e ∷ later) done =
     rw (still_done is past later done) (or-true _)
 
--- an accepted call detaches a connection that is live, and attaches none
+-- an accepted call that detaches a connection names a live one; such a call attaches none
 detaches_live : (f : Facts) (t : ℕ) (c : Call) (k : ℕ) → (row_of f t c).refusal ≡ None → names (detaches c) k ≡ true → is_some (f.connection k) ≡ true
 detaches_live f t c k r e = grind (arith, nat_tests)
 

@@ -1,4 +1,4 @@
--- No more than 1,024 pulses are pending on a channel.
+-- No more than 1,024 pulses are queued on a channel.
 use Rattle.qlaws.proofs.Common.{Call, Facts, Item, List, None, Option, Passes, PriorityChange, Received, SentItem, Some, [], append-nil, arith, closes, cond, facts_of, false, inl, inr, is_cancelled, is_pulse, items_with_priority_set, made_on, makes, mover, mover_what, names, nat_tests, not, passes_of, past_follows, pending_after, pulses_among, receipt_of, refl, row_of, refusal_if_full, sets, sum_by-append, true, uncancelled_items, unreceived_items, ℕ, ◌++◌, ◌+◌, ◌∙◌, ◌∷◌, ◌≡◌, ◌≤◌}
 use Rattle.qlaws.specs.Pending as laws
 use Rattle.qlaws.proofs.Lists.{count_cons, fewer_left}
@@ -8,13 +8,13 @@ use Rattle.qlaws.proofs.Lists.{count_cons, fewer_left}
 fewer_out : (o : Option Received) (h : ℕ) (items : List Item) → pulses_among (unreceived_items o h items) ≤ pulses_among items
 fewer_out o h items = grind (arith, fewer_left (λ (y : Item). is_pulse y.what))
 
--- a message that moves is none
+-- setting a priority doesn't change the number of pulses
 same_moved : (f : Facts) (h : ℕ) (s : Option PriorityChange) (items : List Item) → pulses_among (items_with_priority_set f h s items) ≡ pulses_among items
 same_moved f h None items = refl
 same_moved f h (Some s) [] = refl
 same_moved f h (Some s) (x ∷ items) = grind (arith, count_cons (λ (y : Item). is_pulse y.what) (mover f h s x) (items_with_priority_set f h (Some s) items), count_cons (λ (y : Item). is_pulse y.what) x items, mover_what f h s x, same_moved f h (Some s) items)
 
--- one more is counted where it is a pulse
+-- one more item adds one to the count if it is a pulse
 more : (items : List Item) (x : Item) → pulses_among (items ++ x ∷ []) ≡ pulses_among items + cond (is_pulse x.what) 1 0
 more items x = sum_by-append (λ (y : Item). cond (is_pulse y.what) 1 0) items (x ∷ []) ∙ omega arith
 

@@ -1,4 +1,4 @@
--- The laws of the calls that threads wait in.
+-- The laws of open calls.
 use Rattle.qlaws.proofs.Common.{AllByRecursion, Call, IsRoster, List, Member, None, OldFacts, Option, Receive, Send, Some, Trace, [], accepted_at, all_filter_map, and-true, ap, arith, begins_now, block, eqb-true, eqb_same, false, false_from_ne_true, held_sender, inl, inr, is_down, is_received, is_some, item_of, kept_number, length, made_newest, made_stays, may_wait, none-some, not, open_call, open_call_after, open_calls_keep_length, open_from, open_on, open_parts, open_receipt, option_map, option_map_or, passes_of, past_follows, refl, same_Some, shuts_down, subst, sym, true, true≢false, waits_on_open, ℕ, ◌&&◌, ◌+◌, ◌∙◌, ◌∷◌, ◌≡◌, ◌≤◌, Bool, SentItem, filter_map, is_among, nat_tests, newest_receiver, option_and_then, or-true, wait_for}
 use Rattle.qrules.proofs.Words.Lawful as old
 use Rattle.qrules.proofs.Traces.TraceLaws.Unended.{asks_any, unended_newest}
@@ -12,9 +12,9 @@ use Rattle.qrules.specs.Lawful.{facts_of}
 use Rattle.qrules.proofs.Messages.{send_cases}
 use Rattle.qlaws.specs.OpenCalls as laws
 
--- ---- at most one for each thread
+-- ---- at most one open call for each thread
 
--- it is an accepted call of its thread that may wait
+-- the newest blocking call is an accepted call of its thread that may block
 block_began : (roster : List Member) (past : Trace) (u : ℕ) (b : OpenCall) → block roster past u ≡ Some b → accepted_at waiter past (number_of b) ≡ Some u
 block_began roster [] u b is = absurd (none-some b is)
 block_began roster (e ∷ past) u b is = elim (begins_now roster e past u b is) [
@@ -51,7 +51,7 @@ open_is_unended roster past r l t i = (unended_open roster past t i, open_unende
 
 -- ---- Sends
 
--- what is so of the Send that any thread waits in, is so of all open Sends
+-- a statement that holds for the Send of each blocked thread holds for all open Sends
 all_sends : (f : Facts) (P : OpenSend → Type 0) → ((u : ℕ) (s : OpenSend) → f.open_call u ≡ Some (Send s) → P s) → AllByRecursion P (open_sends f)
 all_sends f P h = all_filter_map P (send_of f) (threads_of f.roster) (λ u s e. h u s (grind arith))
 
@@ -91,7 +91,7 @@ module _ (f : Facts) (m : SentItem) where
   abbrev waits : ℕ → Option ℕ
   waits v = option_and_then (wait_for m.channel m.item) (f.open_call v)
 
-  -- what the threads' open calls wait for, and what their receives may take
+  -- if no thread waits for the item, no open receive may take it
   none_may : (ts : List ℕ) → ((v : ℕ) → is_among ts v ≡ true → waits v ≡ None) → AllByRecursion (λ r. laws.may_receive m r ≡ false) (filter_map (receive_of f) ts)
   none_may [] h = tt
   none_may (t ∷ ts) h = grind (arith, h t (rw (eqb_same t) refl), none_may ts (λ v among. h v (rw among (or-true _))))
@@ -142,7 +142,7 @@ receive_buffers_keep_length roster past r l = all_receives (facts_of roster past
 
 -- ---- after a shutdown
 
--- a call that shuts the kernel down leaves no thread waiting
+-- a call that shuts the kernel down leaves no thread blocked
 shut_out : (f : OldFacts) (t : ℕ) (c : Call) (u : ℕ) → shuts_down c ≡ true → open_call_after f t c u ≡ None
 shut_out f t c u e = grind arith
 

@@ -1,4 +1,4 @@
--- What comes before another is received first.
+-- An item that comes before another is received first.
 use Rattle.qlaws.proofs.Common.{AllByRecursion, Completion, Event, FirstGoesFirst, HasPriority, IsPending, Item, Kind, List, Member, ReceiveRequest, SentItem, Some, TakesBeside, TakesBest, Trace, [], all_more, ap, arith, before_earlier, best_first, best_of, comes_before, cond, eqb, false, is_destroyed, is_gone, item_at, item_below, item_earlier, item_made, item_of, item_priority, length, made_all, made_by, made_on, map, may_take, none-some, not, now, number_received, option_map, pending_all, pending_is, pending_items, priority_before, refl, same_Some, staying, subst, sym, takeable, takeable_priorities, takeable_rises, true, ℕ, ◌++◌, ◌+◌, ◌∙◌, ◌∷◌, ◌≡◌, ◌≢◌, ◌≤◌, filter, items, option_to_list}
 use Rattle.std.proofs.lemmas.Bool.{false_from_ne_true}
 use Rattle.std.proofs.lemmas.Bool.Decides.{nat_tests}
@@ -8,19 +8,19 @@ use Rattle.qrules.specs.Lawful.{IsLawful}
 use Rattle.qqueue.proofs.RingLaws.{all_split}
 use Rattle.qrules.proofs.Traces.Past.Best.{some_number}
 
--- ---- what was made for a channel is among its items
+-- ---- an item that was made for a channel is among its items
 
 item_in : (P : SentItem → Type 0) (roster : List Member) (past : Trace) (i : ℕ) (m : SentItem) → item_at roster past i ≡ Some m → AllByRecursion P (items roster past) → P m
 item_in P roster [] i m at all = absurd (none-some m at)
 item_in P roster (e ∷ past) i m at all = grind (arith, all_split P (items roster past) (option_to_list (item_of roster e past)) all, item_in P roster past i m)
 
--- what is so of a channel's items that stay, as they are by now
+-- a statement that holds for all queued items of a channel holds for each of its items that isn't gone
 each_staying : (P : Item → Type 0) (past : Trace) (h : ℕ) (ms : List SentItem) → AllByRecursion P (map (now past) (filter (λ item. not (is_gone past item)) (map (λ m. m.item) (filter (λ m. eqb m.channel h) ms))))
     → AllByRecursion (λ m. m.channel ≡ h → is_gone past m.item ≡ false → P (now past m.item)) ms
 each_staying P past h [] all = tt
 each_staying P past h (m ∷ ms) all = grind (arith, nat_tests, each_staying P past h ms)
 
--- an earlier item is the same in a longer trace
+-- an earlier item is the same in a longer history
 item_later : (roster : List Member) (past later : Trace) (i : ℕ) (m : SentItem) → item_at roster past i ≡ Some m → item_at roster (later ++ past) i ≡ Some m
 item_later roster past [] i m at = at
 item_later roster past (e ∷ later) i m at =
@@ -29,7 +29,7 @@ item_later roster past (e ∷ later) i m at =
 -- ---- two items
 
 module _ (roster : List Member) (past : Trace) (e : Event) (h : ℕ) (kind : Kind) (b : Item) (best : best_of kind (takeable roster past e h) ≡ Some b) where
-  -- the channel isn't destroyed, where it was made before the event
+  -- the channel isn't destroyed before the event, if the best item was made before it
   standing : b.number ≤ length past → is_destroyed past h ≡ false
   standing below = false_from_ne_true _ (λ closed.
       let none : takeable roster past e h ≡ made_on h (item_of roster e past) = rw closed refl in
@@ -38,7 +38,7 @@ module _ (roster : List Member) (past : Trace) (e : Event) (h : ℕ) (kind : Kin
       (ap (best_of kind) (sym none) ∙ best) in
       absurd (omega (arith, number, below)))
 
-  -- an item that was made for the channel and isn't gone is behind it
+  -- an item that was made for the channel and isn't gone comes after the best item
   behind_one : (i : ℕ) (first : Item) → item_at roster past i ≡ Some (record { item = first; channel = h }) → is_gone past first ≡ false → is_destroyed past h ≡ false
       → may_take kind first ≡ true → now past first ≢ b → comes_before b (now past first) ≡ true
   behind_one i first at stays open_still may other =
@@ -48,7 +48,7 @@ module _ (roster : List Member) (past : Trace) (e : Event) (h : ℕ) (kind : Kin
       let as_now = subst (AllByRecursion P) (pending_is roster past h ∙ ap (λ d. cond d [] (map (now past) (staying roster past h))) open_still) waiting in
       item_in _ roster past i _ at (each_staying P past h (items roster past) as_now) refl stays (grind (arith, may)) other
 
--- what is taken beside an item that comes before it
+-- if a call may take x and takes y, which comes after x, x is gone
 gone_first : (roster : List Member) (past later : Trace) (e : Event) (h : ℕ) (x y : Item) (z : Completion) → IsPending roster past h x → IsPending roster past h y → comes_before x y ≡ true
     → HasPriority roster (later ++ past) x → HasPriority roster (later ++ past) y → TakesBest roster (later ++ past) e z y.number → TakesBeside (e ∷ later ++ past) z y.number h x → is_gone (later ++ past) x ≡ true
 gone_first roster past later e h x y z px py before has_x has_y b t =

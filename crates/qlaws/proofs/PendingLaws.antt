@@ -1,4 +1,5 @@
--- What is pending rises in number, isn't held, and the Send of each message is the open call of its sender.
+-- Queued items rise in number and aren't held, and the Send of a queued message is the open call of its
+-- sender.
 use Rattle.qlaws.proofs.Common.{List, Member, OpenCall, Receive, Send, Some, Trace, all_more, ap, is_ended, is_for_receipt, none_of, not, not-true, open_call, open_own, option_and_then, or_parts, pending_all, pending_items, sender_of, sent_by, sym, true, true≢false, ℕ, ◌&&◌, ◌∙◌, ◌≡◌}
 use Rattle.qmodel.specs.OpenCalls.{number_of, send_in}
 use Rattle.qrules.specs.Facts.{send_of}

@@ -1,4 +1,4 @@
--- An item's place falls with each item before it that is gone.
+-- An item's place falls by one for each item before it that is gone.
 use Rattle.qlaws.proofs.Common.{AllByRecursion, Bool, Event, Item, List, Member, Stands, Trace, [], ap, arith, comes_before, cond, false, false_from_ne_true, is_destroyed, is_gone, is_pulse, is_received, item_below, item_of, items_more, items_on, made_by, made_on, map, now, or_parts, pending_is, pending_items, refl, sent_by, standing_is, stands_all, staying, stays_gone, subst, sum_by-append, sym, true, true≢false, worth_newest, worth_set, ℕ, ◌+◌, ◌∙◌, ◌∷◌, ◌≡◌, ◌≤◌, ◌++◌, None, Some, not, count_by, filter}
 use Rattle.std.proofs.lemmas.List.{map-append}
 use Rattle.std.proofs.lemmas.List.Elements.{filter-append}
@@ -9,21 +9,21 @@ use Rattle.qlaws.proofs.Lists.{count_cons, fewer_left}
 
 -- ---- counts
 
--- of the items of L some stay, those that don't go; where one that stays afterwards counts only if it did so
--- before, the count falls by what goes
+-- some items of L stay and the others go. If an item that stays counts afterwards only if it counted before,
+-- the count falls by the items that go.
 all_fall : (S P : Item → Type 0) (before g gone : Item → Bool) (n k : Item → Item) (L : List Item) → AllByRecursion S L → AllByRecursion P (map n (filter (λ y. not (gone y)) L))
     → ((y : Item) → S y → (g (n y) ≡ g y) × (gone y ≡ true → g y ≡ true) × (P (n y) → g y ≡ false → before (k y) ≡ true → before (n y) ≡ true))
     → count_by before (map k (filter (λ y. not (g y)) L)) + count_by before (filter g (map n (filter (λ y. not (gone y)) L))) ≤ count_by before (map n (filter (λ y. not (gone y)) L))
 all_fall S P before g gone n k [] s p put = omega arith
 all_fall S P before g gone n k (y ∷ L) s p put = let w = put y s.0 in grind (arith, w.0, w.1, w.2, count_cons before, all_fall S P before g gone n k L s.1)
 
--- ---- in the words of the proofs
+-- ---- with the definitions of the proofs
 
 module _ (roster : List Member) (past : Trace) (e : Event) (l : old.IsLawful roster past) (h : ℕ) (x : Item) where
   abbrev P : Item → Type 0
   P y = comes_before (laws.as_set_by e past y) x ≡ true → comes_before y x ≡ true
 
-  -- an item that stays comes before x only if it did so
+  -- an item that stays comes before x only if it did before the event
   stays_behind : (y : Item) → Stands roster past h y → P (now past y) → is_gone (e ∷ past) y ≡ false → comes_before (now (e ∷ past) y) x ≡ true → comes_before (now past y) x ≡ true
   stays_behind y at put stays first =
       let going : is_gone past y ≡ false = false_from_ne_true _ (λ gone. true≢false (sym (stays_gone past e.thread e.call e.endings y gone) ∙ stays)) in

@@ -1,28 +1,28 @@
--- A pending message has the priority that its sender has by now.
+-- A queued message has the current priority of its sender.
 use Rattle.qlaws.proofs.Common.{Call, Completion, Facts, IsLawful, Item, List, Member, None, OpenCall, Outcome, SentItem, Some, Stands, TakesOne, Trace, [], ap, arith, current_priority, eqb, eqb-true, facts_of, false, false_from_ne_true, inl, inr, is_accepted_by, is_for_receipt, is_gone, is_pulse, is_received, is_refused_by, item_accepted, item_at, item_below, item_newest, item_of, laws_of, length, makes, none-some, or_parts, outcome_of, passes_of, pending_each, priority_of_thread, priority_taken, receipt_of, refl, refused_sets_none, same_Some, sender_of, sent_by, sets, standing_is, stays_gone, sym, takes_one, thread_of_send, true, true≢false, worth_newest, worth_set, worth_stays, ℕ, ◌+◌, ◌∙◌, ◌∷◌, ◌≡◌, ◌≤◌}
 use Rattle.std.proofs.lemmas.Bool.Decides.{nat_tests}
 use Rattle.qlaws.specs.Pending as laws
 use Rattle.qrules.proofs.Traces.Past.Priorities.{priority_accepted, priority_refused}
 
--- a thread that takes nothing takes no priority
+-- a thread that receives no item takes no priority
 none_taken : (f : Facts) (t : ℕ) (c : Call) (X : List Completion) (u : ℕ) → Outcome true f t c X → ((y : Completion) (i : ℕ) → TakesOne f t c u y i → ⊥) → priority_taken f (receipt_of f t c) u ≡ None
 none_taken f t c X u a never = elim (receipt_of f t c) as (λ o. receipt_of f t c ≡ o → priority_taken f o u ≡ None) [
   | None ↦ λ is. refl
   | Some r ↦ λ is. let k = (laws_of f t c X a).receives r is in grind (arith, nat_tests, never k.given r.item, takes_one f t c r.by k.given (record { number = r.item; copied = r.kept.copied }) (passes_of f t c X a).row k.is_given k.mark)
 ] refl
 
--- a thread that waits for the receipt of its message takes nothing
+-- a thread whose message hasn't been received receives no item
 sender_takes_none : (f : Facts) (t : ℕ) (c : Call) (u : ℕ) (o : OpenCall) → f.open_call t ≡ None → f.open_call u ≡ Some o → is_for_receipt o ≡ true → (y : Completion) (i : ℕ) → TakesOne f t c u y i → ⊥
 sender_takes_none f t c u o idle is unread y i k = elim k [
   | inl p ↦ none-some o (sym idle ∙ ap f.open_call (sym p.caller) ∙ is)
   | inr m ↦ let same : o ≡ m.waiting = same_Some o m.waiting (sym is ∙ m.is_open) in grind (arith, same, unread, m.waits)
 ]
 
--- a message has its sender's priority as it is sent
+-- a message has its sender's priority when it is sent
 sent_as : (f : Facts) (u : ℕ) (c : Call) (t : ℕ) (m : SentItem) → thread_of_send u c ≡ Some t → makes f u c ≡ Some m → (u ≡ t) × (m.item.priority ≡ f.priority u) × (sets c ≡ None)
 sent_as f u c t m s e = grind arith
 
--- a message that isn't gone is worth what its sender's priority is
+-- a message that isn't gone has its sender's current priority
 is_senders : (roster : List Member) (past : Trace) → IsLawful roster past → (h : ℕ) (item : Item) (t : ℕ) → Stands roster past h item → is_gone past item ≡ false → is_pulse item.what ≡ false → sender_of past item.number ≡ Some t
     → current_priority past item ≡ priority_of_thread roster past t
 is_senders roster [] l h item t at stays message sent = absurd (none-some t sent)

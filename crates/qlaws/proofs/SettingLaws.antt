@@ -1,10 +1,10 @@
--- What an accepted PrioritySet changes of what is pending.
+-- The change of queued items by an accepted PrioritySet.
 use Rattle.qlaws.proofs.Common.{IsLawful, IsPending, Item, List, Member, PriorityChange, Some, Trace, [], all_more, ap, append-nil, arith, cond, facts_of, false, filter, is_message_of, is_pulse, is_unread_send, items_with_priority_set, map, map_same, mover, names, none-some, none_cancelled, not, open_call, outcome_of, past_follows, pending_after, pending_all, pending_items, pulse_unread, refl, sender_of, sent_by, true, unread_elsewhere, with_priority, ℕ, ◌&&◌, ◌++◌, ◌∙◌, ◌∷◌, ◌≡◌}
 use Rattle.std.proofs.lemmas.Bool.Decides.{nat_tests}
 use Rattle.qlaws.specs.Pending as laws
 use Rattle.qmodel.specs.declared.call.Call.TheVariants.{PrioritySet}
 
--- a pending item is what thread v waits with to be received exactly where it is a message of that thread
+-- a queued item is the message of thread v's open Send exactly if it is a message of thread v
 unread_of : (roster : List Member) (past : Trace) (h : ℕ) (item : Item) (v : ℕ) → IsLawful roster past → IsPending roster past h item
     → is_unread_send h item.number (open_call roster past v) ≡ is_message_of past v item
 unread_of roster past h item v l p =
@@ -25,7 +25,7 @@ setting_moves_its_own roster past e r l accepted t priority is h =
     ∙ map_same (mover f h s) _ (pending_items roster past h) (all_more (IsPending roster past h) _ (pending_items roster past h) (pending_all roster past h)
     (λ item p. ap (λ b. cond b (with_priority priority item) item) (unread_of roster past h item t l.0 p)))
 
--- a message is its thread's whatever its priority
+-- setting the priority of a thread's messages changes no other item
 others_same : (past : Trace) (t priority : ℕ) (items : List Item)
     → filter (λ item. not (is_message_of past t item)) (map (λ item. cond (is_message_of past t item) (with_priority priority item) item) items) ≡ filter (λ item. not (is_message_of past t item)) items
 others_same past t priority [] = refl

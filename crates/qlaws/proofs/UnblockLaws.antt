@@ -12,7 +12,7 @@ use Rattle.qlaws.proofs.Lists.{count_cons}
 unblock_is : (c : Call) (v : ℕ) → unblocks c ≡ Some v → c ≡ calls.Unblock v
 unblock_is c v e = grind arith
 
--- of a message for which an unblock pulse is made, none was made before
+-- if an unblock pulse is made for a message, none was made for it before
 first_for : (roster : List Member) (past : Trace) (t : ℕ) (c : Call) (i : ℕ) (m : SentItem) → makes (old.facts_of roster past) t c ≡ Some m → is_unblock_for i m.item.what ≡ true → is_unblocked roster past i ≡ false
 first_for roster past t c i m made is =
     let f : OldFacts = old.facts_of roster past in
