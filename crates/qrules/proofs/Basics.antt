@@ -1,4 +1,4 @@
--- Names of the proofs below, which many of those above use.
+-- Names from the proofs below, which many of the proofs above use.
 pub use Rattle.qrules.proofs.Messages.{message_same, reply_buffer_same}
 pub use Rattle.qrules.proofs.Traces.Calls.{call_laws}
 pub use Rattle.qrules.proofs.Traces.Calls.Cancelling.{IsCancelledCall, cancel_parts}

@@ -21,7 +21,7 @@ pub record OneSend (f : Facts) (i : ℕ) : Type 0 where
 pub send_cases : (f : Facts) (i : ℕ) → NoSend f i ⊎ OneSend f i
 send_cases f i = grind (arith, sender_sends f.open_call i (threads_of f.roster))
 
--- ---- what is read of it, by the call that its sender waits in
+-- ---- the parts of a message that are read, by the open call of its sender
 
 pub held_same : (f : Facts) (t i : ℕ) → holds f t i ≡ option_map_or (is_held_by f t) (sender_call f i) false
 held_same f t i = grind arith

@@ -21,7 +21,7 @@ use Rattle.qrules.proofs.Traces.Rows.{unblocked_same}
 pub call_laws : (c : Call) → CallLaws c
 call_laws c = grind arith
 
--- a receipt is of this item
+-- the receipt is of this item
 received : (f : Facts) (t : ℕ) (c : Call) (r : Received) (item : Item) → (item.number ≡ r.item) × (item.priority ≡ r.kept.priority) × (r.kept.unblocked ≡ false) × (option_map (λ y. item_in y.mark) (completion_to f t c r.by) ≡ Some (Some (record { number = r.item; copied = r.kept.copied })))
     → IsNew f t c r item ⊎ IsBest f r item → IsReceived f t c r
 received f t c r item h s = elim (completion_to f t c r.by) as (λ o. completion_to f t c r.by ≡ o → option_map (λ y. item_in y.mark) o ≡ Some (Some (record { number = r.item; copied = r.kept.copied })) → IsReceived f t c r) [
@@ -29,7 +29,7 @@ received f t c r item h s = elim (completion_to f t c r.by) as (λ o. completion
   | Some y ↦ λ is m. record { item = item; number = h.0; priority = h.1; fresh = h.2; source = s; given = y; is_given = is; mark = grind arith }
 ] refl h.3
 
--- what a call causes to be received
+-- the receipt that an accepted call causes meets IsReceived
 receives : (f : Facts) (t : ℕ) (c : Call) → Passes f t c → (q : Received) → receipt_of f t c ≡ Some q → IsReceived f t c q
 receives f t (calls.Send coid message reply_buffer) p q e = received f t (calls.Send coid message reply_buffer) q (message_item f t) (grind arith) (inl (grind arith))
 receives f t (calls.Pulse coid level code value) p q e = received f t (calls.Pulse coid level code value) q (pulse_item f.number level code value) (grind arith) (inl (grind arith))
@@ -51,7 +51,7 @@ receives f t (calls.ReceivePulse chid) p q e = elim (best_of PulseOnly (f.pendin
 ] refl
 receives f t c p q e = grind arith
 
--- the completions of other threads' calls
+-- a completion of another thread's call is of its open call
 ends_open : (f : Facts) (t : ℕ) (c : Call) (u : ℕ) (y : Completion) → (row_of f t c).others u ≡ Some y → IsOfOpen f u y
 ends_open f t (calls.Unblock thread) u y e = grind arith
 ends_open f t c u y e = grind arith

@@ -1,16 +1,16 @@
--- Where memory doesn't run out, a run is a function of its calls.
+-- If memory doesn't run out, a run is a function of its calls.
 use Rattle.qrules.proofs.Common.{arith, ◌≡◌, ℕ, List, [], ◌∷◌, map, refl, ap, sym, subst, NoMemory, Answers, event_call, HadMemory, IsOnlyRun, AllByRecursion, Member, Call, Completion, Event, Trace}
 use Rattle.qrules.proofs.Basics.{Facts, IsLawful, facts_of, followed_by}
 use Rattle.qmodel.specs.declared.call.Mark.TheVariants as mark
 
--- no completion says that there was no memory
+-- none of these completions is a failure for lack of memory
 abbrev Fine : List Completion → Type 0
 Fine X = AllByRecursion (λ x. x.mark ≡ mark.Failed NoMemory → ⊥) X
 
 one_answer : (f : Facts) (t : ℕ) (c : Call) (X Y : List Completion) → Answers f t c X → Answers f t c Y → Fine X → Fine Y → X ≡ Y
 one_answer f t c X Y h e p q = grind arith
 
--- the past of a lawful trace is lawful
+-- the prefix of a valid history is valid
 lawful_past : (roster : List Member) (past : Trace) (events : List Event) → IsLawful roster (followed_by past events) → IsLawful roster past
 lawful_past roster past [] l = l
 lawful_past roster past (e ∷ events) l = (lawful_past roster (e ∷ past) events l).0

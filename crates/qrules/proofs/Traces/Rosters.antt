@@ -1,4 +1,4 @@
--- The threads of a roster, in rising number, and what they give where one of them gets something.
+-- The threads of a roster, in rising number, and the values of a function for them.
 use Rattle.qrules.proofs.Common.{◌≡◌, ℕ, ◌<◌, List, [], ◌∷◌, refl, ap, sym, subst, ◌∙◌, cond, arith, true, false, eqb, filter_map, cons_option, AllByRecursion, option_to_list, member_at, IsRoster, Member, is_among, Option, None, Some, is_some, ◌||◌}
 use Rattle.std.proofs.lemmas.Bool.{eqb-true, ne_eqb, true≢false}
 use Rattle.qrules.proofs.Words.Facts.{threads_of}
@@ -16,7 +16,7 @@ pub rises : (roster : List Member) → IsRoster roster → Rises (threads_of ros
 rises [] h = tt
 rises (m ∷ roster) h = (all_below m.thread roster h.0, rises roster h.1)
 
--- a thread is one of the roster's just where a member has its number
+-- a thread is one of the roster's exactly if a member has its number
 is_among-member : (roster : List Member) (t : ℕ) → is_some (member_at roster t) ≡ is_among (threads_of roster) t
 is_among-member [] t = refl
 is_among-member (m ∷ roster) t = grind (arith, is_among-member roster)
@@ -30,7 +30,7 @@ among_member roster t h = is_among-member roster t ∙ h
 pub among : (roster : List Member) (t : ℕ) (m : Member) → member_at roster t ≡ Some m → is_among (threads_of roster) t ≡ true
 among roster t m e = known roster t (ap is_some e)
 
--- a thread below all of these is none of them
+-- a thread whose number is less than all of these isn't among them
 pub not_among : (ts : List ℕ) (t : ℕ) → AllByRecursion (λ u. t < u) ts → is_among ts t ≡ false
 not_among [] t h = refl
 not_among (u ∷ ts) t h = let other : eqb u t ≡ false = ne_eqb u t (λ s. let l : t < u = h.0 in omega arith) in rw (other, not_among ts t h.1) refl
@@ -52,7 +52,7 @@ module _ {Y : Type 0} where
   none_own [] t o h = refl
   none_own (u ∷ ts) t o h = grind (arith, none_own ts)
 
-  -- one thread alone gets something
+  -- only one thread has a value
   pub only_own : (ts : List ℕ) (t : ℕ) (o : Option Y) → Rises ts → is_among ts t ≡ true → filter_map (λ u. cond (eqb u t) o None) ts ≡ option_to_list o
   only_own [] t o r h = absurd (true≢false (sym h))
   only_own (u ∷ ts) t o r h =

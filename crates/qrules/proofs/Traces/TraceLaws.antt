@@ -1,4 +1,4 @@
--- What the definitions of the past mean.
+-- The meaning of the definitions of the history.
 pub mod Unended
 pub mod Ending
 pub mod Refused

@@ -1,15 +1,15 @@
--- What the calls on held messages share: whose message is held, and how an answer ends its Send.
+-- What the calls on held messages share: the thread that sent the message, and the completion of its Send.
 use Rattle.qrules.proofs.Common.{arith, ◌≡◌, ◌∙◌, ℕ, List, ap, refl, sym, subst, cond, Bool, true, false, Send, none-some, same_Some, Errno, refusal_unless_held, Completion, OpenCall, Receipt, Option, None, Some}
 use Rattle.qrules.proofs.Words.Facts.{Facts, sender, threads_of, number_of, owns}
 use Rattle.qrules.proofs.Words.Items.{Finish, ends_sender, answer_completion}
 use Rattle.qrules.proofs.Traces.Past.Senders.{sender_sends}
 use Rattle.qmodel.specs.declared.open_call.OpenSend.{OpenSend}
 
--- the completion of call m of thread u that is answered so
+-- the completion of call m of thread u with this reply
 abbrev pub answering : ℕ → ℕ → Finish → List ℕ → Completion
 answering m u finish buffer = record { call = m; thread = u; mark = (finish buffer).0; buffer = (finish buffer).1 }
 
--- a message that is held, on a channel of thread t's process
+-- a held message, on a channel of thread t's process
 pub record IsHeldFor (f : Facts) (t : ℕ) (call : Option OpenCall) : Type 0 where
   pub send : OpenSend
   pub receipt : Receipt
@@ -17,7 +17,7 @@ pub record IsHeldFor (f : Facts) (t : ℕ) (call : Option OpenCall) : Type 0 whe
   pub held : send.receipt ≡ Some receipt
   pub owner : owns f t send.channel ≡ true
 
--- what is refused nothing passes
+-- if there is no error, the condition is true
 passes : (b : Bool) (e : Errno) → cond b None (Some e) ≡ None → b ≡ true
 passes true e h = refl
 passes false e h = absurd (none-some e (sym h))
@@ -25,18 +25,18 @@ passes false e h = absurd (none-some e (sym h))
 pub held_for : (f : Facts) (t rcvid s : ℕ) → refusal_unless_held f t rcvid ≡ None → sender f rcvid ≡ Some s → IsHeldFor f t (f.open_call s)
 held_for f t rcvid s r e = grind arith
 
--- a call that isn't refused has a sender
+-- a message for which the call doesn't fail has a sender
 pub has_sender : (f : Facts) (t rcvid : ℕ) → refusal_unless_held f t rcvid ≡ None → (s : ℕ) × (sender f rcvid ≡ Some s)
 has_sender f t rcvid r = grind arith
 
--- thread u holds the Send of this number, which ends by the answer
+-- thread u is blocked in the Send of this number, whose message thread t holds, and the reply completes it
 pub record SenderEnds (f : Facts) (t rcvid : ℕ) (finish : Finish) (u : ℕ) (y : Completion) : Type 0 where
   pub is_sender : sender f rcvid ≡ Some u
   pub held : IsHeldFor f t (f.open_call u)
   pub number : held.send.number ≡ rcvid
   pub completion : answering rcvid u finish held.send.reply_buffer ≡ y
 
--- the completion of what is held
+-- the completion of the Send of a held message
 pub finished_held : (f : Facts) (t : ℕ) (finish : Finish) (u : ℕ) (call : Option OpenCall) (h : IsHeldFor f t call) → answer_completion finish u call ≡ Some (answering h.send.number u finish h.send.reply_buffer)
 finished_held f t finish u call h = rw h.is_open refl
 

@@ -1,4 +1,4 @@
--- The laws of a call that receives.
+-- The laws of a Receive or a ReceivePulse.
 use Rattle.qrules.proofs.Common.{ℕ, List, Receive, Kind, OpenCall}
 
 -- the open call of a receive

@@ -4,9 +4,9 @@ use Rattle.qrules.proofs.Words.Items.{item_in, Received}
 use Rattle.qrules.proofs.Traces.Past.Laws.{is_settled}
 use Rattle.qmodel.specs.declared.call.Mark.TheVariants as mark
 
--- ---- the mark of a receipt
+-- ---- the result of a receipt
 
--- it receives the item
+-- the result receives the item
 pub given_received : (item : Item) (message buffer : List ℕ) → (copied : ℕ) × (item_in (delivery_of item message buffer).0 ≡ Some (record { number = item.number; copied = copied }))
 given_received item message buffer =
     elim (is_pulse item.what) as (λ b. (copied : ℕ) × (item_in (cond {A = Mark × List ℕ} b (mark.Pulse item.number item.priority item.what, buffer) (mark.Message item.number (laid_count buffer 0 message), lay_over buffer 0 message)).0 ≡ Some (record { number = item.number; copied = copied }))) [
@@ -14,13 +14,13 @@ given_received item message buffer =
       | false ↦ (laid_count buffer 0 message, refl)
     ]
 
--- any other than a receipt's is told apart by it
+-- a function with value x for all results of messages and for this pulse has value x for the result
 pub given_is : {A : Type 0} (g : Mark → A) (x : A) → ((i : ℕ) (n : ℕ) → g (mark.Message i n) ≡ x) → (item : Item) (message buffer : List ℕ) → g (mark.Pulse item.number item.priority item.what) ≡ x → g (delivery_of item message buffer).0 ≡ x
 given_is g x h item message buffer pulse = grind arith
 
 -- ---- the open call
 
--- the open call w of thread u waits for an item, and the completion y of it takes item i
+-- the open call of thread u is a receive, and its completion y takes item i
 pub record Taken (i u : ℕ) (o : Option OpenCall) (y : Completion) : Type 0 where
   pub waiting : OpenCall
   pub is : o ≡ Some waiting
@@ -39,6 +39,6 @@ taken_into item message u (Receive r) y e =
 pub taken_by : (item : Item) (message : List ℕ) (u : ℕ) (o : Option OpenCall) (y : Completion) → takes item message u o ≡ Some y → Taken item.number u o y
 taken_by item message u o y e = grind (arith, taken_into)
 
--- the receipt that a completion with such a mark is
+-- the receipt that a completion of this received item makes
 abbrev pub receipt_from : ℕ → Option ℕ → ℕ → ℕ → ReceivedItem → Received
 receipt_from h sender priority u p = record { item = p.number; channel = h; by = u; sender = sender; kept = record { priority = priority; copied = p.copied; unblocked = false } }

@@ -1,12 +1,12 @@
--- The item that is received first among those that wait.
+-- The best of the queued items.
 use Rattle.qrules.proofs.Common.{◌≡◌, ℕ, ◌<◌, ◌≤◌, List, [], ◌∷◌, refl, sym, subst, ◌∙◌, cond, arith, true, false, option_map, best_of, first_of_two, may_take, AllByRecursion, same_Some, IsRising, Item, Kind, all_more, Option, None, Some, nat_lt}
 use Rattle.std.proofs.lemmas.Bool.{ltb-true, true≢false}
 
--- of what may be taken with the priority of x, nothing was made before x
+-- no item that may be taken and has x's priority was made before x
 abbrev pub IsEarliest : Kind → List Item → Item → Type 0
 IsEarliest kind items x = AllByRecursion (λ w. may_take kind w ≡ true → w.priority ≡ x.priority → x.number ≤ w.number) items
 
--- the first of rising items
+-- the first of rising items is the earliest
 head_earliest : (kind : Kind) (y : Item) (items : List Item) → IsRising (y ∷ items) → IsEarliest kind (y ∷ items) y
 head_earliest kind y items rising = grind (arith, all_more)
 
@@ -28,6 +28,6 @@ best_earliest kind (y ∷ items) x rising best =
           ] refl is
     ] refl best
 
--- the item whose number this is
+-- an optional item whose number is i is an item of number i
 pub some_number : (o : Option Item) (i : ℕ) → option_map (λ (x : Item). x.number) o ≡ Some i → (x : Item) × (o ≡ Some x) × (x.number ≡ i)
 some_number o i e = grind arith

@@ -1,24 +1,24 @@
--- Which of the messages that are pending a call ends by force.
+-- The queued messages whose Sends a call completes.
 use Rattle.qrules.proofs.Common.{arith, ◌≡◌, ℕ, List, refl, ap, sym, subst, ◌∙◌, true, false, eqb, is_for_receipt, is_unread_send, any_never, any_only, filter_whole, none_of, none-some, is_pulse, Item, Member, Outcome, row_of, is_on, Trace, Call, Completion, OpenCall, Option, None, Some, is_some, not, ◌&&◌}
 use Rattle.std.proofs.lemmas.Bool.{eq-eqb, ne_eqb, true≢false, or_parts, false_from_ne_true}
 use Rattle.qrules.proofs.Basics.{Facts, threads_of, number_of, is_for_answer, facts_of, IsLawful, with_event, has_completion_of, is_ended, is_received, open_call, priority_of_item, copied_count_of, sender_of, filled, with_receipt, is_cancelled, uncancelled_items, ends_other, open_known, passes_of, IsPending, item_at, item_message, IsSettled, is_settled, block_fresh, filled_answer, filled_settled, open_from, open_parts, open_thread, is_unblocked, buffer_on, buffer_number, known}
 use Rattle.qrules.proofs.Traces.Properties.Messages.{item_waits, pending_going}
 use Rattle.qrules.proofs.Traces.Properties.Sends.{block_sender, block_on}
 
--- ---- a Send that isn't received
+-- ---- a Send whose message hasn't been received
 
--- a Send that isn't settled isn't received
+-- the message of a Send that isn't settled hasn't been received
 receipt_from : (o : OpenCall) → is_for_answer o ≡ true → is_settled o ≡ false → is_for_receipt o ≡ true
 receipt_from o e settled = grind arith
 
 settled_read : (o : OpenCall) → is_settled o ≡ true → is_for_receipt o ≡ false
 settled_read o e = grind arith
 
--- an open call that isn't one
+-- an open call that is settled isn't such a Send
 not_unread : (h i : ℕ) (o : Option OpenCall) → IsSettled o → is_unread_send h i o ≡ false
 not_unread h i o s = grind (arith, settled_read)
 
--- one that is has that number
+-- there is an open call of number i
 pub record HasNumber (i : ℕ) (o : Option OpenCall) : Type 0 where
   pub waiting : OpenCall
   pub is : o ≡ Some waiting
@@ -27,9 +27,9 @@ pub record HasNumber (i : ℕ) (o : Option OpenCall) : Type 0 where
 unread_number : (h i : ℕ) (o : Option OpenCall) → is_unread_send h i o ≡ true → HasNumber i o
 unread_number h i o e = grind arith
 
--- ---- a call that ends no Send which isn't received cancels none
+-- ---- a call that completes no Send whose message hasn't been received cancels none
 
--- what the call ends of others isn't such a Send
+-- no call of another thread that the call completes is such a Send
 abbrev pub EndsSettled : Facts → ℕ → Call → Type 0
 EndsSettled f t c = (u : ℕ) (y : Completion) → (row_of f t c).others u ≡ Some y → IsSettled (f.open_call u)
 
@@ -39,9 +39,9 @@ none_is_cancelled f t c settled h i = any_never _ (threads_of f.roster) (λ s. g
 pub none_cancelled : (f : Facts) (t : ℕ) (c : Call) → EndsSettled f t c → (h : ℕ) (items : List Item) → uncancelled_items f t c h items ≡ items
 none_cancelled f t c settled h items = grind (arith, filter_whole, none_is_cancelled f t c settled h)
 
--- ---- the Send of a pending message
+-- ---- the Send of a queued message
 
--- it is open, waits on the item's channel, and isn't received
+-- the Send is open on the item's channel, and its message hasn't been received
 pub record IsSentBy (roster : List Member) (past : Trace) (h i : ℕ) : Type 0 where
   pub sender : ℕ
   pub waiting : OpenCall
@@ -70,14 +70,14 @@ sent_by roster past h item l p message =
       on = buffer_on h _ w.block ∙ block_on roster past w.thread w.block (record { item = p.first; channel = h }) w.is w.answer (ap (item_at roster past) w.number ∙ p.made);
     }
 
--- ---- what an accepted call ends
+-- ---- the calls that an accepted call completes
 
 -- no other thread's open call is the Send of that number
 pub unread_elsewhere : (roster : List Member) (past : Trace) (h i s : ℕ) (waiting : OpenCall) (v : ℕ) → open_call roster past s ≡ Some waiting → (number_of waiting) ≡ i → eqb v s ≡ false
     → is_unread_send h i (open_call roster past v) ≡ false
 unread_elsewhere roster past h i s waiting v is number differs = grind (arith, unread_number, open_thread)
 
--- the Send of a pending message exactly where it is cancelled
+-- the Send of a queued message completes exactly if it is cancelled
 ends_sent : (roster : List Member) (past : Trace) (t : ℕ) (c : Call) (X : List Completion) (h : ℕ) (item : Item) → IsLawful roster past → Outcome true (facts_of roster past) t c X → IsPending roster past h item → is_pulse item.what ≡ false
     → has_completion_of X item.number ≡ is_cancelled (facts_of roster past) t c h item.number
 ends_sent roster past t c X h item l a p message =
@@ -92,7 +92,7 @@ ends_sent roster past t c X h item l a p message =
     ∙ rw (s.is_open, number, s.unread, s.on) refl in
     ap (has_completion_of X) (sym s.number) ∙ ended ∙ sym cancel
 
--- no open call has the number of a pulse
+-- no open Send has the number of a pulse
 pub pulse_unread : (roster : List Member) (past : Trace) (h : ℕ) (item : Item) (v : ℕ) → IsPending roster past h item → is_pulse item.what ≡ true
     → is_unread_send h item.number (open_call roster past v) ≡ false
 pulse_unread roster past h item v p pulse = false_from_ne_true _ (λ e.
@@ -104,7 +104,7 @@ pulse_unread roster past h item v p pulse = false_from_ne_true _ (λ e.
 no_pulse_is_cancelled : (roster : List Member) (past : Trace) (t : ℕ) (c : Call) (h : ℕ) (item : Item) → IsPending roster past h item → is_pulse item.what ≡ true → is_cancelled (facts_of roster past) t c h item.number ≡ false
 no_pulse_is_cancelled roster past t c h item p pulse = any_never _ (threads_of roster) (λ v. grind (arith, pulse_unread roster past h item v p pulse))
 
--- a pending item goes by a completion exactly where it is cancelled
+-- the event completes the Send of a queued item exactly if it cancels that Send
 pub ended_is_cancelled : (roster : List Member) (past : Trace) (t : ℕ) (c : Call) (X : List Completion) (h : ℕ) (item : Item) → IsLawful roster past → Outcome true (facts_of roster past) t c X → IsPending roster past h item
     → (not (is_pulse item.what) && is_ended (with_event t c X past) item.number) ≡ is_cancelled (facts_of roster past) t c h item.number
 ended_is_cancelled roster past t c X h item l a p = grind (arith, no_pulse_is_cancelled roster past t c h item p, pending_going roster past h item p, ends_sent roster past t c X h item l a p)

@@ -1,19 +1,19 @@
--- Which channels are open after one more event.
+-- The open channels after one more event.
 use Rattle.qrules.proofs.Common.{arith, ◌≡◌, ℕ, ◌+◌, List, ◌∷◌, length, true, false, member_at, Member, Outcome, row_of, OpenChannel, Event, Trace, Call, Completion, Option, None, Some, is_some, ◌||◌}
 use Rattle.qrules.proofs.Basics.{Facts, is_owned_by, facts_of, IsLawful, with_event, closes, creates, channel_at, is_destroyed, open_channels, refuses, names, channel_after, one_for, passes_of}
 use Rattle.qrules.proofs.Traces.Past.Live.{IsLive, count_live_accepted, count_live_refused, gone_accepted, gone_refused, live_accepted, live_parts, live_refused}
 
 -- ---- by each call's row
 
--- a channel of the thread's process is open
+-- a channel that the thread's process owns is open
 pub owned_open : (f : Facts) (t : ℕ) (o : Option OpenChannel) → is_owned_by f t o ≡ true → is_some o ≡ true
 owned_open f t o e = grind arith
 
--- an accepted call destroys a channel that is open
+-- a channel that an accepted call destroys is open
 pub closes_open : (f : Facts) (t : ℕ) (c : Call) (h : ℕ) → (row_of f t c).refusal ≡ None → names (closes c) h ≡ true → is_some (f.channel h) ≡ true
 closes_open f t c h r e = grind arith
 
--- and creates none
+-- a call that destroys a channel creates none
 pub closes_alone : (m : Option Member) (c : Call) (h : ℕ) → closes c ≡ Some h → creates m c ≡ None
 closes_alone m c h e = grind arith
 
@@ -22,7 +22,7 @@ closes_alone m c h e = grind arith
 closes_live : (roster : List Member) (past : Trace) (t : ℕ) (c : Call) (X : List Completion) → Outcome true (facts_of roster past) t c X → (h : ℕ) → names (closes c) h ≡ true → is_some (channel_at roster past h) ≡ true
 closes_live roster past t c X a h e = closes_open (facts_of roster past) t c h (passes_of (facts_of roster past) t c X a).row e
 
--- an open channel was created, and isn't destroyed
+-- an open channel was created, and hasn't been destroyed
 abbrev pub IsOpenAt : List Member → Trace → ℕ → Type 0
 IsOpenAt roster past h = IsLive roster creates (λ f. f.destroys) past h
 

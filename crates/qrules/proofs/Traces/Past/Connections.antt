@@ -1,15 +1,15 @@
--- Which connections are live after one more event.
+-- The live connections after one more event.
 use Rattle.qrules.proofs.Common.{arith, ◌≡◌, ℕ, ◌+◌, List, ◌∷◌, length, ap, cond, true, member_at, Member, Outcome, row_of, Event, Trace, Call, Completion, Option, None, Some, is_some}
 use Rattle.qrules.proofs.Basics.{Facts, facts_of, IsLawful, with_event, attaches, detaches, attached_connection, connection_at, live_connections, refuses, names, connection_after, one_for, passes_of}
 use Rattle.qrules.proofs.Traces.Past.Live.{count_live_accepted, count_live_refused, live_accepted, live_parts, live_refused}
 
 -- ---- by each call's row
 
--- an accepted call detaches a connection that is live
+-- a connection that an accepted call detaches is live
 detaches_one : (f : Facts) (t : ℕ) (c : Call) (k : ℕ) → (row_of f t c).refusal ≡ None → names (detaches c) k ≡ true → is_some (f.connection k) ≡ true
 detaches_one f t c k r e = grind arith
 
--- and attaches none
+-- a call that detaches a connection attaches none
 detaches_alone : (m : Option Member) (c : Call) (k : ℕ) → detaches c ≡ Some k → attaches m c ≡ None
 detaches_alone m c k e = grind arith
 
@@ -32,6 +32,6 @@ pub live_connections_accepted : (roster : List Member) (past : Trace) (t : ℕ) 
     → live_connections roster (with_event t c X past) + one_for (detaches c) ≡ live_connections roster past + one_for (attaches (member_at roster t) c)
 live_connections_accepted roster past t c X l a = count_live_accepted roster attaches (λ f. f.detaches) (detaches_live roster) detaches_alone past t c X l a
 
--- a live connection was attached
+-- a live connection is as it was attached
 pub live_attached : (roster : List Member) (past : Trace) (k : ℕ) → is_some (connection_at roster past k) ≡ true → connection_at roster past k ≡ attached_connection roster past k
 live_attached roster past k e = ap (λ b. cond b None (attached_connection roster past k)) (live_parts roster attaches (λ f. f.detaches) past k e).standing

@@ -1,4 +1,4 @@
--- The facts after one more event are those that its row says.
+-- The facts after one more event are the facts that its row gives.
 use Rattle.qrules.proofs.Common.{◌≡◌, ℕ, ◌+◌, List, length, arith, Bool, true, false, member_at, IsRoster, Member, Outcome, Event, Trace, Call, Completion, is_some}
 use Rattle.qrules.proofs.Basics.{facts_of, IsLawful, with_event, refuses, Follows, accepted, refused}
 use Rattle.qrules.proofs.Traces.Past.Channels.{channel_accepted, channel_refused, open_channels_accepted, open_channels_refused}

@@ -1,4 +1,4 @@
--- Each open Send goes over a live connection: a call that detaches one ends all Sends over it.
+-- Each open Send is over a live connection: a call that detaches a connection completes all Sends over it.
 use Rattle.qrules.proofs.Common.{arith, ◌≡◌, ℕ, List, [], ◌∷◌, ap, sym, ◌∙◌, cond, Bool, true, false, eqb, inl, inr, none-some, same_Some, member_at, Member, row_of, unblocked_call, Trace, Call, OpenCall, channel_of, Option, None, Some, is_some}
 use Rattle.std.proofs.lemmas.Bool.{true≢false}
 use Rattle.qrules.proofs.Basics.{Facts, is_for_answer, asks, attaches, detaches, makes, unblocks, writes, facts_of, IsLawful, attached_connection, connection_at, open_call, receipt_of, names, after_receipt, after_unblock, after_write, connection_after, open_call_after, put_at, unless, passes_of, refused, Passes, buffer_answer, held_for_answer}
@@ -10,15 +10,15 @@ use Rattle.qrules.proofs.Traces.Properties.Sends.{buffer_over, held_over}
 
 -- ---- by each call's row
 
--- a call that detaches a connection waits for nothing
+-- a call that detaches a connection doesn't block
 detaches_only : (n t h : ℕ) (c : Call) (b : OpenCall) (k : ℕ) → names (detaches c) k ≡ true → asks n t h c ≡ Some b → ⊥
 detaches_only n t h c b k d e = grind arith
 
--- it ends each Send over that connection
+-- a call that detaches a connection completes each Send over it
 detaching_ends : (f : Facts) (t : ℕ) (c : Call) (u : ℕ) (o : OpenCall) → f.open_call u ≡ Some o → is_for_answer o ≡ true → names (detaches c) (over o) ≡ true → is_some ((row_of f t c).others u) ≡ true
 detaching_ends f t c u o is answer d = grind arith
 
--- ---- what lasts of a wait
+-- ---- properties that last while a call is open
 
 unblocked_over : (w : OpenCall) → over (unblocked_call w) ≡ over w
 unblocked_over w = grind arith
@@ -32,13 +32,13 @@ unblocked_answer w = grind arith
 lasts_answer : Lasts is_for_answer
 lasts_answer = record { held = held_for_answer; buffer = buffer_answer; unblocked = unblocked_answer }
 
--- what is there stays, unless it is taken away
+-- a record stays there unless it is removed
 pub stays_open : {A : Type 0} (d : Bool) (o : Option A) (n : ℕ) (at : ℕ → Option A) (h : ℕ) → is_some (at h) ≡ true → (d ≡ true → ⊥) → is_some (cond d None (put_at o n at h)) ≡ true
 stays_open {A} o n at h e never q7 = grind arith
 
 -- ---- after one more event
 
--- each open Send goes over a live connection
+-- each open Send is over a live connection
 abbrev pub GoLive : Facts → Type 0
 GoLive f = (u : ℕ) (o : OpenCall) → f.open_call u ≡ Some o → is_for_answer o ≡ true → is_some (f.connection (over o)) ≡ true
 
@@ -74,6 +74,6 @@ live_over roster (e ∷ past) l u o is answer = elim (l.1.1) [
       ∙ live_over roster past l.0 u o (sym (open_refused roster past e.thread e.call e.endings u a) ∙ is) answer
 ]
 
--- the connection of an open Send is the one that was attached
+-- the connection of an open Send is as it was attached
 pub over_attached : (roster : List Member) (past : Trace) (u : ℕ) (o : OpenCall) → IsLawful roster past → open_call roster past u ≡ Some o → is_for_answer o ≡ true → connection_at roster past (over o) ≡ attached_connection roster past (over o)
 over_attached roster past u o l is answer = live_attached roster past (over o) (live_over roster past l u o is answer)

@@ -1,9 +1,9 @@
--- A pending message that moves as the priority of its sender is set.
+-- A queued message moves when the priority of its sender is set.
 use Rattle.qrules.proofs.Common.{arith, ◌≡◌, ℕ, List, [], ◌∷◌, ◌++◌, map, refl, ap, ◌∙◌, cond, Bool, true, false, AllByRecursion, map-append, with_priority, Item, Member, Outcome, is_unread_send, Event, Trace, Call, Completion, all_map, all_more, PriorityChange, Option, None, Some, filter, not}
 use Rattle.qrules.proofs.Basics.{Facts, makes, sets, IsLawful, facts_of, with_event, is_gone, made_on, current_priority, Received, is_cancelled, uncancelled_items, items_with_priority_set, unreceived_items, accepted, Stands, item_below, standing_is, now, sets_none, worth_set, worth_stays}
 use Rattle.qrules.proofs.Traces.Past.Cancels.{pulse_unread, sent_by, unread_elsewhere}
 
--- ---- items that are changed in their priority alone
+-- ---- items of which only the priority changes
 
 filter_map_same : (p : Item → Bool) (g : Item → Item) (items : List Item) → ((x : Item) → p (g x) ≡ p x) → filter p (map g items) ≡ map g (filter p items)
 filter_map_same p g [] same = refl
@@ -15,11 +15,11 @@ left_map f t c h g items same = filter_map_same (λ item. not (is_cancelled f t 
 pub out_map : (r : Option Received) (h : ℕ) (g : Item → Item) (items : List Item) → ((x : Item) → (g x).number ≡ x.number) → unreceived_items r h (map g items) ≡ map g (unreceived_items r h items)
 out_map r h g items same = grind (arith, filter_map_same)
 
--- what becomes of one item where a priority is set
+-- the item after a priority was set
 abbrev pub mover : Facts → ℕ → PriorityChange → Item → Item
 mover f h s item = cond (is_unread_send h item.number (f.open_call s.thread)) (with_priority s.priority item) item
 
--- and is what it was
+-- the item's content doesn't change
 pub mover_what : (f : Facts) (h : ℕ) (s : PriorityChange) (item : Item) → (mover f h s item).what ≡ item.what
 mover_what f h s item = elim (is_unread_send h item.number (f.open_call s.thread)) as (λ b. (cond b (with_priority s.priority item) item).what ≡ item.what) [ true ↦ refl | false ↦ refl ]
 
@@ -36,17 +36,17 @@ moved_append f h (Some s) xs ys = map-append (mover f h s) xs ys
 pub moved_nothing : (f : Facts) (h : ℕ) (s : Option PriorityChange) → items_with_priority_set f h s [] ≡ []
 moved_nothing f h s = grind arith
 
--- what the call makes doesn't move by it
+-- the item that the call makes doesn't move by it
 pub moved_made : (f : Facts) (t : ℕ) (c : Call) (h : ℕ) → items_with_priority_set f h (sets c) (made_on h (makes f t c)) ≡ made_on h (makes f t c)
 moved_made f t c h = grind arith
 
--- what is so of items whatever their priority is so of those that moved
+-- a statement that holds for items whatever their priorities holds for the moved items
 pub all_moved : (P : Item → Type 0) (f : Facts) (h : ℕ) (s : Option PriorityChange) (items : List Item) → ((priority : ℕ) (x : Item) → P x → P (with_priority priority x)) → AllByRecursion P items → AllByRecursion P (items_with_priority_set f h s items)
 all_moved P f h s items any all = grind (arith, all_map, all_more)
 
--- ---- what is pending moves so
+-- ---- the queued items move
 
--- an item that is pending, after the event and as the rows have it
+-- the current form of a queued item after the event is the moved item
 moved_one : (roster : List Member) (past : Trace) (t : ℕ) (c : Call) (X : List Completion) (h : ℕ) (s : PriorityChange) (item : Item) → IsLawful roster past → Outcome true (facts_of roster past) t c X → sets c ≡ Some s
     → Stands roster past h item → is_gone past item ≡ false → now (with_event t c X past) item ≡ mover (facts_of roster past) h s (now past item)
 moved_one roster past t c X h s item l a set at stays =
@@ -62,12 +62,12 @@ map_twice : (g k : Item → Item) (items : List Item) → map (λ x. g (k x)) it
 map_twice g k [] = refl
 map_twice g k (x ∷ items) = ap (λ l. g (k x) ∷ l) (map_twice g k items)
 
--- items of the channel that are not gone, as they are where nothing is set
+-- items of the channel that aren't gone, if no priority is set for them
 pub same_now : (roster : List Member) (e : Event) (past : Trace) (h : ℕ) (items : List Item) → AllByRecursion (λ item. Stands roster past h item × (is_gone past item ≡ false)) items
     → ((item : Item) → Stands roster past h item → current_priority (e ∷ past) item ≡ current_priority past item) → map (now (e ∷ past)) items ≡ map (now past) items
 same_now roster e past h items all same = grind (arith, map_same (now (e ∷ past)) (now past) items, all_more)
 
--- as they are after an accepted event
+-- items of the channel that aren't gone, after an accepted event
 pub moved_now : (roster : List Member) (past : Trace) (t : ℕ) (c : Call) (X : List Completion) (h : ℕ) (items : List Item) → IsLawful roster past → Outcome true (facts_of roster past) t c X
     → AllByRecursion (λ item. Stands roster past h item × (is_gone past item ≡ false)) items → map (now (with_event t c X past)) items ≡ items_with_priority_set (facts_of roster past) h (sets c) (map (now past) items)
 moved_now roster past t c X h items l a all =

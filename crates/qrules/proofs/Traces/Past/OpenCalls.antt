@@ -6,9 +6,9 @@ use Rattle.qrules.proofs.Traces.Past.Receipts.{copied_by, accepted_receipts, ref
 use Rattle.qrules.proofs.Traces.Past.Unblocked.{fresh_unblocked, marks, marks_it, none_unblocked, unblocked_after, unblocked_beyond, unblocked_by, unblocked_now}
 use Rattle.qrules.proofs.Traces.Past.Writes.{changed, filled_accepted, filled_fresh, filled_refused, receipt_written, written_sender}
 
--- ---- a receipt, and the thread that waits for its answer
+-- ---- a receipt, and the thread that waits for the reply
 
--- the receipt is of item i, and thread u is its sender
+-- the receipt is of item i, which wasn't received before, and thread u is its sender
 pub record IsIts (r : Received) (u i priority : ℕ) (unblocked : Bool) (before : Option ℕ) : Type 0 where
   pub item : eqb r.item i ≡ true
   pub sender : is_thread r.sender u ≡ true
@@ -21,12 +21,13 @@ pub record IsOthers (r : Received) (u i : ℕ) : Type 0 where
   pub item : eqb r.item i ≡ false
   pub sender : is_thread r.sender u ≡ false
 
--- what thread u keeps of the receipt of item i in this event or before is what the row's receipt leaves it
+-- the receipt of item i that thread u's call has is as the row's receipt leaves it, whether the item is
+-- received in this event or before
 kept_after : (o : Option Received) (u i priority : ℕ) (unblocked : Bool) (before : Option ℕ) (b : OpenCall) → ((r : Received) → o ≡ Some r → IsIts r u i priority unblocked before ⊎ IsOthers r u i)
     → Some (with_receipt priority unblocked (option_or (copied_by o i) before) b) ≡ after_receipt o u (Some (with_receipt priority unblocked before b))
 kept_after o u i priority unblocked before b h = grind arith
 
--- no other thread is found to have sent what thread u has not
+-- thread u isn't the sender of a message that isn't its open call
 not_sender : (f : Facts) (i u : ℕ) → ((o : OpenCall) → f.open_call u ≡ Some o → (number_of o) ≢ i) → is_thread (sender f i) u ≡ false
 not_sender f i u h =
     elim (sender f i) as (λ o. sender f i ≡ o → is_thread o u ≡ false) [
@@ -36,14 +37,14 @@ not_sender f i u h =
           ne_eqb u s (λ same. h k.waiting (ap f.open_call same ∙ k.is) k.number)
     ] refl
 
--- a message is answered to its sender, and a pulse to none
+-- a message has a sender that waits for its reply, and a pulse has none
 message_sender : (f : Facts) (item : Item) → is_pulse item.what ≡ false → sender_for f item ≡ sender f item.number
 message_sender f item message = rw message refl
 
 not_sender_for : (f : Facts) (item : Item) (u : ℕ) → is_thread (sender f item.number) u ≡ false → is_thread (sender_for f item) u ≡ false
 not_sender_for f item u h = elim (is_pulse item.what) as (λ b. is_thread (cond b None (sender f item.number)) u ≡ false) [ true ↦ refl | false ↦ h ]
 
--- an open call of another thread than the caller, and the receipt of the row
+-- the row's receipt and the open call of another thread than the caller
 other_holds : (roster : List Member) (past : Trace) (t : ℕ) (c : Call) (u : ℕ) (b : OpenCall) (r : Received) → IsLawful roster past → eqb u t ≡ false → block roster past u ≡ Some b → is_ended past (number_of b) ≡ false
     → IsReceived (facts_of roster past) t c r → IsIts r u (number_of b) (priority_of_item roster past (number_of b)) (is_unblocked roster past (number_of b)) (copied_count_of past (number_of b)) ⊎ IsOthers r u (number_of b)
 other_holds roster past t c u b r l other is going k =
@@ -85,11 +86,11 @@ other_holds roster past t c u b r l other is going k =
           ]
     ]
 
--- on whatever channel it is, a call that waits has its thread to wait
+-- whether the call blocks doesn't depend on the channel
 asks_same : (n t h k : ℕ) (c : Call) → option_map (λ o. t) (asks n t h c) ≡ option_map (λ o. t) (asks n t k c)
 asks_same n t h k c = grind arith
 
--- the call itself, where it begins to wait, and the receipt of the row
+-- the row's receipt and the call itself, if it blocks its thread
 own_holds : (roster : List Member) (past : Trace) (t h : ℕ) (c : Call) (X : List Completion) (o : OpenCall) (r : Received) → IsLawful roster past → Outcome true (facts_of roster past) t c X
     → asks (length past + 1) t h c ≡ Some o → IsReceived (facts_of roster past) t c r → IsIts r t (length past + 1) (priority_of_item roster (with_event t c X past) (length past + 1)) false None ⊎ IsOthers r t (length past + 1)
 own_holds roster past t h c X o r l a asked k =
@@ -113,9 +114,9 @@ own_holds roster past t h c X o r l a asked k =
           })
     ]
 
--- ---- after a refused call
+-- ---- after a call that fails
 
--- the newest blocking calls after an event
+-- the newest blocking calls stay the same
 newest_refused : (roster : List Member) (past : Trace) (t : ℕ) (c : Call) (X : List Completion) (u : ℕ) → refuses X (length past + 1) ≡ true → block roster (with_event t c X past) u ≡ block roster past u
 newest_refused roster past t c X u r = rw (r, and-false (eqb t u)) refl
 
@@ -165,7 +166,7 @@ after_none r u = grind arith
 pub unblock_none : (m : Option SentItem) (w : Option ℕ) (u : ℕ) → after_unblock m w u None ≡ None
 unblock_none m w u = grind arith
 
--- what another thread waits for, unless its call ends
+-- the open call of another thread, unless it completes
 abbrev other_after : Facts → ℕ → Call → ℕ → Option OpenCall → Option OpenCall
 other_after f t c u o = after_unblock (makes f t c) (unblocks c) u (after_receipt (receipt_of f t c) u (after_write f (writes c) u o))
 
@@ -175,23 +176,23 @@ other_none f t c u = grind arith
 some_later : (x y : Option ℕ) → is_some y ≡ true → is_some (option_or x y) ≡ true
 some_later x y e = grind arith
 
--- the priority counts only where the message was received
+-- the priority only matters if the message has been received
 receipt_priority : (p q : ℕ) (unblocked : Bool) (r : Option ℕ) (b : OpenCall) → ((copied : ℕ) → r ≡ Some copied → p ≡ q) → with_receipt p unblocked r b ≡ with_receipt q unblocked r b
 receipt_priority p q unblocked r b same = grind arith
 
--- a message that is received by now was so before, or the call receives it
+-- a message that has been received by now was received before, or the call receives it
 received_before : (roster : List Member) (past : Trace) (t : ℕ) (c : Call) (i copied : ℕ) → option_or (copied_by (receipt_of (facts_of roster past) t c) i) (copied_count_of past i) ≡ Some copied
     → (is_received past i ≡ true) ⊎ (is_some (receipt_of (facts_of roster past) t c) ≡ true)
 received_before roster past t c i copied is = grind arith
 
--- then no priority that is set is the message's
+-- then no priority that is set changes the message's
 held_priority : (roster : List Member) (past : Trace) (t : ℕ) (c : Call) (X : List Completion) (i : ℕ) → i ≤ length past → (is_received past i ≡ true) ⊎ (is_some (receipt_of (facts_of roster past) t c) ≡ true)
     → priority_of_item roster (with_event t c X past) i ≡ priority_of_item roster past i
 held_priority roster past t c X i below received =
     let e : Event = record { thread = t; call = c; endings = X } in
     priority_earlier roster e past i below (grind (arith, sets_none e past i, sets_alone c))
 
--- of another thread
+-- the open call of another thread
 open_other : (roster : List Member) (past : Trace) (t : ℕ) (c : Call) (X : List Completion) (u : ℕ) → IsLawful roster past → is_some (member_at roster t) ≡ true → Outcome true (facts_of roster past) t c X → eqb u t ≡ false
     → option_map (kept roster (with_event t c X past)) (unless_ended (with_event t c X past) (block roster past u))
     ≡ unless (is_some ((row_of (facts_of roster past) t c).others u)) (other_after (facts_of roster past) t c u (open_call roster past u))
@@ -233,11 +234,11 @@ open_other roster past t c X u l member a other =
           ] refl
     ] refl) ∙ ap (λ o. unless (is_some ((row_of (facts_of roster past) t c).others u)) (other_after (facts_of roster past) t c u o)) (sym (open_is roster past u))
 
--- a call that has ended stays ended
+-- a call that has completed stays completed
 still : (roster : List Member) (e : Event) (past : Trace) (o : Option OpenCall) → option_map (kept roster past) (unless_ended past o) ≡ None → option_map (kept roster (e ∷ past)) (unless_ended (e ∷ past) o) ≡ None
 still roster e past o h = grind arith
 
--- of the caller: it waits for what it asks
+-- the open call of the caller: its own call
 caller_after : (roster : List Member) (past : Trace) (t : ℕ) (c : Call) (X : List Completion) → IsLawful roster past → is_some (member_at roster t) ≡ true → Outcome true (facts_of roster past) t c X
     → option_map (kept roster (with_event t c X past)) (unless_ended (with_event t c X past) (cond (is_some (asked_by roster past t c)) (asked_by roster past t c) (block roster past t)))
     ≡ unless (is_some (row_of (facts_of roster past) t c).own) (after_receipt (receipt_of (facts_of roster past) t c) t (asked_by roster past t c))

@@ -1,4 +1,4 @@
--- What is pending after one more event.
+-- The queued items after one more event.
 use Rattle.qrules.proofs.Common.{◌≡◌, ℕ, ◌+◌, ◌≤◌, List, [], ◌∷◌, ◌++◌, map, length, refl, ap, sym, ◌∙◌, cond, arith, Bool, true, false, eqb, inl, inr, filter-append, eqb_either, all_append, all_filter, all_more, filter_same, filter_twice, filter_all, filter_whole, any_never, AllByRecursion, option_to_list, same_Some, is_pulse, with_priority, Item, member_at, Member, Outcome, row_of, SentItem, Event, Trace, Call, Completion, Option, None, Some, is_some, not, ◌&&◌, ◌||◌, filter}
 use Rattle.std.proofs.lemmas.Bool.{eqb-false, ne_eqb}
 use Rattle.std.proofs.lemmas.List.{map-append, append-nil}
@@ -13,18 +13,18 @@ use Rattle.qrules.proofs.Traces.Past.Receipts.{copied_by, accepted_receipts, ref
 made_list : (o : Option SentItem) (h : ℕ) → map (λ m. m.item) (filter (λ m. eqb m.channel h) (option_to_list o)) ≡ made_on h o
 made_list o h = grind arith
 
--- those of the past, and the one that an event makes
+-- the items of the history, and the item that an event makes
 pub items_more : (roster : List Member) (e : Event) (past : Trace) (h : ℕ) → items_on roster (e ∷ past) h ≡ items_on roster past h ++ made_on h (item_of roster e past)
 items_more roster e past h =
     ap (map (λ m. m.item)) (filter-append (λ m. eqb m.channel h) (items roster past) (option_to_list (item_of roster e past)))
     ∙ map-append (λ m. m.item) (filter (λ m. eqb m.channel h) (items roster past)) (filter (λ m. eqb m.channel h) (option_to_list (item_of roster e past)))
     ∙ ap (λ l. items_on roster past h ++ l) (made_list (item_of roster e past) h)
 
--- of what an event makes on a channel
+-- a statement about the item that an event makes for a channel
 pub made_all : (P : Item → Type 0) (h : ℕ) (o : Option SentItem) → ((m : SentItem) → o ≡ Some m → m.channel ≡ h → P m.item) → AllByRecursion P (made_on h o)
 made_all P h o all = grind arith
 
--- ---- after a refused call
+-- ---- after a call that fails
 
 pub pending_refused : (roster : List Member) (past : Trace) (t : ℕ) (c : Call) (X : List Completion) (h : ℕ) → Outcome false (facts_of roster past) t c X → pending_items roster (with_event t c X past) h ≡ pending_items roster past h
 pending_refused roster past t c X h a =
@@ -49,24 +49,25 @@ pending_refused roster past t c X h a =
 
 -- ---- after an accepted call
 
--- the row's receipt leaves the item
+-- the row's receipt isn't of this item
 abbrev leaves : Option Received → Item → Bool
 leaves o item = not (is_some (copied_by o item.number))
 
 neither : (a b : Bool) → not (a || b) ≡ (not b && not a)
 neither a b = grind arith
 
--- an item that wasn't received is gone exactly where this event receives it, or ends its Send
+-- an item that wasn't received is gone exactly if this event receives it or completes its Send
 gone_now : (roster : List Member) (past : Trace) (t : ℕ) (c : Call) (X : List Completion) (item : Item) (cancel : Bool) → IsLawful roster past → is_some (member_at roster t) ≡ true → Outcome true (facts_of roster past) t c X
     → copied_count_of past item.number ≡ None → (not (is_pulse item.what) && is_ended (with_event t c X past) item.number) ≡ cancel
     → not (is_gone (with_event t c X past) item) ≡ (not cancel && leaves (receipt_of (facts_of roster past) t c) item)
 gone_now roster past t c X item cancel l member a fresh ended = grind (arith, accepted_receipts roster past t c X item.number l member a, neither)
 
--- what is gone stays gone
+-- an item that is gone stays gone
 pub stays_gone : (past : Trace) (t : ℕ) (c : Call) (X : List Completion) (item : Item) → is_gone past item ≡ true → is_gone (with_event t c X past) item ≡ true
 stays_gone past t c X item e = grind arith
 
--- of what stood on the channel, what was pending, isn't cancelled and isn't received
+-- of the items that were made for the channel before, those stay that were queued, aren't cancelled and
+-- aren't received
 pending_old : (roster : List Member) (past : Trace) (t : ℕ) (c : Call) (X : List Completion) (h : ℕ) → IsLawful roster past → is_some (member_at roster t) ≡ true → Outcome true (facts_of roster past) t c X
     → filter (λ item. not (is_gone (with_event t c X past) item)) (items_on roster past h) ≡ filter (leaves (receipt_of (facts_of roster past) t c)) (uncancelled_items (facts_of roster past) t c h (staying roster past h))
 pending_old roster past t c X h l member a =
@@ -82,7 +83,7 @@ pending_old roster past t c X h l member a =
     ∙ sym (filter_twice (λ item. not (is_gone past item)) stays_on (items_on roster past h))
     ∙ sym (filter_twice goes_on (leaves (receipt_of (facts_of roster past) t c)) (staying roster past h))
 
--- of what the event makes, what isn't received at once
+-- the item that the event makes stays unless it is received at once
 pending_new : (roster : List Member) (past : Trace) (t : ℕ) (c : Call) (X : List Completion) (h : ℕ) → IsLawful roster past → is_some (member_at roster t) ≡ true → Outcome true (facts_of roster past) t c X
     → let M = made_on h (makes (facts_of roster past) t c) in
     filter (λ item. not (is_gone (with_event t c X past) item)) M ≡ filter (leaves (receipt_of (facts_of roster past) t c)) M
@@ -96,9 +97,9 @@ pending_new roster past t c X h l member a =
     gone_now roster past t c X m.item false l member a (receipt_beyond roster past m.item.number l (omega arith)) (
     grind (arith, ends_own roster past t c X member a, (laws_of f t c X a).sends m is, ended_below roster past m.item.number l))))
 
--- ---- the receipt takes its item out of its channel
+-- ---- the receipt removes its item from its channel
 
--- no item of another channel has the number that is received
+-- no item of another channel has the received number
 elsewhere : (roster : List Member) (past : Trace) (t : ℕ) (c : Call) (X : List Completion) (h : ℕ) (r : Received) (L : List Item) → AllByRecursion (IsPending roster past h) L
     → Outcome true (facts_of roster past) t c X → IsReceived (facts_of roster past) t c r → eqb r.channel h ≡ false
     → AllByRecursion (λ item. eqb r.item item.number ≡ false) (L ++ made_on h (makes (facts_of roster past) t c))
@@ -127,7 +128,7 @@ taken_from : (o : Option Received) (h : ℕ) (L : List Item) → ((r : Received)
     → unreceived_items o h L ≡ filter (leaves o) L
 taken_from o h L other = grind (arith, filter_whole, eqb_either, filter_all, all_more)
 
--- an accepted call makes nothing for a channel that is destroyed
+-- an accepted call makes no item for a destroyed channel
 closed_makes : (roster : List Member) (past : Trace) (t : ℕ) (c : Call) (X : List Completion) (h : ℕ) → Outcome true (facts_of roster past) t c X → is_destroyed past h ≡ true
     → made_on h (makes (facts_of roster past) t c) ≡ []
 closed_makes roster past t c X h a closed = grind arith
@@ -135,7 +136,7 @@ closed_makes roster past t c X h a closed = grind arith
 none_out : (o : Option Received) (h : ℕ) → unreceived_items o h [] ≡ []
 none_out o h = grind arith
 
--- the item that a call makes isn't a message whose Send it ends: that has an earlier number
+-- the item that a call makes isn't a message whose Send it completes, because that Send has an earlier number
 made_uncancelled : (roster : List Member) (past : Trace) (t : ℕ) (c : Call) (h : ℕ) → uncancelled_items (facts_of roster past) t c h (made_on h (makes (facts_of roster past) t c)) ≡ made_on h (makes (facts_of roster past) t c)
 made_uncancelled roster past t c h =
     let f = facts_of roster past in
@@ -149,7 +150,7 @@ left_made roster past t c h items =
     let f = facts_of roster past in
     filter-append (λ item. not (is_cancelled f t c h item.number)) items (made_on h (makes f t c)) ∙ ap (λ l. uncancelled_items f t c h items ++ l) (made_uncancelled roster past t c h)
 
--- what stays of a channel that isn't destroyed
+-- the items that stay on a channel that isn't destroyed
 staying_accepted : (roster : List Member) (past : Trace) (t : ℕ) (c : Call) (X : List Completion) (h : ℕ) → IsLawful roster past → is_some (member_at roster t) ≡ true → Outcome true (facts_of roster past) t c X
     → staying roster (with_event t c X past) h
     ≡ unreceived_items (receipt_of (facts_of roster past) t c) h (uncancelled_items (facts_of roster past) t c h (staying roster past h ++ made_on h (makes (facts_of roster past) t c)))
@@ -171,7 +172,7 @@ staying_accepted roster past t c X h l member a =
     (all_more (λ item. Stands roster past h item × (is_gone past item ≡ false)) (IsPending roster past h) (staying roster past h) (staying_all roster past h) (λ item k. standing_is roster past h item k.0 k.1))) a ((laws_of f t c X a).receives r is)))
     ∙ ap (unreceived_items (receipt_of (facts_of roster past) t c) h) (sym (left_made roster past t c h (staying roster past h)))
 
--- what stays, each item as it is after the event
+-- the items that stay, each with its priority after the event
 now_accepted : (roster : List Member) (past : Trace) (t : ℕ) (c : Call) (X : List Completion) (h : ℕ) → IsLawful roster past → is_some (member_at roster t) ≡ true → Outcome true (facts_of roster past) t c X
     → map (now (with_event t c X past)) (staying roster (with_event t c X past) h)
     ≡ items_with_priority_set (facts_of roster past) h (sets c) (unreceived_items (receipt_of (facts_of roster past) t c) h (uncancelled_items (facts_of roster past) t c h (map (now past) (staying roster past h) ++ made_on h (makes (facts_of roster past) t c))))

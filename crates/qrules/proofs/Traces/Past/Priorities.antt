@@ -1,9 +1,10 @@
--- The priorities of the threads after one more event: what it sets, and what a receiver takes.
+-- The priorities of the threads after one more event: the priority that it sets, and the priority that a
+-- receiver takes.
 use Rattle.qrules.proofs.Common.{◌≡◌, ℕ, ◌+◌, List, ◌∷◌, length, refl, ap, sym, subst, ◌∙◌, cond, arith, true, false, eqb, ◌⊎◌, inl, inr, option_map, option_or, filter_map, none-some, Item, member_at, Member, completion_to, Outcome, SentItem, Event, Trace, Call, Completion, ReceivedItem, Option, None, Some, is_some, not, option_and_then, unwrap_or}
 use Rattle.qrules.proofs.Basics.{receipt_of, Received, item_in, priority_set_for, threads_of, facts_of, IsLawful, with_event, items_by_now, carried_priority, channel_at, first_among, priority_from_completion, item_of, items, item_among, priority_of_thread, refuses, current_priority, sets, priority_taken, priority_after, accepted, completion_names, laws_of, item_at, item_below, item_earlier, item_found, item_newest, item_priority, RowLaws, IsReceipt, IsReceived, call_laws, among_now, now, worth_beyond, known}
 use Rattle.qrules.proofs.Traces.Past.Receipts.{among_none, among_one, best_pending, best_priority, completion_receives, given_known}
 
--- the item that is received is among those that were made, and what it is worth
+-- the received item is among the items that were made, and this is its current priority
 record IsReceivedAt (roster : List Member) (past : Trace) (e : Event) (r : Received) (item : Item) : Type 0 where
   pub first : Item
   pub at : item_at roster (e ∷ past) r.item ≡ Some (record { item = first; channel = r.channel })
@@ -32,7 +33,7 @@ received_at roster past t c X r k a =
           }
     ]
 
--- a completion is of the thread that gets it
+-- a completion belongs to the thread that gets it
 pub completion_thread : (roster : List Member) (past : Trace) (t : ℕ) (c : Call) (v : ℕ) (y : Completion) → RowLaws (facts_of roster past) t c → completion_to (facts_of roster past) t c v ≡ Some y → y.thread ≡ v
 completion_thread roster past t c v y laws e = grind (arith, completion_names (facts_of roster past) t c v y laws e)
 
@@ -52,7 +53,7 @@ module _ (roster : List Member) (past : Trace) (t : ℕ) (c : Call) (X : List Co
       ∙ ap (option_map (λ (m : SentItem). record { item = now past m.item; channel = m.channel })) (item_found roster (with_event t c X past) r.item _ at.at))
       ∙ ap (λ p. priority_taken (facts_of roster past) (Some (record { item = r.item; channel = r.channel; by = r.by; sender = r.sender; kept = record { priority = p; copied = r.kept.copied; unblocked = r.kept.unblocked } })) u) (at.is_worth ∙ k.priority)
 
-  -- what a completion gives is what the row's receipt does
+  -- a completion gives the priority that the row's receipt gives
   gives : (v : ℕ) (y : Completion) (q : ReceivedItem) → completion_to (facts_of roster past) t c v ≡ Some y → item_in y.mark ≡ Some q → priority_from_completion carries u y ≡ priority_taken (facts_of roster past) (receipt_of (facts_of roster past) t c) u
   gives v y q e m =
       let k : IsReceipt (receipt_of (facts_of roster past) t c) v q = completion_receives (facts_of roster past) t c v y q laws e m in
@@ -83,7 +84,7 @@ module _ (roster : List Member) (past : Trace) (t : ℕ) (c : Call) (X : List Co
       ap (λ o. unwrap_or (option_or (cond (not (refuses X (length past + 1))) (priority_set_for (sets c) u) None) o) (priority_of_thread roster past u)) given_accepted
       ∙ ap (λ b. unwrap_or (option_or (cond (not b) (priority_set_for (sets c) u) None) (priority_taken (facts_of roster past) (receipt_of (facts_of roster past) t c) u)) (priority_of_thread roster past u)) (accepted roster past t c X a)
 
--- a refused call changes no priority
+-- a call that fails changes no priority
 pub priority_refused : (roster : List Member) (past : Trace) (t : ℕ) (c : Call) (X : List Completion) (u : ℕ) → Outcome false (facts_of roster past) t c X
     → priority_of_thread roster (with_event t c X past) u ≡ priority_of_thread roster past u
 priority_refused roster past t c X u a = grind arith

@@ -1,15 +1,16 @@
--- What the endings of an event receive: just the receipt that its row says.
+-- The items that the completions of an event receive: exactly the row's receipt.
 use Rattle.qrules.proofs.Common.{◌≡◌, ℕ, ◌+◌, ◌<◌, ◌≤◌, List, [], ◌∷◌, length, refl, ap, sym, ◌∙◌, cond, arith, true, false, eqb, ◌⊎◌, inl, inr, filter_map, best_of, Item, Kind, best-at, member_at, Member, completion_to, Outcome, Answers, Trace, Call, Completion, is_among, ReceivedItem, Option, None, Some, is_some}
 use Rattle.std.proofs.lemmas.Bool.{ne_eqb, true≢false}
 use Rattle.qrules.proofs.Basics.{receipt_of, Received, item_in, Facts, threads_of, facts_of, IsLawful, copied_count_in, first_among, priority_of_item, copied_count_among, copied_count_of, RowLaws, IsReceipt, IsReceived, call_laws, laws_of, completion_names, open_known, IsPending, pending_all, pending_priorities, item_below, known}
 
--- ---- what is told of one among the endings that some threads get
+-- ---- the first value of a function among the completions of some threads
 
 pub among_none : {A : Type 0} (tell : Completion → Option A) (g : ℕ → Option Completion) (us : List ℕ) → ((u : ℕ) (y : Completion) → g u ≡ Some y → tell y ≡ None) → first_among tell (filter_map g us) ≡ None
 among_none tell g [] h = refl
 among_none tell g (u ∷ us) h = grind (arith, among_none tell g us h)
 
--- nothing else is told of any, and it is told of one
+-- if the function has no other value for any completion, and has this value for one of them, this value is
+-- found
 pub among_one : {A : Type 0} (tell : Completion → Option A) (g : ℕ → Option Completion) (us : List ℕ) (k : A) → ((u : ℕ) (y : Completion) → g u ≡ Some y → (tell y ≡ None) ⊎ (tell y ≡ Some k))
     → (v : ℕ) (z : Completion) → is_among us v ≡ true → g v ≡ Some z → tell z ≡ Some k → first_among tell (filter_map g us) ≡ Some k
 among_one tell g [] k h v z m e q = absurd (true≢false (sym m))
@@ -22,7 +23,7 @@ among_one tell g (u ∷ us) k h v z m e q =
 pub completion_receives : (f : Facts) (t : ℕ) (c : Call) (v : ℕ) (y : Completion) (p : ReceivedItem) → RowLaws f t c → completion_to f t c v ≡ Some y → item_in y.mark ≡ Some p → IsReceipt (receipt_of f t c) v p
 completion_receives f t c v y p laws e m = grind arith
 
--- how many bytes this receipt copies of item i, if it is of it
+-- how many bytes of item i this receipt copies, if it is of item i
 abbrev pub copied_by : Option Received → ℕ → Option ℕ
 copied_by None i = None
 copied_by (Some r) i = cond (eqb r.item i) (Some r.kept.copied) None
@@ -30,7 +31,7 @@ copied_by (Some r) i = cond (eqb r.item i) (Some r.kept.copied) None
 same_copied : (f : Facts) (t : ℕ) (c : Call) (v : ℕ) (p : ReceivedItem) (i : ℕ) → IsReceipt (receipt_of f t c) v p → copied_count_in i (Some p) ≡ copied_by (receipt_of f t c) i
 same_copied f t c v p i k = grind arith
 
--- what a completion copies of item i is what the row's receipt does
+-- a completion that copies bytes of item i copies as many as the row's receipt
 completion_copies : (f : Facts) (t : ℕ) (c : Call) (v : ℕ) (y : Completion) (i : ℕ) → RowLaws f t c → completion_to f t c v ≡ Some y
     → (copied_count_in i (item_in y.mark) ≡ None) ⊎ (copied_count_in i (item_in y.mark) ≡ copied_by (receipt_of f t c) i)
 completion_copies f t c v y i laws e =
@@ -39,7 +40,7 @@ completion_copies f t c v y i laws e =
       | Some p ↦ λ m. inr (same_copied f t c v p i (completion_receives f t c v y p laws e m))
     ] refl
 
--- the one that the row says is given to a thread of the roster
+-- a completion that the row gives goes to a thread of the roster
 pub given_known : (roster : List Member) (past : Trace) (t : ℕ) (c : Call) (v : ℕ) (y : Completion) → IsLawful roster past → is_some (member_at roster t) ≡ true → RowLaws (facts_of roster past) t c
     → completion_to (facts_of roster past) t c v ≡ Some y → is_some (member_at roster v) ≡ true
 given_known roster past t c v y l member laws e = grind (arith, completion_names (facts_of roster past) t c v y laws e, open_known roster past v)
@@ -66,16 +67,16 @@ accepted_receipts roster past t c X i l member a =
           ] refl
     ] refl)
 
--- a refused call receives nothing
+-- a call that fails receives nothing
 pub refused_receipts : (f : Facts) (t : ℕ) (c : Call) (X : List Completion) (i : ℕ) → Outcome false f t c X → copied_count_among X i ≡ None
 refused_receipts f t c X i a = rw (a.2) refl
 
--- ---- which item a receipt is of
+-- ---- the item of a receipt
 
 pub best_pending : (roster : List Member) (past : Trace) (h : ℕ) (kind : Kind) (item : Item) → best_of kind ((facts_of roster past).pending h) ≡ Some item → IsPending roster past h item
 best_pending roster past h kind item best = best-at (IsPending roster past h) kind ((facts_of roster past).pending h) item (pending_all roster past h) best
 
--- it has the priority that its number has by now
+-- the best item has the current priority of its number
 pub best_priority : (roster : List Member) (past : Trace) (h : ℕ) (kind : Kind) (item : Item) → best_of kind ((facts_of roster past).pending h) ≡ Some item → priority_of_item roster past item.number ≡ item.priority
 best_priority roster past h kind item best = best-at (λ (x : Item). priority_of_item roster past x.number ≡ x.priority) kind ((facts_of roster past).pending h) item (pending_priorities roster past h) best
 
@@ -85,7 +86,7 @@ received_below roster past t c r k = elim k.source [
   | inr old ↦ omega (arith, k.number, item_below roster past k.item.number _ (best_pending roster past r.channel old.kind k.item old.best).made)
 ]
 
--- an event receives its own item or one that was pending
+-- an event receives its own item or a queued one
 pub receipts_below : (roster : List Member) (past : Trace) (t : ℕ) (c : Call) (X : List Completion) (i : ℕ) → IsLawful roster past → is_some (member_at roster t) ≡ true
     → Answers (facts_of roster past) t c X → length past + 1 < i → copied_count_among X i ≡ None
 receipts_below roster past t c X i l member a above = elim a [
@@ -99,7 +100,7 @@ receipts_below roster past t c X i l member a above = elim a [
   | inr a ↦ refused_receipts (facts_of roster past) t c X i a
 ]
 
--- no item to come is received
+-- no later item has been received
 pub receipt_beyond : (roster : List Member) (past : Trace) (i : ℕ) → IsLawful roster past → length past < i → copied_count_of past i ≡ None
 receipt_beyond roster [] i l h = refl
 receipt_beyond roster (e ∷ past) i l h = rw (receipts_below roster past e.thread e.call e.endings i l.0 l.1.0 l.1.1 (omega arith)) (receipt_beyond roster past i l.0 (omega arith))

@@ -1,4 +1,4 @@
--- A call that is accepted ends in its own event, or its thread waits.
+-- An accepted call completes in its own event, or its thread is blocked.
 use Rattle.qrules.proofs.Common.{arith, ◌≡◌, ℕ, List, [], ◌∷◌, refl, true, Bool, option_map, sender_among, none-some, member_at, row_of, effect_of, info_of, Call, OpenCall, is_among, some_of, Option, None, Some, is_some, ◌||◌}
 use Rattle.qrules.proofs.Words.Facts.{Facts, sender, threads_of}
 use Rattle.qmodel.specs.declared.call.Call.TheVariants.{Info}
@@ -6,14 +6,14 @@ use Rattle.qrules.proofs.Traces.Calls.Held.{has_sender, held_for}
 use Rattle.qrules.proofs.Traces.Past.Laws.{Passes}
 use Rattle.qrules.proofs.Traces.Rosters.{among_member}
 
--- ---- what is told of a held message
+-- ---- the data of a held message
 
--- who sent is one of these threads
+-- the sender is one of these threads
 sender_is_among : (open_call : ℕ → Option OpenCall) (i : ℕ) (us : List ℕ) (s : ℕ) → sender_among open_call i us ≡ Some s → is_among us s ≡ true
 sender_is_among open_call i [] s e = absurd (none-some s e)
 sender_is_among open_call i (u ∷ us) s e = grind (arith, sender_is_among open_call i us s)
 
--- an accepted Info tells something
+-- an accepted Info returns data
 info_tells : (f : Facts) (t rcvid : ℕ) → Passes f t (Info rcvid) → is_some (info_of f (sender f rcvid)) ≡ true
 info_tells f t rcvid p =
     let s = has_sender f t rcvid p.row in
@@ -26,7 +26,7 @@ info_tells f t rcvid p =
 pub some_map : {A B : Type 0} (k : A → B) (o : Option A) → is_some (option_map k o) ≡ is_some o
 some_map k o = grind arith
 
--- the call may wait
+-- the call may block
 abbrev pub may_wait : Call → Bool
 may_wait c = is_some (effect_of c).sends || is_some (effect_of c).receives
 

@@ -1,4 +1,4 @@
--- What is written over the reply buffers of messages after one more event.
+-- The reply buffers of messages after one more event.
 use Rattle.qrules.proofs.Common.{◌≡◌, ℕ, ◌+◌, ◌<◌, ◌≤◌, List, [], ◌∷◌, length, refl, ◌∙◌, arith, Bool, true, false, eqb, inl, inr, ne_eqb, Member, Outcome, with_buffer, is_thread, Event, Trace, Call, Completion, OpenCall, Transfer, Option, None, Some}
 use Rattle.qrules.proofs.Basics.{Facts, sender, threads_of, number_of, facts_of, IsLawful, with_event, open_call, refuses, with_writes, filled, with_receipt, asks, writes, buffer_after_write, after_write, accepted, laws_of, refused, open_below, open_thread, call_laws, sender_sends}
 
@@ -10,13 +10,13 @@ writes_refused e past i b r = rw r refl
 pub writes_accepted : (e : Event) (past : Trace) (i : ℕ) (b : List ℕ) → refuses e.endings (length past + 1) ≡ false → with_writes (e ∷ past) i b ≡ buffer_after_write (writes e.call) i (with_writes past i b)
 writes_accepted e past i b r = rw r refl
 
--- a call that writes nothing leaves it
+-- a call that writes nothing doesn't change the buffer
 pub writes_nothing : (e : Event) (past : Trace) (i : ℕ) (b : List ℕ) → writes e.call ≡ None → with_writes (e ∷ past) i b ≡ with_writes past i b
 writes_nothing e past i b none = grind arith
 
 -- ---- an open call
 
--- a call with its reply buffer changed so
+-- the call with its reply buffer changed by f
 abbrev pub changed : (List ℕ → List ℕ) → OpenCall → OpenCall
 changed f o = with_buffer f o
 
@@ -35,15 +35,15 @@ pub receipt_written : (f : Facts) (w : Option Transfer) (u i priority : ℕ) (un
     → Some (with_receipt priority unblocked r (changed (buffer_after_write w i) o)) ≡ after_write f w u (Some (with_receipt priority unblocked r o))
 receipt_written f w u i priority unblocked r o number h = grind arith
 
--- ---- whose buffer is written
+-- ---- the thread whose buffer is written over
 
--- the sender of the message that is written to is the thread whose open call has its number
+-- the sender of the message that is written to is the thread whose open call has the message's number
 pub written_sender : (roster : List Member) (past : Trace) (t : ℕ) (c : Call) (X : List Completion) (u : ℕ) (o : OpenCall) (x : Transfer) → Outcome true (facts_of roster past) t c X → open_call roster past u ≡ Some o → writes c ≡ Some x
     → is_thread (sender (facts_of roster past) x.rcvid) u ≡ eqb x.rcvid (number_of o)
 written_sender roster past t c X u o x a is written =
     grind (arith, (laws_of (facts_of roster past) t c X a).writes_sent x written, sender_sends (open_call roster past) x.rcvid (threads_of roster), open_thread roster past u)
 
--- nothing is written to a message to come
+-- nothing has been written to a later message
 pub writes_beyond : (roster : List Member) (past : Trace) (i : ℕ) (b : List ℕ) → IsLawful roster past → length past < i → with_writes past i b ≡ b
 writes_beyond roster [] i b l h = refl
 writes_beyond roster (e ∷ past) i b l h = elim l.1.1 [
@@ -60,7 +60,7 @@ writes_beyond roster (e ∷ past) i b l h = elim l.1.1 [
   | inr a ↦ writes_refused e past i b (refused roster past e.thread e.call e.endings a) ∙ writes_beyond roster past i b l.0 (omega arith)
 ]
 
--- a call that begins to wait has nothing written over its buffer
+-- nothing has been written over the buffer of a call that just blocked its thread
 pub filled_fresh : (roster : List Member) (past : Trace) (t h : ℕ) (c : Call) (X : List Completion) (o : OpenCall) → IsLawful roster past → refuses X (length past + 1) ≡ false → asks (length past + 1) t h c ≡ Some o → (number_of o) ≡ length past + 1
     → filled (with_event t c X past) o ≡ o
 filled_fresh roster past t h c X o l r asked number = grind (arith, writes_accepted (record { thread = t; call = c; endings = X }) past (number_of o), call_laws c, writes_beyond roster past (number_of o))

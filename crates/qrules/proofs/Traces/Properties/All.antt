@@ -1,4 +1,4 @@
--- Every lawful trace has the properties.
+-- Every valid history has the properties.
 use Rattle.qrules.proofs.Common.{arith, List, HasProperties, IsRoster, Member, Trace}
 use Rattle.qrules.proofs.Words.Lawful.{IsLawful}
 use Rattle.qrules.proofs.Traces.Properties.AnsweredToSender.{answered_to_sender}

@@ -1,4 +1,4 @@
--- A message is answered at most once, by a call that may answer it, and to the thread that sent it.
+-- A message gets at most one reply, by a call that may reply to it, and its sender gets this reply.
 use Rattle.qrules.proofs.Common.{◌≡◌, ◌≢◌, ◌∙◌, ℕ, ◌+◌, ◌<◌, List, [], ◌∷◌, refl, ap, sym, subst, arith, cond, eqb, Bool, true, false, inl, inr, is_some, is_answer, items, AnsweredToSender, AnswersIts, AnswersOnce, AllByRecursion, filter_map, cons_option, option_map_or, none-some, Member, IsRoster, completion_to, Outcome, Answers, item_among, Event, SentItem, Trace, Completion, all_filter_map, all_more, is_among, is_on, Option, None, Some, not, ◌&&◌, count_by}
 use Rattle.std.proofs.lemmas.Bool.{and_from, cases_Bool, ne_eqb, eq-eqb, eqb-true, eqb-false, true≢false}
 use Rattle.std.proofs.lemmas.List.Sums.{sum_by-cons}
@@ -9,7 +9,7 @@ use Rattle.qrules.proofs.Traces.Properties.ReceivedOnce.{different_calls}
 use Rattle.qrules.proofs.Traces.Properties.Sends.{block_sender, open_keeps, open_over, block_on}
 use Rattle.qmodel.specs.declared.open_call.OpenCall.TheVariants.{Send as InSend}
 
--- ---- each answer is one to the message that the call names
+-- ---- each reply is to the message that the call names
 
 answers_its : (roster : List Member) (past : Trace) (e : Event) (u : ℕ) (y : Completion) → IsLawful roster past → Outcome true (facts_of roster past) e.thread e.call e.endings
     → AnswersHeld (facts_of roster past) e.thread e.call u y → AnswersIts roster past e y
@@ -42,7 +42,7 @@ each_answers_its roster past e l a = elim a [
   | inr a ↦ subst (AllByRecursion (λ x. is_answer x.mark ≡ true → AnswersIts roster past e x)) (sym a.2) ((λ answers. absurd (true≢false (sym answers))), tt)
 ]
 
--- ---- an accepted call that answers has one answer
+-- ---- an accepted call that replies causes one reply
 
 count_more : {Y : Type 0} (p : Y → Bool) (y : Y) (ys : List Y) (b : Bool) (n : ℕ) → p y ≡ b → count_by p ys ≡ n → count_by p (y ∷ ys) ≡ cond b 1 0 + n
 count_more p y ys b n e rest = sum_by-cons (λ x. cond (p x) 1 0) y ys ∙ ap (λ k. cond k 1 0 + count_by p ys) e ∙ ap (λ k. cond b 1 0 + k) rest
@@ -55,7 +55,7 @@ count_none {Y} p g (m ∷ roster) h =
       | Some z ↦ λ e. count_more p z (filter_map g (threads_of roster)) false 0 (h.0 z e) (count_none p g roster h.1)
     ] refl
 
--- where one thread alone is given what passes, just one passes
+-- if only one thread has a value that passes the test, exactly one value passes
 count_one : {Y : Type 0} (p : Y → Bool) (g : ℕ → Option Y) (roster : List Member) (u : ℕ) (y : Y) → IsRoster roster → is_among (threads_of roster) u ≡ true → g u ≡ Some y → p y ≡ true
     → ((v : ℕ) (z : Y) → v ≢ u → g v ≡ Some z → p z ≡ false) → count_by p (filter_map g (threads_of roster)) ≡ 1
 count_one p g [] u y r among is passes others = absurd (true≢false (sym among))

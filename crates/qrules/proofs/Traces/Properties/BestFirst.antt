@@ -1,4 +1,4 @@
--- A receipt takes the item of greatest priority, and among equals the one that was made first.
+-- A receipt takes the item of greatest priority, and among equals the item that was made first.
 use Rattle.qrules.proofs.Common.{arith, ◌≡◌, ◌∙◌, ℕ, List, [], ◌∷◌, ◌++◌, refl, ap, sym, true, false, inl, inr, request_of, takeable, BestFirst, TakesBest, number_of, AllByRecursion, best_of, may_take, Item, Kind, IsRoster, Member, Outcome, ReceiveRequest, effect_of, call_at, Event, Trace, Call, Completion, eqb_same, Option, Some}
 use Rattle.std.specs.Option.{option_and_then, option_map}
 use Rattle.std.proofs.lemmas.List.{append-nil}
@@ -8,7 +8,7 @@ use Rattle.qrules.proofs.Traces.Properties.Receipts.{TakesMade, TakesPending, wa
 use Rattle.qrules.proofs.Traces.Properties.Sends.{open_keeps}
 use Rattle.qrules.proofs.Traces.Properties.Waiting.{buffer_waits_for, held_waits_for, nothing_for, place_of, waits_for_asked}
 
--- ---- what a call asks to receive
+-- ---- the items that a call asks for
 
 request_from : (past : Trace) (i : ℕ) (c : Call) (request : ReceiveRequest) → call_at past i ≡ Some c → (effect_of c).receives ≡ Some request → request_of past i ≡ Some request
 request_from past i c request is receives = ap (option_and_then (λ c. (effect_of c).receives)) is ∙ receives
@@ -22,7 +22,7 @@ record Asks (receives : Option ReceiveRequest) (place : ℕ × Kind) : Type 0 wh
 asks_at : (receives : Option ReceiveRequest) (place : ℕ × Kind) → option_map place_of receives ≡ Some place → Asks receives place
 asks_at receives place e = grind arith
 
--- ---- the caller takes the best of what was pending
+-- ---- the caller takes the best of the queued items
 
 takes_pending : (roster : List Member) (past : Trace) (e : Event) (u : ℕ) (y : Completion) (i : ℕ) → TakesPending (facts_of roster past) e.thread e.call u y i → TakesBest roster past e y i
 takes_pending roster past e u y i k =
@@ -35,9 +35,9 @@ takes_pending roster past e u y i k =
       best = ap (λ items. option_map (λ (item : Item). item.number) (best_of k.request.kind items)) all ∙ ap (option_map (λ (item : Item). item.number)) k.best ∙ ap (λ n. Some n) k.number;
     }
 
--- ---- a thread that waited takes what is made, since nothing that it may take was pending
+-- ---- a blocked thread takes the item that is made, because no queued item is one that it may take
 
--- behind items that may not be taken, one that may is the best
+-- after items that may not be taken, an item that may be taken is the best
 best_behind : (kind : Kind) (items : List Item) (x : Item) → AllByRecursion (λ w. may_take kind w ≡ false) items → may_take kind x ≡ true → best_of kind (items ++ x ∷ []) ≡ Some x
 best_behind kind [] x none may = rw may refl
 best_behind kind (y ∷ items) x none may = rw (none.0) (best_behind kind items x none.1 may)

@@ -1,5 +1,5 @@
--- What could be taken from a channel: items of that channel, and so of the connections over which they were
--- sent.
+-- The items that could be taken from a channel were made for that channel, and so were sent over its
+-- connections.
 use Rattle.qrules.proofs.Common.{arith, ◌≡◌, ◌∙◌, ℕ, ◌+◌, List, [], ◌∷◌, length, ap, sym, subst, cond, eqb, true, false, connection_of, takeable, AllByRecursion, none-some, same_Some, Item, Connection, Member, call_at, effect_of, SentItem, Event, Trace, Call, all_append, all_more, Option, Some, is_some}
 use Rattle.std.specs.Option.{option_and_then, option_map, option_or}
 use Rattle.qrules.proofs.Basics.{makes, item_of, pending_items, priority_before, attached_connection, made_on, message_numbered, pulse_item, item_sent_over, before_earlier, before_newest, item_accepted, IsPending, item_at, item_below, item_earlier, item_newest, item_priority, made_by, pending_all, pending_each, Facts, facts_of}
@@ -8,7 +8,7 @@ use Rattle.qrules.proofs.Traces.Past.Pending.{made_all}
 use Rattle.qrules.proofs.Traces.Properties.Sends.{made_stays}
 use Rattle.qrules.proofs.Traces.Past.Connections.{live_attached}
 
--- ---- each is an item of the channel
+-- ---- each such item was made for the channel
 
 -- an item of its number was made for the channel
 abbrev pub IsMadeFor : List Member → Trace → ℕ → Item → Type 0
@@ -25,7 +25,7 @@ takeable_made roster past e h =
           (item_newest roster e past ∙ is ∙ ap (λ k. Some (record { item = m.item; channel = k })) on),
     )))
 
--- each has the priority that its number had before the event
+-- each such item has the priority that its number had before the event
 pub takeable_priorities : (roster : List Member) (past : Trace) (e : Event) (h : ℕ) → AllByRecursion (λ w. priority_before roster past e w.number ≡ w.priority) (takeable roster past e h)
 takeable_priorities roster past e h =
     let P = λ (w : Item). priority_before roster past e w.number ≡ w.priority in
@@ -33,9 +33,9 @@ takeable_priorities roster past e h =
     (pending_each P roster past h (λ item at stays. before_earlier roster e past item.number (item_below roster past item.number _ at) ∙ item_priority roster past item.number _ at))
     (made_all P h (item_of roster e past) (λ m is on. before_newest roster e past m is))
 
--- ---- what was sent over a connection is on its channel
+-- ---- an item that was sent over a connection is on the connection's channel
 
--- the connection, and that the item is on its channel
+-- the connection, which leads to the item's channel
 pub record IsOver (connection : ℕ → Option Connection) (k : ℕ) (m : SentItem) : Type 0 where
   pub over : Connection
   pub is : connection k ≡ Some over

@@ -1,4 +1,4 @@
--- Every buffer and every count is what was to be copied.
+-- Every buffer and every count is as the copying requires.
 use Rattle.qrules.proofs.Basics.{answer_same, pulse_same, sent_same, unblocked_same, writes, error_finish, reply_finish, message_item, Finish, Facts, message, sender, threads_of, route, number_of, reply_buffer, message_same, reply_buffer_same, facts_of, IsLawful, open_call, refuses, passes_of, refused, item_below, Passes, call_earlier, call_newest, open_below, sender_sends, ReceiveTakes, receive_takes, IsCancelledCall, IsHeldFor, SenderEnds, answering, has_sender, held_for, sender_ends, Delivers, delivery_meets, detach_ends}
 use Rattle.qrules.proofs.Common.{◌≡◌, ◌∙◌, ℕ, ◌+◌, ◌≤◌, List, [], ◌∷◌, length, refl, ap, sym, subst, cond, arith, Bool, true, false, inl, inr, message_in, reply_buffer_in, buffer_at, message_at, CopiedExactly, IsCopied, AllByRecursion, int_eq, same_Some, Errno, Intr, Badf, is_pulse, Item, Kind, Any, laid_count, Member, completion_to, Answers, row_of, effect_of, refusal_unless_held, is_over, receipt_completion, SentItem, Event, Trace, Call, Completion, OpenCall, all_filter_map, buffer_in, ℤ, pos, Option, None, Some}
 use Rattle.std.specs.Option.{option_and_then, option_map_or}
@@ -36,13 +36,13 @@ message_earlier e past i l = ap (λ c. option_map_or message_sent c []) (call_ea
 buffer_earlier : (e : Event) (past : Trace) (i : ℕ) → i ≤ length past → writes e.call ≡ None → buffer_at (e ∷ past) i ≡ buffer_at past i
 buffer_earlier e past i l none = grind arith
 
--- the buffer that an open call waits with is its buffer so far
+-- the buffer of an open call is its buffer so far
 buffer_open : (roster : List Member) (e : Event) (past : Trace) (u : ℕ) (o : OpenCall) → writes e.call ≡ None → open_call roster past u ≡ Some o → buffer_at (e ∷ past) (number_of o) ≡ buffer_in o
 buffer_open roster e past u o none is = buffer_earlier e past (number_of o) (open_below roster past u o is) none ∙ open_buffer roster past u o is
 
--- ---- a message that is held
+-- ---- a held message
 
--- the open call of the thread that holds it
+-- the open call of the thread that sent the held message
 held_call_is : (f : Facts) (t rcvid : ℕ) (s : ℕ) (is : sender f rcvid ≡ Some s) (h : IsHeldFor f t (f.open_call s)) → option_and_then f.open_call (sender f rcvid) ≡ Some (InSend h.send)
 held_call_is f t rcvid s is h = ap (option_and_then f.open_call) is ∙ h.is_open
 
@@ -51,7 +51,7 @@ held_number f t rcvid s is h =
     let k = sender_sends f.open_call rcvid (threads_of f.roster) s is in
     sym (ap number_of (same_Some k.waiting (InSend h.send) (sym k.is ∙ h.is_open))) ∙ k.number
 
--- its message is that of the call of its number, and its buffer that call's so far
+-- the message is the message of the call of its number; its buffer is that call's buffer so far
 held_message : (roster : List Member) (past : Trace) (t rcvid : ℕ) → refusal_unless_held (facts_of roster past) t rcvid ≡ None → message (facts_of roster past) rcvid ≡ message_at past rcvid
 held_message roster past t rcvid passed =
     let f = facts_of roster past in
@@ -68,28 +68,28 @@ held_buffer roster past t rcvid passed =
 
 -- ---- the forms of a completion
 
--- a message is laid over the buffer, and a pulse leaves it
+-- a message is copied over the buffer, and a pulse doesn't change it
 taking_copied : (past : Trace) (e : Event) (m u : ℕ) (item : Item) (buffer bytes : List ℕ) (y : Completion) → buffer_at (e ∷ past) m ≡ buffer → (is_pulse item.what ≡ false → message_at (e ∷ past) item.number ≡ bytes)
     → receipt_completion item bytes u m buffer ≡ y → IsCopied past e y y.mark
 taking_copied past e m u item buffer bytes y b s is = grind arith
 
--- the bytes of a Reply are laid over the buffer
+-- the bytes of a Reply are copied over the buffer
 replied_copied : (past : Trace) (e : Event) (m u : ℕ) (status : ℤ) (bytes buffer : List ℕ) (y : Completion) → (effect_of e.call).replies ≡ Some (status, bytes) → buffer_at (e ∷ past) m ≡ buffer → answering m u (reply_finish status bytes) buffer ≡ y
     → IsCopied past e y y.mark
 replied_copied past e m u status bytes buffer y says b is = subst (λ (x : Completion). IsCopied past e x x.mark) is (bytes, says, (rw b refl, rw b refl))
 
--- an Error leaves the buffer
+-- an Error doesn't change the buffer
 errored_copied : (past : Trace) (e : Event) (m u : ℕ) (code : ℤ) (buffer : List ℕ) (y : Completion) → (effect_of e.call).replies ≡ cond (int_eq code (pos 0)) (Some (pos 0, [])) None → buffer_at (e ∷ past) m ≡ buffer → answering m u (error_finish code) buffer ≡ y
     → IsCopied past e y y.mark
 errored_copied past e m u code buffer y says b is = grind arith
 
--- a completion that gives the call's own buffer back
+-- a completion that returns the call's own buffer
 plain_copied : (past : Trace) (e : Event) (y x : Completion) → x ≡ y → IsCopied past e x x.mark → IsCopied past e y y.mark
 plain_copied past e y x is h = subst (λ (z : Completion). IsCopied past e z z.mark) is h
 
 -- ---- each completion of an accepted call
 
--- the best that is taken
+-- the receipt of the best item
 best_copied : (roster : List Member) (past : Trace) (t : ℕ) (c : Call) (X : List Completion) (y : Completion) (chid : ℕ) (kind : Kind) (buffer : List ℕ) → IsLawful roster past
     → buffer_at (event t c X ∷ past) (length past + 1) ≡ buffer → ReceiveTakes (facts_of roster past) t chid kind buffer y → IsCopied past (event t c X) y y.mark
 best_copied roster past t c X y chid kind buffer l brought r =
@@ -108,24 +108,24 @@ own_copied roster past t (Write rcvid offset bytes) X y l p e =
 own_copied roster past t (Receive chid buffer) X y l p e = best_copied roster past t (Receive chid buffer) X y chid Any buffer l (buffer_newest (event t (Receive chid buffer) X) past) (receive_takes (facts_of roster past) t chid Any buffer y e)
 own_copied roster past t c X y l p e = grind arith
 
--- the buffer of the Send that is answered
+-- the buffer of the Send that gets the reply
 answered_buffer : (roster : List Member) (past : Trace) (v : Event) (t rcvid : ℕ) (finish : Finish) (u : ℕ) (y : Completion) → writes v.call ≡ None → (r : SenderEnds (facts_of roster past) t rcvid finish u y)
     → buffer_at (v ∷ past) rcvid ≡ r.held.send.reply_buffer
 answered_buffer roster past v t rcvid finish u y none r =
     subst (λ i. buffer_at (v ∷ past) i ≡ r.held.send.reply_buffer) r.number (buffer_open roster v past u (InSend r.held.send) none r.held.is_open)
 
--- what a receiver takes that is met
+-- the receipt of an item by the newest receiver
 met_copied : (roster : List Member) (past : Trace) (t : ℕ) (c : Call) (X : List Completion) (u : ℕ) (y : Completion) (o : Option ℕ) (item : Item) (sent : List ℕ) → writes c ≡ None
     → (is_pulse item.what ≡ false → message_at (event t c X ∷ past) item.number ≡ sent) → Delivers (facts_of roster past) o item sent u y → IsCopied past (event t c X) y y.mark
 met_copied roster past t c X u y o item sent none message s =
     taking_copied past (event t c X) s.receive.number u item s.receive.buffer sent y (buffer_open roster (event t c X) past u (InReceive s.receive) none s.is_open) message s.completion
 
--- what is cancelled gives its buffer back as it is by now
+-- a cancelled call returns its buffer in its current state
 cancel_copied : (roster : List Member) (past : Trace) (t : ℕ) (c : Call) (X : List Completion) (u : ℕ) (y : Completion) (is_cancelled : OpenCall → Bool) (errno : Errno) → writes c ≡ None → IsCancelledCall is_cancelled errno u (open_call roster past u) y
     → IsCopied past (event t c X) y y.mark
 cancel_copied roster past t c X u y is_cancelled errno none k = grind (arith, buffer_open)
 
--- what a receiver takes that a pulse meets which is due
+-- the receipt of a pulse by the newest receiver
 told_now : (roster : List Member) (past : Trace) (t : ℕ) (c : Call) (X : List Completion) (u : ℕ) (y : Completion) (o : Option SentItem) → writes c ≡ None → ((m : SentItem) → o ≡ Some m → is_pulse m.item.what ≡ true)
     → Tells (facts_of roster past) o u y → IsCopied past (event t c X) y y.mark
 told_now roster past t c X u y o none pulse k =
@@ -167,7 +167,7 @@ completion_copied roster past t c X u y l p e = elim (completion_of (facts_of ro
 
 -- ---- each event
 
--- a refused call has the buffer that it brought: nothing was written over it
+-- a call that fails has the buffer that it passed, because nothing was written over it
 refused_buffer : (roster : List Member) (past : Trace) (t : ℕ) (c : Call) (X : List Completion) → IsLawful roster past → refuses X (length past + 1) ≡ true → buffer_of c ≡ buffer_at (event t c X ∷ past) (length past + 1)
 refused_buffer roster past t c X l r = grind (arith, writes_beyond)
 

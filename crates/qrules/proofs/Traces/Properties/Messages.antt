@@ -1,5 +1,5 @@
--- The messages and buffers of open calls are those that their calls brought, and a message that is pending
--- has its Send open.
+-- The messages and buffers of open calls are as their calls passed them, and the Send of a queued message is
+-- open.
 use Rattle.qrules.proofs.Common.{arith, ◌≡◌, ◌∙◌, ℕ, ◌+◌, List, [], ◌∷◌, length, refl, ap, sym, subst, cond, eqb, true, false, Option, message_in, message_of, held_call, with_buffer, buffer_at, message_at, buffer_of, none-some, is_pulse, Item, Member, effect_of, SentItem, Event, Trace, Call, OpenCall, Receipt, eqb_same, channel_of, buffer_in, None, Some, is_some, not, ◌&&◌}
 use Rattle.std.specs.Option.{option_and_then, option_map_or}
 use Rattle.std.proofs.lemmas.Bool.{eqb-true, or_parts, and_parts}
@@ -9,17 +9,17 @@ use Rattle.qmodel.specs.declared.open_call.OpenCall.TheVariants.{Send as InSend}
 use Rattle.qrules.proofs.Traces.Properties.Events.{outcome_of}
 use Rattle.qrules.proofs.Traces.Properties.Sends.{open_filled, open_keeps}
 
--- ---- what a call brings is what it waits with
+-- ---- an open call has what its call passed
 
 -- the bytes of the message that a call sends
 abbrev pub message_sent : Call → List ℕ
 message_sent c = option_map_or (λ s. s.message) (effect_of c).sends []
 
--- the buffer of call i, where it is this call
+-- the buffer of call i, if it is this call
 abbrev pub buffer_by : Trace → ℕ → Call → List ℕ
 buffer_by past i c = cond (is_some (effect_of c).sends) (with_writes past i (buffer_of c)) (buffer_of c)
 
--- a call that begins to wait keeps its buffer, which is written over, and its message
+-- an open call has the buffer of its call, with Writes copied over it, and the message of its call
 pub record Keeps (past : Trace) (n : ℕ) (c : Call) (b : OpenCall) : Type 0 where
   pub buffer : buffer_by past n c ≡ buffer_in (with_buffer (with_writes past n) b)
   pub sent : message_sent c ≡ message_of b
@@ -36,23 +36,23 @@ held_message receipt w = grind arith
 buffer_message : (f : List ℕ → List ℕ) (w : OpenCall) → message_of (with_buffer f w) ≡ message_of w
 buffer_message f w = grind arith
 
--- the buffer of an open call is the one that the call of its number brought, with what was written over it
+-- the buffer of an open call is the buffer that the call of its number passed, after all Writes
 pub open_buffer : (roster : List Member) (past : Trace) (u : ℕ) (o : OpenCall) → open_call roster past u ≡ Some o → buffer_at past (number_of o) ≡ buffer_in o
 open_buffer roster past u o is =
     let k = open_parts roster past u o is in
     let a = block_asked roster past u k.block k.is in
     ap (buffer_at past) k.number ∙ ap (λ c. option_map_or (buffer_by past (number_of k.block)) c []) a.is ∙ (keeps past (number_of k.block) u a.channel a.call k.block a.asks_it).buffer ∙ ap (λ n. buffer_in (with_buffer (with_writes past n) k.block)) refl ∙ sym (open_filled buffer_in roster past u o k held_buffer_of)
 
--- and so is its message
+-- the message of an open call is the message of the call of its number
 pub open_message : (roster : List Member) (past : Trace) (u : ℕ) (o : OpenCall) → open_call roster past u ≡ Some o → message_at past (number_of o) ≡ message_of o
 open_message roster past u o is =
     let k = open_parts roster past u o is in
     let a = block_asked roster past u k.block k.is in
     ap (message_at past) k.number ∙ ap (λ c. option_map_or message_sent c []) a.is ∙ (keeps past (number_of k.block) u a.channel a.call k.block a.asks_it).sent ∙ sym (open_keeps message_of roster past u o k held_message buffer_message)
 
--- ---- a message that is pending has its Send open
+-- ---- the Send of a queued message is open
 
--- the call that makes a message waits for the answer
+-- the call that makes a message is a Send, which waits for the reply
 pub record IsMessage (n t : ℕ) (c : Call) (m : SentItem) : Type 0 where
   pub begins : OpenCall
   pub asked : asks n t m.channel c ≡ Some begins
@@ -69,7 +69,7 @@ makes_message f t c m e message = grind arith
 abbrev newest_of : List Member → Trace → ℕ → Option OpenCall
 newest_of roster past u = block roster past u
 
--- the call of number i is the newest blocking call of a thread, and waits for an answer
+-- call i is the newest blocking call of a thread, and waits for a reply
 pub record IsWaiting (roster : List Member) (past : Trace) (i : ℕ) : Type 0 where
   pub thread : ℕ
   pub block : OpenCall
@@ -77,7 +77,7 @@ pub record IsWaiting (roster : List Member) (past : Trace) (i : ℕ) : Type 0 wh
   pub number : (number_of block) ≡ i
   pub answer : is_for_answer block ≡ true
 
--- a newest block that waits stays the newest, until it is ended
+-- a newest blocking call stays the newest until it completes
 pub block_stays : (roster : List Member) (e : Event) (past : Trace) (u : ℕ) (b : OpenCall) → IsLawful roster (e ∷ past) → block roster past u ≡ Some b → is_ended past (number_of b) ≡ false → block roster (e ∷ past) u ≡ Some b
 block_stays roster e past u b l is going =
     elim (blocks roster e past u) as (λ t. blocks roster e past u ≡ t → cond t (asks (length past + 1) u (channel_of (item_of roster e past)) e.call) (block roster past u) ≡ Some b) [
@@ -114,11 +114,11 @@ item_waits roster (e ∷ past) i m l is message going =
           }
     ] refl is
 
--- a message that is pending isn't ended
+-- the Send of a queued message hasn't completed
 pub pending_going : (roster : List Member) (past : Trace) (h : ℕ) (item : Item) → IsPending roster past h item → is_pulse item.what ≡ false → is_ended past item.number ≡ false
 pending_going roster past h item p message = subst (λ b. (not b && is_ended past item.number) ≡ false) message (or_parts _ _ p.stays).1
 
--- the message of a pending item is that of the call of its number
+-- the message of a queued item is the message of the call of its number
 pub pending_message : (roster : List Member) (past : Trace) (h : ℕ) (item : Item) → IsLawful roster past → IsPending roster past h item → is_pulse item.what ≡ false → message (facts_of roster past) item.number ≡ message_at past item.number
 pending_message roster past h item l p sent =
     let going : is_ended past item.number ≡ false = pending_going roster past h item p sent in

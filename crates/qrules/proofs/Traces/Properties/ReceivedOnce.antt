@@ -1,4 +1,4 @@
--- No item is received twice, none before it was made, and no call is ended twice.
+-- No item is received twice, none before it was made, and no call completes twice.
 use Rattle.qrules.proofs.Common.{◌≡◌, ◌≢◌, ◌∙◌, ℕ, ◌+◌, ◌≤◌, List, [], ◌∷◌, ◌++◌, length, map, refl, ap, sym, subst, arith, eqb, true, false, inl, inr, option_or, filter_map-append, same_Some, option_and_then_some, AllDifferent, ReceivedOnce, items, number_received, InEachEvent, endings_of, AllByRecursion, filter_map, cons_option, map-append, Member, IsRoster, completion_to, Answers, Outcome, item_among, SentItem, Event, Trace, Call, Completion, all_append, all_map, all_more, Option, None, Some, is_some}
 use Rattle.std.proofs.lemmas.Bool.{or_parts, ne_eqb, eqb-false, true≢false}
 use Rattle.qrules.proofs.Basics.{Facts, threads_of, facts_of, IsLawful, has_completion_of, is_ended, is_received, copied_count_among, copied_count_of, completion_names, laws_of, not_ended, other_below, IsPending, item_at, item_below, item_earlier, item_found, item_newest, call_laws, open_thread}
@@ -10,9 +10,9 @@ use Rattle.qrules.proofs.Traces.Properties.Events.{each_received, made_now}
 eqb_flip : (n m : ℕ) → eqb n m ≡ false → eqb m n ≡ false
 eqb_flip n m e = ne_eqb m n (λ same. eqb-false n m e (sym same))
 
--- ---- no call is ended twice
+-- ---- no call completes twice
 
--- two threads' endings of one event are of different calls
+-- completions of one event that go to two threads are of different calls
 pub different_calls : (roster : List Member) (past : Trace) (t : ℕ) (c : Call) (X : List Completion) → Outcome true (facts_of roster past) t c X → (u v : ℕ) (y z : Completion) → u ≢ v
     → completion_to (facts_of roster past) t c u ≡ Some y → completion_to (facts_of roster past) t c v ≡ Some z → eqb y.call z.call ≡ false
 different_calls roster past t c X a u v y z apart yis zis =
@@ -30,7 +30,7 @@ different_calls roster past t c X a u v y z apart yis zis =
       ]
     ]
 
--- the endings of one event are of different calls
+-- the completions of one event are of different calls
 event_calls : (roster : List Member) (past : Trace) (t : ℕ) (c : Call) (X : List Completion) → IsRoster roster → Answers (facts_of roster past) t c X → AllDifferent (map (λ x. x.call) X)
 event_calls roster past t c X r a = elim a [
   | inl a ↦ rw (a.1, calls_as (filter_map (completion_to (facts_of roster past) t c) (threads_of roster)))
@@ -46,7 +46,7 @@ none_ends : (X : List Completion) (i : ℕ) → has_completion_of X i ≡ false 
 none_ends [] i e = tt
 none_ends (x ∷ X) i e = let p = or_parts _ _ e in (eqb_flip x.call i p.0, none_ends X i p.1)
 
--- a call that isn't ended is none of those that are
+-- a call that hasn't completed isn't among the completed calls
 unended : (past : Trace) (i : ℕ) → is_ended past i ≡ false → IsNoneOf i (map (λ x. x.call) (endings_of past))
 unended [] i e = tt
 unended (e ∷ past) i is =
@@ -67,7 +67,7 @@ each_call roster (e ∷ past) r l =
 
 -- ---- no item is received twice
 
--- what the caller takes was pending
+-- an item that the caller takes was queued
 pending_taken : (roster : List Member) (past : Trace) (t : ℕ) (c : Call) (u : ℕ) (y : Completion) (i : ℕ) (k : TakesPending (facts_of roster past) t c u y i) → IsPending roster past k.request.channel k.item
 pending_taken roster past t c u y i k = best_pending roster past k.request.channel k.request.kind k.item k.best
 
@@ -83,7 +83,7 @@ all_kept {Y} {Z} P k (x ∷ xs) a =
       | Some z ↦ λ e. (a.0 z e, all_kept P k xs a.1)
     ] refl
 
--- what an event receives wasn't taken before
+-- an item that an event receives wasn't received before
 untaken_yet : (roster : List Member) (past : Trace) (t : ℕ) (c : Call) (X : List Completion) → IsLawful roster past → Answers (facts_of roster past) t c X
     → AllByRecursion (λ i. is_received past i ≡ false) (filter_map number_received X)
 untaken_yet roster past t c X l a = all_kept (λ i. is_received past i ≡ false) number_received X (each_received (λ x i. is_received past i ≡ false) roster past t c X a (λ u y i _ k.
@@ -92,7 +92,7 @@ untaken_yet roster past t c X l a = all_kept (λ i. is_received past i ≡ false
       | inr k ↦ subst (λ j. is_received past j ≡ false) (sym (made_number (facts_of roster past) t c u y i k)) (ap is_some (receipt_beyond roster past (length past + 1) l (omega arith)))
     ]))
 
--- the endings of one event receive different items: there is one receipt at most
+-- the completions of one event receive different items, because there is at most one receipt
 event_items : (roster : List Member) (past : Trace) (t : ℕ) (c : Call) (X : List Completion) → IsRoster roster → Answers (facts_of roster past) t c X → AllDifferent (filter_map number_received X)
 event_items roster past t c X r a = elim a [
   | inl a ↦ rw (a.1) (different_kept number_received (completion_to (facts_of roster past) t c) roster r (λ u v i j less eu ev.
@@ -111,7 +111,7 @@ none_received : (X : List Completion) (i : ℕ) → is_some (copied_count_among 
 none_received [] i e = tt
 none_received (x ∷ X) i e = grind (arith, none_received X)
 
--- an item that isn't taken is none of those that are
+-- an item that hasn't been received isn't among the received items
 untaken : (past : Trace) (i : ℕ) → is_received past i ≡ false → IsNoneOf i (filter_map number_received (endings_of past))
 untaken [] i e = tt
 untaken (e ∷ past) i is =
@@ -131,13 +131,13 @@ each_item roster (e ∷ past) r l =
     (all_more (λ i. is_received past i ≡ false) (λ i. IsNoneOf i (filter_map number_received (endings_of past))) (filter_map number_received e.endings)
     (untaken_yet roster past e.thread e.call e.endings l.0 l.1.1) (λ i is. untaken past i is)))
 
--- ---- none before it was made
+-- ---- no item is received before it was made
 
 -- an item that was made is among all items
 is_made_at : (roster : List Member) (past : Trace) (i : ℕ) (m : SentItem) → item_at roster past i ≡ Some m → is_some (item_among (items roster past) i) ≡ true
 is_made_at roster past i m is = ap is_some (item_found roster past i m is)
 
--- what an event receives is made by then
+-- an item that an event receives has been made by then
 early : (roster : List Member) (past : Trace) (e : Event) → Answers (facts_of roster past) e.thread e.call e.endings
     → AllByRecursion (λ i. is_some (item_among (items roster (e ∷ past)) i) ≡ true) (filter_map number_received e.endings)
 early roster past e a =

@@ -1,4 +1,4 @@
--- A Send that waits: its thread, and the connection and channel of its item.
+-- A blocked Send: its thread, and the connection and channel of its item.
 use Rattle.std.proofs.lemmas.Bool.Decides.{nat_tests}
 use Rattle.qrules.proofs.Common.{◌≡◌, ◌∙◌, ℕ, ◌+◌, ◌≤◌, List, [], ◌∷◌, length, refl, ap, sym, subst, arith, true, inl, inr, ◌⊎◌, ne_eqb, none-some, Connection, Member, held_call, with_buffer, SentItem, Event, Trace, OpenCall, Receipt, eqb_same, channel_of, is_on, Option, Some, is_some}
 use Rattle.qrules.proofs.Basics.{is_for_answer, number_of, facts_of, IsLawful, asks, thread_of_send, is_accepted, accepted_at, sender_of, with_writes, attached_connection, block, filled, item_of, open_call, passes_of, item_at, item_below, item_earlier, item_newest, made_below, block_below, IsOpen, buffer_answer, held_for_answer, open_parts, held_on, buffer_on}
@@ -6,22 +6,22 @@ use Rattle.qrules.proofs.Traces.Properties.Answers.{over, sends_by, sends_over}
 use Rattle.qrules.proofs.Traces.Properties.Events.{made_now, outcome_of}
 use Rattle.qrules.proofs.Traces.Past.Connections.{live_attached}
 
--- ---- what events made
+-- ---- the things that events made
 
--- a later event changes nothing of what an earlier one made
+-- a later event doesn't change what an earlier one made
 pub made_earlier : {A : Type 0} (make : Event → Option A) (e : Event) (past : Trace) (i : ℕ) → i ≤ length past → accepted_at make (e ∷ past) i ≡ accepted_at make past i
 made_earlier make e past i l = rw (ne_eqb i (length past + 1) (λ same. omega arith)) refl
 
 pub made_newest : {A : Type 0} (make : Event → Option A) (e : Event) (past : Trace) → is_accepted e past ≡ true → accepted_at make (e ∷ past) (length past + 1) ≡ make e
 made_newest make e past is = rw (eqb_same (length past + 1), is) refl
 
--- what is made stays made
+-- a made thing stays made
 pub made_stays : {A : Type 0} (make : Event → Option A) (e : Event) (past : Trace) (i : ℕ) (x : A) → accepted_at make past i ≡ Some x → accepted_at make (e ∷ past) i ≡ Some x
 made_stays make e past i x is = made_earlier make e past i (made_below make past i x is) ∙ is
 
 -- ---- the newest blocking call
 
--- it is of the newest event, which was accepted, or it is one of the past
+-- the newest blocking call is the call of the newest event, which was accepted
 pub record BeginsNow (roster : List Member) (e : Event) (past : Trace) (u : ℕ) (b : OpenCall) : Type 0 where
   pub thread : e.thread ≡ u
   pub accepted : is_accepted e past ≡ true
@@ -31,7 +31,7 @@ pub record BeginsNow (roster : List Member) (e : Event) (past : Trace) (u : ℕ)
 pub begins_now : (roster : List Member) (e : Event) (past : Trace) (u : ℕ) (b : OpenCall) → block roster (e ∷ past) u ≡ Some b → BeginsNow roster e past u b ⊎ (block roster past u ≡ Some b)
 begins_now roster e past u b is = grind arith
 
--- the thread of a Send that waits is its sender
+-- the thread of a blocked Send is its sender
 pub block_sender : (roster : List Member) (past : Trace) (u : ℕ) (b : OpenCall) → block roster past u ≡ Some b → is_for_answer b ≡ true → sender_of past (number_of b) ≡ Some u
 block_sender roster [] u b is w = absurd (none-some b is)
 block_sender roster (e ∷ past) u b is w = elim (begins_now roster e past u b is) [
@@ -41,7 +41,7 @@ block_sender roster (e ∷ past) u b is w = elim (begins_now roster e past u b i
   | inr h ↦ made_stays (λ e. thread_of_send e.thread e.call) e past (number_of b) u (block_sender roster past u b h w)
 ]
 
--- the connection over which a Send waits, and the item that it made, on the connection's channel
+-- the connection of a Send, and the item that it made, on the connection's channel
 pub record IsSentOver (roster : List Member) (past : Trace) (coid i : ℕ) : Type 0 where
   pub connection : Connection
   pub is_connection : attached_connection roster past coid ≡ Some connection
@@ -74,19 +74,19 @@ block_over roster (e ∷ past) u b l is w = elim (begins_now roster e past u b i
       }
 ]
 
--- a Send waits on the channel of the item that it made
+-- a Send is open on the channel of the item that it made
 pub block_on : (roster : List Member) (past : Trace) (u : ℕ) (b : OpenCall) (m : SentItem) → block roster past u ≡ Some b → is_for_answer b ≡ true → item_at roster past (number_of b) ≡ Some m → is_on m.channel b ≡ true
 block_on roster [] u b m is w made = absurd (none-some b is)
 block_on roster (e ∷ past) u b m is w made = grind (arith, nat_tests, block_below, block_on roster past)
 
--- ---- what is open
+-- ---- the open call
 
--- what a receipt doesn't change of a wait is that of the call as it is written
+-- a property of an open call that no receipt changes is the property of the call after all Writes
 pub open_filled : {A : Type 0} (g : OpenCall → A) (roster : List Member) (past : Trace) (u : ℕ) (o : OpenCall) (k : IsOpen roster past u o) → ((receipt : Receipt) (w : OpenCall) → g (held_call receipt w) ≡ g w)
     → g o ≡ g (filled past k.block)
 open_filled {A} g roster past u o k h = grind arith
 
--- what neither a receipt nor a write changes is that of the call as it began
+-- a property of an open call that no receipt and no Write changes is the property of the call as it began
 pub open_keeps : {A : Type 0} (g : OpenCall → A) (roster : List Member) (past : Trace) (u : ℕ) (o : OpenCall) (k : IsOpen roster past u o) → ((receipt : Receipt) (w : OpenCall) → g (held_call receipt w) ≡ g w)
     → ((f : List ℕ → List ℕ) (w : OpenCall) → g (with_buffer f w) ≡ g w) → g o ≡ g k.block
 open_keeps g roster past u o k h wrote = open_filled g roster past u o k h ∙ wrote (with_writes past (number_of k.block)) k.block
@@ -97,7 +97,7 @@ held_over receipt w = grind arith
 pub buffer_over : (f : List ℕ → List ℕ) (w : OpenCall) → over (with_buffer f w) ≡ over w
 buffer_over f w = grind arith
 
--- the connection over which an open Send was sent was attached to the channel on which the Send is open
+-- the connection of an open Send was attached to the channel of the Send
 pub open_on : (roster : List Member) (past : Trace) (u : ℕ) (o : OpenCall) → IsLawful roster past → open_call roster past u ≡ Some o → is_for_answer o ≡ true → (c : Connection) × (attached_connection roster past (over o) ≡ Some c) × (is_on c.channel o ≡ true)
 open_on roster past u o l is w =
     let k = open_parts roster past u o is in

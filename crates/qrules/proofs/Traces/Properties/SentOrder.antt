@@ -1,5 +1,5 @@
--- Of what was sent over one connection and has one priority as it is received, what was sent first is
--- received first.
+-- Of the items that were sent over one connection and have one priority when one of them is received, the
+-- first sent is received first.
 use Rattle.qrules.proofs.Common.{◌≡◌, ◌∙◌, ℕ, ◌≤◌, List, [], ◌∷◌, ap, sym, subst, arith, true, inl, inr, cases_eq, connection_of, number_received, takeable, BestFirst, IsEarliest, SentOrder, TakesBest, TakesSent, Some, AllByRecursion, same_Some, best_of, may_take, IsRising, Item, Kind, Any, best-at, IsRoster, Member, ReceiveRequest, Event, Trace, Completion, all_more}
 use Rattle.qrules.proofs.Basics.{IsLawful, priority_before}
 use Rattle.qrules.proofs.Traces.Past.Best.{best_earliest, some_number}
@@ -11,14 +11,14 @@ use Rattle.qrules.proofs.Traces.Properties.Connections.{IsMadeFor, item_over, ta
 takes_any : (asked request : ReceiveRequest) (item : Item) → Some asked ≡ Some request → request.kind ≡ Any → may_take asked.kind item ≡ true
 takes_any asked request item same any = ap (λ kind. may_take kind item) (ap (λ (r : ReceiveRequest). r.kind) (same_Some asked request same) ∙ any)
 
--- the best of rising items is no later than any other of its priority
+-- the best of rising items isn't later than any other item of its priority
 first_of_equals : (kind : Kind) (items : List Item) (x : Item) → IsRising items → best_of kind items ≡ Some x → ((w : Item) → may_take kind w ≡ true)
     → AllByRecursion (λ w. w.priority ≡ x.priority → x.number ≤ w.number) items
 first_of_equals kind items x rising best may =
     all_more (λ w. may_take kind w ≡ true → w.priority ≡ x.priority → x.number ≤ w.number) (λ w. w.priority ≡ x.priority → x.number ≤ w.number) items
     (best_earliest kind items x rising best) (λ w earliest same. earliest (may w) same)
 
--- of what could be taken from one channel, nothing is earlier
+-- of the items that could be taken from one channel, none of this connection and priority is earlier
 abbrev IsEarliestOn : List Member → Trace → Event → ℕ → ℕ → ℕ → Type 0
 IsEarliestOn roster past e j k h = AllByRecursion (λ w. connection_of (e ∷ past) w.number ≡ Some k → w.priority ≡ priority_before roster past e j → j ≤ w.number) (takeable roster past e h)
 

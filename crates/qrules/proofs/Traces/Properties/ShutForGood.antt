@@ -1,4 +1,4 @@
--- Nothing is received from a channel that is destroyed, and no thread is blocked on it.
+-- Nothing is received from a destroyed channel, and no thread is blocked on it.
 use Rattle.qrules.proofs.Common.{arith, ◌≡◌, ◌∙◌, ℕ, ◌+◌, List, [], ◌∷◌, length, refl, ap, sym, subst, cond, eqb, true, false, inl, inr, receive_in, send_in, OpenReceive, OpenSend, number_received, IsShut, ShutForGood, AllByRecursion, none-some, same_Some, Srch, best_of, IsRoster, Member, Outcome, row_of, effect_of, is_on, item_among, channel_of, unblocked_call, Event, Trace, Call, Completion, OpenCall, Option, None, Some, is_some, ◌||◌}
 use Rattle.std.specs.Option.{option_and_then, option_map}
 use Rattle.std.proofs.lemmas.Bool.{or_cases, true≢false}
@@ -15,7 +15,7 @@ use Rattle.qrules.proofs.Traces.Properties.Sends.{open_on}
 
 -- ---- by each call's row
 
--- a call that destroys a channel does nothing else of its own
+-- a call that destroys a channel has no other effect
 record DestroysAlone (c : Call) : Type 0 where
   asks_none : (n t h : ℕ) → asks n t h c ≡ None
   receives_none : (effect_of c).receives ≡ None
@@ -24,7 +24,7 @@ record DestroysAlone (c : Call) : Type 0 where
 destroys_alone : (c : Call) (h : ℕ) → names (closes c) h ≡ true → DestroysAlone c
 destroys_alone c h e = grind arith
 
--- a call that destroys a channel ends each call that is blocked on it
+-- a call that destroys a channel completes each call that is blocked on it
 closing_ends : (f : Facts) (t : ℕ) (c : Call) (h u : ℕ) (o : OpenCall) → names (closes c) h ≡ true → f.open_call u ≡ Some o → is_on h o ≡ true → is_some ((row_of f t c).others u) ≡ true
 closing_ends f t c h u o e is on = grind arith
 
@@ -32,11 +32,11 @@ closing_ends f t c h u o e is on = grind arith
 own_open : (f : Facts) (t chid h : ℕ) → cond (owns f t chid) None (Some Srch) ≡ None → eqb chid h ≡ true → is_some (f.channel h) ≡ true
 own_open f t chid h r on = grind arith
 
--- a call begins to wait on an open channel
+-- a call that blocks its thread is on an open channel
 begins_on_open : (f : Facts) (t : ℕ) (c : Call) (b : OpenCall) (h : ℕ) → (row_of f t c).refusal ≡ None → asks f.number t (channel_of (makes f t c)) c ≡ Some b → is_on h b ≡ true → is_some (f.channel h) ≡ true
 begins_on_open f t c b h r e on = grind arith
 
--- ---- what is blocked
+-- ---- blocked threads
 
 -- each open call is blocked on an open channel
 abbrev pub WaitsOnOpen : Facts → Type 0
@@ -45,7 +45,7 @@ WaitsOnOpen f = (u : ℕ) (o : OpenCall) (h : ℕ) → f.open_call u ≡ Some o 
 unblocked_on : (h : ℕ) (o : OpenCall) → is_on h (unblocked_call o) ≡ is_on h o
 unblocked_on h o = grind arith
 
--- the channel of a wait lasts
+-- an open call stays on its channel
 lasts_on : (h : ℕ) → Lasts (is_on h)
 lasts_on h = record { held = held_on h; buffer = buffer_on h; unblocked = unblocked_on h }
 
@@ -79,9 +79,9 @@ waits_on_open roster (e ∷ past) r l u o h is on =
           ap is_some (k.channel h) ∙ waits_on_open roster past r l.0 u o h (sym (k.open_call u) ∙ is) on
     ]
 
--- ---- what is received
+-- ---- received items
 
--- an item that an accepted call's endings receive is of a channel that isn't destroyed
+-- an item that an accepted call's completions receive is of a channel that isn't destroyed
 taken_is_open : (roster : List Member) (e : Event) (past : Trace) (u i h : ℕ) (y : Completion) → Outcome true (facts_of roster past) e.thread e.call e.endings → TakesOne (facts_of roster past) e.thread e.call u y i
     → option_map (λ m. m.channel) (item_among (items roster (e ∷ past)) i) ≡ Some h → (names (closes e.call) h || is_destroyed past h) ≡ true → ⊥
 taken_is_open roster e past u i h y a k is closed =
@@ -116,7 +116,7 @@ none_received roster e past h l closed =
     each_received (λ x i. option_map (λ m. m.channel) (item_among (items roster (e ∷ past)) i) ≡ Some h → ⊥) roster past e.thread e.call e.endings l.1.1
     (λ u y i a k is. taken_is_open roster e past u i h y a k is (sym (closed_accepted roster e past h (accepted roster past e.thread e.call e.endings a)) ∙ closed))
 
--- ---- what is open
+-- ---- open calls
 
 module _ (roster : List Member) (past : Trace) (h : ℕ) where
   -- the channel of an open Send's connection
@@ -124,7 +124,7 @@ module _ (roster : List Member) (past : Trace) (h : ℕ) where
   end_of s = option_map (λ c. c.channel) (attached_connection roster past s.connection)
 
   module _ (rises : IsRoster roster) (l : IsLawful roster past) (closed : is_destroyed past h ≡ true) where
-    -- no open call is on a channel that is destroyed
+    -- no open call is on a destroyed channel
     none_on : (u : ℕ) (o : OpenCall) → open_call roster past u ≡ Some o → is_on h o ≡ true → ⊥
     none_on u o is on = true≢false (sym closed ∙ (open_at roster past h (waits_on_open roster past rises l u o h is on)).standing)
 

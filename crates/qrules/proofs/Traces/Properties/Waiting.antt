@@ -1,4 +1,4 @@
--- While a thread waits for an item of a channel, nothing that it may take is pending there.
+-- While a thread waits for an item of a channel, no item that it may take is queued there.
 use Rattle.qrules.proofs.Common.{arith, ◌≡◌, ◌∙◌, ℕ, List, [], ◌∷◌, ◌++◌, refl, ap, sym, subst, cond, eqb, Bool, true, false, inl, inr, option_map, none-some, none-may, all_append, all_filter, all_more, is_among, none_of, some_of, AllByRecursion, eqb-true, eqb-false, best_of, may_take, Item, Kind, IsRoster, Member, row_of, effect_of, held_call, with_buffer, unblocked_call, ReceiveRequest, newest_receiver, SentItem, Trace, Call, OpenCall, Receipt, channel_of, Option, None, Some, is_some, not, filter}
 use Rattle.qrules.proofs.Basics.{receipt_of, message_item, receiver, receipt_when_sent, Received, item_sent_over, pulse_receipt, Facts, sender, threads_of, route, asks, makes, unblocks, writes, facts_of, IsLawful, made_on, after_receipt, after_write, is_cancelled, uncancelled_items, open_call_after, pending_after, unreceived_items, unless, after_unblock, open_known, passes_of, Passes, has_way, known}
 use Rattle.qmodel.specs.declared.call.Call.TheVariants.{Send, Pulse, Unblock, ConnectDetach}
@@ -10,29 +10,29 @@ use Rattle.qrules.proofs.Traces.Past.Before.{Lasts, before_other, before_receipt
 use Rattle.qrules.proofs.Traces.Properties.Receivers.{WaitsOn, newest_some, newest_waits}
 use Rattle.qmodel.specs.declared.open_call.OpenReceive.{OpenReceive}
 
--- ---- what a thread waits for
+-- ---- the items that a thread waits for
 
 waits_for_is : (o : OpenCall) (h : ℕ) (kind : Kind) → waits_for o ≡ Some (h, kind) → (r : OpenReceive) × (o ≡ InReceive r) × (r.channel ≡ h) × (r.kind ≡ kind)
 waits_for_is o h kind e = grind arith
 
--- a receipt changes nothing of it
+-- a receipt doesn't change them
 pub held_waits_for : (receipt : Receipt) (w : OpenCall) → waits_for (held_call receipt w) ≡ waits_for w
 held_waits_for receipt w = grind arith
 
 pub buffer_waits_for : (f : List ℕ → List ℕ) (w : OpenCall) → waits_for (with_buffer f w) ≡ waits_for w
 buffer_waits_for f w = grind arith
 
--- where a request receives, and what
+-- the channel and the kind of items of a request
 abbrev pub place_of : ReceiveRequest → ℕ × Kind
 place_of r = (r.channel, r.kind)
 
--- a call waits for what it asks to receive
+-- an open call waits for the items that its call asked for
 pub waits_for_asked : (n t h : ℕ) (c : Call) (b : OpenCall) → asks n t h c ≡ Some b → option_map place_of (effect_of c).receives ≡ waits_for b
 waits_for_asked n t h c b e = grind arith
 
 -- ---- by each call's row
 
--- a call that begins to wait for an item finds none, and makes none
+-- a call that blocks its thread in a receive finds no item, and makes none
 abbrev BeginsWithNone : Facts → ℕ → Call → ℕ × Kind → Type 0
 BeginsWithNone f t c p = (best_of p.1 (f.pending p.0) ≡ None) × (makes f t c ≡ None)
 
@@ -56,7 +56,7 @@ delivered_at_once f t c w item message sender m u o kind is_way it receipt among
     let v = newest_waits f m.channel item r.0 r.1 in
     grind arith
 
--- what is sent over a way is the item, to its channel
+-- the item that is sent over a route is this item, and goes to the route's channel
 sent_is : (f : Facts) (t coid : ℕ) (item : Item) (m : SentItem) (h : ℕ) → route f t coid ≡ Some h → item_sent_over (f.connection coid) item ≡ Some m → (route f t coid ≡ Some m.channel) × (m.item ≡ item)
 sent_is f t coid item m h is_way made = grind arith
 
@@ -80,23 +80,23 @@ all_kept_by : (P : Item → Type 0) (p : Item → Bool) (items : List Item) → 
 all_kept_by P p [] all = tt
 all_kept_by P p (x ∷ items) all = grind (arith, all_kept_by P p items)
 
--- what is so of each that isn't taken out is so of what is left
+-- a statement that holds for each item that isn't received holds for the items that are left
 all_left : (P : Item → Type 0) (o : Option Received) (h : ℕ) (items : List Item)
     → AllByRecursion (λ w. ((r : Received) → o ≡ Some r → r.channel ≡ h → eqb w.number r.item ≡ false) → P w) items → AllByRecursion P (unreceived_items o h items)
 all_left P o h items all = grind (arith, all_kept_by, all_more)
 
 -- ---- after one more event
 
--- nothing that a waiting thread may take is pending
+-- no item that a blocked thread may take is queued
 abbrev pub NothingFor : Facts → Type 0
 NothingFor f = (u : ℕ) (o : OpenCall) (h : ℕ) (kind : Kind) → f.open_call u ≡ Some o → waits_for o ≡ Some (h, kind) → AllByRecursion (λ w. may_take kind w ≡ false) (f.pending h)
 
--- what is so of all that isn't destroyed is so of what is pending afterwards
+-- a statement about the items that are left holds for the queued items after the call, too
 all_after : (kind : Kind) (f : Facts) (t : ℕ) (c : Call) (h : ℕ) → AllByRecursion (λ w. may_take kind w ≡ false) (unreceived_items (receipt_of f t c) h (uncancelled_items f t c h (f.pending h ++ made_on h (makes f t c))))
     → AllByRecursion (λ w. may_take kind w ≡ false) (pending_after f t c h)
 all_after kind f t c h all = grind (arith, all_moved)
 
--- the caller begins to wait: nothing was pending, and nothing is made
+-- the caller blocks: no item that it may take was queued, and none is made
 caller_finds_none : (f : Facts) (t : ℕ) (c : Call) (o : OpenCall) (h : ℕ) (kind : Kind) → unless (is_some (row_of f t c).own) (after_receipt (receipt_of f t c) t (asks f.number t (channel_of (makes f t c)) c)) ≡ Some o
     → waits_for o ≡ Some (h, kind) → AllByRecursion (λ w. may_take kind w ≡ false) (pending_after f t c h)
 caller_finds_none f t c o h kind is waits =
@@ -107,7 +107,7 @@ caller_finds_none f t c o h kind is waits =
     let none : AllByRecursion (λ (w : Item). may_take kind w ≡ false) (f.pending h) = none-may kind (f.pending h) k.0 in
     grind (arith, all_after, all_append, all_filter, all_left, all_more)
 
--- another thread that waits on: what it may take is received at once
+-- another thread stays blocked: an item that it may take would be received at once
 other_finds_none : (f : Facts) (t : ℕ) (c : Call) (u : ℕ) (o : OpenCall) (h : ℕ) (kind : Kind) → Passes f t c → NothingFor f → is_among (threads_of f.roster) u ≡ true → f.open_call u ≡ Some o
     → waits_for o ≡ Some (h, kind) → AllByRecursion (λ w. may_take kind w ≡ false) (pending_after f t c h)
 other_finds_none f t c u o h kind p nothing among is waits =
@@ -139,7 +139,7 @@ other_finds_none f t c u o h kind p nothing among is waits =
 unblocked_waits_for : (w : OpenCall) → waits_for (unblocked_call w) ≡ waits_for w
 unblocked_waits_for w = grind arith
 
--- what a thread waits for to receive lasts
+-- the items that a thread waits for last
 lasts_waits_for : Lasts waits_for
 lasts_waits_for = record { held = held_waits_for; buffer = buffer_waits_for; unblocked = unblocked_waits_for }
 

@@ -1,11 +1,11 @@
--- Whose the endings of an event are, and who is blocked after it.
+-- The threads that get the completions of an event, and the threads that are blocked after it.
 use Rattle.qrules.proofs.Common.{arith, ◌≡◌, ◌∙◌, ℕ, ◌+◌, List, [], ◌∷◌, length, refl, ap, sym, subst, cond, Bool, true, false, eqb, inl, inr, gets, AreApart, is_among, eqb_same, any_filter_map, any_filter_map_at, all_filter_map, cond_same, filter_map, AllByRecursion, or-true, member_at, IsRoster, Member, completion_to, row_of, SentItem, Event, Trace, Call, Completion, OpenCall, Transfer, channel_of, Option, Some, is_some, ◌||◌}
 use Rattle.std.proofs.lemmas.Bool.{cases_Bool, eqb-true, ne_eqb, true≢false}
 use Rattle.qrules.proofs.Basics.{receipt_of, Received, Facts, threads_of, asks, makes, facts_of, IsLawful, has_completion_of, open_call, after_receipt, after_unblock, after_write, open_call_after, unless, completion_names, ends_own, laws_of, open_known, passes_of, Passes, waits_or_ends, Rises, rises, not_among, known}
 use Rattle.qrules.proofs.Traces.Past.OpenCalls.{open_accepted, open_refused}
 use Rattle.qrules.proofs.Traces.TraceLaws.Ending.{completion_thread}
 
--- ---- endings by thread
+-- ---- completions by thread
 
 module _ (g : ℕ → Option Completion) (names : (u : ℕ) (y : Completion) → g u ≡ Some y → y.thread ≡ u) where
   -- a thread that isn't among these gets nothing
@@ -17,11 +17,11 @@ module _ (g : ℕ → Option Completion) (names : (u : ℕ) (y : Completion) →
   apart_by [] r = tt
   apart_by (v ∷ ts) r = grind (arith, gets_none, not_among, apart_by ts)
 
-  -- a thread of these gets just what it is given
+  -- a thread among these gets a completion exactly if the function has one for it
   gets_by : (ts : List ℕ) (u : ℕ) → is_among ts u ≡ true → gets (filter_map g ts) u ≡ is_some (g u)
   gets_by ts u among = grind (arith, any_filter_map, any_filter_map_at)
 
--- each completion of an event goes to a thread of its own
+-- each completion of an event goes to a different thread
 pub endings_are_apart : (roster : List Member) (past : Trace) (e : Event) → IsRoster roster → IsLawful roster (e ∷ past) → AreApart e.endings
 endings_are_apart roster past e r l =
     let f = facts_of roster past in
@@ -30,11 +30,11 @@ endings_are_apart roster past e r l =
       | inr a ↦ subst AreApart (sym a.2) (refl, tt)
     ]
 
--- a call of thread u may end in an event of thread t: it is the event's own, or u is blocked in it
+-- a call of thread u may complete in an event of thread t: u is t, or u is blocked
 abbrev pub may_end : List Member → Trace → ℕ → ℕ → Bool
 may_end roster past t u = eqb u t || is_some (open_call roster past u)
 
--- the completion goes to a thread of the roster whose call may end in an event of thread t
+-- the completion goes to a thread of the roster whose call may complete in an event of thread t
 pub record GoesToBlocked (roster : List Member) (past : Trace) (t : ℕ) (x : Completion) : Type 0 where
   pub known : is_some (member_at roster x.thread) ≡ true
   pub may : may_end roster past t x.thread ≡ true
@@ -58,7 +58,7 @@ endings_go_to_blocked roster past e r l =
       | inr a ↦ subst (AllByRecursion (GoesToBlocked roster past e.thread)) (sym a.2) (own_due roster past e.thread _ l.1.0 refl, tt)
     ]
 
--- ---- who is blocked after an event
+-- ---- the threads that are blocked after an event
 
 pub some_receipt : (r : Option Received) (u : ℕ) (o : Option OpenCall) → is_some (after_receipt r u o) ≡ is_some o
 some_receipt r u o = grind arith
@@ -73,11 +73,11 @@ some_unless : (b : Bool) (o : Option OpenCall) → is_some (unless b o) ≡ cond
 some_unless true o = refl
 some_unless false o = refl
 
--- the caller is blocked unless its call ended
+-- the caller is blocked unless its call completed
 own_blocked : (f : Facts) (t : ℕ) (c : Call) → Passes f t c → is_some (unless (is_some (row_of f t c).own) (after_receipt (receipt_of f t c) t (asks f.number t (channel_of (makes f t c)) c))) ≡ cond (is_some (row_of f t c).own) false true
 own_blocked f t c p = grind (arith, waits_or_ends)
 
--- of another thread than the caller, or of the caller that wasn't blocked, after a refusal
+-- after a call that fails: the state of another thread, or of a caller that wasn't blocked before
 refused_blocked : (o : Option OpenCall) (own : Option OpenCall) (t u : ℕ) → (eqb u t ≡ true → o ≡ own) → is_some own ≡ false → is_some o ≡ cond (eqb t u || false) false (eqb u t || is_some o)
 refused_blocked o own t u same idle = grind arith
 
@@ -88,7 +88,7 @@ accepted_blocked f t c u p = grind (arith, own_blocked, some_unblock, some_unles
 stranger_free : (roster : List Member) (past : Trace) (u : ℕ) → IsLawful roster past → is_some (member_at roster u) ≡ false → is_some (open_call roster past u) ≡ false
 stranger_free roster past u l none = grind (arith, open_known)
 
--- of a thread of the roster
+-- the state of a thread of the roster
 member_blocked : (roster : List Member) (past : Trace) (e : Event) → IsLawful roster (e ∷ past) → is_some (open_call roster past e.thread) ≡ false → (u : ℕ) → is_some (member_at roster u) ≡ true
     → is_some (open_call roster (e ∷ past) u) ≡ cond (gets e.endings u) false (may_end roster past e.thread u)
 member_blocked roster past e l idle u member =

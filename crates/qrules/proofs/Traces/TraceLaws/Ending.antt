@@ -1,14 +1,14 @@
--- Whose calls end.
+-- The threads whose calls complete.
 use Rattle.std.proofs.lemmas.Bool.Decides.{nat_tests}
 use Rattle.qrules.proofs.Common.{◌≡◌, ◌∙◌, ℕ, ◌+◌, ◌≤◌, List, [], ◌∷◌, length, refl, ap, sym, subst, arith, eqb, false, inl, inr, thread_at, Some, AllByRecursion, ne_eqb, none-some, completion_to, IsRoster, Event, Trace, Call, Completion, OpenCall, all_filter_map, eqb_same, Member}
 use Rattle.qrules.proofs.Basics.{Facts, threads_of, number_of, IsLawful, facts_of, completion_names, laws_of, RowLaws, block_below, open_parts, block}
 use Rattle.qrules.proofs.Traces.Properties.Sends.{begins_now}
 
--- an accepted call's endings go to the threads that get them
+-- the completions of an accepted call belong to the threads that get them
 pub completion_thread : (f : Facts) (t : ℕ) (c : Call) → RowLaws f t c → (u : ℕ) (y : Completion) → completion_to f t c u ≡ Some y → y.thread ≡ u
 completion_thread f t c laws u y e = grind (arith, nat_tests)
 
--- ---- whose calls end
+-- ---- the threads whose calls complete
 
 thread_newest : (e : Event) (past : Trace) → thread_at (e ∷ past) (length past + 1) ≡ Some e.thread
 thread_newest e past = rw (eqb_same (length past + 1)) refl
@@ -16,7 +16,7 @@ thread_newest e past = rw (eqb_same (length past + 1)) refl
 thread_earlier : (e : Event) (past : Trace) (i : ℕ) → i ≤ length past → thread_at (e ∷ past) i ≡ thread_at past i
 thread_earlier e past i l = let other : eqb i (length past + 1) ≡ false = ne_eqb _ _ (λ same. omega arith) in rw other refl
 
--- a call that waits is one of its thread
+-- a blocking call is a call of its thread
 block_of_thread : (roster : List Member) (past : Trace) (u : ℕ) (b : OpenCall) → block roster past u ≡ Some b → thread_at past (number_of b) ≡ Some u
 block_of_thread roster [] u b is = absurd (none-some b is)
 block_of_thread roster (e ∷ past) u b is = elim (begins_now roster e past u b is) [

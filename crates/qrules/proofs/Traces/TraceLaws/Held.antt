@@ -1,4 +1,4 @@
--- The sender of a message that is held waits in its Send.
+-- The sender of a held message is blocked in its Send.
 use Rattle.qrules.proofs.Common.{arith, ◌≡◌, ◌∙◌, ◌+◌, ℕ, List, [], ◌∷◌, length, refl, ap, sym, subst, cond, eqb, true, false, option_map, option_or, waiter, AllByRecursion, none-some, same_Some, IsRoster, Member, row_of, number_received, TakesBest, takeable, SentItem, Trace, Event, Completion, OpenCall, best_of, best-at, Option, None, Some, is_some, not, ◌&&◌}
 use Rattle.std.proofs.lemmas.Bool.{and_parts, eqb-true, not-true, or_parts, true≢false}
 use Rattle.qrules.proofs.Basics.{is_for_answer, is_send, sender, threads_of, number_of, may_wait, waits_or_ends, IsLawful, facts_of, has_completion_of, is_ended, is_received, item_of, accepted_at, open_call, copied_count_among, copied_count_of, filled, ends_own, open_known, passes_of, item_accepted, item_answer, item_at, item_below, item_earlier, item_made, send_from, send_parts, sender_found, known, open_from, filled_answer, open_thread, kept, kept_number, receipt_for_answer}
@@ -8,9 +8,9 @@ use Rattle.qrules.proofs.Traces.Properties.Sends.{made_newest, made_stays}
 use Rattle.qrules.proofs.Traces.TraceLaws.Unended.{unended_newest}
 use Rattle.qrules.proofs.Traces.Properties.Connections.{IsMadeFor, takeable_made}
 
--- ---- what is taken was made
+-- ---- a received item was made
 
--- it stood on its channel
+-- a received item was made for the channel of the receive
 pub taken_stands : (roster : List Member) (past : Trace) (e : Event) (x : Completion) (i : ℕ) (k : TakesBest roster past e x i) → (m : SentItem) × (item_at roster (e ∷ past) i ≡ Some m) × (m.item.number ≡ i) × (m.channel ≡ k.request.channel)
 taken_stands roster past e x i k =
     elim (best_of k.request.kind (takeable roster past e k.request.channel)) as (λ o. best_of k.request.kind (takeable roster past e k.request.channel) ≡ o → option_map (λ item. item.number) o ≡ Some i
@@ -23,7 +23,7 @@ taken_stands roster past e x i k =
           (record { item = made.0; channel = k.request.channel }, stands, (item_made roster (e ∷ past) i _ stands).makes_it.number, refl)
     ] refl k.best
 
--- what is so of each item that these endings receive is so of this one
+-- a statement that holds for each item that these completions receive holds for this one
 of_received : (P : ℕ → Type 0) (X : List Completion) (i copied : ℕ) → AllByRecursion (λ x. (j : ℕ) → number_received x ≡ Some j → P j) X → copied_count_among X i ≡ Some copied → P i
 of_received P [] i copied all e = absurd (none-some copied e)
 of_received P (x ∷ X) i copied all e = grind (arith, of_received P X)
@@ -43,7 +43,7 @@ taken_made roster (e ∷ past) i r l taken =
     all_of [] all = tt
     all_of (x ∷ X) all = (λ j is. let s = taken_stands roster past e x j (all.0 j is) in (s.0, s.1), all_of X all.1)
 
--- ---- the call that made it, if it isn't ended, is what its thread waits in
+-- ---- the call that made the item, if it hasn't completed, is the open call of its thread
 
 no_own : (o : Option Completion) → is_some o ≡ false → o ≡ None
 no_own o h = grind arith
@@ -68,7 +68,7 @@ made_waits roster (e ∷ past) i m l is going =
 
 -- ---- the law
 
--- an open call of a number that waits for an answer is found as the Send of that number
+-- an open Send of this number is found as the Send of that number
 found_sender : (roster : List Member) (past : Trace) (i u : ℕ) (o : OpenCall) → IsLawful roster past → open_call roster past u ≡ Some o → number_of o ≡ i → is_for_answer o ≡ true → sender (facts_of roster past) i ≡ Some u
 found_sender roster past i u o l is number answer =
     sender_found (λ t. open_call roster past t) i (threads_of roster) u (known roster u (open_known roster past u o l is)) (ap (is_send i) is ∙ send_from i o number answer)

@@ -1,4 +1,4 @@
--- How long the buffers are that endings give back.
+-- The lengths of the buffers that completions return.
 use Rattle.qrules.proofs.Basics.{answer_same, sent_same, asks, makes, unblocks, writes, reply_finish, message_item, receipt_of, Finish, ends_sender, Received, buffer_after_write, Facts, message, sender, threads_of, route, number_of, after_receipt, after_unblock, after_write, open_call_after, unless, with_writes, open_call, filled, with_receipt, Passes, block_asked, open_parts, Delivers, delivery_meets, receive_takes, facts_of, IsLawful, completion_names, laws_of, passes_of}
 use Rattle.qrules.proofs.Common.{◌≡◌, ℕ, ◌≤◌, List, [], ◌∷◌, length, refl, ap, sym, subst, ◌∙◌, cond, Bool, true, false, eqb, arith, inl, inr, buffer_of_open, with_buffer, AllByRecursion, none-some, same_Some, laid_count, lay_over, is_pulse, Item, Any, completion_to, row_of, refusal_unless_held, receipt_completion, SentItem, Event, Trace, Call, Completion, Mark, OpenCall, IsRoster, Member, call_at, all_filter_map, all_more, eqb_same, Transfer, buffer_in, channel_of, Option, None, Some, is_some}
 use Rattle.std.proofs.lemmas.Bool.{ne_eqb, true≢false}
@@ -36,10 +36,10 @@ ends_length f t (Send coid message reply_buffer) u y p e = met_length f (route f
 ends_length f t (Reply rcvid status bytes) u y p e = answered_length f t rcvid (reply_finish status bytes) u y (λ b. lay_length b 0 bytes) p.row (sym (answer_same f (reply_finish status bytes) (sender f rcvid) u) ∙ e)
 ends_length f t c u y p e = grind arith
 
--- ---- an event's endings
+-- ---- the completions of an event
 
--- the buffer that thread u gets back if its call ends in call c of thread t: the one of that call, or of the
--- call that it is blocked in
+-- the buffer that thread u gets back if its call completes in call c of thread t: the buffer of that call, or
+-- of u's open call
 abbrev pub buffer_brought : List Member → Trace → ℕ → Call → ℕ → List ℕ
 buffer_brought roster past t c u = cond (eqb u t) (buffer_of c) (buffer_of_open (open_call roster past u))
 
@@ -56,7 +56,7 @@ endings_keep_length roster past e r l =
       | inr a ↦ subst (AllByRecursion P) (sym a.2) (rw (eqb_same e.thread) refl, tt)
     ]
 
--- ---- what a thread waits with afterwards
+-- ---- the open call of a thread afterwards
 
 asked_length : (n t h : ℕ) (c : Call) → is_some (asks n t h c) ≡ true → length (buffer_of_open (asks n t h c)) ≡ length (buffer_of c)
 asked_length n t h c e = grind arith
@@ -77,7 +77,7 @@ left_open : (b : Bool) (o : Option OpenCall) (x : OpenCall) → unless b o ≡ S
 left_open true o x e = absurd (none-some x e)
 left_open false o x e = e
 
--- the buffer of what a thread waits for after an accepted call
+-- the buffer of a thread's open call after an accepted call
 after_length : (f : Facts) (t : ℕ) (c : Call) (u : ℕ) (x : OpenCall) → open_call_after f t c u ≡ Some x → length (buffer_in x) ≡ length (cond (eqb u t) (buffer_of c) (buffer_of_open (f.open_call u)))
 after_length f t c u x e =
     let R = row_of f t c in
@@ -120,7 +120,7 @@ filled_length past i w = grind (arith, writes_length)
 kept_length : (priority : ℕ) (unblocked : Bool) (r : Option ℕ) (o : OpenCall) → length (buffer_in (with_receipt priority unblocked r o)) ≡ length (buffer_in o)
 kept_length priority unblocked r o = grind arith
 
--- its buffer is as long as the one that it was made with
+-- the buffer of an open call is as long as the buffer that its call passed
 pub open_calls_keep_length : (roster : List Member) (past : Trace) (u : ℕ) (o : OpenCall) → open_call roster past u ≡ Some o → (c : Call) × (call_at past (number_of o) ≡ Some c) × (length (buffer_in o) ≡ length (buffer_of c))
 open_calls_keep_length roster past u o is =
     let k = open_parts roster past u o is in
@@ -131,9 +131,9 @@ open_calls_keep_length roster past u o is =
       ap (λ x. length (buffer_in x)) k.same ∙ kept_length _ _ _ (filled past k.block) ∙ filled_length past (number_of k.block) k.block ∙ asked,
     )
 
--- ---- what is at most so long
+-- ---- upper bounds of lengths
 
--- the room that a thread's buffer brought serves for its completion, and for what it waits with afterwards
+-- a thread's passed buffer has enough room for its completion, and for its open call afterwards
 pub completion_fits : (roster : List Member) (past : Trace) (e : Event) → IsRoster roster → IsLawful roster (e ∷ past)
     → AllByRecursion (λ x. length x.buffer ≤ length (buffer_brought roster past e.thread e.call x.thread)) e.endings
 completion_fits roster past e r l = all_more _ _ e.endings (endings_keep_length roster past e r l) (λ x same. omega (arith, same))

@@ -1,4 +1,4 @@
--- A call that may wait and isn't ended is the newest blocking call of its thread.
+-- A call that may block and hasn't completed is the newest blocking call of its thread.
 use Rattle.qrules.proofs.Common.{arith, ◌≡◌, ℕ, ◌+◌, List, [], ◌∷◌, length, refl, sym, subst, ◌∙◌, cond, true, false, eqb, waiter, channel_of, number_of, none-some, Member, Event, Trace, Call, OpenCall, Option, None, Some, is_some}
 use Rattle.std.proofs.lemmas.Bool.{eqb-true, or_parts}
 use Rattle.qrules.proofs.Basics.{may_wait, IsLawful, has_completion_of, is_accepted, is_ended, accepted_at, block, item_of, asks, call_laws}
@@ -7,9 +7,9 @@ use Rattle.qrules.proofs.Traces.Properties.Messages.{block_stays}
 pub asks_any : (n t h : ℕ) (c : Call) → is_some (asks n t h c) ≡ may_wait c
 asks_any n t h c = grind arith
 
--- ---- a call that begins to wait
+-- ---- a call that blocks its thread
 
--- the event is accepted, and a call of thread t that may wait
+-- the event is accepted, and is a call of thread t that may block
 record Begins (roster : List Member) (e : Event) (past : Trace) (t : ℕ) : Type 0 where
   pub accepted : is_accepted e past ≡ true
   pub thread : e.thread ≡ t

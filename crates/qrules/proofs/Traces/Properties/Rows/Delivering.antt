@@ -1,12 +1,12 @@
--- A call that delivers an item meets a thread that waits on its channel, if it ends another's.
+-- If a call that delivers an item completes another thread's call, that thread is a receiver on the item's
+-- channel.
 use Rattle.qrules.proofs.Common.{arith, ◌≡◌, ℕ, List, true, Receive, may_take, Item, receipt_completion, Completion, Option, Some}
 use Rattle.qrules.proofs.Words.Items.{delivers, receiver}
 use Rattle.qrules.proofs.Words.Facts.{Facts}
 use Rattle.qrules.proofs.Traces.Properties.Receivers.{WaitsOn, newest_waits}
 use Rattle.qmodel.specs.declared.open_call.OpenReceive.{OpenReceive}
 
--- thread u waits on the channel, is the newest that does and may take the item, and its call ends by taking
--- it
+-- thread u is the newest receiver of the item on this channel, and its call completes by taking the item
 pub record Delivers (f : Facts) (o : Option ℕ) (item : Item) (message : List ℕ) (u : ℕ) (y : Completion) : Type 0 where
   pub channel : ℕ
   pub leads : o ≡ Some channel

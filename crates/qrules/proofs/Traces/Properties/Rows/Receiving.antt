@@ -1,4 +1,4 @@
--- A receive that ends in its own event takes the best item of its channel.
+-- A receive that completes in its own event takes the best item of its channel.
 use Rattle.qrules.proofs.Common.{arith, ◌≡◌, ℕ, List, Some, best_of, Item, Kind, receipt_completion, Completion}
 use Rattle.qrules.proofs.Words.Items.{own_receipt}
 use Rattle.qrules.proofs.Words.Facts.{Facts, message}
