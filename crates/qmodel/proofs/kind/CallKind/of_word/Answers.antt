@@ -8,7 +8,7 @@ use Rattle.qmodel.specs.declared.kind.TheConstants.{KINDS}
 use Rattle.qmodel.specs.Kinds.{kind_named, script_word}
 use Rattle.qmodel.proofs.kind.CallKind.of_word.Goals as goal
 
--- where a thing isn't looked for, the search goes on behind it
+-- if an element fails the test, the search continues after it
 find_past : {X : Type 0} (p : X → Bool) (xs : List X) (i : ℕ) (x : X) → i < length xs → p (get_or xs i x) ≡ false → find p (drop (i + 1) xs) ≡ find p (drop i xs)
 find_past p xs i x within fails =
     sym (at_drop_more (find p) xs i x within ∙ ap (λ b. cond b (Some (get_or xs i x)) (find p (drop (i + 1) xs))) fails)
