@@ -140,7 +140,7 @@ pulse_receipt f pulse = option_and_then
 abbrev pub own_receipt : Facts → ThreadNo → List ℕ → Option Item → Option Completion
 own_receipt f t buffer item = option_map (λ i. receipt_completion i (message f i.number) t f.number buffer) item
 
--- the thread that waits for the reply to an item; None for a pulse
+-- the thread that waits for the reply to an item; it is None for a pulse
 abbrev pub sender_for : Facts → Item → Option ThreadNo
 sender_for f item = if is_pulse item.what then None else sender f item.number
 

@@ -1,4 +1,4 @@
--- What the calls that cancel other calls share.
+-- Common lemmas of the calls that cancel other calls.
 use Rattle.qrules.proofs.Common.{arith, ◌≡◌, ℕ, true, Errno, cancel_call, cancel_where, Completion, OpenCall, Bool, Option, Some}
 
 -- the completion is of an open call that is cancelled

@@ -1,4 +1,4 @@
--- What the calls on held messages share: the thread that sent the message, and the completion of its Send.
+-- Common lemmas of the calls on held messages: the thread that sent the message, and its Send's completion.
 use Rattle.qrules.proofs.Common.{arith, ◌≡◌, ◌∙◌, ℕ, List, ap, refl, sym, subst, cond, Bool, true, false, Send, none-some, same_Some, Errno, refusal_unless_held, Completion, OpenCall, Receipt, Option, None, Some}
 use Rattle.qrules.proofs.Words.Facts.{Facts, sender, threads_of, number_of, owns}
 use Rattle.qrules.proofs.Words.Items.{Finish, ends_sender, answer_completion}

@@ -3,7 +3,7 @@ use Rattle.qrules.proofs.Common.{arith, ◌≡◌, ℕ, List, [], ◌∷◌, ◌
 use Rattle.qrules.proofs.Basics.{Facts, makes, sets, IsLawful, facts_of, with_event, is_gone, made_on, current_priority, Received, is_cancelled, uncancelled_items, items_with_priority_set, unreceived_items, accepted, Stands, item_below, standing_is, now, sets_none, worth_set, worth_stays}
 use Rattle.qrules.proofs.Traces.Past.Cancels.{pulse_unread, sent_by, unread_elsewhere}
 
--- ---- items of which only the priority changes
+-- ---- items that keep everything except their priority
 
 filter_map_same : (p : Item → Bool) (g : Item → Item) (items : List Item) → ((x : Item) → p (g x) ≡ p x) → filter p (map g items) ≡ map g (filter p items)
 filter_map_same p g [] same = refl

@@ -28,7 +28,7 @@ by_item roster past t c i m made is =
 pub unblocked_now : (roster : List Member) (past : Trace) (t : ℕ) (c : Call) (i : ℕ) → unblocked_among (option_to_list (makes (facts_of roster past) t c)) i ≡ true → WasReceived past i
 unblocked_now roster past t c i e = grind (arith, by_item roster past t c i)
 
--- the unblock pulses after one more event are the earlier ones, and the one that the event makes
+-- the unblock pulses after one more event are the earlier ones and the pulse that the event makes
 pub unblocked_by : (roster : List Member) (e : Event) (past : Trace) (i : ℕ) → is_unblocked roster (e ∷ past) i ≡ (is_unblocked roster past i || unblocked_among (option_to_list (item_of roster e past)) i)
 unblocked_by roster e past i =
     unblocked_among_now (e ∷ past) (items roster (e ∷ past)) i

@@ -35,7 +35,7 @@ takes_pending roster past e u y i k =
       best = ap (λ items. option_map (λ (item : Item). item.number) (best_of k.request.kind items)) all ∙ ap (option_map (λ (item : Item). item.number)) k.best ∙ ap (λ n. Some n) k.number;
     }
 
--- ---- a blocked thread takes the item that is made, because no queued item is one that it may take
+-- ---- a blocked thread takes the item that is made, because it may take no queued item
 
 -- after items that may not be taken, an item that may be taken is the best
 best_behind : (kind : Kind) (items : List Item) (x : Item) → AllByRecursion (λ w. may_take kind w ≡ false) items → may_take kind x ≡ true → best_of kind (items ++ x ∷ []) ≡ Some x
