@@ -14,7 +14,7 @@ abbrev pub IsForemost : (ℕ → Option ℕ) → ℕ × ℕ → Type 0
 IsForemost first found = (first found.0 ≡ Some found.1) × ((above : ℕ) → found.0 < above → first above ≡ None)
 
 -- given a message and a pulse, each with its level and key, the chosen key belongs to the greater level, or
--- to the lesser number if both have one level
+-- to the lesser number if both have the same level
 abbrev pub IsEarlier : ℕ × ℕ → Item → ℕ × ℕ → Item → ℕ → Type 0
 IsEarlier message m pulse p chosen =
     chosen ≡ (if nat_lt pulse.0 message.0 || ((message.0 == pulse.0) && nat_lt m.number p.number)

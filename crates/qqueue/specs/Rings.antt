@@ -1,5 +1,5 @@
--- How a queue keeps its items: each in a node under a key. For each level, the messages are a ring and the
--- pulses are a ring. No public clause cites this module.
+-- How a queue keeps its items: each in a node under a key. For each level, the messages form one ring and
+-- the pulses another. No public clause cites this module.
 use Rattle.std.specs.Prelude.{◌≡◌, ℕ, ◌+◌, ◌<◌, ◌==◌, ◌&&◌, not, nat_lt, Bool, true, false, List, [], ◌∷◌}
 use Rattle.std.specs.Prelude.{Option, None, Some, if◌then◌else◌, filter, map, count_by}
 use Rattle.std.specs.List.{AllByRecursion}

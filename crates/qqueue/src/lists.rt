@@ -111,7 +111,7 @@ fn next_from(nodes: &Slab<Node>, first: usize, item: &Item) -> Option<usize>
 }
 
 /// Returns the key of the foremost message or of the foremost pulse, whichever is received first. The greater
-/// level is received first, or the lesser number if both have one level.
+/// level is received first, or the lesser number if both have the same level.
 fn earlier(nodes: &Slab<Node>, message: (u8, usize), pulse: (u8, usize)) -> usize
     requires message_there { IsSome (item_of nodes.now message.1) }
     requires pulse_there { IsSome (item_of nodes.now pulse.1) }

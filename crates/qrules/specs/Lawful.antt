@@ -22,9 +22,8 @@ abbrev pub item_made_by : Facts → Event → Trace → Option SentItem
 item_made_by f e past = if is_accepted e past then (effect_of e.call).makes f e.thread else None
 
 module _ (roster : List Member) where
-  -- the facts after this history, given all items made so far and the threads' priorities. The recursion
-  -- items_and_priorities finds these event by event, from the facts before each event; facts_of puts them in
-  -- here.
+  -- the facts after this history, given all items made so far and the threads' priorities. Both depend on the
+  -- facts before each event: items_and_priorities finds them event by event, and facts_of uses them here.
   abbrev pub facts_by : Trace → ItemsAndPriorities → Facts
   facts_by past known = let items : List SentItem = items_by_now past known.items in record {
     roster = roster;

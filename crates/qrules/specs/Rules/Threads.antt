@@ -8,7 +8,8 @@ use Rattle.qrules.specs.Rule.{no_effect, plain_row, PriorityChange, Rule}
 use Rattle.qrules.specs.Words.mark
 use Rattle.qmodel.specs.declared.open_call.OpenCall.TheVariants.{Receive, Send}
 
--- sets the priority of a thread of the caller's process, and of its message that hasn't been received
+-- sets the priority of a thread of the caller's process, and of its message that hasn't been received. It
+-- fails with Srch if the thread isn't of that process.
 abbrev pub priority_set : PriorityChange → Rule
 priority_set change = record {
   row = λ f t. plain_row f t (if is_of_same_process f t change.thread then None else Some Srch) mark.Ok;
@@ -25,7 +26,7 @@ state_in (Receive r) = ReceiveBlocked r.channel
 abbrev pub state_of : Facts → ThreadNo → ThreadState
 state_of f t = option_map_or state_in (f.open_call t) Ready
 
--- returns a thread's state and priority
+-- returns a thread's state and priority. It fails with Srch if the thread isn't in the roster.
 abbrev pub state : ThreadNo → Rule
 state u = record {
   row = λ f t. plain_row f t (if is_some (member_at f.roster u) then None else Some Srch)
