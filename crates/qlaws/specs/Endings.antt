@@ -60,7 +60,7 @@ abbrev pub EndsOrWaits : Type 0
 EndsOrWaits = InEachNewest (λ roster past e. (ends_itself past e ≡ false)
     ↔ (waiting_number (facts_of roster (e ∷ past)) e.thread ≡ Some (length past + 1)))
 
--- the caller gets a completion exactly if its call ends in its own event
+-- the caller gets a completion exactly if its call completes in its own event
 abbrev pub CallerGetsItsOwn : Type 0
 CallerGetsItsOwn = InEachNewest (λ roster past e. gets e.endings e.thread ≡ ends_itself past e)
 
