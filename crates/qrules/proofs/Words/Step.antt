@@ -105,8 +105,8 @@ priority_taken f None u = None
 priority_taken f (Some r) u =
     if r.by == u then (if is_fixed (f.channel r.channel) then None else Some r.kept.priority) else None
 
--- the priority of thread u after the call: the priority that is set for it, or that it takes by a receipt, and
--- otherwise its priority before the call
+-- the priority of thread u after the call: the priority that is set for it, or that it takes by a receipt,
+-- and otherwise its priority before the call
 abbrev pub priority_after : Facts → ThreadNo → Call → ThreadNo → Priority
 priority_after f t c u = unwrap_or
     (option_or (priority_set_for (sets c) u) (priority_taken f (receipt_of f t c) u)) (f.priority u)
