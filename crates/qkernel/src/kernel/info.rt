@@ -12,8 +12,9 @@ impl Kernel {
     ghost use Rattle.qkernel.specs.Private.Caller.{MayCall, MakesOrRefuses};
 
     /// Returns the result that an `Info` would have for a held message, or `None` if no message is held under
-    /// this receive id. It isn't a call: it isn't counted and has no caller, so it doesn't check which process
-    /// owns the message's channel. It serves to give a receiver the sender's data along with the message.
+    /// this receive id. It isn't a call: it isn't counted and has no caller, so it doesn't check which
+    /// process owns the message's channel. It serves to give a receiver the sender's data along with the
+    /// message.
     pub fn message_info(&self, rcvid: ReceiveId) -> Option<Info>
         ensures { InfoAtTraces self.now rcvid result }
     {
