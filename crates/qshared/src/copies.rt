@@ -27,7 +27,7 @@ impl Model for Copies {
 }
 
 impl Copies {
-    /// Copies a call; `None` if the allocator refuses.
+    /// Copies a call, or returns `None` if the allocator refuses.
     pub fn of(alloc: Global, call: &Call) -> Option<Copies>
         ensures { IfSome result (λ copies. copies ≡ call.now) }
     {
