@@ -7,7 +7,7 @@ use Rattle.qstate.specs.Copies.{channel_told, entry_told}
 use Rattle.qstate.specs.Kept.{channel_in, items_waiting_on, open_channel_of, pending_in, thread_priority}
 use Rattle.qstate.specs.declared.channel.Channel.{Channel}
 
--- the channels, as the facts have them
+-- the facts about the channels
 abbrev Told : Type 0
 Told = List (ℕ × (OpenChannel × List Item))
 

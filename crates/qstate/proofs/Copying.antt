@@ -54,7 +54,7 @@ items_below items i x rising low there = subst (λ z. AllByRecursion (λ y. y.nu
   below_at (x ∷ items) zero d rising low = tt
   below_at (x ∷ items) (suc i) d rising low = (first x.number items i d rising.0 (omega (arith, low)), below_at items i d rising.1 (omega (arith, low)))
 
--- ---- channels, as the facts have them
+-- ---- channels, by the facts about them
 
 to_told : (id : ℕ) (channels : List (ℕ × Channel)) → AllByRecursion (λ e. e.0 < id) channels → AllByRecursion (λ t. t.0 < id) (map entry_told channels)
 to_told id [] all = tt

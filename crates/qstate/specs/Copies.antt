@@ -5,10 +5,10 @@ use Rattle.qmodel.specs.Trace.{OpenChannel}
 use Rattle.qstate.specs.Kept.{open_channel_of}
 use Rattle.qstate.specs.declared.channel.Channel.{Channel}
 
--- a channel as the facts have it: its owner and flags, and its queued items
+-- the facts about a channel: its owner and flags, and its queued items
 abbrev pub channel_told : Channel → OpenChannel × List Item
 channel_told c = (open_channel_of c, c.queue.items)
 
--- the entry of a channel: its id, and the channel as the facts have it
+-- the entry of a channel: its id, and the facts about it
 abbrev pub entry_told : ℕ × Channel → ℕ × (OpenChannel × List Item)
 entry_told e = (e.0, channel_told e.1)
