@@ -1,4 +1,5 @@
 //! Makes the room that a kept history needs for a call, before the call is made.
+
 ghost use Rattle.std.specs.Prelude.{◌≡◌, ◌<◌, ◌≤◌, ◌+◌, ◌⊎◌, length, IfOk, IfErr, IfSome, ◌^◌};
 ghost use Rattle.qmodel.specs.declared.call.Call.TheVariants.{Shutdown};
 ghost use Rattle.qshared.specs.Private.Rooms.{HasRoomFor};

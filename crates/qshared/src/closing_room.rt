@@ -1,4 +1,5 @@
 //! The room that `finish` needs, so that it takes no memory.
+
 ghost use Rattle.std.specs.Prelude.{◌≡◌, ◌≤◌, [], vec_capacity};
 
 use crate::tie::Tie;

@@ -1,4 +1,5 @@
 //! Copies of a call, which a port makes before it takes the lock.
+
 ghost use Rattle.std.specs.Prelude.{◌≡◌, ◌≤◌, length, IfSome};
 ghost use Rattle.qmodel.specs.Buffers.{buffer_of};
 

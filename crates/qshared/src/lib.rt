@@ -1,5 +1,5 @@
 //! The locked kernel for real threads: one lock around a kernel and its history, a port for each thread, and
-//! cells. Through the cells, completions of calls leave the lock.
+//! cells. Threads take completions out of the cells without the lock.
 #![tactic(auto)]
 
 mod admitting;

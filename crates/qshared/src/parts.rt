@@ -1,4 +1,5 @@
 //! The parts of a shared kernel.
+
 ghost use Rattle.std.specs.Prelude.{◌≡◌, ◌≤◌, ◌^◌, ◌⊎◌, ◌<◌, ℕ, [], length, map, IfOk, IfErr};
 ghost use lib.ListN.{get_elem?};
 ghost use Rattle.qrules.specs.Facts.{threads_of};

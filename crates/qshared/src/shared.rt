@@ -1,4 +1,5 @@
 //! The shared kernel: opening it, closing it, and waking threads.
+
 ghost use Rattle.std.specs.Prelude.{◌≡◌, ◌≤◌, ◌++◌, ℕ, [], length, map, sum, IfOk, IfErr, OnOk, IsTrue, ◌↔◌, ◌==◌, Some, false, not, vec_capacity};
 ghost use mathlib.Core.Option.{some};
 ghost use lib.ListN.{get_elem?};

@@ -1,4 +1,5 @@
 //! The trait that names the kernel to which parts and ports belong.
+
 ghost use Rattle.std.specs.Prelude.{◌≡◌, []};
 ghost use Rattle.qshared.specs.Names.{Names};
 

@@ -207,7 +207,7 @@ module _ (h : ℕ) (item : Item) (threads : List Thread) (receivers left : ByteS
         seat = seat;
       }
 
--- the thread of the seat that the search found
+-- the thread that the search found
 thread_found : (found : Option (ℕ × Seat)) → option_map (λ b. b.1.thread) found ≡ option_map (λ b. b.1) (number_and_thread found)
 thread_found None = refl
 thread_found (Some b) = refl

@@ -15,7 +15,7 @@ use Rattle.qmodel.specs.OpenCalls.{receive_in, thread_of, number_of}
 use Rattle.qstate.specs.Thread.{open_in, seat_in}
 use Rattle.qrules.specs.Facts.{threads_of}
 
--- the seat has the index of its thread in this list
+-- the Seat has the index of its thread in this list
 abbrev pub IsSeatIn : List Thread → Seat → Type 0
 IsSeatIn threads seat = seat_in threads seat.thread ≡ Some seat.index
 
@@ -71,6 +71,6 @@ newest_of h item [] = None
 newest_of h item (t ∷ threads) =
     newer_of t.member.thread (wait_on h item t.open_call) (newest_of h item threads)
 
--- a pair of a number and a seat, as a pair of the number and the seat's thread
+-- a pair of a number and a Seat, as a pair of the number and the Seat's thread
 abbrev pub number_and_thread : Option (ℕ × Seat) → Option (ℕ × ℕ)
 number_and_thread found = option_map (λ b. (b.0, b.1.thread)) found
