@@ -121,7 +121,7 @@ impl EventLog {
         append(&mut self.endings, endings);
     }
 
-    /// Turns the next call, which was made, and the completions that were added into an event.
+    /// Turns the next call and the completions that were added into an event. The call must have been made.
     pub fn event(&mut self)
         requires { 0 < length self.old.noted }
         ensures { self.new ≡ with_next self.old }

@@ -6,7 +6,8 @@ ghost use Rattle.qshared.specs.Names.{Names};
 use std::marker::{Brand, PhantomData};
 use std::sync::ledger::Ledger;
 
-/// Names one kernel: its roster, its cells, its threads' lists of calls, its limit and its ledger. It has no functions.
+/// Names one kernel: its roster, its cells, its threads' lists of calls, its limit and its ledger. It has no
+/// functions.
 /// A program writes a function over `K: Tie` that takes the parts, and calls it with `Brand`.
 pub trait Tie: Ledger {
     ghost names: { Names };

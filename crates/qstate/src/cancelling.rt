@@ -1,4 +1,4 @@
-//! Cancelling: open calls complete with an error by the call of another thread.
+//! Cancels open calls: they complete with an error because of another thread's call.
 
 ghost use Rattle.std.specs.Prelude.{◌≡◌, ◌==◌, ◌&&◌, ◌≤◌, ◌<◌, [], true, Some, None, is_some, length, filter_map, map, if◌then◌else◌};
 ghost use Rattle.qtables.specs.Members.{IsRoster};

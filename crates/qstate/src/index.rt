@@ -9,7 +9,8 @@ use qbase::ids::ThreadNo;
 use qmodel::open_call::OpenCall;
 use qtables::member::Member;
 
-/// Guesses of a thread's index in the roster: by thread number, by the number of its Send, and as the newest receiver.
+/// Guesses of a thread's index in the roster: by thread number, by the number of its Send, and as the newest
+/// receiver.
 #[derive(Clone, Copy, Debug)]
 pub struct Index {
     // The fields that a blocking or waking call writes come first: in memory they are next to the kernel's

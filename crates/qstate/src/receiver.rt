@@ -16,7 +16,7 @@ use qbase::priority::Priority;
 use qmodel::open_call::OpenReceive;
 use qqueue::item::Item;
 
-/// Returns the number and the index of a thread that has this index.
+/// Returns the number of a thread together with its index.
 fn seat_of(there: &Thread, index: usize) -> Seat
     ensures thread { result.thread ≡ there.now.member.thread }
     ensures index { result.index ≡ index }
@@ -56,8 +56,8 @@ fn newer(
 
 impl Threads {
     /// Returns the index of the last thread that blocked in a receive, if it is still blocked there, on this
-    /// channel, and may take the item. Returns `None` if call numbers didn't rise, since the last receiver
-    /// may then not be the newest.
+    /// channel, and may take the item. Returns `None` if the numbers of calls haven't risen, since the
+    /// last receiver may then not be the newest.
     fn last_receiver(&self, channel: ChannelId, item: &Item) -> Option<Seat>
         ensures seat { IfSome result (λ seat. IsSeatIn self.now seat) }
         ensures newest { IfSome result (λ seat. newest_in channel item.now self.now ≡ Some seat.thread) }

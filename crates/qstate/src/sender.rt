@@ -19,7 +19,7 @@ use qbase::priority::Priority;
 use qmodel::call::Mark;
 use qqueue::item::Item;
 
-/// Returns the index of the thread whose open call is the Send of this number, found by a search of all threads.
+/// Returns the index of the thread whose open call is the Send of this number. Searches all threads.
 fn sender_index(threads: &[Thread], number: u64) -> Option<usize>
     ensures { result ≡ position (λ t. is_send number t.open_call) threads.now }
 {

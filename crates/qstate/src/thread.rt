@@ -65,8 +65,8 @@ impl Thread {
         }
     }
 
-    /// Copies the message of the Send that the thread is blocked in to the front of a buffer, records the receipt, and
-    /// returns the number of bytes copied.
+    /// Copies the message of the thread's open Send to the front of a buffer and records the receipt. Returns
+    /// the number of bytes copied.
     pub fn hand_over(&mut self, priority: Priority, buffer: &mut Bytes) -> usize
         requires { is_sending self.old.open_call ≡ true }
         ensures member { self.new.member ≡ self.old.member }

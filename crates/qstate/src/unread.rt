@@ -11,7 +11,7 @@ use crate::thread::Thread;
 use qbase::ids::ChannelId;
 use qbase::priority::Priority;
 
-/// A queued message.
+/// A queued message: its Send and its channel.
 #[derive(Clone, Copy, Debug, PartialEq, Eq)]
 pub struct Unread {
     /// The number of its Send.

@@ -11,7 +11,7 @@ use qstate::endings::Endings;
 impl Kernel {
     ghost use Rattle.qkernel.specs.Private.Caller.{MayCall, MakesOrRefuses};
 
-    /// Destroys a channel of the caller's process, and cancels each call that is blocked on it with `Srch`.
+    /// Destroys a channel of the caller's process, and cancels, with `Srch`, each call that is blocked on it.
     /// Under Balsaeuchre's own rule, its queued messages and pulses are dropped, and the connections to it
     /// stay. Never blocks, and takes no memory.
     pub(super) fn channel_destroy(

@@ -15,8 +15,8 @@ use qmodel::open_call::{OpenCall, OpenReceive, OpenSend, Receipt};
 use qqueue::item::{Item, What};
 use qstate::endings::{Endings, put};
 
-/// Hands the message to a receive, which this completes. Returns the receive's completion, and the receipt
-/// for the sender's open call.
+/// Hands the message to a receive and completes it. Returns the receive's completion, and the receipt for the
+/// sender's open call.
 fn deliver(receive: OpenReceive, item: &Item, message: &Bytes) -> (Completion, Receipt)
     requires { is_pulse item.now.what ≡ false }
     ensures ended { result.0 ≡ receipt_completion item.now message.now receive.thread receive.number receive.buffer }
