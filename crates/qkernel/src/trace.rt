@@ -52,8 +52,8 @@ impl Trace {
         }
     }
 
-    /// Returns the number of the first event. It is one more than the number of calls that the kernel had made
-    /// before the run.
+    /// Returns the number of the first event. It is one more than the number of calls that the kernel had
+    /// made before the run.
     pub fn first(&self) -> u64
         ensures { result ≡ self.now.first }
     {

@@ -113,8 +113,8 @@ impl Threads {
         there.mark_unblocked();
     }
 
-    /// Copies bytes into the reply buffer of the open Send of the thread at this index, beginning at an offset.
-    /// Returns the number of bytes copied.
+    /// Copies bytes into the reply buffer of the open Send of the thread at this index, beginning at an
+    /// offset. Returns the number of bytes copied.
     pub fn write_sent(&mut self, seat: &Seat, offset: usize, bytes: &[u8]) -> usize
         requires seat { IsSeatIn self.old seat.now }
         requires sends { is_sending (open_in self.old seat.now.thread) ≡ true }
@@ -140,8 +140,8 @@ impl Thread {
         }
     }
 
-    /// Copies bytes into the reply buffer of the thread's open Send, beginning at an offset. Returns the number
-    /// of bytes copied.
+    /// Copies bytes into the reply buffer of the thread's open Send, beginning at an offset. Returns the
+    /// number of bytes copied.
     fn write(&mut self, offset: usize, bytes: &[u8]) -> usize
         requires { is_sending self.old.open_call ≡ true }
         ensures member { self.new.member ≡ self.old.member }
