@@ -21,7 +21,7 @@ length-cons : {A : Type 0} (o : Option A) (xs : List A) → length (cons_option 
 length-cons None xs = omega arith
 length-cons (Some x) xs = omega arith
 
--- the caller's call completes or blocks it, and for any other thread at most its open call completes
+-- the caller's call completes or stays open, and any other thread's open call at most completes
 sum_elsewhere : (e : ℕ → Option Completion) (f g : ℕ → Option OpenCall) (t : ℕ) (ts : List ℕ) → ((u : ℕ) → eqb u t ≡ false → one (e u) + one (g u) ≤ one (f u)) → is_among ts t ≡ false
     → length (filter_map e ts) + opens g ts ≤ opens f ts
 unfolding opens

@@ -47,8 +47,8 @@ abbrev pub pends_both : CalledBoth → Bool → Bool
 pends_both (Both x second) before = pends second before
 pends_both (First first given) before = pends first before
 
--- two calls after a history, with no event between them. The second is made exactly if the first completed in
--- its own event and succeeded, and then after that event. If it isn't made, it is returned.
+-- two calls after a history, with no event between them. The second is tried exactly if the first completed
+-- in its own event and succeeded, and then after that event. If it isn't tried, it is returned.
 abbrev pub AnsweredBoth :
     List Member → Refuses → Admits → ℕ → Call → Call → CalledBoth → Trace → Trace → Type 0
 AnsweredBoth roster refuses admits t c d (Both x second) past after =

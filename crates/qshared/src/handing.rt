@@ -54,8 +54,8 @@ fn bit_of(place: usize) -> u64
 }
 
 /// Puts the completions of an event into their threads' cells, and sets the bit of every cell that is filled.
-/// The completion of `turn`'s own thread isn't put but returned, and the thread's cell is closed. No two
-/// completions are for the same thread, so their order doesn't matter: the last is put first.
+/// If one of them is for `turn`'s own thread, it isn't put but returned, and the thread's cell is closed. No
+/// two completions are for the same thread, so their order doesn't matter: the last is put first.
 pub(crate) fn hand_out(
     seat: &mut KernelSeat<Completion>,
     cells: &Cells<Completion>,
