@@ -85,7 +85,7 @@ module _ {T : Type 0} where
     (λ y e. ap (λ z. (Thread (record h { taken = h.taken ++ z ∷ []; taking = None }), [])) (same_inside x y h.taking a e)),
   )
 
-  -- the same, for a seat and a word that a clause speaks of
+  -- the same, for a token and a word that a clause names
   abbrev pub Lawful : ℕ → ℕ → ℕ → ℕ → Sat T → (ℕ → ℕ) → (ℕ → Sat T → ℕ → Sat T → Type 0) → Type 0
   Lawful key n id w m f then = Allows (KeepsRule key) n id m w f (then w m)
 

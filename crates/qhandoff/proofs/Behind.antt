@@ -1,9 +1,9 @@
--- What a thread took is a beginning of what was put for it, at most one shorter.
+-- The completions that a thread took are a prefix of the completions put for it, and at most one is missing.
 use Rattle.qhandoff.proofs.Common.{◌≡◌, ℕ, zero, suc, ◌<◌, ◌≤◌, List, [], ◌∷◌, ◌++◌, length, sym, ◌∙◌, subst, arith, get_or, append-nil, some, get_elem?, Line, Desk, Hand, Kernel, Thread, Fits, KeepsRule, Slot, line, word_of}
 use Rattle.qhandoff.proofs.Changes.{St}
 
 module _ {T : Type 0} where
-  -- xs is a beginning of ys, at most one shorter
+  -- xs is a prefix of ys, and at most one element shorter
   abbrev pub Near : List T → List T → Type 0
   Near xs ys = (rest : List T) × (ys ≡ xs ++ rest) × (length rest ≤ 1)
 

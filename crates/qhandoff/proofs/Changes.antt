@@ -29,11 +29,11 @@ St T = State (Option T) (View T)
 clash : (b : Bool) → b ≡ false → b ≡ true → ⊥
 clash b e g = false≢true (sym e ∙ g)
 
--- the words of two cells are two
+-- two cells have different words
 other_word : (words : List ℕ) (t u w : ℕ) → u ≢ t → get_or (set words (word_of t) w) (word_of u) 0 ≡ get_or words (word_of u) 0
 other_word words t u w n = get_or-set_other words (word_of t) (word_of u) w 0 (λ e. n (omega (arith, e)))
 
--- the word of a cell is that of this cell
+-- the cell of a cell's word is this cell
 pub cell_of_word : (t : ℕ) → cell_of (word_of t) ≡ t
 cell_of_word t = mul-div_cancel t (omega arith)
 
@@ -55,7 +55,7 @@ module _ {T : Type 0} where
   abbrev pub CellOk : ℕ → Line T → Hand T → maybe.Option (maybe.Option (Option T)) → Type 0
   CellOk w l h o = Fits w l h o × Settled l.taken h
 
-  -- every cell but t is as it was
+  -- every cell except t is unchanged
   pub cells_stay : (n t : ℕ) (words words' : List ℕ) (lines lines' : ℕ → Line T) (hand hand' : ℕ → Hand T) (homes homes' : Homes T)
       → ((u : ℕ) → u ≢ t → get_or words' (word_of u) 0 ≡ get_or words (word_of u) 0) → ((u : ℕ) → u ≢ t → lines' u ≡ lines u) → ((u : ℕ) → u ≢ t → hand' u ≡ hand u) → ((u : ℕ) → u ≢ t → get_elem? homes' u ≡ get_elem? homes u)
       → ((u : ℕ) → u < n → CellOk (get_or words (word_of u) 0) (lines u) (hand u) (get_elem? homes u))
@@ -65,7 +65,7 @@ module _ {T : Type 0} where
       (λ e. subst (λ v. CellOk (get_or words' (word_of v) 0) (lines' v) (hand' v) (get_elem? homes' v)) (sym e) now)
       (λ ne. subst (λ (z : ℕ × Line T × Hand T × maybe.Option (maybe.Option (Option T))). CellOk z.0 z.1 z.2 z.3) (λ i. (sym (ws u ne) i, sym (ls u ne) i, sym (hs u ne) i, sym (os u ne) i)) (old u h))
 
-  -- the kernel seat changes the cell t
+  -- the kernel's token changes cell t
   kernel_step : (n t : ℕ) (s : St T) (k : KeepsRule n s) → t < n → (w : ℕ) (l : Line T) (homes : Homes T)
       → length homes ≡ n → ((u : ℕ) → u ≢ t → get_elem? homes u ≡ get_elem? s.homes u) → l.taken ≡ (line k.desk t).taken → Fits w l (k.hand t) (get_elem? homes t)
       → KeepsRule n record { words = set s.words (word_of t) w; homes = homes; views = set s.views 0 (Kernel (with_line k.desk t l)) }
@@ -86,7 +86,7 @@ module _ {T : Type 0} where
         each_seat = λ j v e. ⊎_elim (λ (q : (j ≡ 0) × (Kernel d ≡ v)). subst (Knows d k.hand j) q.1 (q.0, refl)) (λ (q : (j ≢ 0) × (get_elem? s.views j ≡ some v)). knows_kernel k.desk d k.hand j v q.0 stays (k.each_seat j v q.1)) (at_set s.views 0 j (Kernel d) v e);
       }
 
-  -- the same, for a seat that knows a desk
+  -- the same, for a token that knows a desk
   pub kernel_changes : (n id t : ℕ) (s : St T) (k : KeepsRule n s) (d : Desk T) → get_elem? s.views id ≡ some (Kernel d) → t < n → (w : ℕ) (l : Line T) (homes : Homes T)
       → length homes ≡ n → ((u : ℕ) → u ≢ t → get_elem? homes u ≡ get_elem? s.homes u) → l.taken ≡ (line d t).taken → Fits w l (k.hand t) (get_elem? homes t)
       → KeepsRule n record { words = set s.words (word_of t) w; homes = homes; views = set s.views id (Kernel (with_line d t l)) }
@@ -94,7 +94,7 @@ module _ {T : Type 0} where
       subst (λ (z : ℕ × Desk T). KeepsRule n record { words = set s.words (word_of t) w; homes = homes; views = set s.views z.0 (Kernel (with_line z.1 t l)) }) (λ i. (sym q.0 i, sym q.1 i))
       (kernel_step n t s k h w l homes long others (same ∙ ap (λ z. (line z t).taken) q.1) fits)
 
-  -- what the rule says of the cell t, to the kernel seat
+  -- the conditions of cell t, as the kernel's token sees them
   pub kernel_sees : (n id t : ℕ) (s : St T) (k : KeepsRule n s) (d : Desk T) → get_elem? s.views id ≡ some (Kernel d) → t < n → Fits (get_or s.words (word_of t) 0) (line d t) (k.hand t) (get_elem? s.homes t)
   kernel_sees n id t s k d at h = subst (λ z. Fits (get_or s.words (word_of t) 0) (line z t) (k.hand t) (get_elem? s.homes t)) (sym (k.each_seat id (Kernel d) at).1) (k.each_cell t h).0
 
@@ -103,7 +103,7 @@ module _ {T : Type 0} where
   knows_thread d hand t h' j (Thread h) n k = (k.0, k.1 ∙ sym (hand_else hand t h' h.thread (λ e. n (k.0 ∙ ap suc e))), k.2)
   knows_thread d hand t h' j Joined n k = tt
 
-  -- the seat of the thread t changes its cell
+  -- the token of thread t changes its cell
   pub thread_changes : (n id t : ℕ) (s : St T) (k : KeepsRule n s) (h : Hand T) → get_elem? s.views id ≡ some (Thread h) → h.thread ≡ t → t < n → (w : ℕ) (h' : Hand T) (homes : Homes T)
       → length homes ≡ n → ((u : ℕ) → u ≢ t → get_elem? homes u ≡ get_elem? s.homes u) → h'.thread ≡ t → Fits w (line k.desk t) h' (get_elem? homes t)
       → KeepsRule n record { words = set s.words (word_of t) w; homes = homes; views = set s.views id (Thread h') }
@@ -125,24 +125,24 @@ module _ {T : Type 0} where
             (λ (z : (j ≢ id) × (get_elem? s.views j ≡ some v)). knows_thread k.desk k.hand t h' j v (λ x. z.0 (x ∙ sym seat)) (k.each_seat j v z.1)) (at_set s.views id j (Thread h') v e);
       }
 
-  -- what the rule says of its cell, to the seat of the thread t
+  -- the conditions of its cell, as the token of thread t sees them
   pub thread_sees : (n id t : ℕ) (s : St T) (k : KeepsRule n s) (h : Hand T) → get_elem? s.views id ≡ some (Thread h) → h.thread ≡ t → t < n → Fits (get_or s.words (word_of t) 0) (line k.desk t) h (get_elem? s.homes t)
   thread_sees n id t s k h at is near = subst (λ z. Fits (get_or s.words (word_of t) 0) (line k.desk t) z (get_elem? s.homes t)) (ap k.hand (sym is) ∙ sym (k.each_seat id (Thread h) at).1) (k.each_cell t near).0
 
   nothing : (x : T) (o : Option T) → o ≡ None → o ≡ Some x → ⊥
   nothing x o e g = let P : Option T → Type 0 = elim [ None ↦ Unit {0} | Some y ↦ ⊥ ] in subst P (sym e ∙ g) tt
 
-  -- the slot of an opened cell that isn't being put
+  -- the slot of an opened cell into which nothing is being put
   pub still_empty : (l : Line T) (o : maybe.Option (maybe.Option (Option T))) → FitsPut l o → l.putting ≡ false → o ≡ some (some None)
   still_empty l o (inl p) b = p.1
   still_empty l o (inr p) b = absurd (clash l.putting b p.0)
 
-  -- the slot of a full cell that isn't being taken
+  -- the slot of a full cell from which nothing is being taken
   pub still_has : (h : Hand T) (x : T) (o : maybe.Option (maybe.Option (Option T))) → FitsTake h x o → h.taking ≡ None → o ≡ some (some (Some x))
   still_has h x o (inl p) b = p.1
   still_has h x o (inr p) b = absurd (nothing x h.taking b p.0)
 
-  -- what each step makes of a cell
+  -- a cell's conditions after each step
   pub fits_open : (w : ℕ) (l : Line T) (h : Hand T) (o : maybe.Option (maybe.Option (Option T))) → Fits w l h o → w ≡ 0 → Fits 1 (record l { opened = true }) h o
   fits_open zero l h o f e = (refl, f.2, f.3, inl (f.1, f.4))
   fits_open (suc w) l h o f e = absurd (omega arith)
@@ -188,7 +188,7 @@ module _ {T : Type 0} where
   inside d None = d
   inside d (Some y) = y
 
-  -- what the thread is taking out of a full cell
+  -- the completion that the thread is taking out of a full cell
   in_hand : (h : Hand T) (y x : T) (o : maybe.Option (maybe.Option (Option T))) → FitsTake h y o → h.taking ≡ Some x → y ≡ x
   unfolding inside
   in_hand h y x o (inl p) a = absurd (nothing x h.taking p.0 a)

@@ -1,8 +1,8 @@
--- The seats are joined from the last one on.
+-- The tokens are joined, beginning with the last.
 use Rattle.qhandoff.proofs.Common.{◌≡◌, ℕ, ◌<◌, ◌≤◌, List, [], ◌∷◌, ◌++◌, length, sym, refl, ap, ◌∙◌, subst, arith, Some, length-set, length-append, dite, some, ℕ_discrete, get_elem?, at_longer, at_last, Line, Desk, ThreadSeat, line, joined_at, taken, took}
 use Rattle.qhandoff.proofs.Changes.{line_else, line_here}
 
--- the seats in `left` are still to be joined
+-- the tokens in `left` are still to be joined
 pub record Joining {T : Type 0} (old : Desk T) (all : List (ThreadSeat T)) (left : List (ThreadSeat T)) (now : Desk T) : Type 0 where
   pub long : length now.lines ≡ length old.lines
   pub few : length left ≤ length all
@@ -28,7 +28,7 @@ module _ {T : Type 0} where
   pub is_next : (old : Desk T) (all xs left : List (ThreadSeat T)) (s : ThreadSeat T) (now : Desk T) → Joining old all xs now → xs ≡ left ++ s ∷ [] → get_elem? all (length left) ≡ some s
   is_next old all xs left s now j e = let j' : Joining old all (left ++ s ∷ []) now = subst (λ ys. Joining old all ys now) e j in j'.same (length left) s (at_last left s (length left) refl)
 
-  -- the desk of a seat that took in one more
+  -- the desk after one more token is joined
   pub joining_next : (old : Desk T) (all xs left : List (ThreadSeat T)) (s : ThreadSeat T) (now next : Desk T) → Joining old all xs now → xs ≡ left ++ s ∷ [] → s.thread ≡ length left → length all ≤ length old.lines
       → next ≡ joined_at now s.thread (taken s) → Joining old all left next
   joining_next old all xs left s now next j e is room then = subst (Joining old all left) (sym then) (joining_one old all left s now (subst (λ ys. Joining old all ys now) e j) is room)

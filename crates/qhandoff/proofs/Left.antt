@@ -1,4 +1,4 @@
--- What is left for each thread.
+-- The completions that are left for each thread.
 use Rattle.qhandoff.proofs.Common.{⊎_elim, subst, ◌≡◌, ◌≢◌, ℕ, ◌+◌, ◌<◌, ◌≤◌, eqb, List, [], ◌∷◌, ◌++◌, length, if◌then◌else◌, Bool, true, false, sym, refl, ap, ◌∙◌, arith, Option, Some, None, eq-eqb, ne_eqb, dite, some, some-injective, some-ne-none, ℕ_discrete, get_elem?, left_for, one, tagged, Rises}
 use Rattle.qhandoff.proofs.Changes.{there}
 use Rattle.qhandoff.proofs.Starting.{at_end}

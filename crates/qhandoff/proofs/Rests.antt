@@ -1,4 +1,4 @@
--- Where a put and a poll end.
+-- The states of tokens after a put and after a poll.
 use Rattle.qhandoff.proofs.Common.{◌≡◌, ℕ, zero, suc, ◌<◌, true, false, List, [], ◌∷◌, ◌++◌, length, set, sym, refl, ap, ◌∙◌, Option, Some, None, get_or-set_other, get_or-set_same, dite, ℕ_discrete, rest, Line, Desk, Hand, View, Kernel, Thread, line, with_line, idle_line, putting_desk, put_desk, desk_in, hand_in}
 use Rattle.atomic_table.specs.declared.shared.Seat.{Seat}
 use Rattle.qhandoff.specs.Seated.{IsKernel, IsThread}
@@ -25,13 +25,13 @@ module _ {T : Type 0} where
   thread_rests s t h e near is idle = let same : hand_in s.me.0 ≡ h = ap (λ (m : Sat T). hand_in m.0) e in
       (e ∙ ap (λ z. (Thread z, [])) (sym same), near, ap (λ z. z.thread) same ∙ is, ap (λ z. z.taking) same ∙ idle)
 
-  -- after a put no thread is being put
+  -- after a put, nothing is being put for any thread
   pub none_putting : (d : Desk T) (t : ℕ) (x : T) → t < length d.lines → ((u : ℕ) → (line d u).putting ≡ false) → (u : ℕ) → (line (put_desk d t x) u).putting ≡ false
   none_putting d t x h old u = let l = line d t in let q : Line T = record l { opened = false; putting = false; put = l.put ++ x ∷ [] } in
       dite (ℕ_discrete u t) (λ e. ap (λ v. (line (put_desk d t x) v).putting) e ∙ ap (λ z. z.putting) (get_or-set_same d.lines t q idle_line h))
       (λ n. ap (λ z. z.putting) (get_or-set_other d.lines t u q idle_line n) ∙ old u)
 
-  -- a seat between the two steps of a put
+  -- a token between the two steps of a put
   pub in_put : (m m1 m2 : Sat T) (d : Desk T) (t u : ℕ) (o o' : Option T) → u ≡ t → m ≡ (Kernel d, []) → m1 ≡ (Kernel (putting_desk d u), (u, o) ∷ m.1) → m2 ≡ (m1.0, (t, o') ∷ rest m1.1) → m2 ≡ (Kernel (putting_desk d t), (t, o') ∷ [])
   in_put m m1 m2 d t u o o' at e f g = g ∙ ap (λ (z : Sat T). (z.0, (t, o') ∷ rest z.1)) f ∙ ap (λ (z : Sat T). (Kernel (putting_desk d u), (t, o') ∷ z.1)) e ∙ ap (λ v. (Kernel (putting_desk d v), (t, o') ∷ [])) at
 
@@ -54,7 +54,7 @@ module _ {T : Type 0} where
   held d [] = None
   held d (x ∷ c) = x.1
 
-  -- what a poll took out of the slot
+  -- the completion that a poll took out of the slot
   pub got : (m m1 : Sat T) (h : Hand T) (t : ℕ) (x : T) (o : Option T) → m1 ≡ (Thread (record (hand_in m.0) { taking = Some x }), (t, Some x) ∷ m.1) → m1.1 ≡ (t, o) ∷ rest m1.1 → o ≡ Some x
   unfolding held
   got m m1 h t x o e f = sym (ap (held x) f) ∙ ap (λ (z : Sat T). held x z.1) e

@@ -1,4 +1,4 @@
--- A row of thread seats.
+-- A list of thread tokens, ordered by cell.
 use Rattle.qhandoff.proofs.Common.{◌≡◌, ℕ, zero, suc, List, [], ◌∷◌, ◌++◌, length, sym, refl, ap, ◌∙◌, subst, ⊎_elim, get_elem?, at_longer, at_last, ThreadSeat, taken, took, thread_id, thread_of, IsRow}
 use Rattle.atomic_table.specs.Seated.{TableId}
 use Rattle.qhandoff.proofs.Starting.{at_end}

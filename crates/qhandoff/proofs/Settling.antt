@@ -1,4 +1,4 @@
--- The seats are joined, and the cells are closed.
+-- The tokens are joined, and the cells are closed.
 use Rattle.qhandoff.proofs.Common.{◌≡◌, ◌≢◌, ℕ, zero, suc, ◌<◌, false, List, [], ◌∷◌, ◌++◌, length, get_or, set, sym, refl, ap, ◌∙◌, subst, ⊎_elim, arith, Option, Some, None, length-set, append-nil, none, some, some-injective, some-ne-none, get_elem?, Joins, Final, Seen, at_set, set_here, set_else, Line, Desk, Hand, View, Kernel, Thread, Joined, KeepsRule, Fits, Settled, Knows, line, with_line, word_of, joined_views, joined_desk, one}
 use mathlib.Core.Option as maybe
 use Rattle.qhandoff.proofs.Changes.{St, there, line_else, line_here, cells_stay, CellOk, still_empty, still_has}
@@ -44,7 +44,7 @@ module _ {T : Type 0} where
   pub join_allowed : (key n id other : ℕ) (m m' : Sat T) (d : Desk T) (h : Hand T) → key ≡ n → m ≡ (Kernel d, []) → m' ≡ (Thread h, []) → h.thread < n → h.taking ≡ None → Joins (KeepsRule key) id m.0 other m'.0 (joined_views m.0 m'.0) Joined
   join_allowed key n id other m m' d h e is is' near idle = subst (λ (z : ℕ × Sat T × Sat T). Joins (KeepsRule z.0) id z.1.0 other z.2.0 (joined_views z.1.0 z.2.0) Joined) (λ i. (sym e i, sym is i, sym is' i)) (joins_here n id other d h near idle)
 
-  -- what a closed cell has, where its seat was joined and it isn't being put
+  -- the content of a closed cell, if its token was joined and nothing is being put into it
   abbrev pub Closes : ℕ → Line T → List T → maybe.Option (Option T) → Type 0
   Closes w l ts x = (o : Option T) × (x ≡ some o) × (ts ++ one o ≡ l.put)
 

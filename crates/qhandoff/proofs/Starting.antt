@@ -1,4 +1,4 @@
--- The cells are made, their seats are split off and joined, and they are closed.
+-- The cells are made, their tokens are split off and joined, and the cells are closed.
 use Rattle.qhandoff.proofs.Common.{◌≡◌, ◌≢◌, ℕ, zero, suc, ◌*◌, ◌<◌, List, [], ◌∷◌, ◌++◌, length, replicate, map, get_or, set, sym, refl, ap, ◌∙◌, subst, ⊎_elim, ◌⊎◌, inl, inr, arith, Option, None, length-set, length-append, none, some, some-injective, some-ne-none, get_elem?, length-replicate, Splits, opening, at_set, set_here, at_longer, Line, Desk, Hand, View, Kernel, Thread, Joined, KeepsRule, Fits, Settled, Knows, idle_line, new_hand, word_of, first_view, seated_desk, seats_one_more, next_hand}
 use mathlib.Core.Option as maybe
 use Rattle.qhandoff.proofs.Changes.{St, there}

@@ -9,8 +9,8 @@ use Rattle.qhandoff.specs.declared.view.View.{View}
 use Rattle.qhandoff.specs.declared.view.View.TheVariants.{Kernel, Thread}
 use Rattle.qhandoff.specs.Rule.{line, KeepsRule}
 
--- between any two steps, the list that the seat of a thread took is a prefix of the list that the kernel's
--- seat put for it, shorter by at most one
+-- between any two steps, the list that a thread's token took is a prefix of the list that the kernel's token
+-- put for it, and at most one element shorter
 abbrev pub TakenIsABeginning : Type 0 → Type 0
 TakenIsABeginning T = (n : ℕ) (s : State (Option T) (View T)) (d : Desk T) (h : Hand T) (i j : ℕ)
     → KeepsRule n s → get_elem? s.views i ≡ some (Kernel d) → get_elem? s.views j ≡ some (Thread h)

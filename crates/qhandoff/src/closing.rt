@@ -1,4 +1,4 @@
-//! Closes the cells: joins the seats, and takes out the completions that are left.
+//! Closes the cells: joins the tokens, and takes out the completions that are left.
 
 ghost use Rattle.std.specs.Prelude.{◌≡◌, ◌<◌, ◌≤◌, ◌*◌, ◌++◌, ℕ, [], Some, length, vec_capacity};
 ghost use Rattle.std.specs.Mem.Slots.{slots_items, slots_len, IsFull};
@@ -16,7 +16,7 @@ use crate::view::View;
 use atomic_table::{Closed, Seat, Shared};
 use std::alloc::Global;
 
-/// Joins one thread's seat, so that the kernel's seat knows what this thread took.
+/// Joins one thread's token, so that the kernel's token knows the completions that this thread took.
 fn join_one<T: Drop>(
     shared: &Shared<Option<T>, View<T>, usize, HandOff>,
     seat: &mut Seat<Option<T>, View<T>>,
@@ -31,12 +31,12 @@ fn join_one<T: Drop>(
         thread: _,
         seat: other,
     } = other;
-    // A SeqCst load; Relaxed is enough: both seats are in this one thread, so the hand-over of the other seat came
-    // before.
+    // This is a SeqCst load. Relaxed is enough: both tokens are in this thread, so the hand-over of the other
+    // token came before.
     shared.join_seat::<JoinOne>(seat, other);
 }
 
-/// Joins the seats of all threads, the last one first.
+/// Joins the tokens of all threads, beginning with the last.
 fn join_all<T: Drop>(
     shared: &Shared<Option<T>, View<T>, usize, HandOff>,
     seat: &mut Seat<Option<T>, View<T>>,
@@ -53,7 +53,7 @@ fn join_all<T: Drop>(
     }
 }
 
-/// Appends the value of one slot, if it has one.
+/// Appends the value of one slot with its thread, if the slot has a value.
 fn keep<T: Drop>(room: &mut Vec<(usize, T)>, thread: usize, value: Option<T>)
     requires { length room.old.items < vec_capacity room.old }
     ensures { (room.new.items ≡ room.old.items ++ tagged thread value) × (vec_capacity room.new ≡ vec_capacity room.old) }
@@ -63,7 +63,7 @@ fn keep<T: Drop>(room: &mut Vec<(usize, T)>, thread: usize, value: Option<T>)
     }
 }
 
-/// Returns the completions that are in the slots, each with its thread, in rising thread number.
+/// Returns the completions in the slots, each with its thread, in ascending order of thread index.
 fn collect<T: Drop>(
     mut closed: Closed<Option<T>, Global>,
     mut room: Vec<(usize, T)>,
@@ -91,9 +91,11 @@ impl<T: Drop> Cells<T> {
         self.table.slot_count()
     }
 
-    /// Takes all seats back and returns the completions that are still in the cells, each with its thread, in rising
-    /// thread number; takes no memory. For each thread, the completions that it took, followed by the one that is left,
-    /// are those that were put for it.
+    /// Takes all tokens back and returns the completions that are still in the cells, each with its thread,
+    /// in ascending order of thread index. Takes no memory.
+    ///
+    /// For each thread, the completions that it took and the completion that is left for it, if any, are the
+    /// completions that were put for it, in the same order.
     pub fn close(self, kernel: KernelSeat<T>, threads: Vec<ThreadSeat<T>>) -> Vec<(usize, T)>
         requires kernel { IsKernelOf self kernel }
         requires threads { (length threads.items ≡ count self) × IsRow (cells_id self) threads.items }

@@ -1,10 +1,10 @@
-//! A law that follows from the rule of the cells. The function does nothing: its contract is the law, proved of every
-//! state that keeps the rule, and so of every state between two steps.
+//! A law that follows from the rule of the cells. The function does nothing: its contract is the law. It is
+//! proved for every state that keeps the rule, and so for every state between two steps.
 
 ghost use Rattle.qhandoff.specs.Laws.{TakenIsABeginning};
 
-/// At each moment, the completions that a thread took are the first of those that were put for it: all of them, or all
-/// but the last.
+/// At any time, the completions that a thread took are the first completions that were put for it. They are
+/// all of them, or all except the last.
 pub fn taken_is_a_beginning<T>()
     ensures { TakenIsABeginning T }
 {}

@@ -1,4 +1,4 @@
-//! Makes the cells and their seats.
+//! Makes the cells and their tokens.
 
 ghost use Rattle.std.specs.Prelude.{◌≡◌, ◌<◌, ◌≤◌, ◌+◌, ℕ, ◌*◌, [], IfOk, IfErr, length};
 ghost use lib.ListN.{get_elem?};
@@ -18,10 +18,10 @@ use std::alloc::{AllocError, Global};
 /// The greatest number of cells.
 const LIMIT: usize = 64;
 
-/// The cells, the seat that fills them, and for each cell the seat that empties it.
+/// The cells, the token that fills them, and for each cell the token that empties it.
 type Made<T> = (Cells<T>, KernelSeat<T>, Vec<ThreadSeat<T>>);
 
-/// Splits off the seat of the next thread.
+/// Splits off the token of the next thread.
 fn next_seat<T: Drop>(
     shared: &Shared<Option<T>, View<T>, usize, HandOff>,
     seat: &mut Seat<Option<T>, View<T>>,
@@ -32,12 +32,12 @@ fn next_seat<T: Drop>(
     ensures seat { (seat.new.table_id ≡ seat.old.table_id) × (seat.new.me ≡ (Kernel (seated_desk (thread + 1) shared.now.table_id.slots), [])) }
     ensures next { (thread_id result ≡ seat.old.table_id) × (thread_of result ≡ thread) × (taken result ≡ []) }
 {
-    // A SeqCst load; Relaxed is enough: no other thread has a seat yet.
+    // This is a SeqCst load. Relaxed is enough: no other thread has a token yet.
     let seat = shared.split_seat::<SeatOne>(seat);
     ThreadSeat { thread, seat }
 }
 
-/// Makes `threads` idle cells and their seats, with the room for `close`.
+/// Makes `threads` idle cells and their tokens, with the memory that `close` needs.
 fn make_cells<T: Drop>(alloc: Global, threads: usize) -> Result<Made<T>, AllocError>
     requires { threads ≤ 64 }
     ensures cells { IfOk result (λ r. (count r.0 ≡ threads) × IsKernelOf r.0 r.1 × (desk r.1 ≡ seated_desk threads threads)) }
@@ -54,9 +54,10 @@ fn make_cells<T: Drop>(alloc: Global, threads: usize) -> Result<Made<T>, AllocEr
 }
 
 impl<T: Drop> Cells<T> {
-    /// Makes idle cells for `threads` threads, at most 64. Returns them with the seat that fills them and, for each
-    /// thread, the seat that empties its cell. Takes the memory that `close` needs, too. Error: `Inval` if `threads` is
-    /// more than 64, `NoMemory` if the allocator refuses.
+    /// Makes idle cells for `threads` threads, at most 64. Returns them with the token that fills them and,
+    /// for each thread, the token that empties its cell. Takes the memory that `close` needs, too.
+    ///
+    /// Fails with `Inval` if `threads` is more than 64, and with `NoMemory` if the allocator refuses.
     pub fn new(
         alloc: Global,
         threads: usize,

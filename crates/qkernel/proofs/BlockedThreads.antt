@@ -1,11 +1,11 @@
--- The threads that are blocked, by their records.
+-- The blocked threads, by their records.
 use Rattle.qkernel.proofs.Common.{◌≡◌, ℕ, ◌+◌, ◌<◌, List, [], ◌∷◌, ◌++◌, length, take, get_or, refl, ap, ◌∙◌, filter_map, cons_option, AllByRecursion, option_map, option_to_list, option_map_or, take_at_read, filter_map-append, blocked_thread, state_in, facts_of, Trace, own_open, Ready, number_of, Option, None, Some, IsRoster, Member, threads_of, Facts, filter_map_same, StandsAt, State, facts_in, open_in, members_of, OpenCall, Thread}
 use Rattle.qrules.proofs.Words.Blocked.{blocked_threads_in}
 use Rattle.qkernel.specs.Blocked.{blocked_threads}
 use Rattle.qmodel.specs.declared.open_call.Blocked.{Blocked}
 use Rattle.qkernel.specs.Blocked as told
 
--- what is told of each thread that is blocked, by its record
+-- the list entry of each blocked thread, made from its record
 abbrev pub blocked_by : List Thread → List Blocked
 blocked_by threads = filter_map (λ t. blocked_thread t.member.thread t.open_call) threads
 
@@ -22,7 +22,7 @@ same_told : (open_call : ℕ → Option OpenCall) (threads : List Thread) → Al
 same_told open_call [] h = refl
 same_told open_call (t ∷ threads) h = rw (h.0, same_told open_call threads h.1) refl
 
--- ---- what is told by the rules
+-- ---- the list entries that the rules give
 
 module _ (f : Facts) where
   told_same : (u : ℕ) → blocked_thread u (f.open_call u) ≡ told.blocked_thread f u

@@ -1,4 +1,4 @@
--- The caller: who it is, and that nothing refuses its call.
+-- The caller's entry of the roster, and its right to make a call.
 use Rattle.qkernel.proofs.Common.{◌≡◌, ℕ, List, [], ◌∷◌, refl, ap, sym, ◌∙◌, cond, Bool, true, false, eqb, Busy, Down, Option, None, Some, is_some, eqb-true, same_Some, none-some, member_at, Member, OpenCall}
 use Rattle.qkernel.specs.declared.kernel.caller.Caller.{Caller}
 

@@ -1,4 +1,4 @@
--- A copy of a kernel's content: the same, but for the room of its queues.
+-- A copy of a kernel's content: the same, except for the room of its queues.
 use Rattle.qkernel.proofs.Common.{IsSound, Item, List, None, OpenChannel, Option, Some, State, [], ap, cond, eqb, entry_at, false, length, map, members_of, open_in, option_map, refl, sym, true, ℕ, ◌+◌, ◌∙◌, ◌∷◌, ◌≡◌}
 use Rattle.std.proofs.lemmas.List.{length-map}
 use Rattle.qkernel.specs.Kernel.{facts_in}
@@ -7,7 +7,7 @@ use Rattle.qstate.specs.Copies.{channel_told, entry_told}
 use Rattle.qstate.specs.Kept.{channel_in, items_waiting_on, open_channel_of, pending_in, thread_priority}
 use Rattle.qstate.specs.declared.channel.Channel.{Channel}
 
--- what facts tell of the channels
+-- the facts about the channels
 abbrev Told : Type 0
 Told = List (ℕ × (OpenChannel × List Item))
 
@@ -51,7 +51,7 @@ module _ (s t : State) (made : t.made ≡ s.made) (down : t.down ≡ s.down) (th
   count_same : length t.channels ≡ length s.channels
   count_same = sym (length-map t.channels entry_told) ∙ ap (λ (told : Told). length told) channels ∙ length-map s.channels entry_told
 
-  -- a copy's content says the same facts
+  -- a copy's content has the same facts
   pub facts_copied : facts_in t ≡ facts_in s
   facts_copied = λ i. record {
     roster = members_of (threads i);

@@ -1,10 +1,10 @@
--- A log of events: what its entries and endings say.
+-- A log of events, by its entries and completions.
 use Rattle.qkernel.proofs.Common.{◌≡◌, ℕ, ◌-◌, ◌≤◌, List, [], ◌∷◌, ◌++◌, length, map, take, drop, refl, ap, sym, ◌∙◌, arith, slice_range, common_steps, Completion}
 use Rattle.std.proofs.lemmas.List.{append-nil, drop-append-le, take-append-drop}
 use Rattle.qkernel.specs.declared.trace.Entry.{Entry}
 use Rattle.qkernel.specs.Kept.{entry_call, events_of, logged_by, AllWithin, IsKept}
 
--- ---- more endings
+-- ---- more completions
 
 kept_range : (xs ys : List Completion) (a b : ℕ) → a ≤ b → b ≤ length xs → slice_range (xs ++ ys) a b ≡ slice_range xs a b
 kept_range xs ys a b l m = grind (arith, common_steps)
@@ -15,12 +15,12 @@ kept_events xs ys (e ∷ es) w = rw (kept_range xs ys e.start e.end w.0.0 w.0.1,
 
 -- ---- a log
 
--- more endings of the next call
+-- more completions of the next call
 pub logged_more : (es : List Entry) (xs ys : List Completion) (m s r q n : ℕ) → IsKept es xs m s → n ≡ q - length ys
     → logged_by es (xs ++ ys) m s r n ≡ record (logged_by es xs m s r q) { endings = drop s xs ++ ys; completion_room = q - length ys }
 logged_more es xs ys m s r q n h room = rw (kept_events xs ys (take m es) h.within, drop-append-le s xs ys h.begun, room) refl
 
--- where none is noted, all are events
+-- if no call is noted, all entries are events
 taken_all : (es : List Entry) (m : ℕ) → map entry_call (drop m es) ≡ [] → take m es ≡ es
 taken_all es m none = sym (append-nil (take m es)) ∙ ap (λ ys. take m es ++ ys) (sym (no_more (drop m es) none)) ∙ take-append-drop m es
   where

@@ -1,9 +1,9 @@
--- An event ends no more calls than its own and the open ones.
+-- An event completes at most its own call and calls that were open.
 use Rattle.qkernel.proofs.Common.{◌≡◌, ℕ, ◌+◌, ◌≤◌, List, [], ◌∷◌, length, refl, ap, sym, subst, ◌∙◌, cond, arith, Bool, true, false, eqb, Option, None, Some, is_some, ◌||◌, ◌&&◌, filter_map, cons_option, AllByRecursion, completion_to, Outcome, makes, unblocks, writes, Step, Steps, facts_in, Follows, unless, after_receipt, after_write, after_unblock, is_thread, held_call, written_call, unblocked_call, row_passes, RowLaws, row_laws, Rises, rises, not_among, own_open, option_map, eqb-true, eq-eqb, true≢false, IsRoster, Call, Completion, OpenCall, Thread, receipt_of, Received, row_of, SentItem, State, open_in, blocked_count, members_of, is_among}
 use Rattle.qrules.proofs.Words.Facts.{Facts, sender, threads_of}
 use Rattle.qrules.specs.Rule.{Transfer}
 
--- one where there is something
+-- 1 for Some, and 0 for None
 abbrev one : {A : Type 0} → Option A → ℕ
 one None = 0
 one (Some x) = 1
@@ -12,7 +12,7 @@ one_most : {A : Type 0} (o : Option A) → one o ≤ 1
 one_most None = omega arith
 one_most (Some x) = omega arith
 
--- how many of these threads wait
+-- the number of these threads that are blocked
 opens : (ℕ → Option OpenCall) → List ℕ → ℕ
 opens f [] = 0
 opens f (u ∷ ts) = one (f u) + opens f ts
@@ -21,7 +21,7 @@ length-cons : {A : Type 0} (o : Option A) (xs : List A) → length (cons_option 
 length-cons None xs = omega arith
 length-cons (Some x) xs = omega arith
 
--- the caller ends or waits, and any other thread only ends what it waited for
+-- the caller's call completes or stays open, and any other thread's open call at most completes
 sum_elsewhere : (e : ℕ → Option Completion) (f g : ℕ → Option OpenCall) (t : ℕ) (ts : List ℕ) → ((u : ℕ) → eqb u t ≡ false → one (e u) + one (g u) ≤ one (f u)) → is_among ts t ≡ false
     → length (filter_map e ts) + opens g ts ≤ opens f ts
 unfolding opens

@@ -6,12 +6,12 @@ use Rattle.qrules.specs.Trace.{followed_by}
 use Rattle.qrules.proofs.Traces.OnlyRun.{only_run}
 use Rattle.qkernel.proofs.Traces.{followed_push, properties_of, stands_roster}
 
--- ---- events one after another
+-- ---- a list of events
 
 runs_none : (s : State) → RunsAtTraces s [] s
 runs_none s = λ roster past l st. (l, st)
 
--- one event more
+-- one more event
 pub runs_more : (old mid new : State) (events : List Event) (e : Event) → RunsAtTraces old events mid → is_some (member_at (members_of mid.threads) e.thread) ≡ true → AnswersAtTraces mid e.thread e.call e.endings new
     → RunsAtTraces old (events ++ e ∷ []) new
 runs_more old mid new events e run known step = λ roster past l st.
@@ -20,7 +20,7 @@ runs_more old mid new events e run known step = λ roster past l st.
     let among : is_some (member_at roster e.thread) ≡ true = subst (λ r. is_some (member_at r e.thread) ≡ true) (stands_roster roster mid (followed_by past events) now.1) known in
     rw (followed_push past events e) ((now.0, (among, next.0)), next.1)
 
--- ---- the run so far, where the calls to come are todo
+-- ---- the run so far; todo has the calls still to come
 
 abbrev as_event : ℕ × Call → List Completion → Event
 as_event q X = record { thread = q.0; call = q.1; endings = X }
@@ -53,7 +53,7 @@ running_at_start old calls log known limit noted events none room = record {
 }
 
 module _ (old : State) (calls : List (ℕ × Call)) (now : State) (log : Logged) (q : ℕ × Call) (todo : List (ℕ × Call)) (r : Running old calls now log (q ∷ todo)) where
-  -- what a step of the run needs
+  -- the requirements of the run's next step
   pub next_known : is_some (member_at (members_of now.threads) q.0) ≡ true
   next_known = rw (r.members) r.known.0
 
@@ -108,6 +108,6 @@ headline_of old new first events rises is run = λ roster past l st.
 pub popped : {X : Type 0} (old new : List X) (x : X) → old ≡ new ++ x ∷ [] → reverse old ≡ x ∷ reverse new
 popped old new x e = ap reverse e ∙ reverse-append new (x ∷ [])
 
--- a run that is over
+-- the run is over
 pub all_told : (old : State) (calls : List (ℕ × Call)) (now : State) (log : Logged) → Running old calls now log [] → map event_call log.events ≡ calls
 all_told old calls now log r = sym (append-nil (map event_call log.events)) ∙ r.told

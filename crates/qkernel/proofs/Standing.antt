@@ -1,4 +1,4 @@
--- A step of the kernel's content is a step at each trace at which it stands.
+-- A step of the kernel's content is a step from each history that the kernel matches.
 use Rattle.qkernel.proofs.Common.{◌≡◌, ℕ, ◌+◌, ◌≤◌, List, [], ◌∷◌, map, cond, eqb, length, refl, ap, sym, subst, ◌∙◌, arith, Bool, true, false, inl, inr, eqb-false, true≢false, Answers, Outcome, completion_to, is_failure, priority_in, StandsAt, AnswersAtTraces, LeavesIfRefused, Step, Steps, facts_in, Follows, open_in, ready_thread, all_filter_map, completion_names, laws_of, None, Some, is_some, AllByRecursion, filter_map, length-map, Errno, member_at, IsRoster, Member, Call, Completion, refusal_completion, Facts, threads_of, State, IsSound, members_of, thread_priority}
 use Rattle.qrules.proofs.Words.Lawful.{facts_of, with_event}
 use Rattle.qrules.proofs.Traces.Past.Follows.{past_follows}
@@ -22,11 +22,11 @@ step_at_traces old t c X new rises known step roster past lawful stands =
     follows_once _ _ _ t c accept now (past_follows accept roster past t c X is_roster (lawful) is_known outcome) in
     (answers_of accept _ t c X outcome, after)
 
--- the completion is no failure of thread t
+-- the completion isn't a failure of thread t
 abbrev IsNoFailureOf : ℕ → Completion → Type 0
 IsNoFailureOf t x = x.thread ≡ t → is_failure x.mark ≡ true → ⊥
 
--- an accepted call's own completion is no failure, and its others go to other threads
+-- an accepted call's own completion isn't a failure, and its other completions go to other threads
 passed_unfailed : (f : Facts) (t : ℕ) (c : Call) (X : List Completion) → Outcome true f t c X → (e : Errno) → X ≡ refusal_completion f t c e ∷ [] → ⊥
 passed_unfailed f t c X a e is = (subst (AllByRecursion (IsNoFailureOf t)) (sym a.1 ∙ is) others).0 refl refl where
   others : AllByRecursion (IsNoFailureOf t) (filter_map (completion_to f t c) (threads_of f.roster))
@@ -36,11 +36,11 @@ passed_unfailed f t c X a e is = (subst (AllByRecursion (IsNoFailureOf t)) (sym 
         | inr other ↦ λ at _. eqb-false v t other.thread (sym other.names.thread ∙ at)
       ])
 
--- the facts, where one more call was made
+-- the facts after one more call is counted
 abbrev counted : Facts → Facts
 counted f = record f { number = f.number + 1 }
 
--- what is refused leaves all but the count
+-- a call that fails in its own event changes only the count
 refused_counts : (old : State) (t : ℕ) (c : Call) (X : List Completion) (new : State) → Steps old t c X new → (e : Errno) → X ≡ refusal_completion (facts_in old) t c e ∷ [] → facts_in new ≡ counted (facts_in old)
 refused_counts old t c X new step e is = by_case step.0 step.1 where
   by_case : (accepted : Bool) → Step old t c accepted X new → facts_in new ≡ counted (facts_in old)

@@ -1,11 +1,11 @@
--- What the rules say of a past and of a kernel that stands at it, in the words of the laws of `qmodel`.
+-- Statements of the rules about a history and a kernel that matches it, in the terms of the laws of `qmodel`.
 use Rattle.qkernel.proofs.Common.{◌≡◌, ◌+◌, ℕ, List, [], ◌∷◌, ◌++◌, arith, length, refl, ap, open_call, is_blocked, facts_of, IsLawful, is_some, IsRoster, Member, members_of, State, StandsAt}
 use Rattle.qrules.proofs.Traces.Properties.All.{has_properties}
 use Rattle.qrules.specs.Past.{was_done}
 use Rattle.qrules.specs.Properties.{HasProperties}
 use Rattle.qrules.specs.Trace.{followed_by, Event, Trace}
 
--- ---- a past
+-- ---- a history
 
 module _ (roster : List Member) (past : Trace) (lawful : IsLawful roster past) where
   pub blocked_same : (t : ℕ) → is_blocked (facts_of roster past) t ≡ is_some (open_call roster past t)
@@ -22,7 +22,7 @@ pub followed_length : (past : Trace) (events : List Event) → length (followed_
 followed_length past [] = omega arith
 followed_length past (e ∷ events) = let rest : length (followed_by (e ∷ past) events) ≡ length (e ∷ past) + length events = followed_length (e ∷ past) events in omega arith
 
--- ---- a kernel that stands at it
+-- ---- a kernel that matches it
 
 module _ (roster : List Member) (s : State) (past : Trace) (stands : StandsAt roster s past) where
   pub stands_roster : members_of s.threads ≡ roster

@@ -1,4 +1,4 @@
--- How a log keeps events: the calls, and all their endings one after another.
+-- How a log keeps events: the calls, and all their completions in one list.
 use Rattle.std.specs.Prelude.{ℕ, ◌≤◌, List, map, length, take, drop, slice_range}
 use Rattle.std.specs.List.{AllByRecursion}
 use Rattle.qmodel.specs.declared.call.Completion.{Completion}
@@ -7,7 +7,7 @@ use Rattle.qkernel.specs.declared.trace.Entry.{Entry}
 use Rattle.qkernel.specs.EventLog.{Logged}
 use Rattle.qmodel.specs.Trace.{Event}
 
--- the event of an entry, whose endings are a range of the list of all
+-- the event of an entry; its completions are a range of the list of all completions
 abbrev pub event_of : List Completion → Entry → Event
 event_of endings e = record { thread = e.thread; call = e.call; endings = slice_range endings e.start e.end }
 
@@ -15,7 +15,7 @@ event_of endings e = record { thread = e.thread; call = e.call; endings = slice_
 abbrev pub events_of : List Completion → List Entry → List Event
 events_of endings entries = map (event_of endings) entries
 
--- each entry's endings are a range within the list of all
+-- the completions of each entry are a range within the list of all completions
 abbrev pub AllWithin : List Completion → List Entry → Type 0
 AllWithin endings entries = AllByRecursion (λ e. (e.start ≤ e.end) × (e.end ≤ length endings)) entries
 
@@ -23,8 +23,8 @@ AllWithin endings entries = AllByRecursion (λ e. (e.start ≤ e.end) × (e.end 
 abbrev pub entry_call : Entry → ℕ × Call
 entry_call e = (e.thread, e.call)
 
--- the log of these entries, the first made of which are events, and of these endings; those from start on are
--- of the next call
+-- the log of these entries and completions: the first made entries are events, and the completions from start
+-- are the next call's
 abbrev pub logged_by : List Entry → List Completion → ℕ → ℕ → ℕ → ℕ → Logged
 logged_by entries endings made start call_room completion_room =
     record {

@@ -19,7 +19,7 @@ pub record State : Type 0 where
   pub channels : List (ℕ × Channel)
   pub connections : List (ℕ × Connection)
 
--- a kernel's content as facts: its open calls are kept with their threads
+-- the facts in a kernel's content; it keeps open calls with their threads
 abbrev pub facts_in : State → Facts
 facts_in s = record {
   roster = members_of s.threads;
@@ -34,8 +34,8 @@ facts_in s = record {
   priority = thread_priority s.threads;
 }
 
--- there are at most 64 threads, in rising number; the ids of connections rise, from 1 on; and no channel,
--- connection or item has the number of a later call
+-- there are at most 64 threads, in ascending order of their numbers. The ids of connections are in ascending
+-- order and at least 1. No channel, connection or item has a number above made.
 pub record IsSound (s : State) : Type 0 where
   pub few : length s.threads ≤ 64
   pub roster : IsRoster (members_of s.threads)

@@ -11,17 +11,20 @@ use qstate::endings::Endings;
 use std::alloc::{AllocError, Global};
 use std::marker::Model;
 
-/// The events of a kernel in order. A call is noted before it is made; its endings are added; and `event` then makes an
-/// event of both. Only `with_room` and `reserve` take memory. Contracts see the events, the noted calls, the endings of
-/// the next call, and the numbers of further calls and endings for which there is room.
+/// The events of a kernel, in order. A call is noted before it is made, and its completions are added after
+/// it was made. Then `event` turns the call and its completions into an event. Only `with_room` and `reserve`
+/// take memory.
+///
+/// Contracts see the events, the noted calls, the completions of the next call, and the numbers of further
+/// calls and completions for which there is room.
 #[derive(Debug, Drop)]
 pub struct EventLog {
-    // The events, followed by the calls that are noted.
+    // The entries of the events, followed by the entries of the noted calls.
     entries: Vec<Entry>,
     endings: Vec<Completion>,
     // The number of entries that are events.
     made: usize,
-    // The index at which the endings of the next call begin.
+    // The index at which the completions of the next call begin.
     start: usize,
 }
 
@@ -39,7 +42,7 @@ impl Model for EventLog {
     ghost invariant = { λ l. IsKept l.entries.items l.endings.items l.made l.start };
 }
 
-/// Moves the endings of one event to the end of the list, which has room for them.
+/// Moves the completions of one event to the end of the list, which must have room for them.
 fn append(all: &mut Vec<Completion>, endings: &mut Endings)
     requires { vec_len all.old + array_vec_len endings.old ≤ vec_capacity all.old }
     ensures items { all.new.items ≡ all.old.items ++ endings.old.items }
@@ -52,7 +55,7 @@ fn append(all: &mut Vec<Completion>, endings: &mut Endings)
     }
 }
 
-/// Records the range of an entry's endings: from `start` up to, but not including, `end`.
+/// Records the range of an entry's completions: from `start` up to, but not including, `end`.
 fn place(entry: &mut Entry, start: usize, end: usize)
     ensures { entry.new ≡ record entry.old { start = start; end = end } }
 {
@@ -61,7 +64,7 @@ fn place(entry: &mut Entry, start: usize, end: usize)
 }
 
 impl EventLog {
-    /// Makes an empty log with room for these numbers of calls and endings.
+    /// Makes an empty log with room for these numbers of calls and completions.
     pub fn with_room(alloc: Global, calls: usize, endings: usize) -> Result<EventLog, AllocError>
         ensures empty { IfOk result (λ log. (log.events ≡ []) × (log.noted ≡ []) × (log.endings ≡ [])) }
         ensures room { IfOk result (λ log. (log.call_room ≡ calls) × (log.completion_room ≡ endings)) }
@@ -76,7 +79,7 @@ impl EventLog {
         })
     }
 
-    /// Makes room for these numbers of further calls and endings.
+    /// Makes room for these numbers of further calls and completions.
     pub fn reserve(&mut self, calls: usize, endings: usize) -> Result<(), AllocError>
         ensures same { self.new ≡ record self.old { call_room = self.new.call_room; completion_room = self.new.completion_room } }
         ensures kept { (self.old.call_room ≤ self.new.call_room) × (self.old.completion_room ≤ self.new.completion_room) }
@@ -87,7 +90,7 @@ impl EventLog {
         self.endings.reserve(endings)
     }
 
-    /// Notes a call that is to be made after all calls noted before. There must be room for it.
+    /// Notes a call, which is made after all calls that were noted before. There must be room for it.
     pub fn note(&mut self, thread: ThreadNo, call: Call)
         requires { 0 < self.old.call_room }
         ensures { self.new ≡ record self.old { noted = self.old.noted ++ (thread, call) ∷ []; call_room = self.old.call_room - 1 } }
@@ -100,7 +103,7 @@ impl EventLog {
         });
     }
 
-    /// Adds a completion to those of the next call. There must be room for it.
+    /// Adds a completion to the next call. There must be room for it.
     pub fn push_ending(&mut self, completion: Completion)
         requires { 0 < self.old.completion_room }
         ensures { self.new ≡ record self.old { endings = self.old.endings ++ completion ∷ []; completion_room = self.old.completion_room - 1 } }
@@ -108,7 +111,8 @@ impl EventLog {
         self.endings.push_reserved(completion);
     }
 
-    /// Adds endings to those of the next call, and empties the list that they are in. There must be room for them.
+    /// Adds completions to the next call, and empties the list that they come from. There must be room for
+    /// them.
     pub fn append(&mut self, endings: &mut Endings)
         requires { length endings.old.items ≤ self.old.completion_room }
         ensures logged { self.new ≡ record self.old { endings = self.old.endings ++ endings.old.items; completion_room = self.old.completion_room - length endings.old.items } }
@@ -117,7 +121,7 @@ impl EventLog {
         append(&mut self.endings, endings);
     }
 
-    /// Makes an event of the next call, once it was made, and of the endings that were added.
+    /// Turns the next call and the completions that were added into an event. The call must have been made.
     pub fn event(&mut self)
         requires { 0 < length self.old.noted }
         ensures { self.new ≡ with_next self.old }
@@ -135,7 +139,8 @@ impl EventLog {
         self.made
     }
 
-    /// Returns the trace of the events; the first event has the number `first`. No noted call may be left.
+    /// Returns the events as the trace of a run, in which the first event has the number `first`. No noted
+    /// call may be left.
     pub fn into_trace(self, first: u64) -> Trace
         requires { self.noted ≡ [] }
         ensures { result ≡ record { first = first; events = self.events } }

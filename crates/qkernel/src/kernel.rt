@@ -1,4 +1,4 @@
-//! The kernel.
+//! The kernel: it makes the calls of its threads, one at a time.
 
 ghost use Rattle.std.specs.Prelude.{◌≡◌, ◌+◌, ◌<◌, ◌≤◌, ◌^◌, ◌↔◌, [], length, None, Some, is_some, true, false, IsTrue, if◌then◌else◌, IfOk, IfErr, IfSome, OnOk};
 ghost use Rattle.qtables.specs.Members.{member_at};
@@ -47,8 +47,8 @@ use std::marker::Model;
 /// The number of calls that a kernel can make.
 pub const CALL_LIMIT: u64 = 1 << 40;
 
-/// A kernel: its threads, its channels and its connections. Contracts see its content as a record of lists; they
-/// describe the answers to calls by the list of all past calls.
+/// A kernel: its threads, its channels and its connections. Contracts see its content as a record of lists,
+/// and describe the completions of calls by the history of events.
 /// `simulator.rt` of `crates/qcalls` shows how one is made and used.
 #[derive(Drop)]
 pub struct Kernel {
@@ -74,8 +74,8 @@ impl Kernel {
     ghost use Rattle.qkernel.specs.Kernel.{IsSound};
     ghost use Rattle.qkernel.specs.Private.Caller.{IsCallerIn, MayCall, MakesOrRefuses};
 
-    /// Makes a kernel without channels, in which each thread of the roster is ready at its initial priority. The room
-    /// for thread records and open calls is made here; `NoMemory` is the only error.
+    /// Makes a kernel without channels, in which each thread of the roster is ready at its initial priority.
+    /// Takes the memory for thread records and open calls here. The only error is `NoMemory`.
     /// `first_message.rt` of `crates/balsaeuchre_uses` begins with it.
     pub fn new(alloc: Global, roster: &Roster) -> Result<Kernel, Errno>
         ensures stands { IfOk result (λ kernel. StandsAt roster.now kernel []) }
@@ -97,8 +97,9 @@ impl Kernel {
         })
     }
 
-    /// Returns the error that refuses every call of the thread at a seat: `Down` if the kernel is shut down, else
-    /// `Busy` if the thread is blocked; `None` otherwise.
+    /// Returns the error with which every call of the thread at this index fails: `Down` if the kernel is
+    /// shut down, and otherwise `Busy` if the thread is blocked. Returns `None` if the thread may make a
+    /// call.
     fn refusal(&self, seat: &Seat) -> Option<Errno>
         requires { IsSeatIn self.now.threads seat.now }
         ensures { result ≡ (if self.now.down then Some Errno.Down else (if is_some (open_in self.now.threads seat.now.thread) then Some Errno.Busy else None)) }
@@ -112,7 +113,7 @@ impl Kernel {
         }
     }
 
-    /// Returns the thread at a seat as the caller of the next call.
+    /// Returns the thread at this index as the caller of the next call.
     fn caller_at(&self, seat: &Seat) -> Caller
         requires limit { self.now.made < 2 ^ 40 }
         requires seat { IsSeatIn self.now.threads seat.now }
@@ -128,8 +129,8 @@ impl Kernel {
         }
     }
 
-    /// Makes a call by its own method, after it was counted and `refusal` found no error. An `Err` is the error of a
-    /// refusal.
+    /// Makes a call by its own method, after `refusal` found no error and the call was counted. On an `Err`
+    /// the call fails with this error, and its completion isn't in the list yet.
     #[inline(always)]
     fn make(&mut self, caller: &Caller, call: Call, endings: &mut Endings) -> Result<(), Errno>
         requires { MayCall self.old caller.now endings.old.items }
@@ -196,8 +197,8 @@ impl Kernel {
         }
     }
 
-    /// Counts a call of the thread at a seat, and then makes it, or refuses it if the kernel is shut down or the thread
-    /// is blocked.
+    /// Counts a call of the thread at this index and makes it. The call fails if the kernel is shut down or
+    /// the thread is blocked.
     fn perform(&mut self, seat: &Seat, call: Call, endings: &mut Endings)
         requires limit { self.old.made < 2 ^ 40 }
         requires seat { IsSeatIn self.old.threads seat.now }
@@ -216,9 +217,9 @@ impl Kernel {
         }
     }
 
-    /// Returns the seat of a thread, by which `call_at` makes its calls without a search; `None` if the thread isn't in
-    /// the roster. A seat is valid as long as the kernel.
-    /// The locked kernel's ports keep theirs.
+    /// Returns the index of a thread, or `None` if the thread isn't in the roster. With it, `call_at` makes
+    /// the thread's calls without a search. It is valid as long as the kernel.
+    /// The ports of the locked kernel keep the indices of their threads.
     pub fn seat(&self, thread: ThreadNo) -> Option<Seat>
         ensures seat { IfSome result (λ seat. IsSeatIn self.now.threads seat) }
         ensures thread { IfSome result (λ seat. seat.thread ≡ thread) }
@@ -227,7 +228,7 @@ impl Kernel {
         self.objects.threads.seat(thread)
     }
 
-    /// Returns the seat of a thread that is in the roster.
+    /// Returns the index of a thread that is in the roster.
     fn known_seat(&self, thread: ThreadNo) -> Seat
         requires { is_some (member_at (members_of self.now.threads) thread) ≡ true }
         ensures seat { IsSeatIn self.now.threads result }
@@ -239,9 +240,9 @@ impl Kernel {
         }
     }
 
-    /// Makes one call of the thread at a seat, and puts its endings, in rising thread number, into the list that it is
-    /// given, which must be empty. An `Err` is no event: it gives the call back and changes nothing. `Exhausted`, after
-    /// 2^40 calls, is the only error.
+    /// Makes one call of the thread at this index. Puts the completions of its event, in ascending order of
+    /// thread number, into the list, which must be empty. An `Err` returns the call: there is no event, and
+    /// nothing changes. The only error is `Exhausted`, after 2^40 calls.
     pub fn call_at(
         &mut self,
         seat: &Seat,
@@ -255,10 +256,10 @@ impl Kernel {
         ensures roster { members_of self.new.threads ≡ members_of self.old.threads }
         ensures ok { OnOk result ((self.old.made < 2 ^ 40) × (self.new.made ≡ self.old.made + 1)) }
 
-        // An event ends at most its own call and calls that were open.
+        // An event completes at most its own call and calls that were open.
         ensures room { OnOk result (length endings.new.items + blocked_count self.new.threads ≤ blocked_count self.old.threads + 1) }
 
-        // The error, and that it changes nothing.
+        // On an error nothing changes.
         ensures unchanged { IfErr result (λ refused. (self.new ≡ self.old) × (refused.1 ≡ call) × (endings.new.items ≡ [])) }
         ensures error { IfErr result (λ refused. (2 ^ 40 ≤ self.old.made) × (refused.0 ≡ Errno.Exhausted)) }
     {
@@ -269,10 +270,10 @@ impl Kernel {
         Ok(())
     }
 
-    /// Makes one call of a thread of the roster, and puts its endings, in rising thread number, into the list that it
-    /// is given, which must be empty. It suits a loop over many calls, which can use one list again; `dispatch` returns
-    /// a list of its own.
-    /// `run` uses it so.
+    /// Makes one call of a thread of the roster. Puts the completions of its event, in ascending order of
+    /// thread number, into the list, which must be empty. A loop over many calls can use one list again and
+    /// again; `dispatch` returns a new list for each call.
+    /// `run` has such a loop.
     pub fn step(&mut self, thread: ThreadNo, call: Call, endings: &mut Endings)
         requires known { is_some (member_at (members_of self.old.threads) thread) ≡ true }
         requires limit { self.old.made < 2 ^ 40 }
@@ -282,16 +283,17 @@ impl Kernel {
         ensures made { self.new.made ≡ self.old.made + 1 }
         ensures refused { LeavesIfRefused self.old thread call endings.new.items self.new }
 
-        // An event ends at most its own call and calls that were open.
+        // An event completes at most its own call and calls that were open.
         ensures room { length endings.new.items + blocked_count self.new.threads ≤ blocked_count self.old.threads + 1 }
     {
         let seat = self.known_seat(thread);
         self.perform(&seat, call, endings);
     }
 
-    /// Makes one call. An `Ok` is an event, whose number is one more than that of the last event, and holds its endings
-    /// in rising thread number. An `Err` is no event: it gives the call back and changes nothing. The errors are
-    /// `NoThread` if the thread isn't in the roster, and else `Exhausted` after 2^40 calls.
+    /// Makes one call. An `Ok` has the completions of its event, in ascending order of thread number. The
+    /// event's number is one more than the last event's number. An `Err` returns the call: there is no event,
+    /// and nothing changes. The error is `NoThread` if the thread isn't in the roster, and otherwise
+    /// `Exhausted`, after 2^40 calls.
     /// `dispatching.rt.txt` of `tests/unproved/kernel_tests` uses it.
     pub fn dispatch(&mut self, thread: ThreadNo, call: Call) -> Result<Endings, (Errno, Call)>
         ensures event { IfOk result (λ endings. AnswersAtTraces self.old thread call endings.items self.new) }
@@ -299,7 +301,7 @@ impl Kernel {
         ensures roster { members_of self.new.threads ≡ members_of self.old.threads }
         ensures ok { OnOk result ((is_some (member_at (members_of self.old.threads) thread) ≡ true) × (self.old.made < 2 ^ 40) × (self.new.made ≡ self.old.made + 1)) }
 
-        // The error, and that it changes nothing.
+        // On an error nothing changes.
         ensures unchanged { IfErr result (λ refused. (self.new ≡ self.old) × (refused.1 ≡ call)) }
         ensures error { IfErr result (λ refused. DispatchError self.old thread refused.0) }
     {
@@ -312,7 +314,7 @@ impl Kernel {
     }
 
     /// Returns whether the thread is in the roster.
-    /// `run` asks it before it makes any call.
+    /// `run` checks the threads of all calls with it before it makes any call.
     pub fn knows(&self, thread: ThreadNo) -> bool
         ensures { result ≡ is_some (member_at (members_of self.now.threads) thread) }
     {
@@ -330,7 +332,7 @@ impl Kernel {
         self.made
     }
 
-    /// Returns whether the kernel is shut down: every further call is refused with `Down`.
+    /// Returns whether the kernel is shut down. Then every further call fails with `Down`.
     /// `shutdown.rt` of `crates/balsaeuchre_uses` shows a call after it.
     pub fn is_down(&self) -> bool
         ensures { result ≡ self.now.down }
@@ -338,14 +340,15 @@ impl Kernel {
         self.down
     }
 
-    /// Returns the records of the threads, in rising thread number, each with the call that the thread is blocked in.
+    /// Returns the records of the threads, in ascending order of thread number, each with the call that the
+    /// thread is blocked in.
     pub fn threads(&self) -> &[Thread]
         ensures { result.now ≡ self.now.threads }
     {
         self.objects.threads.records()
     }
 
-    /// Returns the open channels, with the messages and pulses that wait on each.
+    /// Returns the open channels, each with its queued messages and pulses.
     pub fn channels(&self) -> &Channels<Channel>
         ensures { result.now ≡ self.now.channels }
     {

@@ -18,7 +18,7 @@ use qstate::endings::Endings;
 use qtables::roster::THREAD_LIMIT;
 use std::alloc::{AllocError, Global};
 
-/// Makes a log in which a copy of each call is noted, with room for all their endings.
+/// Makes a log that notes a copy of each call, with room for all their completions.
 fn log_for(alloc: Global, calls: &[(ThreadNo, Call)]) -> Result<EventLog, AllocError>
     requires { length calls.now ≤ 2 ^ 40 }
     ensures none { IfOk result (λ log. (log.events ≡ []) × (log.endings ≡ [])) }
@@ -32,7 +32,7 @@ fn log_for(alloc: Global, calls: &[(ThreadNo, Call)]) -> Result<EventLog, AllocE
     Ok(log)
 }
 
-/// Returns whether each call is of a thread of the roster.
+/// Returns whether the thread of each call is in the roster.
 fn all_known(kernel: &Kernel, calls: &[(ThreadNo, Call)]) -> bool
     ensures known { result ≡ true → AllKnown (members_of kernel.now.threads) calls.now }
     ensures unknown { AllKnown (members_of kernel.now.threads) calls.now → result ≡ true }
@@ -40,10 +40,12 @@ fn all_known(kernel: &Kernel, calls: &[(ThreadNo, Call)]) -> bool
     calls.iter().all(|(thread, _)| kernel.knows(*thread))
 }
 
-/// A list with room for fewer calls than this keeps its room. This many calls take some hundreds of kilobytes.
+/// A list with room for fewer calls than this keeps its memory. This many calls take some hundreds of
+/// kilobytes.
 const WORTH_GIVING_BACK: usize = 4096;
 
-/// Gives back the room of calls that were made, once they are at least half of what a large list has room for.
+/// Frees memory of a large list of calls, once at least half of its room is unused because the calls there
+/// were made.
 fn give_back(calls: &mut Vec<(ThreadNo, Call)>)
     ensures items { calls.new.items ≡ calls.old.items }
     ensures len { vec_len calls.new ≡ vec_len calls.old }
@@ -53,7 +55,7 @@ fn give_back(calls: &mut Vec<(ThreadNo, Call)>)
     }
 }
 
-/// Makes the calls in order, and logs the events. They must be the calls that the log has noted.
+/// Makes the calls in order, and logs the events. The calls must be the noted calls of the log.
 fn run_all(kernel: &mut Kernel, log: &mut EventLog, mut calls: Vec<(ThreadNo, Call)>)
     requires noted { log.old.noted ≡ calls.items }
     requires none { (log.old.events ≡ []) × (log.old.endings ≡ []) }
@@ -75,16 +77,20 @@ fn run_all(kernel: &mut Kernel, log: &mut EventLog, mut calls: Vec<(ThreadNo, Ca
     }
 }
 
-/// Makes the calls in order, and returns the trace of them. The room for the trace and the copies of the calls that it
-/// keeps are made first, so that an `Err` leaves the kernel as it was: `NoThread` if a thread of the list isn't in the
-/// roster, else `Exhausted` if the list would pass 2^40 calls, else `NoMemory`. The list is then dropped.
-/// `first_message.rt` of `crates/balsaeuchre_uses` is a whole use of it.
+/// Makes the calls in order, and returns the trace of the run. It takes the memory for the trace, which keeps
+/// copies of the calls, before it makes the first call. So an `Err` leaves the kernel unchanged, and drops
+/// the list.
+///
+/// The error is `NoThread` if a thread of the list isn't in the roster. Otherwise it is `Exhausted` if the
+/// list would pass 2^40 calls, and otherwise `NoMemory`.
+///
+/// `first_message.rt` of `crates/balsaeuchre_uses` is a complete use of it.
 pub fn run(kernel: &mut Kernel, calls: Vec<(ThreadNo, Call)>) -> Result<Trace, Errno>
     ensures headline { IfOk result (λ trace. Headline kernel.old trace kernel.new) }
     ensures ok { OnOk result (AllKnown (members_of kernel.old.threads) calls.items × (kernel.old.made + length calls.items ≤ 2 ^ 40)) }
     ensures told { IfOk result (λ trace. map event_call trace.events ≡ calls.items) }
 
-    // The error, and that it changes nothing.
+    // On an error nothing changes.
     ensures unchanged { OnErr result (kernel.new ≡ kernel.old) }
     ensures error { IfErr result (RunError kernel.old calls.items) }
 {

@@ -1,4 +1,4 @@
--- Facts that a walk hears at its start and tells at its end. Assumes `Logic`.
+-- Facts that a walk gets at its start and gives at its end. Assumes `Logic`.
 use Rattle.qpast.proofs.Common.{List, [], ◌∷◌, Ura, SProp, ent, sep, emp, id⊢, via, emp∗, mono∗, ftrue, Logic, fact, fact_i, Item, Goal, Seq, ‵, raw, ◌⊛◌, given, ◌$◌, drop, split, learn, use1}
 use borrow.Fn.Claims.{AllOf}
 

@@ -1,4 +1,4 @@
--- Pasts that begin alike, and the steps of a past that only grows. Assumes `Logic`.
+-- Histories with a common prefix, and the steps of a history that only grows. Assumes `Logic`.
 use Rattle.qpast.proofs.Common.{◌≡◌, List, [], ◌∷◌, ◌++◌, ℕ, ◌≤◌, Bool, true, false, reverse, length, leb, cond, refl, sym, ap, ◌∙◌, arith, leb-true, leb-false, Ura, SProp, ent, sep, emp, ex, guard, wand, via, apply∗, Lft, Fml, fbor, Logic, sem, lfts, ‵, raw, ◌⊛◌, some, given, later, ◌$◌, ◌∵◌, !, qed, by, move, keep, drop, split, learn, pick, check, use1, use2, await, updating, now, done, Lends, Event, Trace, Extends, longer, pasts, history_owns, seen_owns}
 use Rattle.std.proofs.lemmas.List.{reverse-append, reverse-reverse, length-reverse}
 use mathlib.Core.List.{IsPrefix}
@@ -23,7 +23,7 @@ head : {X : Type 0} → X → List X → X
 head d [] = d
 head d (x ∷ xs) = x
 
--- of two beginnings of one list the shorter begins the longer
+-- of two prefixes of one list, the shorter is a prefix of the longer
 pub shorter : {X : Type 0} → (a b c : List X) → IsPrefix a c → IsPrefix b c → length a ≤ length b → IsPrefix a b
 unfolding tail head
 shorter [] b c h k short = (b, refl)
@@ -40,13 +40,13 @@ module _ {M : Type 1} {𝓤 : Ura M} (𝓛 : Logic 𝓤) where
   abbrev pub Learned : Trace → Trace → Type 0
   Learned a b = Extends (longer a b) a × Extends (longer a b) b
 
-  -- whoever keeps the past sees it whole, and it goes on from what was seen before
+  -- the owner of the history sees all of it, and it extends every prefix that was seen before
   pub looks : (n : ℕ) (past seen : Trace) → ent 𝓤 (sep 𝓤 (sem 𝓛 (history_owns n past)) (had n seen)) (guard 𝓤 (Extends past seen) (sep 𝓤 (sem 𝓛 (history_owns n past)) (had n past)))
   looks n past seen = qed 𝓛 (‵ (history_owns n past) ∷ ‵ (seen_owns n seen) ∷ []) ∵
       use2 𝓛 (given (IsPrefix (reverse seen) (reverse past)) (‵ (history_owns n past) ⊛ ‵ (seen_owns n seen))) (growing.latest_bounds pasts 𝓛 full_share n (reverse past) (reverse seen)) $
       learn ! (λ p. check ! (extends past seen p) $ split ! $ move ! (1 ∷ []) $ drop ! $ by ! (growing.latest_shows pasts 𝓛 full_share n (reverse past) (reverse past) (prefix_refl (reverse past))))
 
-  -- the past of no events
+  -- the history without events
   pub begins : ent 𝓤 (emp 𝓤) (𝓛.H.⇛ (ex 𝓤 (λ (n : ℕ). sem 𝓛 (history_owns n []))))
   begins = via 𝓤 _ (growing.latest_new pasts 𝓛 []) (basic 𝓛 _)
 
@@ -57,7 +57,7 @@ module _ {M : Type 1} {𝓤 : Ura M} (𝓛 : Logic 𝓤) where
   pub adds : (n : ℕ) (past : Trace) (e : Event) → ent 𝓤 (sem 𝓛 (history_owns n past)) (𝓛.H.⇛ (sem 𝓛 (history_owns n (e ∷ past))))
   adds n past e = via 𝓤 _ (growing.latest_grows pasts 𝓛 n (reverse past) (reverse (e ∷ past)) (one_more e past)) (basic 𝓛 _)
 
-  -- what was seen can be had twice
+  -- a prefix can be duplicated
   pub twice : (n : ℕ) (a : Trace) → ent 𝓤 (had n a) (sep 𝓤 (had n a) (had n a))
   twice n a = growing.at_least_dup pasts 𝓛 n (reverse a)
 
@@ -68,7 +68,7 @@ module _ {M : Type 1} {𝓤 : Ura M} (𝓛 : Logic 𝓤) where
   picks n a b false is c h k = qed 𝓛 (‵ (seen_owns n a) ∷ ‵ (seen_owns n b) ∷ []) ∵ keep ! (0 ∷ []) $
       check ! (extends a a (prefix_refl (reverse a)), extends a b (shorter (reverse b) (reverse a) c k h (omega (arith, length-reverse a, length-reverse b, leb-false (length a) (length b) is)))) $ done !
 
-  -- of two that were seen the longer goes on from the other
+  -- of two prefixes that were seen, the longer extends the other
   pub learns : (n : ℕ) (a b : Trace) → ent 𝓤 (sep 𝓤 (had n a) (had n b)) (guard 𝓤 (Learned a b) (had n (longer a b)))
   learns n a b = qed 𝓛 (‵ (seen_owns n a) ∷ ‵ (seen_owns n b) ∷ []) ∵
       use1 𝓛 (‵ (seen_owns n a) ⊛ ‵ (seen_owns n a)) (twice n a) $ split ! $ move ! (2 ∷ []) $
@@ -76,7 +76,7 @@ module _ {M : Type 1} {𝓤 : Ura M} (𝓛 : Logic 𝓤) where
       use2 𝓛 (some (λ (c : List Event). given (Least IsPrefix (reverse a) (reverse b) c) (‵ (at_least pasts n c)))) (growing.at_least_join pasts 𝓛 n (reverse a) (reverse b)) $
       pick ! (λ c. learn ! (λ h. drop ! $ move ! (1 ∷ 0 ∷ []) $ by ! (picks n a b (leb (length a) (length b)) refl c h.0 h.1)))
 
--- what can be had twice can be lent, for as long as one likes
+-- a resource that can be duplicated can be lent for any lifetime
 pub lends_twice : {M : Type 1} {𝓤 : Ura M} (𝓛 : Logic 𝓤) (P : Fml) → ent 𝓤 (sem 𝓛 P) (sep 𝓤 (sem 𝓛 P) (sem 𝓛 P)) → (l : Lft) → Lends 𝓛 P (said P) l
 lends_twice {𝓤 = 𝓤} 𝓛 P dup l κ ts inc sp = let Back = 𝓛.H.⇛ (sep 𝓤 (𝓛.A.bor κ P) (lfts 𝓛 ts)) in
     qed 𝓛 (‵ (fbor κ P) ∷ raw (lfts 𝓛 ts) ∷ []) ∵ updating ! $ use2 𝓛 (later (‵ P ⊛ raw (wand 𝓤 (sem 𝓛 P) Back))) (𝓛.more.bor_acc_by κ ts P sp) $ await ! tt $ split ! $

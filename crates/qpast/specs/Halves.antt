@@ -1,4 +1,4 @@
--- What the two halves of a list of calls own: one ghost name, under which the list is tracked.
+-- The ghost resources that the two halves of a list of calls own. One ghost name tracks the list.
 use Rattle.std.specs.Prelude.{ℕ, List}
 use base.Stored.{Coded, coded_list}
 use base.Fml.{Fml, fobs, fauth}
@@ -13,6 +13,6 @@ calls_coded = coded_list (row.the_row).coded
 abbrev pub asked_owns : ℕ → List Call → Fml
 asked_owns name calls = fobs name (calls_coded.code calls)
 
--- the half that is kept beside the past owns this
+-- the half that is kept with the history owns this
 abbrev pub heard_owns : ℕ → List Call → Fml
 heard_owns name calls = fauth name (calls_coded.code calls)

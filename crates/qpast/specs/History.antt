@@ -1,4 +1,4 @@
--- What a past that only grows owns, and what is known of it: one ghost name, under which it is tracked.
+-- The ghost resources of a history that only grows, and of its prefixes. One ghost name tracks the history.
 use Rattle.std.specs.Prelude.{◌≡◌, ℕ, List, ◌++◌, reverse, length, leb, cond}
 use base.Stored.{Coded, coded_ℕ, coded×, coded_list, coded_via}
 use base.Fraction.{full_share}
@@ -8,11 +8,11 @@ use Rattle.qmodel.specs.Trace.{Event, Trace}
 use Rattle.qmodel.specs.contracts.call.Call as CallRow
 use Rattle.qmodel.specs.contracts.call.Completion as CompletionRow
 
--- the past goes on from what was seen: it has these events and more
+-- the history extends the prefix: it is the prefix, followed by zero or more events
 abbrev pub Extends : Trace → Trace → Type 0
 Extends past seen = (more : List Event) × (past ≡ more ++ seen)
 
--- the longer of two pasts
+-- the longer of two histories
 abbrev pub longer : Trace → Trace → Trace
 longer one other = cond (leb (length one) (length other)) other one
 
@@ -23,14 +23,14 @@ event_coded = coded_via
     (λ e. (e.thread, (e.call, e.endings)))
     (λ x y p i. record { thread = (p i).0; call = (p i).1.0; endings = (p i).1.1 })
 
--- the order of pasts, which are given with the oldest event first
+-- the order of histories by prefix; here a history has its oldest event first
 abbrev pub pasts : Order (List Event)
 pasts = prefixes event_coded
 
--- the past that is kept beside the kernel owns this
+-- the history that is kept with the kernel owns this
 abbrev pub history_owns : ℕ → Trace → Fml
 history_owns name past = latest pasts full_share name (reverse past)
 
--- what was seen of a past owns this, which can be had twice
+-- a prefix owns this, which can be duplicated
 abbrev pub seen_owns : ℕ → Trace → Fml
 seen_owns name seen = at_least pasts name (reverse seen)

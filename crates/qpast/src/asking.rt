@@ -1,4 +1,4 @@
-//! The calls of one thread that are events, in two halves that exist in proofs only.
+//! The list of the calls of one thread that are events, in two halves that exist only in proofs.
 
 ghost use Rattle.std.specs.Prelude.{◌≡◌, ◌++◌, [], ◌∷◌, ℕ, List};
 ghost use Rattle.qmodel.specs.declared.call.Call.{Call as Asking};
@@ -21,7 +21,7 @@ impl Model for Asked {
 
 unsafe impl Send for Asked {}
 
-/// The half that is kept beside the past. It has no bytes, and its functions do nothing.
+/// The half that is kept with the history. It has no bytes, and its functions do nothing.
 #[derive(Drop)]
 pub struct Heard {
     pub ghost name: { ℕ },
@@ -44,7 +44,7 @@ pub fn halves() -> (Asked, Heard)
 }
 
 impl Asked {
-    /// Adds a call to the end of the list, in both halves. They must be halves of one list.
+    /// Adds a call to the end of the list, in both halves. They must be halves of the same list.
     pub fn ask(&mut self, heard: &mut Heard, _call: &Snapshot<Call>)
         requires { self.old.name ≡ heard.old.name }
         ensures name { self.new.name ≡ self.old.name }
@@ -54,7 +54,7 @@ impl Asked {
         ensures heard { heard.new.calls ≡ heard.old.calls ++ _call.now.value ∷ [] }
     {}
 
-    /// States that the two halves of one list are equal. They must be halves of one list.
+    /// Guarantees that the two halves are equal. They must be halves of the same list.
     pub fn agree(&mut self, heard: &mut Heard)
         requires { self.old.name ≡ heard.old.name }
         ensures same { self.new ≡ self.old }

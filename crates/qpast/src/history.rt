@@ -1,4 +1,4 @@
-//! The one past of a kernel, and what was seen of it; both exist in proofs only.
+//! The history of a kernel and its prefixes. Both exist only in proofs.
 
 ghost use Rattle.std.specs.Prelude.{◌≡◌, [], ◌∷◌, ℕ};
 ghost use denote.Sharing.{said};
@@ -11,7 +11,8 @@ use qstate::endings::Endings;
 use std::marker::{Model, Send, Sync};
 use std::snapshot::Snapshot;
 
-/// The past of a kernel, which only grows. There is one of its name. It has no bytes, and its functions do nothing.
+/// The history of a kernel, which only grows. There is only one history of each name. It has no bytes, and
+/// its functions do nothing.
 #[derive(Drop)]
 pub struct History {
     pub ghost name: { ℕ },
@@ -24,8 +25,8 @@ impl Model for History {
 
 unsafe impl Send for History {}
 
-/// What was seen of the past of its name: the past began with these events, and always will. It has no bytes, and its
-/// functions do nothing.
+/// A prefix of the history of the same name. It always stays a prefix, since the history only grows. It has
+/// no bytes, and its functions do nothing.
 #[derive(Drop)]
 pub struct Seen {
     pub ghost name: { ℕ },
@@ -43,7 +44,7 @@ unsafe impl Send for Seen {}
 unsafe impl Sync for Seen {}
 
 impl History {
-    /// Returns the past of a kernel that made no call, and what was seen of it.
+    /// Returns the history of a kernel that has made no call, and a prefix without events.
     pub fn begin() -> (History, Seen)
         ensures name { result.0.name ≡ result.1.name }
         ensures past { result.0.trace ≡ [] }
@@ -52,13 +53,13 @@ impl History {
         (History {}, Seen {})
     }
 
-    /// Adds an event: this call of the thread, with these endings.
+    /// Adds an event: this call of the thread, with these completions.
     pub fn add(&mut self, _thread: &ThreadNo, _call: &Snapshot<Call>, _endings: &Endings)
         ensures name { self.new.name ≡ self.old.name }
         ensures past { self.new.trace ≡ record { thread = _thread.now; call = _call.now.value; endings = _endings.now.items } ∷ self.old.trace }
     {}
 
-    /// Sees the whole past, which goes on from all that was seen before. It must be seen under the past's name.
+    /// Sets the prefix to the whole history, which extends the old prefix. Both must have the same name.
     pub fn look(&mut self, seen: &mut Seen)
         requires { self.old.name ≡ seen.old.name }
         ensures same { self.new ≡ self.old }
@@ -69,14 +70,15 @@ impl History {
 }
 
 impl Seen {
-    /// Returns a copy.
+    /// Returns a copy of the prefix.
     pub fn again(&self) -> Seen
         ensures copy { result ≡ self.now }
     {
         Seen {}
     }
 
-    /// Learns what the other saw: the longer of the two goes on from the other. They must be of one past.
+    /// Sets this prefix to the longer of the two prefixes, which extends the other. Both must be of the same
+    /// history.
     pub fn learn(&mut self, other: &Seen)
         requires { self.old.name ≡ other.now.name }
         ensures name { self.new.name ≡ self.old.name }

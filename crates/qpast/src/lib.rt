@@ -1,4 +1,5 @@
-//! A past that exists in proofs only, the calls that each thread asked for, and what each thread saw of the past.
+//! A history that exists only in proofs, the calls that each thread asked for, and the prefixes that threads
+//! have seen.
 #![tactic(auto)]
 
 pub mod asking;

@@ -1,4 +1,4 @@
-//! A past that exists in proofs only.
+//! A history that exists only in proofs.
 
 ghost use Rattle.std.specs.Prelude.{◌≡◌, [], ◌∷◌};
 ghost use base.Fml.{ftrue};
@@ -10,7 +10,7 @@ use qstate::endings::Endings;
 use std::marker::Model;
 use std::snapshot::Snapshot;
 
-/// All events of a kernel. Only contracts read them: it has no bytes, and its functions do nothing.
+/// The history of a kernel. Only contracts read it: it has no bytes, and its functions do nothing.
 #[derive(Drop)]
 pub struct Past {
     pub ghost trace: { Trace },
@@ -21,14 +21,14 @@ impl Model for Past {
 }
 
 impl Past {
-    /// Returns the past of a kernel that made no call.
+    /// Returns the history of a kernel that has made no call.
     pub fn none() -> Past
         ensures { result.trace ≡ [] }
     {
         Past {}
     }
 
-    /// Returns this past with one more event: this call of the thread, with these endings.
+    /// Returns this history with one more event: this call of the thread, with these completions.
     pub fn with(&self, _thread: &ThreadNo, _call: &Snapshot<Call>, _endings: &Endings) -> Past
         ensures { result.trace ≡ record { thread = _thread.now; call = _call.now.value; endings = _endings.now.items } ∷ self.now.trace }
     {

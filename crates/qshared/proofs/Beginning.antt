@@ -1,4 +1,4 @@
--- What lies under the lock at the beginning.
+-- The value under the lock, before the first call.
 use Rattle.qshared.proofs.Common.{◌≡◌, ℕ, ◌≤◌, List, [], length, get_or, refl, ap, sym, subst, ◌∙◌, arith, replicate, length-map, IsRoster, Member, Completion, members_of, StandsAt, State, IsSound, Line, idle_line, seated_desk, true≢false, AreLater, IsUnderLock, blocked_same, properties_of}
 use Rattle.qrules.proofs.Words.Facts.{threads_of}
 

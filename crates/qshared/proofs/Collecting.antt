@@ -1,4 +1,4 @@
--- What a port collects, call by call.
+-- The completions that a port collects, call by call.
 use Rattle.qshared.proofs.Common.{◌≡◌, ℕ, List, [], ◌∷◌, ◌++◌, refl, ap, sym, subst, ◌∙◌, cond, Bool, true, false, append-nil, arith, eq-eqb, Member, Call, Completion, Extends, Answered, IsMet, calls_of, gives, is_call, pends, AreLater, at_once, collected, Admits, Refuses, Called, Done, Blocked, Refused}
 use Rattle.qmodel.specs.Trace.{Trace}
 use Rattle.qshared.proofs.Turns.{now_waits, once_same, still_none, turn_none, turn_once}

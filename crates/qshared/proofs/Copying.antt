@@ -1,4 +1,4 @@
--- Endings that are copied one after another.
+-- Completions that are copied one after another.
 use Rattle.qshared.proofs.Common.{◌≡◌, ℕ, ◌+◌, ◌-◌, ◌<◌, ◌≤◌, List, [], ◌∷◌, ◌++◌, length, get_or, set, drop, ap, sym, subst, ◌∙◌, arith, false, eqb, inl, inr, append_assoc, length-append, length-set, get_or-set_other, Some, ◌||◌, AllByRecursion, cases_Bool, eqb-false, true≢false, list_any-append, drop-cons, Completion, gets, AreApart, Logged, place, MayCopy, Copied}
 use Rattle.qshared.proofs.Places.{place_same}
 use Rattle.qshared.proofs.Puts.{gets_here, or_first, or_second, gets_middle, all_middle}
@@ -22,7 +22,7 @@ more_copied ts X Y rooms rooms' rooms'' a b = record {
   rooms_len = b.rooms_len ∙ a.rooms_len;
 }
 
--- of the endings X some are copied, and these are left
+-- some of the completions X are copied, and these are left
 pub record Copying (ts : List ℕ) (X : List Completion) (rooms rooms' : List ℕ) (log log' : Logged) (left : List Completion) : Type 0 where
   pub done : List Completion
   pub whole : done ++ left ≡ X
@@ -36,7 +36,7 @@ copying_next ts X rooms rooms' log log' x left apart may h =
     let none : gets h.done x.thread ≡ false = gets_middle h.done left x (subst AreApart (sym h.whole) apart) in
     (m.0, m.1, let same : get_or rooms' m.0 0 ≡ get_or rooms m.0 0 = h.copied.room x.thread m.0 m.1 none in omega (arith, m.2))
 
--- there is room for the next
+-- there is room for the next completion
 pub copying_room : (ts : List ℕ) (X : List Completion) (rooms rooms' : List ℕ) (log log' : Logged) (x : Completion) (left : List Completion)
     → length X ≤ log.completion_room → Copying ts X rooms rooms' log log' (x ∷ left) → 0 < log'.completion_room
 copying_room ts X rooms rooms' log log' x left room h =

@@ -1,4 +1,4 @@
--- What is so under the lock before a call and after it.
+-- The invariant under the lock, before a call and after it.
 use Rattle.qshared.proofs.Common.{◌≡◌, ℕ, ◌+◌, ◌<◌, ◌^◌, List, [], length, refl, ap, sym, subst, ◌∙◌, arith, true, false, inl, inr, AllByRecursion, None, Option, Some, is_some, cases_Bool, eq-eqb, eqb-true, same_Some, all_more, length-map, Busy, member_at, Member, Call, Completion, AreApart, gets, thread_at, with_event, among_member, caller_gets_its_own, endings_are_apart, is_blocked, Answers, AnswersAtTraces, State, Desk, line, opened_desk, cancelled_desk, IsBusy, one, HasWaited, at_once, later_due, of_thread, place, has_ending_of, is_down, IsUnderLock, Admits, IsFree, IsServed, IsReason, IsEvent, Performs, Refuses, outcome, MayPut, Handed, stands_down}
 use Rattle.qrules.proofs.Words.Facts.{threads_of}
 use Rattle.qmodel.specs.Trace.{Trace}
@@ -10,7 +10,7 @@ use Rattle.qshared.proofs.Telling.{undone, is_free, lawful_after, all_may_put, t
 
 module _ (roster : List Member) (slots : ℕ) (kernel : State) (d : Desk Completion) (threads : List ℕ) (past : Trace)
     (h : IsUnderLock roster slots kernel d threads past) (t : ℕ) where
-  -- ---- why a call is refused
+  -- ---- the reasons for a refusal
 
   module _ (i : ℕ) (at : place (threads_of roster) t ≡ Some i) where
     pub is_known : is_some (member_at roster t) ≡ true
@@ -32,7 +32,8 @@ module _ (roster : List Member) (slots : ℕ) (kernel : State) (d : Desk Complet
         ],
       )
 
-      -- a thread is busy if a call of it that waited isn't collected
+      -- a thread is busy if one of its calls didn't complete in its own event, and the completion isn't
+      -- collected
       pub is_pending : HasWaited past t → IsReason roster past t Busy
       is_pending waited =
           let o = h.told.owed t i at in (

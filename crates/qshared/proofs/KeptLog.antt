@@ -1,4 +1,4 @@
--- A kept past after an event: what an event requires is enough.
+-- A kept history after an event: the conditions of `event` are enough to keep its invariant.
 use Rattle.qshared.proofs.Common.{◌≡◌, ◌≢◌, ℕ, ◌+◌, ◌-◌, ◌<◌, ◌≤◌, ◌^◌, List, [], ◌∷◌, ◌++◌, length, get_or, set, refl, ap, sym, subst, ◌∙◌, arith, Bool, true, false, eqb, inl, inr, ◌⊎◌, length-append, length-set, get_or-set_other, get_or-set_same, None, Some, is_some, AllByRecursion, cases_Bool, eqb-true, eqb-false, true≢false, none-some, same_Some, none_of, some_of, TraceFull, NoMemory, member_at, Member, Call, Completion, Answers, refusal_of, AreApart, gets, followed_by, Event, Trace, GoesToBlocked, blocked_unless_ended, endings_are_apart, endings_go_to_blocked, IsLawful, facts_of, with_event, open_call, is_blocked, effect_of, known, Logged, with_next, place, is_down, HasRoomFor, HasRooms, MayCopy, Copied, IsKept, blocked_same, followed_length, followed_push}
 use Rattle.qbase.specs.declared.errno.Errno.{Errno}
 use Rattle.qmodel.specs.declared.call.Call.TheVariants.{Shutdown}
@@ -22,14 +22,14 @@ refused_kept limit events c e other why = elim why [
   | inr none ↦ subst (refuses_kept limit (followed_by [] events) c) (sym none.0) (let len = past_length events in omega (arith, len, none.1), other)
 ]
 
--- when a call is noted
+-- the condition under which a call is noted
 pub admitted_kept : (limit : ℕ) (log log' : Logged) (c : Call) (room : ℕ) → HasRoomFor limit log' c room → log'.events ≡ log.events → admits_kept limit (followed_by [] log.events) c
 admitted_kept limit log log' c room has same = elim has.event [
   | inl shut ↦ inr shut
   | inr r ↦ inl (let len = past_length log.events in omega (arith, len, ap length same, r.0))
 ]
 
--- a call that is noted finds room for its event, so there were few before
+-- a call that is noted finds room for its event, so there were few events before
 pub few_noted : (roster : List Member) (limit : ℕ) (threads rooms : List ℕ) (log : Logged) (c : Call) (room : ℕ) (ready : Bool) → IsKept roster limit threads rooms log c room ready
     → is_down (followed_by [] log.events) ≡ false → length (followed_by [] log.events) < 2 ^ 40
 few_noted roster limit threads rooms log c room ready h up = let len = past_length log.events in let spare = h.spare up in let bounded = h.bounded in omega (arith, len, spare.0, bounded)
@@ -56,9 +56,9 @@ pub shutdown_down : (roster : List Member) (past : Trace) (t : ℕ) (X : List Co
 shutdown_down roster past t X lawful up idle a =
     old_shutdown_down roster past t X up (sym (blocked_same roster past lawful t) ∙ idle) a
 
--- ---- what an event requires
+-- ---- the conditions of an event
 
--- what an event of thread t finds, whose call was noted and had the endings X
+-- the conditions of an event of thread t, whose call was noted and had the completions X
 pub record Finds (roster : List Member) (limit : ℕ) (threads rooms : List ℕ) (log : Logged) (c : Call) (room : ℕ) (t : ℕ) (X : List Completion) : Type 0 where
   pub kept : IsKept roster limit threads rooms log c room true
   pub lawful : IsLawful roster (followed_by [] log.events)
@@ -85,7 +85,7 @@ finds roster limit threads rooms log c room ready t X v h z =
 abbrev pub with_event_of : Logged → Event → Logged
 with_event_of log e = record { events = log.events ++ e ∷ []; noted = []; endings = []; call_room = log.call_room - 1; completion_room = log.completion_room - length e.endings }
 
--- endings are put, then their call is noted, and then it is an event
+-- completions are put, then their call is noted, and then the call becomes an event
 pub next_log : (log copied noted next : Logged) (t : ℕ) (c : Call) (X : List Completion) → (log.noted ≡ []) × (log.endings ≡ []) → copied ≡ record log { endings = log.endings ++ X; completion_room = log.completion_room - length X }
     → noted ≡ record copied { noted = copied.noted ++ (t, c) ∷ []; call_room = copied.call_room - 1 } → next ≡ with_next noted → next ≡ with_event_of log (record { thread = t; call = c; endings = X })
 next_log log copied noted next t c X none a b d =
@@ -128,7 +128,7 @@ module _ (roster : List Member) (limit : ℕ) (threads rooms : List ℕ) (log : 
           rw (e, get_or-set_other rooms i j room 0 other) (f.kept.has_rooms u j is)
     ]
 
-    -- each ending may be copied
+    -- each completion may be copied
     pub all_may_copy : AllByRecursion (MayCopy threads (set rooms i room)) X
     all_may_copy = subst (λ ts. AllByRecursion (MayCopy ts (set rooms i room)) X) (sym f.kept.threads_are)
         (both X (endings_go_to_blocked roster past e f.kept.rises lawful_next) (completion_fits roster past e f.kept.rises lawful_next)) where
@@ -152,7 +152,7 @@ module _ (roster : List Member) (limit : ℕ) (threads rooms : List ℕ) (log : 
             omega (arith, a, b, same)
       ]
 
-      -- the log is again as it should be
+      -- the invariant of the log holds again
       pub kept_after : IsKept roster limit threads rooms' (with_event_of log e) next room' false
       kept_after =
           let longer : length (log.events ++ e ∷ []) ≡ length log.events + 1 = length-append log.events (e ∷ []) in

@@ -1,4 +1,4 @@
--- What is left in the cells, as completions alone.
+-- The completions that are left in the cells, without the cells.
 use Rattle.qshared.proofs.Common.{◌≡◌, ℕ, zero, suc, ◌+◌, ◌<◌, ◌≤◌, List, [], ◌∷◌, ◌++◌, length, map, get_or, refl, ap, sym, subst, ◌∙◌, cond, Bool, true, false, eqb, inl, inr, arith, Some, AllByRecursion, cases_Bool, eqb-true, eqb-false, eq-eqb, ne_eqb, true≢false, same_Some, some, some-injective, some-ne-none, get_elem?, all_more, Completion, Rises, all_at, among_member, AreBelow, left_for, took, Member, ThreadSeat, Call, Extends, IsSince, calls_of, AreDue, AreKnown, AreLater, at_once, collected, endings_due, in_turn, later_due, later_of, of_thread, place, at_map, RiseByThread}
 use Rattle.qmodel.specs.Trace.{Trace}
 use Rattle.qhandoff.specs.Words as cells
@@ -6,17 +6,17 @@ use Rattle.qrules.proofs.Words.Facts.{threads_of}
 use Rattle.qshared.proofs.Turns.{extends_since, left_over, once_same}
 use Rattle.qshared.proofs.Places.{IsAt, at_among, is_at, place_among, place_at, place_below, place_same}
 
--- a completion with the number of its cell
+-- a completion with the index of its cell
 abbrev Left : Type 0
 Left = ℕ × Completion
 
--- ---- of each, and in order
+-- ---- properties of each element, and order
 
 each : {A : Type 0} (P : A → Type 0) (xs : List A) → ((k : ℕ) (x : A) → get_elem? xs k ≡ some x → P x) → AllByRecursion P xs
 each P [] of = tt
 each P (x ∷ xs) of = (of 0 x refl, each P xs (λ k y at. of (suc k) y at))
 
--- the numbers rise
+-- the indices are in ascending order
 abbrev AreRising : List Left → Type 0
 AreRising [] = Unit {0}
 AreRising (x ∷ xs) = AllByRecursion (λ y. x.0 < y.0) xs × AreRising xs
@@ -25,7 +25,7 @@ rising : (xs : List Left) → cells.Rises xs → AreRising xs
 rising [] r = tt
 rising (x ∷ xs) r = (each (λ y. x.0 < y.0) xs (λ k y at. r 0 (suc k) x y refl at (omega arith)), rising xs (λ j k y z at at' less. r (suc j) (suc k) y z at at' (omega arith)))
 
--- so many numbers are no more than there are from b on, below n
+-- a list of ascending numbers that are at least b and below n has at most n - b elements
 many_rising : (b n : ℕ) (xs : List Left) → AllByRecursion (λ x. b ≤ x.0) xs → AllByRecursion (λ x. x.0 < n) xs → AreRising xs → b ≤ n → length xs + b ≤ n
 many_rising b n [] low below r less = omega (arith, less)
 many_rising b n (x ∷ xs) low below r less =
@@ -37,7 +37,7 @@ many_rising b n (x ∷ xs) low below r less =
 pub few_left : (n : ℕ) (xs : List Left) → cells.Rises xs → AreBelow n xs → length xs ≤ n
 few_left n xs r below = let m = many_rising 0 n xs (each (λ x. 0 ≤ x.0) xs (λ k x at. omega arith)) (each (λ x. x.0 < n) xs below) (rising xs r) (omega arith) in omega (arith, m)
 
--- ---- what is due goes to its own thread
+-- ---- each completion goes to its own thread
 
 own_filtered : (t : ℕ) (X : List Completion) → AllByRecursion (λ x. x.thread ≡ t) (of_thread t X)
 own_filtered t [] = tt
@@ -61,7 +61,7 @@ own_due : (past : Trace) (t : ℕ) → AllByRecursion (λ x. x.thread ≡ t) (la
 own_due [] t = tt
 own_due (e ∷ past) t = all_append _ (later_due past t) (later_of e.thread t e.endings) (own_due past t) (own_later e.thread t e.endings)
 
--- ---- each is left for its own thread
+-- ---- each completion is left for its own thread
 
 without_head : {A : Type 0} (P : A → Type 0) (b : Bool) (x : A) (xs : List A) → AllByRecursion P (cond b (x ∷ xs) xs) → AllByRecursion P xs
 without_head P true x xs a = a.1
@@ -71,7 +71,7 @@ with_head : {A : Type 0} (P : A → Type 0) (b : Bool) (x : A) (xs : List A) →
 with_head P true x xs e a = a.0
 with_head P false x xs e a = absurd (true≢false (sym e))
 
--- what is so of all that is left for a cell, is so of each that is left for it
+-- a property of all completions that are left for a cell is a property of each of them
 left_one : (P : Completion → Type 0) (xs : List Left) (k : ℕ) (x : Left) → get_elem? xs k ≡ some x → AllByRecursion P (left_for x.0 xs) → P x.1
 left_one P [] k x at all = absurd (some-ne-none x (sym at))
 left_one P (y ∷ ys) zero x at all =
@@ -79,9 +79,9 @@ left_one P (y ∷ ys) zero x at all =
     subst (λ (z : Left). P z.1) same (with_head P (eqb y.0 x.0) y.1 (left_for x.0 ys) (eq-eqb y.0 x.0 (ap (λ (z : Left). z.0) same)) all)
 left_one P (y ∷ ys) (suc k) x at all = left_one P ys k x at (without_head P (eqb y.0 x.0) y.1 (left_for x.0 ys) all)
 
--- ---- without the numbers of the cells
+-- ---- without the indices of the cells
 
--- its thread has this cell
+-- the completion's thread has this cell
 abbrev IsPlaced : List ℕ → Left → Type 0
 IsPlaced ts x = place ts x.1.thread ≡ Some x.0
 
@@ -96,7 +96,7 @@ left_same ts t i at (x ∷ xs) all = elim (cases_Bool (eqb x.1.thread t)) [
       rw (e, other) (left_same ts t i at xs all.1)
 ]
 
--- the threads of rising places rise
+-- threads at ascending indices are in ascending order
 at_rises : (ts : List ℕ) (u v i j : ℕ) → Rises ts → IsAt ts u i → IsAt ts v j → i < j → u < v
 at_rises [] u v i j r a b less = absurd a
 at_rises (w ∷ ts) u v zero zero r a b less = absurd (omega arith)
@@ -111,7 +111,7 @@ left_rises ts r (x ∷ xs) all up = (above xs all.1 up.0, left_rises ts r xs all
   above [] a b = tt
   above (y ∷ ys) a b = (at_rises ts x.1.thread y.1.thread x.0 y.0 r (is_at ts x.1.thread x.0 all.0) (is_at ts y.1.thread y.0 a.0) b.0, above ys a.1 b.1)
 
--- ---- where what was taken and what is left is what is due
+-- ---- the completions of the history are the completions that were taken and the completions that are left
 
 module _ (ts : List ℕ) (past : Trace) (xs : List Left) (rises : Rises ts) (up : cells.Rises xs) (below : AreBelow (length ts) xs)
     (took : ℕ → List Completion) (told : (t i : ℕ) → place ts t ≡ Some i → took i ++ left_for i xs ≡ later_due past t) where
@@ -134,9 +134,9 @@ module _ (ts : List ℕ) (past : Trace) (xs : List Left) (rises : Rises ts) (up 
   pub left_due : (t i : ℕ) → place ts t ≡ Some i → took i ++ of_thread t (map (λ x. x.1) xs) ≡ later_due past t
   left_due t i at = ap (λ ys. took i ++ ys) (left_same ts t i at xs placed) ∙ told t i at
 
--- ---- of all that is due to a thread
+-- ---- all completions of a thread
 
--- to one thread, by what its port last saw
+-- the completions of one thread, by the prefix that its port last saw
 pub port_due : (past seen last : Trace) (asked : List Call) (u t : ℕ) (took left : List Completion) (pending blocked : Bool) → u ≡ t → Extends past seen → IsSince seen last → calls_of past t ≡ asked → calls_of last u ≡ asked
     → AreLater pending (at_once last u) took → AreLater blocked (at_once past t) (later_due past t) → in_turn (at_once past t) (later_due past t) ≡ endings_due past t → took ++ left ≡ later_due past t → collected last u took ++ left ≡ endings_due past t
 port_due past seen last asked u t took left pending blocked same extends since now then mine owed whole told =
@@ -156,7 +156,7 @@ module _ {P : Type 0} (seat : P → ThreadSeat Completion) (mine : P → List Co
   at_port f (q ∷ ports) zero p d e = ap f (some-injective q p e)
   at_port f (q ∷ ports) (suc i) p d e = at_port f ports i p d e
 
-  -- to all threads
+  -- the completions of all threads
   pub all_due : (ports : List P) → length ports ≡ length (threads_of roster)
       → ((t k : ℕ) (p : P) → get_elem? ports k ≡ some p → place (threads_of roster) t ≡ Some k → took (some (seat p)) ++ of_thread t left ≡ later_due past t → mine p ++ of_thread t left ≡ endings_due past t)
       → ((t i : ℕ) → place (threads_of roster) t ≡ Some i → took (get_elem? (map seat ports) i) ++ of_thread t left ≡ later_due past t) → AreDue roster (map mine ports) left past

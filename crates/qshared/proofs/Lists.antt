@@ -1,4 +1,4 @@
--- The lists of what the threads asked for.
+-- The lists of calls that the threads asked for.
 use Rattle.qshared.proofs.Common.{◌≡◌, ℕ, zero, suc, ◌<◌, List, [], ◌∷◌, ◌++◌, map, set, length, get_or, refl, ap, sym, subst, ◌∙◌, arith, true, false, eqb, inl, inr, append-nil, get_or-set_other, Some, cases_Bool, eqb-true, eqb-false, true≢false, same_Some, none, some, get_elem?, Member, Call, Completion, with_event, Heard, Answered, AreCallsOf, calls_of, heard_in, is_call, place, UnderLock, Admits, Performs, Refuses, Called, Done, Blocked, Refused}
 use Rattle.std.proofs.lemmas.List.{get_or-set_same, get_or-map, map-set, set-get_or}
 use mathlib.Core.Option as maybe
@@ -6,9 +6,9 @@ use Rattle.qrules.proofs.Words.Facts.{threads_of}
 use Rattle.qmodel.specs.Trace.{Trace}
 use Rattle.qshared.proofs.Places.{place_same}
 
--- ---- rows
+-- ---- lists of elements
 
--- what is so of each, of one more, and where there is none
+-- a property of each element, of one more element, and of no element
 pub each_more : {P : Type 0} (Q : maybe.Option P → Type 0) (xs : List P) (x : P) → ((k : ℕ) → Q (get_elem? xs k)) → Q (some x) → Q none → (k : ℕ) → Q (get_elem? (xs ++ x ∷ []) k)
 each_more Q [] x old now absent zero = now
 each_more Q [] x old now absent (suc k) = absent
@@ -19,18 +19,18 @@ pub map_both : {A B C : Type 0} (f : B → C) (g : A → B) (xs : List A) → ma
 map_both f g [] = refl
 map_both f g (x ∷ xs) = ap (λ ys. f (g x) ∷ ys) (map_both f g xs)
 
--- the names of a row of ports, each of which has the name of its number, are all the names
+-- if each port has the name at its own index, the names of the ports are all the names
 pub names_of : {P : Type 0} (name : P → ℕ) (ports : List P) (names : List ℕ) → length ports ≡ length names → ((k : ℕ) (p : P) → get_elem? ports k ≡ some p → get_or names k 0 ≡ name p) → map name ports ≡ names
 names_of name [] [] many is = refl
 names_of name [] (n ∷ ns) many is = absurd (omega (arith, many))
 names_of name (p ∷ ps) [] many is = absurd (omega (arith, many))
 names_of name (p ∷ ps) (n ∷ ns) many is = ap (λ m. m ∷ map name ps) (sym (is 0 p refl)) ∙ ap (λ ms. n ∷ ms) (names_of name ps ns (omega (arith, many)) (λ k q e. is (suc k) q e))
 
--- a row of halves after one of them was changed and kept its name
+-- the names of a list of halves after one half was changed and kept its name
 pub kept_names : (hs : List Heard) (i : ℕ) (h h' : Heard) → i < length hs → h ≡ get_or hs i h → h'.name ≡ h.name → map (λ x. x.name) (set hs i h') ≡ map (λ x. x.name) hs
 kept_names hs i h h' near is same = map-set (λ x. x.name) hs i h' ∙ ap (set (map (λ x. x.name) hs) i) (same ∙ ap (λ x. x.name) is ∙ sym (get_or-map (λ x. x.name) hs i h 0 near)) ∙ set-get_or (map (λ x. x.name) hs) i 0
 
--- the list of one that was told of a call
+-- the list of a half to which a call was added
 pub told_list : (hs : List Heard) (i : ℕ) (h h' : Heard) (c : Call) → i < length hs → h ≡ get_or hs i h → h'.calls ≡ h.calls ++ c ∷ [] → h'.calls ≡ get_or (map (λ x. x.calls) hs) i [] ++ c ∷ []
 told_list hs i h h' c near is told = told ∙ ap (λ xs. xs ++ c ∷ []) (ap (λ x. x.calls) is ∙ sym (get_or-map (λ x. x.calls) hs i h [] near))
 
@@ -42,7 +42,7 @@ nothing_heard [] empty (suc i) = refl
 nothing_heard (h ∷ hs) empty zero = empty 0
 nothing_heard (h ∷ hs) empty (suc i) = nothing_heard hs (λ k. empty (suc k)) i
 
--- a call that is an event is its thread's last, and no other thread's
+-- a call that is an event is the last in its own thread's list, and isn't in any other thread's list
 pub heard_after : (roster : List Member) (lists : List (List Call)) (past : Trace) (t i : ℕ) (c : Call) (X : List Completion) (more : List Call) → place (threads_of roster) t ≡ Some i → i < length lists
     → more ≡ get_or lists i [] ++ c ∷ [] → AreCallsOf roster lists past → AreCallsOf roster (set lists i more) (with_event t c X past)
 heard_after roster lists past t i c X more at near is are u j there =
@@ -67,7 +67,7 @@ module _ (roster : List Member) (refuses : Refuses) (admits : Admits) (lists : L
   heard_refused Blocked p e are = absurd (true≢false e)
   heard_refused (Refused errno given) p e are = subst (λ h. AreCallsOf roster lists h.past) (sym p.0) are
 
-  -- what it comes to at the past before it
+  -- the outcome of the call after the history before it
   pub comes : (p : Called) → Performs roster refuses admits old t c p new → (after : Trace) → after ≡ new.past → Answered roster refuses admits t c p old.past after
   comes (Done x) p after is = (p.0, record { event = p.1; then = is ∙ p.2 }, p.3)
   comes Blocked p after is = (p.0, record { event = p.1; then = is ∙ p.2 }, p.3)

@@ -1,4 +1,4 @@
--- Endings that are put one after another.
+-- Completions that are put one after another.
 use Rattle.qshared.proofs.Common.{◌≡◌, ℕ, ◌<◌, List, [], ◌∷◌, ◌++◌, length, refl, ap, sym, subst, ◌∙◌, cond, Bool, true, false, eqb, inl, inr, append-nil, append_assoc, None, Option, Some, ◌||◌, AllByRecursion, cases_Bool, eqb-true, eqb-false, eq-eqb, ne_eqb, true≢false, list_any-append, same_Some, Completion, Desk, Line, line, cancelled_desk, put_desk, one, line_else, line_here, gets, AreApart, later_of, place, of_thread, MayPut, Handed}
 use Rattle.std.proofs.lemmas.List.Elements.{filter-append}
 use Rattle.qshared.proofs.Places.{place_same}
@@ -11,7 +11,7 @@ cond_nil : (b : Bool) → cond b [] (of_thread 0 []) ≡ of_thread 0 []
 cond_nil true = refl
 cond_nil false = refl
 
--- an ending that is put for another thread than the caller
+-- a completion that is put for another thread than the caller
 pub one_handed : (ts : List ℕ) (caller : ℕ) (x : Completion) (i : ℕ) (d : Desk Completion) → eqb x.thread caller ≡ false → place ts x.thread ≡ Some i → i < length d.lines → Handed ts caller (x ∷ []) d (put_desk d i x)
 one_handed ts caller x i d foreign at near =
     let l = line d i in
@@ -46,7 +46,7 @@ own_later caller t x own = elim (cases_Bool (eqb x.thread t)) [
   | inr e ↦ rw e (cond_nil (eqb caller t))
 ]
 
--- the caller's own ending, whose cell is closed
+-- the caller's own completion; the caller's cell is closed
 pub own_handed : (ts : List ℕ) (caller : ℕ) (x : Completion) (i : ℕ) (d : Desk Completion) → eqb x.thread caller ≡ true → place ts caller ≡ Some i → i < length d.lines → Handed ts caller (x ∷ []) d (cancelled_desk d i)
 own_handed ts caller x i d own at near =
     let l' : Line Completion = record (line d i) { opened = false } in
@@ -88,11 +88,11 @@ more_handed ts caller X Y d d' d'' a b = record {
   opened = λ t i is. b.opened t i is ∙ ap (λ z. cond (gets Y t) false z) (a.opened t i is) ∙ cond_or (gets X t) (gets Y t) (line d i).opened ∙ ap (λ z. cond z false (line d i).opened) (sym (list_any-append (λ x. eqb x.thread t) X Y));
 }
 
--- what may be put and goes to a thread that got nothing yet may still be put
+-- a completion that could be put, for a thread that has got none yet, can still be put
 pub may_still : (ts : List ℕ) (caller : ℕ) (X : List Completion) (x : Completion) (d d' : Desk Completion) → Handed ts caller X d d' → gets X x.thread ≡ false → MayPut ts d x → MayPut ts d' x
 may_still ts caller X x d d' h none m = (m.0, m.1, h.opened x.thread m.0 m.1 ∙ ap (λ b. cond b false (line d m.0).opened) none ∙ m.2)
 
--- an ending that is put after others, none of which is for its thread, might as well be put before them
+-- a completion that is put after others, none of them for its thread, may as well be put before them
 or_turned : (a b : Bool) → (a || (b || false)) ≡ (b || a)
 or_turned true true = refl
 or_turned true false = refl
@@ -122,9 +122,9 @@ handed_turned ts caller X x d d' none h = record {
   opened = λ t i is. h.opened t i is ∙ ap (λ z. cond z false (line d i).opened) (gets_turned t X x);
 }
 
--- ---- the loop, which puts the last ending first
+-- ---- the loop, which puts the last completion first
 
--- of the endings X some are put or are the caller's own, and these, the first of them, are left
+-- some of the completions X are put or are the caller's own, and these, the first of them, are left
 pub record Handing (ts : List ℕ) (X : List Completion) (d d' : Desk Completion) (caller : ℕ) (own : Option Completion) (left : List Completion) : Type 0 where
   pub done : List Completion
   pub whole : left ++ done ≡ X
@@ -160,12 +160,12 @@ module _ (ts : List ℕ) (X : List Completion) (d d' : Desk Completion) (caller 
   fresh : AreApart X → gets h.done x.thread ≡ false
   fresh apart = (apart_rest left (x ∷ h.done) (subst AreApart (sym split) apart)).0
 
-  -- the next ending may be put
+  -- the next completion may be put
   pub handing_next : AreApart X → AllByRecursion (MayPut ts d) X → MayPut ts d' x
   handing_next apart may = may_still ts caller h.done x d d' h.handed (fresh apart) (all_middle (MayPut ts d) left h.done x (subst (AllByRecursion (MayPut ts d)) (sym split) may))
 
   module _ (i : ℕ) (near : i < length d'.lines) (apart : AreApart X) where
-    -- one more ending is put
+    -- one more completion is put
     pub handing_more : eqb x.thread caller ≡ false → place ts x.thread ≡ Some i → Handing ts X d (put_desk d' i x) caller own left
     handing_more foreign at = record {
       done = x ∷ h.done;
@@ -174,7 +174,7 @@ module _ (ts : List ℕ) (X : List Completion) (d d' : Desk Completion) (caller 
       own_is = rw foreign h.own_is;
     }
 
-    -- the caller's own ending is there
+    -- the caller's own completion is reached
     pub handing_own : eqb x.thread caller ≡ true → place ts caller ≡ Some i → Handing ts X d (cancelled_desk d' i) caller (Some x) left
     handing_own is at = record {
       done = x ∷ h.done;

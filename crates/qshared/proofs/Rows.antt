@@ -1,4 +1,4 @@
--- The seats of a row of ports, and the ports of a row of seats.
+-- The tokens of a list of ports, and the ports of a list of tokens.
 use Rattle.qshared.proofs.Common.{◌≡◌, ℕ, zero, suc, List, [], ◌∷◌, ◌++◌, map, sym, refl, ap, ◌∙◌, subst, some, some-injective, some-ne-none, get_elem?, at_map, ThreadSeat, Completion, IsRow, thread_id, thread_of, taken, took}
 use Rattle.atomic_table.specs.Seated.{TableId}
 
@@ -15,13 +15,13 @@ module _ {P : Type 0} where
   pub seats_row : (f : P → ThreadSeat Completion) (z : TableId) (xs : List P) → ((p : P) → thread_id (f p) ≡ z) → ((k : ℕ) (p : P) → get_elem? xs k ≡ some p → thread_of (f p) ≡ k) → IsRow z (map f xs)
   seats_row f z xs of at k s e = let o = origin f xs k s e in subst (λ v. (thread_id v ≡ z) × (thread_of v ≡ k)) o.2 (of o.0, at k o.0 o.1)
 
-  -- what the ports of fresh seats are
+  -- the ports of new tokens have their indices, and have taken nothing
   pub ports_fresh : (f : P → ThreadSeat Completion) (z : TableId) (seats : List (ThreadSeat Completion)) (xs : List P) → map f xs ≡ seats → IsRow z seats → ((k : ℕ) → took (get_elem? seats k) ≡ [])
       → (k : ℕ) (p : P) → get_elem? xs k ≡ some p → (thread_of (f p) ≡ k) × (taken (f p) ≡ [])
   ports_fresh f z seats xs e row none_took k p at = let there : get_elem? seats k ≡ some (f p) = ap (λ ys. get_elem? ys k) (sym e) ∙ at_map f xs k p at in
       ((row k (f p) there).1, ap took (sym there) ∙ none_took k)
 
-  -- what is so of each, and of one more
+  -- a property of each element, and of one more
   pub each_pushed : (Q : P → Type 0) (xs : List P) (x : P) → ((k : ℕ) (p : P) → get_elem? xs k ≡ some p → Q p) → Q x → (k : ℕ) (p : P) → get_elem? (xs ++ x ∷ []) k ≡ some p → Q p
   each_pushed Q [] x old now zero p e = subst Q (some-injective x p e) now
   each_pushed Q [] x old now (suc k) p e = absurd (some-ne-none p (sym e))

@@ -1,4 +1,4 @@
--- What was seen of the past.
+-- The prefixes of the history that were seen.
 use Rattle.qshared.proofs.Common.{◌≡◌, ℕ, ◌+◌, ◌<◌, List, [], ◌∷◌, ◌++◌, length, reverse, take, refl, ap, sym, subst, ◌∙◌, arith, eqb, sum, Some, eq-eqb, ne_eqb, take-append_seam, get_elem?, followed_by, Extends, AreSeen}
 use Rattle.std.proofs.lemmas.List.Sums.{sum_by-append}
 use Rattle.std.proofs.lemmas.List.{append_assoc, reverse-append, reverse-reverse}
@@ -40,7 +40,7 @@ beginning events seen h =
     ap (take (length seen)) parts ∙ ap (λ n. take n (reverse seen ++ reverse h.0)) (sym (length_reverse seen)) ∙ take-append_seam (reverse seen) (reverse h.0) in
     ap (followed_by []) first ∙ reversed [] (reverse seen) ∙ nil (reverse (reverse seen)) ∙ reverse-reverse seen
 
--- one more was seen
+-- one more prefix was seen
 pub seen_more : {P : Type 0} (f : P → Trace) (past : Trace) (xs : List P) (x : P) → AreSeen past (Rattle.std.proofs.Common.map f xs) → Extends past (f x) → AreSeen past (Rattle.std.proofs.Common.map f (xs ++ x ∷ []))
 seen_more f past xs x old now k s at =
     each_pushed (λ (y : Trace). Extends past y) (Rattle.std.proofs.Common.map f xs) (f x) old now k s (ap (λ (ys : List Trace). get_elem? ys k) (sym (map_snoc f xs x)) ∙ at)

@@ -1,4 +1,4 @@
--- What the past, the kernel and the cells are after an event.
+-- The history, the kernel and the cells after an event.
 use Rattle.qshared.proofs.Common.{◌≡◌, ◌≢◌, ℕ, zero, suc, ◌<◌, List, [], ◌∷◌, ◌++◌, length, set, refl, ap, sym, subst, ◌∙◌, cond, Bool, true, false, eqb, inl, inr, Some, is_some, ◌||◌, AllByRecursion, cases_Bool, eqb-true, eqb-false, eq-eqb, ne_eqb, true≢false, set-get_or, same_Some, some_of, IsRoster, Member, Call, Completion, AreApart, gets, GoesToBlocked, may_end, blocked_unless_ended, endings_are_apart, endings_go_to_blocked, open_call, with_event, among_member, known, is_blocked, Answers, StandsAt, State, Desk, Line, idle_line, line, opened_desk, cancelled_desk, line_else, line_here, AreLater, IsOwed, at_once, endings_due, in_turn, later_due, later_of, of_thread, place, Agrees, IsFree, MayPut, Handed, blocked_same, properties_of, stands_down}
 use Rattle.qrules.proofs.Words.Facts.{threads_of}
 use Rattle.qmodel.specs.Trace.{Event, Trace}
@@ -27,7 +27,7 @@ set_twice [] i a b = refl
 set_twice (x ∷ xs) zero a b = refl
 set_twice (x ∷ xs) (suc i) a b = ap (λ ys. x ∷ ys) (set_twice xs i a b)
 
--- an opening that is cancelled leaves all as it was
+-- an opening that is cancelled changes nothing in the end
 pub undone : (d : Desk Completion) (i : ℕ) → i < length d.lines → (line d i).opened ≡ false → cancelled_desk (opened_desk d i) i ≡ d
 undone d i near closed =
     let other : Line Completion = record (line d i) { opened = true } in
@@ -38,7 +38,7 @@ undone d i near closed =
 
 module _ (roster : List Member) (kernel : State) (d : Desk Completion) (past : Trace) (t i : ℕ)
     (told : Agrees roster kernel d past) (at : place (threads_of roster) t ≡ Some i) where
-  -- whose cell was idle is free
+  -- a thread whose cell was idle is free
   pub is_free : kernel.down ≡ false → (line d i).opened ≡ false → IsFree roster past t
   is_free up closed = record {
     served = record { known = among_member roster t (place_among (threads_of roster) t i at); up = sym (stands_down roster kernel past told.stands) ∙ up };
@@ -46,7 +46,7 @@ module _ (roster : List Member) (kernel : State) (d : Desk Completion) (past : T
   }
 
   module _ (near : i < length d.lines) (free : IsFree roster past t) where
-    -- a cell is opened where its thread's call may end
+    -- a cell is opened if its thread's call may complete
     opened_may : (u j : ℕ) → place (threads_of roster) u ≡ Some j → (line (opened_desk d i) j).opened ≡ may_end roster past t u
     opened_may u j is = elim (cases_Bool (eqb u t)) [
       | inl e ↦
@@ -70,7 +70,7 @@ module _ (roster : List Member) (kernel : State) (d : Desk Completion) (past : T
             let s = some_of (place (threads_of roster) x.thread) (place_some (threads_of roster) x.thread (known roster x.thread a.0.known)) in
             ((s.0, s.1, opened_may x.thread s.0 s.1 ∙ a.0.may), each Y a.1)
 
-      -- the blocked threads are those whose calls might have ended and didn't
+      -- the blocked threads are the threads whose calls could have completed and didn't
       still_blocked : (u : ℕ) → is_blocked (facts_of roster (with_event t c X past)) u ≡ cond (gets X u) false (may_end roster past t u)
       still_blocked u = blocked_same roster (e ∷ past) lawful_after u ∙ blocked_unless_ended roster past e rises lawful_after (sym (blocked_same roster past told.lawful t) ∙ free.idle) u
 
@@ -84,14 +84,14 @@ module _ (roster : List Member) (kernel : State) (d : Desk Completion) (past : T
         | inr s ↦ may_of Y all.1 u (rw s at got)
       ]
 
-      -- what is owed to thread u, where b says whether the call is its own
+      -- the completions of thread u after the event; b says whether the event's call is its own
       abbrev owed_later : ℕ → Bool → Type 0
       owed_later u b = AreLater (is_blocked (facts_of roster (with_event t c X past)) u) (at_once past u ++ cond b (of_thread u X ∷ []) []) (later_due past u ++ cond b [] (of_thread u X))
 
       abbrev owed_whole : ℕ → Bool → Type 0
       owed_whole u b = in_turn (at_once past u ++ cond b (of_thread u X ∷ []) []) (later_due past u ++ cond b [] (of_thread u X)) ≡ endings_due past u ++ of_thread u X
 
-      -- what is owed to each thread
+      -- the completions of each thread after the event
       owed_after : (u j : ℕ) → place (threads_of roster) u ≡ Some j → IsOwed roster (with_event t c X past) u
       owed_after u j is = elim (cases_Bool (eqb t u)) [
         | inl own ↦

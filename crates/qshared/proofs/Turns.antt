@@ -1,4 +1,4 @@
--- Endings that came at once and endings that came later, in turn.
+-- Completions that came in the calls' own events and later completions, in the order of the calls.
 use Rattle.qshared.proofs.Common.{◌≡◌, ℕ, zero, suc, ◌+◌, ◌-◌, ◌<◌, ◌≤◌, ◌⊎◌, List, [], ◌∷◌, ◌++◌, length, length-append, take, drop, refl, ap, sym, subst, ◌∙◌, cond, Bool, true, false, eqb, inl, inr, arith, append-nil, append_assoc, None, Option, Some, is_none, MatchOption, AllByRecursion, list_any, take-append-drop, drop-append_seam, cases_Bool, eqb-true, eq-eqb, true≢false, Completion, gets, AreApart, Extends, Call, IsSince, WaitedBefore, calls_of, HasWaited, of_thread, at_once, ends_open, in_turn, waits, AreLater}
 use Rattle.qmodel.specs.Trace.{Trace}
 
@@ -18,7 +18,7 @@ tails x y xs ys e = ap rest e where
 pub not_nil : {A : Type 0} (x : A) (xs : List A) → x ∷ xs ≡ [] → ⊥
 not_nil x xs e = let n : suc (length xs) ≡ zero = ap length e in omega arith
 
--- ---- lists of endings
+-- ---- lists of completions
 
 pub turn_once : (once : List (List Completion)) (later : List Completion) (x : Completion) (xs : List Completion) → in_turn (once ++ (x ∷ xs) ∷ []) later ≡ in_turn once later ++ x ∷ xs
 turn_once [] later x xs = append-nil (x ∷ xs)
@@ -60,7 +60,7 @@ few_later : (once : List (List Completion)) (later : List Completion) (waiting :
 few_later once later true l = omega (arith, l.0)
 few_later once later false l = omega (arith, l.0)
 
--- whose last call waits
+-- the last call didn't complete in its own event
 open_end : (once : List (List Completion)) → ends_open once ≡ true → (before : List (List Completion)) × (once ≡ before ++ [] ∷ [])
 open_end [] e = absurd (true≢false (sym e))
 open_end ([] ∷ []) e = ([], refl)
@@ -72,24 +72,24 @@ end_open [] = refl
 end_open (xs ∷ []) = refl
 end_open (xs ∷ ys ∷ once) = end_open (ys ∷ once)
 
--- nothing came later if nothing is due
+-- there are no later completions if there are no completions at all
 pub none_later : (once : List (List Completion)) (later : List Completion) (blocked : Bool) → AreLater blocked once later → in_turn once later ≡ [] → later ≡ []
 none_later once [] blocked l e = refl
 none_later once (z ∷ later) blocked l e = absurd (turn_some once (z ∷ later) (omega arith) (few_later once (z ∷ later) blocked l) e)
 
--- a thread one of whose calls waited is blocked, or an ending is due to it
+-- if a call of a thread didn't complete in its own event, the thread is blocked or has a completion
 pub waited_due : (waiting : Bool) (once : List (List Completion)) (later : List Completion) → AreLater waiting once later → 0 < waits once → waiting ≡ false → in_turn once later ≡ [] → ⊥
 waited_due true once later l some free e = true≢false free
 waited_due false once later l some free e = turn_some once later (omega (arith, l.0, some)) (omega (arith, l.0)) e
 
--- a call that waits is one more, and the last
+-- a call that blocks is one more, and the last
 pub now_waits : (once : List (List Completion)) (later : List Completion) → AreLater false once later → AreLater true (once ++ [] ∷ []) later
 now_waits once later l = (waits_none once ∙ omega (arith, l.0), λ w. end_open once)
 
 pub still_none : (once : List (List Completion)) (later : List Completion) (x : Completion) (xs : List Completion) → AreLater false once later → AreLater false (once ++ (x ∷ xs) ∷ []) later
 still_none once later x xs l = (waits_once once x xs ∙ l.0, λ w. absurd (true≢false (sym w)))
 
--- ---- of one event
+-- ---- the completions of one event
 
 pub of_none : (t : ℕ) (X : List Completion) → gets X t ≡ false → of_thread t X ≡ []
 of_none t [] none = refl
@@ -128,7 +128,8 @@ any_of n t (y ∷ Y) all any = elim (cases_Bool (eqb y.call n)) [
   ]
 ]
 
--- the one ending for the thread is that of the call of this number, if that ends and is the thread's
+-- the only completion for the thread is the completion of call n, if that call completes and is the thread's
+-- own
 pub own_number : (n t : ℕ) (x : Completion) (X : List Completion) → AllByRecursion (λ y. eqb y.call n ≡ true → y.thread ≡ t) X → list_any (λ y. eqb y.call n) X ≡ true → of_thread t X ≡ x ∷ [] → x.call ≡ n
 own_number n t x [] all any is = absurd (true≢false (sym any))
 own_number n t x (y ∷ Y) all any is = elim (cases_Bool (eqb y.call n)) [
@@ -141,9 +142,9 @@ own_number n t x (y ∷ Y) all any is = elim (cases_Bool (eqb y.call n)) [
       ]
 ]
 
--- ---- what is owed after an event
+-- ---- the completions of a thread after an event
 
--- by the caller's own ending, or by that which it waits for
+-- with the caller's own completion, or with its call still open
 pub owed_own : (once : List (List Completion)) (later due ys : List Completion) (blocked : Bool) → AreLater false once later → in_turn once later ≡ due
     → ((ys ≡ []) × (blocked ≡ true)) ⊎ ((x : Completion) × (ys ≡ x ∷ []) × (blocked ≡ false))
     → AreLater blocked (once ++ ys ∷ []) (later ++ []) × (in_turn (once ++ ys ∷ []) (later ++ []) ≡ due ++ ys)
@@ -153,7 +154,7 @@ owed_own once later due ys blocked l whole cases =
       | inr some ↦ rw (some.1, some.2) (still_none once later some.0 [] l, turn_once once later some.0 [] ∙ ap (λ zs. zs ++ some.0 ∷ []) whole)
     ])
 
--- by another thread's event
+-- after another thread's event
 pub owed_other : (once : List (List Completion)) (later due ys : List Completion) (old blocked : Bool) → AreLater old once later → in_turn once later ≡ due
     → ((ys ≡ []) × (blocked ≡ old)) ⊎ ((x : Completion) × (ys ≡ x ∷ []) × (old ≡ true) × (blocked ≡ false))
     → AreLater blocked (once ++ []) (later ++ ys) × (in_turn (once ++ []) (later ++ ys) ≡ due ++ ys)
@@ -172,7 +173,7 @@ owed_other once later due ys old blocked l whole cases =
           ap (λ os. in_turn os (later ++ x ∷ [])) p.1 ∙ turn_later p.0 later x same ∙ ap (λ os. in_turn os later ++ x ∷ []) (sym p.1) ∙ ap (λ zs. zs ++ x ∷ []) whole,
         )
 
--- ---- what a port collects
+-- ---- the completions that a port collects
 
 pub collects : (once : List (List Completion)) (later : List Completion) (x : Completion) → AreLater true once later
     → AreLater false once (later ++ x ∷ []) × (in_turn once (later ++ x ∷ []) ≡ in_turn once later ++ x ∷ [])
@@ -180,7 +181,7 @@ collects once later x l = owed_other' (owed_other once later (in_turn once later
   owed_other' : AreLater false (once ++ []) (later ++ x ∷ []) × (in_turn (once ++ []) (later ++ x ∷ []) ≡ in_turn once later ++ x ∷ []) → AreLater false once (later ++ x ∷ []) × (in_turn once (later ++ x ∷ []) ≡ in_turn once later ++ x ∷ [])
   owed_other' p = subst (λ os. AreLater false os (later ++ x ∷ []) × (in_turn os (later ++ x ∷ []) ≡ in_turn once later ++ x ∷ [])) (append-nil once) p
 
--- an ending is taken out of the cell, or none
+-- one completion or none is taken out of the cell
 abbrev pub Takes : Option Completion → List Completion → List Completion → Type 0
 Takes r before after = MatchOption r (after ≡ before) (λ x. after ≡ before ++ x ∷ [])
 
@@ -199,7 +200,7 @@ takes_again once before between after None s old middle new none a p b q l =
 pub takes_some : (before after : List Completion) (r : Option Completion) (x : Completion) → r ≡ Some x → Takes r before after → after ≡ before ++ x ∷ []
 takes_some before after r x is t = subst (λ o. Takes o before after) is t
 
--- what a port took and what is left in its cell is all
+-- the completions that a port took and the completions that are left in its cell are all completions
 pub left_over : (once : List (List Completion)) (took left later : List Completion) (pending blocked : Bool) → AreLater pending once took → AreLater blocked once later → took ++ left ≡ later
     → in_turn once took ++ left ≡ in_turn once later
 left_over once took left later pending blocked p l all = elim pending as (λ b. AreLater b once took → in_turn once took ++ left ≡ in_turn once later) [
@@ -221,7 +222,7 @@ left_over once took left later pending blocked p l all = elim pending as (λ b. 
   one_left (y ∷ []) w n a = sym (collects once took y w).1 ∙ ap (in_turn once) a
   one_left (y ∷ z ∷ ys) w n a = absurd (omega arith)
 
--- ---- a longer past with no more calls of a thread
+-- ---- a longer history without further calls of a thread
 
 calls_more : (more past : Trace) (t : ℕ) → length (calls_of past t) ≤ length (calls_of (more ++ past) t)
 calls_more [] past t = omega arith
@@ -239,7 +240,7 @@ once_same past seen last asked t h k now then =
     let all : past ≡ (h.0 ++ k.0) ++ last = h.1 ∙ ap (λ l. h.0 ++ l) k.1 ∙ sym (append_assoc h.0 k.0 last) in
     ap (λ p. at_once p t) all ∙ once_more (h.0 ++ k.0) last t (omega (arith, ap length (sym (ap (λ p. calls_of p t) all) ∙ now ∙ sym then)))
 
--- a past that goes on from another, by its list
+-- a history extends another, if the other is the end of its list
 pub extends_since : (past last : Trace) → IsSince past last → Extends past last
 extends_since past last s = let n = length past - length last in (take n past, sym (take-append-drop n past) ∙ ap (λ l. take n past ++ l) s)
 
@@ -249,6 +250,6 @@ since_extends past last h =
     let less : length past - length last ≡ length h.0 = omega (arith, many) in
     ap (λ n. drop n past) less ∙ ap (drop (length h.0)) h.1 ∙ drop-append_seam h.0 last
 
--- a call that waited is one of the past
+-- a call in the prefix that didn't complete in its own event is also in the history
 pub still_waited : (past seen : Trace) (t : ℕ) → Extends past seen → WaitedBefore seen (calls_of past t) t → HasWaited past t
 still_waited past seen t h w = subst (λ os. 0 < waits os) (sym (once_same past seen w.last (calls_of past t) t h (extends_since seen w.last w.since) refl w.calls)) w.waited

@@ -1,4 +1,4 @@
--- What follows from the rule of the cells and their tie to the past.
+-- Laws that follow from the rule of the cells and their tie to the history.
 use Rattle.std.specs.Prelude.{◌≡◌, ℕ, ◌+◌, ◌<◌, ◌≤◌, ◌==◌, List, [], ◌∷◌, ◌++◌, length, take}
 use Rattle.std.specs.Prelude.{Option, Some, None, if◌then◌else◌}
 use mathlib.Core.Option.{some}
@@ -16,8 +16,8 @@ use Rattle.qhandoff.specs.declared.view.View.TheVariants.{Kernel, Thread}
 use Rattle.qhandoff.specs.Rule.{KeepsRule}
 use Rattle.qshared.specs.Due.{IsTied, later_due, place}
 
--- between any two steps, what a thread took out of its cell is a prefix of the endings that came later for
--- it, by a past that the cells are tied to, and lacks at most one ending
+-- between any two steps, the completions that a thread took out of its cell are a prefix of its later
+-- completions in a history to which the cells are tied. At most one completion is missing.
 abbrev pub TakenIsDue : Type 0
 TakenIsDue = (n : ℕ) (s : State (Option Completion) (View Completion)) (d : Desk Completion)
     (h : Hand Completion) (i j t : ℕ) (roster : List Member) (past : Trace)
@@ -31,13 +31,13 @@ abbrev pub event_at : Trace → CallNo → Option Event
 event_at [] i = None
 event_at (e ∷ past) i = if i == length past + 1 then Some e else event_at past i
 
--- who saw the past after an event, or learned of it from one who did, meets only pasts in which the event
--- stands at its number
+-- a port that saw the history after an event, or learned of it from another port, meets only histories that
+-- have this event at the same number
 abbrev pub InRealTime : Type 0
 InRealTime = (e : Event) (past after seen met : Trace) → after ≡ e ∷ past → Extends seen after
     → Extends met seen → (event_at met (length past + 1) ≡ Some e) × (length past < length met)
 
--- what was seen of a past is the first of its events
+-- a prefix of the history is the first of its events
 abbrev pub IsBeginning : Type 0
 IsBeginning = (events : List Event) (seen : Trace) → Extends (followed_by [] events) seen
     → followed_by [] (take (length seen) events) ≡ seen

@@ -1,4 +1,4 @@
--- What contracts ask of the past and of an event's endings.
+-- Conditions of contracts on the history and on an event's completions.
 use Rattle.std.specs.Prelude.{◌≡◌, ◌==◌, ℕ}
 use mathlib.Core.Option.{some}
 use lib.ListN.{get_elem?}
@@ -12,10 +12,10 @@ pub use Rattle.qrules.specs.Trace.{RiseByThread}
 abbrev pub is_down : Trace → Bool
 is_down past = was_done (λ e. e.shuts_down) past
 
--- true if one of these endings is that of call i
+-- true if one of these completions belongs to call i
 abbrev pub has_ending_of : List Completion → CallNo → Bool
 has_ending_of endings i = list_any (λ x. x.call == i) endings
 
--- this past goes on from each of those that were seen
+-- the history extends each of these prefixes
 abbrev pub AreSeen : Trace → List Trace → Type 0
 AreSeen past seen = (k : ℕ) (s : Trace) → get_elem? seen k ≡ some s → Extends past s

@@ -1,4 +1,5 @@
-//! Reserving what is needed to keep a call, before it is made.
+//! Makes the room that a kept history needs for a call, before the call is made.
+
 ghost use Rattle.std.specs.Prelude.{◌≡◌, ◌<◌, ◌≤◌, ◌+◌, ◌⊎◌, length, IfOk, IfErr, IfSome, ◌^◌};
 ghost use Rattle.qmodel.specs.declared.call.Call.TheVariants.{Shutdown};
 ghost use Rattle.qshared.specs.Private.Rooms.{HasRoomFor};
@@ -10,12 +11,14 @@ use qkernel::event_log::EventLog;
 use qmodel::call::Call;
 use std::alloc::Global;
 
-/// The most endings that an event can have.
+/// The most completions that an event can have.
 const ENDINGS: usize = 64;
 
-/// Returns the copy of the call and room for a copy of its buffer, and makes room in the log for the call's event and
-/// one more. `TraceFull` if one event of the limit is left, and `NoMemory` if there is no copy or the allocator refuses.
-/// A Shutdown is always admitted, as the room for it was made before.
+/// Returns the copy of the call and room for a copy of its buffer. Makes room in the log for the call's event
+/// and one more event. A Shutdown is always admitted, since the room for it was made before.
+///
+/// Fails with `TraceFull` if one event of the limit is left, and with `NoMemory` if there is no copy or the
+/// allocator refuses.
 pub(crate) fn admit(
     alloc: Global,
     log: &mut EventLog,

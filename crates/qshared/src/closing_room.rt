@@ -1,4 +1,5 @@
 //! The room that `finish` needs, so that it takes no memory.
+
 ghost use Rattle.std.specs.Prelude.{◌≡◌, ◌≤◌, [], vec_capacity};
 
 use crate::tie::Tie;
@@ -8,8 +9,8 @@ use qpast::asking::Asked;
 use std::alloc::{AllocError, Global};
 use std::marker::PhantomData;
 
-/// Room for what `finish` takes from each port and each cell. It is made when the kernel is opened, and stays empty
-/// until `finish`.
+/// Room for the lists that `finish` fills from the ports and the cells. It is made when the kernel is opened,
+/// and stays empty until `finish`.
 #[derive(Drop)]
 pub(crate) struct ClosingRoom<K: Tie> {
     pub(crate) seats: Vec<ThreadSeat<Completion>>,
@@ -21,7 +22,7 @@ pub(crate) struct ClosingRoom<K: Tie> {
 }
 
 impl<K: Tie> ClosingRoom<K> {
-    /// Makes the room for `ports` ports; an error if the allocator refuses.
+    /// Makes the room for `ports` ports. Fails if the allocator refuses.
     pub(crate) fn new(alloc: Global, ports: usize) -> Result<ClosingRoom<K>, AllocError>
         requires { K.names.cells.slots ≤ ports }
     {

@@ -1,4 +1,5 @@
 //! Copies of a call, which a port makes before it takes the lock.
+
 ghost use Rattle.std.specs.Prelude.{◌≡◌, ◌≤◌, length, IfSome};
 ghost use Rattle.qmodel.specs.Buffers.{buffer_of};
 
@@ -27,7 +28,7 @@ impl Model for Copies {
 }
 
 impl Copies {
-    /// Copies a call; `None` if the allocator refuses.
+    /// Copies a call, or returns `None` if the allocator refuses.
     pub fn of(alloc: Global, call: &Call) -> Option<Copies>
         ensures { IfSome result (λ copies. copies ≡ call.now) }
     {

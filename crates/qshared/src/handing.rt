@@ -1,4 +1,5 @@
-//! Putting an event's endings into the cells.
+//! Puts the completions of an event into the cells.
+
 ghost use Rattle.std.specs.Prelude.{◌≡◌, ◌<◌, ◌≤◌, [], length, Some};
 ghost use Rattle.std.specs.List.{AllByRecursion};
 ghost use Rattle.qhandoff.specs.Steps.{put_desk};
@@ -16,7 +17,7 @@ use qhandoff::seats::KernelSeat;
 use qkernel::kernel::Kernel;
 use qmodel::call::Completion;
 
-/// Returns the number of a thread's cell; `None` if the thread isn't in the roster.
+/// Returns the index of a thread's cell, or `None` if the thread isn't in the roster.
 pub(crate) fn place_of(kernel: &Kernel, thread: ThreadNo) -> Option<usize>
     ensures { result ≡ place (threads_of (members_of kernel.now.threads)) thread }
 {
@@ -24,7 +25,7 @@ pub(crate) fn place_of(kernel: &Kernel, thread: ThreadNo) -> Option<usize>
     Some(seat.index())
 }
 
-/// Puts one ending into its thread's cell, and returns the cell's number.
+/// Puts one completion into its thread's cell, and returns the cell's index.
 fn hand_one(
     seat: &mut KernelSeat<Completion>,
     cells: &Cells<Completion>,
@@ -45,16 +46,16 @@ fn hand_one(
     place
 }
 
-/// Returns the bit of a cell whose thread is to be woken.
+/// Returns the bit of a cell whose thread has to be woken.
 fn bit_of(place: usize) -> u64
     requires { place < 64 }
 {
     1u64 << place
 }
 
-/// Puts an event's endings into their threads' cells, but for that of the thread whose turn it is: closes this thread's
-/// cell, and returns its ending. Sets the bit of every other cell that is filled. No two endings are for one thread, so
-/// the last is put first.
+/// Puts the completions of an event into their threads' cells, and sets the bit of every cell that is filled.
+/// If one of them is for `turn`'s own thread, it isn't put but returned, and the thread's cell is closed. No
+/// two completions are for the same thread, so their order doesn't matter: the last is put first.
 pub(crate) fn hand_out(
     seat: &mut KernelSeat<Completion>,
     cells: &Cells<Completion>,

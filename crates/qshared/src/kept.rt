@@ -1,4 +1,5 @@
-//! A past that is kept in memory.
+//! A history that is kept in memory.
+
 ghost use Rattle.std.specs.Prelude.{◌≡◌, ◌<◌, ◌≤◌, ◌-◌, ◌^◌, ◌++◌, [], ◌∷◌, length, IfOk};
 ghost use Rattle.std.specs.List.{AllByRecursion};
 ghost use Rattle.qtables.specs.Members.{IsRoster};
@@ -25,11 +26,11 @@ use std::alloc::{AllocError, Global};
 use std::marker::{Model, PhantomData};
 use std::mem;
 
-/// A past in memory, with a copy of each call and of each ending. It has at most `limit` events.
+/// A history in memory, with a copy of each call and of each completion. It has at most `limit` events.
 #[derive(Drop)]
 pub struct Kept<K: Tie> {
     alloc: Global,
-    // For each thread, in rising number, room for a copy of its open call's buffer.
+    // For each thread, in ascending order of thread number, room for a copy of its open call's buffer.
     rooms: Vec<Room>,
     log: EventLog,
     limit: usize,
@@ -54,7 +55,7 @@ impl<K: Tie> Model for Kept<K> {
     ghost invariant = { λ k. (k.limit ≡ K.names.limit) × IsKept K.names.roster k.limit (threads_of K.names.roster) k.rooms.items k.log k.noted k.room k.ready };
 }
 
-/// Returns `many` rooms, each with room for no bytes.
+/// Returns `many` rooms, each for 0 bytes.
 fn no_rooms(alloc: Global, many: usize) -> Result<Vec<Room>, AllocError>
     ensures { IfOk result (λ rooms. length rooms.items ≡ many) }
 {
@@ -65,7 +66,7 @@ fn no_rooms(alloc: Global, many: usize) -> Result<Vec<Room>, AllocError>
     Ok(rooms)
 }
 
-/// Copies an ending into its thread's room, and adds it to the endings of its event.
+/// Copies a completion into its thread's room, and adds it to the completions of its event.
 fn copy_one(
     alloc: Global,
     kernel: &Kernel,
@@ -91,7 +92,7 @@ fn copy_one(
     });
 }
 
-/// Copies the endings of an event, each into its thread's room.
+/// Copies the completions of an event, each into its thread's room.
 fn copy_all(
     alloc: Global,
     kernel: &Kernel,
@@ -114,7 +115,7 @@ fn copy_all(
 }
 
 impl<K: Tie> Kept<K> {
-    /// Makes an empty past for a kernel with `many` threads, of at most `limit` events.
+    /// Makes an empty history for a kernel with `many` threads, of at most `limit` events.
     pub(crate) fn new(alloc: Global, many: usize, limit: usize) -> Result<Kept<K>, AllocError>
         requires roster { IsRoster K.names.roster × (many ≡ length (threads_of K.names.roster)) }
         requires limit { (2 ≤ limit) × (limit ≤ 2 ^ 20) × (limit ≡ K.names.limit) }
@@ -134,7 +135,7 @@ impl<K: Tie> Kept<K> {
         })
     }
 
-    /// Returns the trace of the past. Its first event has the number 1.
+    /// Returns the history as a trace, in which the first event has the number 1.
     pub(crate) fn into_trace(self) -> Trace
         ensures first { result.first ≡ 1 }
         ensures events { followed_by [] result.events ≡ self.past }

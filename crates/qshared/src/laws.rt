@@ -2,19 +2,20 @@
 
 ghost use Rattle.qshared.specs.Laws.{InRealTime, IsBeginning, TakenIsDue};
 
-/// States that at each moment, what a thread took out of its cell is a prefix of the endings that came later for it, by
-/// the past when the lock was last free, and lacks at most one of them.
+/// A thread's cell gets the completions of its calls that come in other threads' events. At any time, the
+/// completions that the thread took out are a prefix of the completions that the history had for the cell
+/// when the lock was last free. At most one is missing.
 pub fn taken_is_due()
     ensures { TakenIsDue }
 {}
 
-/// States that what a port was told stands in each past that another meets who knew of it: the event has the number that
-/// follows those before it, and so comes first.
+/// A port may have seen an event, or learned of it from another port. Then each history that it meets under
+/// the lock has this event, with the same number. So the event comes before the port's next call.
 pub fn in_real_time()
     ensures { InRealTime }
 {}
 
-/// States that what was seen of a past is the first events of the trace that is returned at the end.
+/// A prefix of the history that was seen is the first events of the trace that is returned at the end.
 pub fn is_beginning()
     ensures { IsBeginning }
 {}

@@ -1,5 +1,5 @@
-//! The locked kernel for real threads: one lock round a kernel and its past, a port for each thread, and cells
-//! through which the endings of calls leave the lock.
+//! The locked kernel for real threads: one lock around a kernel and its history, a port for each thread, and
+//! cells. Threads take completions out of the cells without the lock.
 #![tactic(auto)]
 
 mod admitting;

@@ -1,4 +1,5 @@
 //! The value under the lock.
+
 ghost use Rattle.std.specs.Prelude.{◌≡◌, ◌+◌, ◌++◌, ◌<◌, ◌≤◌, ◌^◌, ℕ, [], ◌∷◌, length, map, slice_index_or, IfSome, if◌then◌else◌, Some, true, false};
 ghost use lib.ListN.{get_elem?};
 ghost use Rattle.qrules.specs.Facts.{threads_of};
@@ -21,15 +22,15 @@ use qpast::history::Seen;
 use std::snapshot::Snapshot;
 use std::sync::ledger::{Book, Share};
 
-/// The value under the lock: the kernel with its past, the book that counts the past's events and of which each port
-/// holds a share, and the room that `finish` needs.
+/// The value under the lock: the kernel with its history, the book that counts the history's events, and the
+/// room that `finish` needs. Each port has a share of the book's count.
 #[derive(Drop)]
 pub(crate) struct Locked<K: Tie, L: Log> {
     pub(crate) traced: Traced<K, L>,
     pub(crate) book: Book<K>,
     pub(crate) spare: Share<K>,
     pub(crate) room: ClosingRoom<K>,
-    // For each thread, by the number of its cell, its calls that are events.
+    // For each thread, by the index of its cell, the list of its calls that are events.
     pub(crate) heard: Vec<Heard>,
     pub(crate) whole: Whole<K>,
     ghost none_spare: { (spare.parts ≡ 0) × (spare.amount ≡ 0) },
@@ -38,7 +39,8 @@ pub(crate) struct Locked<K: Tie, L: Log> {
     ghost heard_all: { AreCallsOf K.names.roster (map (λ h. h.calls) heard.items) traced.past },
 }
 
-/// States that the calls that a thread asked for are those that are kept beside the past. Changes nothing.
+/// Guarantees that the calls that a thread asked for are the calls that are kept with the history. Changes
+/// nothing.
 fn agree(asked: &mut Asked, heard: &mut Vec<Heard>, cell: usize)
     requires cell { cell < length heard.old.items }
     requires name { slice_index_or (map (λ h. h.name) heard.old.items) cell 0 ≡ asked.old.name }
@@ -72,8 +74,8 @@ impl<K: Tie, L: Log> Locked<K, L> {
         }
     }
 
-    /// Makes a call of the thread whose turn it is. If the call is an event, counts it in the thread's share and adds it
-    /// to the thread's list. What was seen is then the whole past.
+    /// Makes a call of the thread that `turn` belongs to. If the call is an event, counts it in the thread's
+    /// share and adds it to the thread's list. Afterwards `seen` is the whole history.
     pub(crate) fn call(
         &mut self,
         cells: &Cells<Completion>,

@@ -1,4 +1,5 @@
-//! How a locked kernel keeps its past.
+//! The log by which a locked kernel keeps its history.
+
 ghost use Rattle.std.specs.Prelude.{◌≡◌, ◌∷◌, ◌<◌, ◌^◌, Bool, List, length, IfErr, IfSome, OnOk, is_some, true, false};
 ghost use Rattle.qtables.specs.Members.{member_at};
 ghost use Rattle.qtables.specs.declared.member.Member.{Member};
@@ -20,8 +21,9 @@ use qkernel::seat::Seat;
 use qmodel::call::Call;
 use std::alloc::Global;
 
-/// How a locked kernel keeps its past. A call is noted before it is made, which may be refused; once it was made, it is
-/// an event with its endings. `Kept` keeps the events in memory, and `Unkept` keeps none.
+/// A log by which a locked kernel keeps its history. A call is noted before it is made, and the log may
+/// refuse it. After the call was made, it is an event with its completions. `Kept` keeps the events in
+/// memory, and `Unkept` keeps none.
 pub trait Log: Drop {
     /// The roster of the kernel.
     ghost roster: { Self → List Member };
@@ -34,17 +36,19 @@ pub trait Log: Drop {
     /// The call that was noted last.
     ghost noted: { Self → Call };
 
-    /// The errors with which a call isn't noted.
+    /// The errors with which the log refuses to note a call.
     ghost refuses: { Refuses };
 
-    /// The condition under which a call is noted.
+    /// The condition under which the log notes a call.
     ghost admits: { Admits };
 
-    /// Copies a call for `note`, before the lock is taken. `None` if the log needs no copy, or the allocator refuses.
+    /// Copies a call for `note`, before the lock is taken. Returns `None` if the log needs no copy, or if the
+    /// allocator refuses.
     fn copies(alloc: Global, call: &Call) -> Option<Copies>
         ensures copied { IfSome result (λ copies. copies ≡ call.now) };
 
-    /// Notes a call before it is made; `made` calls were made before it. A refusal changes nothing.
+    /// Notes a call before it is made; `made` calls were made before it. If the call is refused, nothing
+    /// changes.
     fn note(&mut self, made: u64, call: &Call, copies: Option<Copies>) -> Result<(), Errno>
         requires copies { IfSome copies (λ c. c ≡ call.now) }
         requires up { is_down (past self.old) ≡ false }
@@ -55,8 +59,8 @@ pub trait Log: Drop {
         ensures few { OnOk result (length (past self.old) < 2 ^ 40) }
         ensures refused { IfErr result (λ e. refuses (past self.old) call.now e) };
 
-    /// Adds an event: the noted call, made by the thread at a seat of the kernel, which wasn't blocked, with these
-    /// endings.
+    /// Adds an event: the noted call, which the thread at this index made, with these completions. The thread
+    /// wasn't blocked before the call.
     fn event(&mut self, kernel: &Kernel, seat: &Seat, endings: &Endings)
         requires roster { members_of kernel.now.threads ≡ roster self.old }
         requires seat { IsSeatIn kernel.now.threads seat.now }

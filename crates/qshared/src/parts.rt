@@ -1,4 +1,5 @@
 //! The parts of a shared kernel.
+
 ghost use Rattle.std.specs.Prelude.{◌≡◌, ◌≤◌, ◌^◌, ◌⊎◌, ◌<◌, ℕ, [], length, map, IfOk, IfErr};
 ghost use lib.ListN.{get_elem?};
 ghost use Rattle.qrules.specs.Facts.{threads_of};
@@ -21,8 +22,8 @@ use qtables::roster::Roster;
 use std::alloc::{AllocError, Global};
 use std::sync::ledger::Blank;
 
-/// The parts from which a shared kernel is made. A function over `K: Tie` takes them, on the condition that K names
-/// them.
+/// The parts from which a shared kernel is made. A function over `K: Tie` takes them, on the condition that K
+/// names them.
 #[derive(Drop)]
 pub struct Parts {
     pub(crate) cells: Cells<Completion>,
@@ -46,7 +47,7 @@ pub struct Parts {
     ghost empty: { ((k : ℕ) → asked_in (get_elem? asked.items k) ≡ []) × ((k : ℕ) → heard_in (get_elem? heard.items k) ≡ []) },
 }
 
-/// Returns the threads of these members.
+/// Returns the thread numbers of these members.
 fn threads_in(alloc: Global, members: &[Member]) -> Result<Vec<ThreadNo>, AllocError>
     ensures { IfOk result (λ ts. ts.items ≡ threads_of members.now) }
 {
@@ -73,13 +74,13 @@ fn lists(alloc: Global, many: usize) -> Result<(Vec<Asked>, Vec<Heard>), AllocEr
     Ok((asked, heard))
 }
 
-/// The most events that a past in memory may have: 1,048,576.
+/// The most events that a history in memory may have: 1,048,576.
 const TRACE_LIMIT: u32 = 1 << 20;
 
 impl Parts {
-    /// Makes the parts of a kernel for these threads, whose trace has at most `trace_limit` events. Returns `Inval`
-    /// unless that is 2 to 1,048,576, and `NoMemory` if the allocator refuses. A kernel without a past ignores the
-    /// limit.
+    /// Makes the parts of a kernel for these threads, whose trace has at most `trace_limit` events. A kernel
+    /// that keeps no history ignores the limit. Fails with `Inval` unless the limit is from 2 to 1,048,576,
+    /// and with `NoMemory` if the allocator refuses.
     /// `two_threads.rt` of `crates/balsaeuchre_uses` hands them to a function over `K: Tie`.
     pub fn new(alloc: Global, roster: &Roster, trace_limit: u32) -> Result<Parts, Errno>
         ensures roster { IfOk result (λ p. members_of p.kernel.threads ≡ roster.now) }

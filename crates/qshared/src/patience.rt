@@ -1,18 +1,21 @@
-//! How long a thread looks for its ending before it sleeps.
+//! How long a thread spins for its completion before it sleeps.
 
 ghost use Rattle.std.specs.Prelude.{◌≡◌, ◌+◌, ◌-◌, ◌/◌, ◌%◌, ◌^◌, ◌==◌, if◌then◌else◌, true, false};
 
-/// The most looks of a wait. A thread pauses between two looks, twice as long each time up to 64 pauses of the
-/// processor, some 4,800 in all. A pause takes 4 to 60 ns, so these looks take 20 to 300 microseconds. A thread never
-/// yields its core: on a busy machine a process that computes would keep it for milliseconds.
+/// The most polls of a wait. A thread pauses between two polls, each time twice as long as before, up to 64
+/// pause instructions. These are some 4,800 pauses in all. A pause takes 4 to 60 ns, so these polls take 20
+/// to 300 microseconds.
+///
+/// A thread never yields its core: on a busy machine a process that computes would keep the core for
+/// milliseconds.
 const MOST_LOOKS: u32 = 80;
 
-/// One in so many waits in vain is followed by one with the most looks, so that a thread finds out when looking is worth
-/// its while again.
+/// Once in this many unsuccessful waits, the next wait has the most polls. So a thread finds out when
+/// spinning is worthwhile again.
 const TRIAL: u32 = 256;
 
-/// How many times a thread looks for its ending before it sleeps: most often as long as it finds endings so, and a
-/// sixteenth less often after each wait in vain, down to 15 times.
+/// How many times a thread polls for its completion before it sleeps. It has the most polls while it finds
+/// completions by spinning. After each wait without success it has a sixteenth fewer, down to 15.
 #[derive(Drop)]
 pub(crate) struct Patience {
     looks: u32,
@@ -29,7 +32,7 @@ impl Patience {
         }
     }
 
-    /// Returns the number of looks of the next wait.
+    /// Returns the number of polls of the next wait.
     pub(crate) fn looks(&self) -> u32
         ensures { result ≡ (if self.now.in_vain % 256 == 0 then 80 else self.now.looks) }
     {
@@ -40,7 +43,7 @@ impl Patience {
         }
     }
 
-    /// Notes whether a look of the last wait found the ending.
+    /// Notes whether the last wait found the completion by spinning.
     pub(crate) fn note(&mut self, found: bool)
         ensures found { found ≡ true → (self.new.looks ≡ 80) × (self.new.in_vain ≡ self.old.in_vain) }
         ensures in_vain { found ≡ false → (self.new.looks ≡ self.old.looks - self.old.looks / 16) × (self.new.in_vain ≡ (self.old.in_vain + 1) % 2 ^ 32) }

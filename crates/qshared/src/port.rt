@@ -31,44 +31,46 @@ use qpast::history;
 use std::sync::Wait;
 use std::sync::ledger::Share;
 
-/// What a port returns for a call. The calls of `crates/qcalls` read their results off it.
+/// The outcome of a call that a port was asked to make. The calls of `crates/qcalls` read their results from
+/// it.
 #[derive(Debug, Drop)]
 pub enum Called {
-    /// The call is an event and ended in it; the port took this ending.
+    /// The call is an event and completed in it. The port took this completion.
     Done(Completion),
-    /// The call is an event, and its thread is blocked until an ending arrives.
+    /// The call is an event, and its thread is blocked until its completion arrives.
     Blocked,
-    /// The call was refused and is no event; it is given back whole.
+    /// The call was refused: it isn't an event, and is returned whole.
     Refused(Errno, Call),
 }
 
-/// What a port returns for two calls that are made in one turn at the lock.
+/// The outcome of two calls that are made without freeing the lock between them.
 #[derive(Debug, Drop)]
 pub enum CalledBoth {
-    /// The first call ended in its own event with this ending, whose mark is `Ok`; the second call had this outcome.
+    /// The first call completed in its own event, with the result `Ok`, and this is its completion. The
+    /// second call had this outcome.
     Both(Completion, Called),
-    /// The first call had this outcome: it failed, is blocked, or was refused. The second isn't made, and is given
-    /// back.
+    /// The first call had this outcome: it completed with another result than `Ok`, is blocked, or was
+    /// refused. The second call isn't made, and is returned.
     First(Called, Call),
 }
 
 /// The port by which one thread calls the kernel. There is one for each thread, and it can't be copied.
-/// `opening.rt` of `crates/qcalls` makes callers of two of them.
+/// `opening.rt` of `crates/qcalls` makes callers of two ports.
 #[derive(Drop)]
 pub struct Port<K: Tie> {
     pub(crate) thread: ThreadNo,
     pub(crate) seat: ThreadSeat<Completion>,
     pub(crate) turn: Turn,
-    // The port's share of the sum of all events.
+    // The port's share of the count of all events.
     pub(crate) share: Share<K>,
     pub(crate) calls: u64,
     pub(crate) parker: Parker,
     pub(crate) patience: Patience,
-    // Its calls that are events; only contracts read them.
+    // The list of its calls that are events. Only contracts read it.
     pub(crate) asked: Asked,
-    // What it saw of the past; only contracts read it.
+    // The prefix of the history that it has seen. Only contracts read it.
     pub(crate) seen: history::Seen,
-    // What it saw of the past at its last call; only contracts read it.
+    // The prefix of the history that it saw at its last call. Only contracts read it.
     pub(crate) last: history::Seen,
     ghost seat_is: { thread_id seat ≡ K.names.cells },
     ghost thread_is: { place (threads_of K.names.roster) thread ≡ Some (thread_of seat) },
@@ -90,7 +92,7 @@ pub(crate) fn is_call(called: &Called) -> bool
     !matches!(called, Called::Refused(_, _))
 }
 
-/// Returns 1 for a call that is an event, and 0 for one that isn't.
+/// Returns 1 for a call that is an event, and 0 for a refused call.
 fn events(called: &Called) -> u64
     ensures number { result ≡ (if is_call called.now then 1 else 0) }
     ensures few { result ≤ 1 }
@@ -101,21 +103,22 @@ fn events(called: &Called) -> u64
     }
 }
 
-/// Returns whether a blocked call isn't collected yet after this one, given whether there was one before.
+/// Returns whether, after a call with this outcome, the completion of a blocked call isn't collected yet.
+/// `before` says whether this was true before the call.
 fn pends(called: &Called, before: bool) -> bool
     ensures { result ≡ pends called.now before }
 {
     before || matches!(called, Called::Blocked)
 }
 
-/// Returns whether a call succeeded, by the mark of its ending: whether the mark is `Ok`.
+/// Returns whether a call succeeded: whether its result is `Ok`.
 fn is_ok(mark: Mark) -> bool
     ensures { result ≡ is_ok mark }
 {
     matches!(mark, Mark::Ok)
 }
 
-/// Returns the bytes of a Reply or a Write.
+/// Returns the bytes of a Reply or a Write, or `None` for another call.
 fn bytes_of(call: Call) -> Option<Bytes> {
     match call {
         Call::Reply { bytes, .. } => Some(bytes),
@@ -124,8 +127,8 @@ fn bytes_of(call: Call) -> Option<Bytes> {
     }
 }
 
-/// Takes the ending that was put for a thread, if one is pending and there. It has only the thread's seat and the cells,
-/// so it can take no lock and no memory, and can't wait for another thread.
+/// Takes the completion that was put for a thread, if it is `pending` and there. The function has only the
+/// thread's token and the cells. So it can take no lock and no memory, and can't wait for another thread.
 fn take(
     seat: &mut ThreadSeat<Completion>,
     cells: &Cells<Completion>,
@@ -146,8 +149,8 @@ fn take(
     completion
 }
 
-/// Takes the ending that was put for a thread, as `take` does, but looks as many times as the thread has patience, with
-/// pauses between.
+/// Takes the completion that was put for a thread, as `take` does, but spins: it polls as often as `patience`
+/// says, with pauses between.
 fn look(
     seat: &mut ThreadSeat<Completion>,
     cells: &Cells<Completion>,
@@ -203,11 +206,16 @@ impl<K: Tie> Port<K> {
         }
     }
 
-    /// Makes a call under the lock, and may wait for the lock. If the call ends in its own event, the port takes that
-    /// ending. Refused, in this order: `Down` after Shutdown; `Busy` if the thread has an open call or an ending that
-    /// isn't collected; and then the errors of the log, which never refuses a Shutdown. These are, if the kernel keeps
-    /// its past, `TraceFull` if one event of the limit is left, and `NoMemory` if there was none for the trace; if it
-    /// keeps no past, `Exhausted` if one of 2^40 events is left.
+    /// Makes a call under the lock, and may wait for the lock. If the call completes in its own event, the
+    /// port takes the completion.
+    ///
+    /// The call is refused with `Down` after a Shutdown. Otherwise it is refused with `Busy` if the thread
+    /// has an open call, or a completion that isn't collected. Otherwise the log may refuse it, unless it is
+    /// a Shutdown.
+    ///
+    /// A log that keeps the history refuses with `TraceFull` if one event of the limit is left, and with
+    /// `NoMemory` if there was no memory for the trace. A log that keeps none refuses with `Exhausted` if one
+    /// of 2^40 events is left.
     /// `endpoint.rt` of `crates/qcalls` calls it.
     pub fn call<L: Log, R: Wait>(&mut self, shared: &Shared<K, L>, rt: &R, call: Call) -> Called
         ensures came { AtPast K.names.roster self.old.thread self.old.asked.calls self.old.seen.trace (λ past. Answered K.names.roster L.refuses L.admits self.old.thread call result past self.new.seen.trace) }
@@ -229,10 +237,10 @@ impl<K: Tie> Port<K> {
         called
     }
 
-    /// Makes two calls in one turn at the lock, so that no other thread's call comes between them. The second is made
-    /// only if the first ends in its own event with `Ok`, as a Reply, an Error or a Pulse does. Each is refused as by
-    /// `call`.
-    /// `endpoint.rt` of `crates/qcalls` makes a reply and the next receive so.
+    /// Makes two calls without freeing the lock between them, so that no other thread's call comes between.
+    /// The second is made only if the first completes in its own event with `Ok`, as a Reply, an Error or a
+    /// Pulse does. Each is refused as by `call`.
+    /// `endpoint.rt` of `crates/qcalls` makes a reply and the next receive with it.
     pub fn call_both<L: Log, R: Wait>(
         &mut self,
         shared: &Shared<K, L>,
@@ -309,7 +317,8 @@ impl<K: Tie> Port<K> {
         called
     }
 
-    /// Takes the ending that was put for the thread, if there is one. It takes no lock and no memory, and never waits.
+    /// Takes the completion that was put for the thread, if there is one. Takes no lock and no memory, and
+    /// never waits.
     /// `qroundtrips` of `bench/programs` polls the two ports of one thread.
     pub fn poll<L: Log>(&mut self, shared: &Shared<K, L>) -> Option<Completion>
         ensures taken { MatchOption result (collected self.new.last.trace self.new.thread (taken self.new.seat) ≡ collected self.old.last.trace self.old.thread (taken self.old.seat)) (λ x. collected self.new.last.trace self.new.thread (taken self.new.seat) ≡ collected self.old.last.trace self.old.thread (taken self.old.seat) ++ x ∷ []) }
@@ -319,9 +328,9 @@ impl<K: Tie> Port<K> {
         take(&mut self.seat, &shared.cells, &mut self.turn.pending)
     }
 
-    /// Waits for the thread's ending and takes it: looks for some microseconds, unless there is one processor alone, and
-    /// then sleeps until it is woken.
-    /// `endpoint.rt` of `crates/qcalls` waits so.
+    /// Waits for the thread's completion and takes it. Spins for some microseconds, unless there is only one
+    /// processor, and then sleeps until the thread is woken.
+    /// `endpoint.rt` of `crates/qcalls` waits with it.
     pub fn wait<L: Log, R: Wait>(&mut self, shared: &Shared<K, L>, rt: &R) -> Completion
         requires { self.old.turn.pending ≡ true }
         ensures taken { collected self.new.last.trace self.new.thread (taken self.new.seat) ≡ collected self.old.last.trace self.old.thread (taken self.old.seat) ++ result ∷ [] }
@@ -349,8 +358,8 @@ impl<K: Tie> Port<K> {
         unreachable!()
     }
 
-    /// Sleeps until the thread is woken, unless its ending is there already, and takes the ending. `None` if it was woken
-    /// for no reason.
+    /// Sleeps until the thread is woken, unless its completion is there already, and takes the completion.
+    /// Returns `None` after a wake-up without a completion.
     fn sleep<L: Log, R: Wait>(&mut self, shared: &Shared<K, L>, rt: &R) -> Option<Completion>
         ensures taken { MatchOption result (collected self.new.last.trace self.new.thread (taken self.new.seat) ≡ collected self.old.last.trace self.old.thread (taken self.old.seat)) (λ x. collected self.new.last.trace self.new.thread (taken self.new.seat) ≡ collected self.old.last.trace self.old.thread (taken self.old.seat) ++ x ∷ []) }
         ensures pending { MatchOption result (self.new.turn.pending ≡ self.old.turn.pending) (λ x. self.new.turn.pending ≡ false) }
@@ -367,8 +376,8 @@ impl<K: Tie> Port<K> {
         completion
     }
 
-    /// Returns the bytes of the last call, if it was a Reply or a Write that wasn't refused: their memory serves for
-    /// those of the next. `None` if they were returned before.
+    /// Returns the bytes of the last call, if it was a Reply or a Write that wasn't refused. Their memory can
+    /// serve for the bytes of the next call. Returns `None` if they were returned before.
     /// `endpoint.rt` of `crates/qcalls` keeps them for its replies.
     pub fn spare(&mut self) -> Option<Bytes>
         ensures taken { collected self.new.last.trace self.new.thread (taken self.new.seat) ≡ collected self.old.last.trace self.old.thread (taken self.old.seat) }
@@ -379,15 +388,16 @@ impl<K: Tie> Port<K> {
         bytes_of(lent)
     }
 
-    /// Returns what the port saw of the past: all of it, as it was when its last call left the lock.
+    /// Returns the prefix of the history that the port has seen. When a call of the port leaves the lock,
+    /// this is the whole history.
     pub fn seen(&self) -> Seen<K>
         ensures { result ≡ self.now.seen.trace }
     {
         Seen::new(self.seen.again())
     }
 
-    /// Learns what was seen of the past through another port of the kernel, so that the next call is known to come after
-    /// it.
+    /// Learns a prefix of the history that another port of the kernel has seen. The next call is then known
+    /// to come after its events.
     pub fn learn(&mut self, other: &Seen<K>)
         ensures own { Extends self.new.seen.trace self.old.seen.trace }
         ensures others { Extends self.new.seen.trace other.entry.now }
@@ -396,14 +406,14 @@ impl<K: Tie> Port<K> {
         self.seen.learn(&other.beginning);
     }
 
-    /// Returns whether a call was blocked and its ending isn't collected yet.
+    /// Returns whether a call was blocked and its completion isn't collected yet.
     pub fn pending(&self) -> bool
         ensures { result ≡ self.now.turn.pending }
     {
         self.turn.pending
     }
 
-    /// Returns the thread whose port it is.
+    /// Returns the thread that the port belongs to.
     pub fn thread(&self) -> ThreadNo
         ensures { result ≡ self.now.thread }
     {

@@ -1,4 +1,4 @@
-//! What was seen of the past of a kernel.
+//! A prefix of the history of a kernel.
 
 ghost use Rattle.std.specs.Prelude.{◌≡◌};
 ghost use Rattle.qpast.specs.History.{Extends};
@@ -7,9 +7,9 @@ use crate::tie::Tie;
 use qpast::history;
 use std::marker::{Model, PhantomData};
 
-/// What was seen of the past of the kernel that K names: its first events up to some moment, which contracts see. It has
-/// no bytes, and its functions do nothing. It can be copied, and lent or sent to other threads: who learns it knows that
-/// his next call comes after these events.
+/// A prefix of the history of the kernel that K names, which contracts see. It has no bytes, and its
+/// functions do nothing. It can be copied, and lent or sent to other threads. A port that learns it knows
+/// that its next call comes after these events.
 #[derive(Drop)]
 pub struct Seen<K: Tie> {
     pub(crate) beginning: history::Seen,
@@ -38,14 +38,15 @@ impl<K: Tie> Seen<K> {
         }
     }
 
-    /// Returns a copy.
+    /// Returns a copy of the prefix.
     pub fn again(&self) -> Seen<K>
         ensures { result ≡ self.now }
     {
         Seen::new(self.beginning.again())
     }
 
-    /// Learns what the other saw. Both are beginnings of one past, so this is then the longer of the two.
+    /// Sets this prefix to the longer of the two. Both are prefixes of one history, so the longer extends the
+    /// other.
     pub fn learn(&mut self, other: &Seen<K>)
         ensures own { Extends self.new self.old }
         ensures others { Extends self.new other.entry.now }

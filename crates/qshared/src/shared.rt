@@ -1,4 +1,5 @@
 //! The shared kernel: opening it, closing it, and waking threads.
+
 ghost use Rattle.std.specs.Prelude.{◌≡◌, ◌≤◌, ◌++◌, ℕ, [], length, map, sum, IfOk, IfErr, OnOk, IsTrue, ◌↔◌, ◌==◌, Some, false, not, vec_capacity};
 ghost use mathlib.Core.Option.{some};
 ghost use lib.ListN.{get_elem?};
@@ -45,16 +46,17 @@ use std::sync::ledger::Share;
 #[derive(Drop)]
 pub struct Shared<K: Tie, L: Log> {
     pub(crate) cells: Cells<Completion>,
-    // Padded and in a box, so that a thread that waits for the lock looks at a cache line that has nothing else.
+    // It is padded, and its value is in a box. So a thread that spins for the lock reads a cache line that
+    // has nothing else.
     pub(crate) lock: CachePadded<Mutex<Box<Locked<K, L>>>>,
-    // One for each port, by the number of its cell.
+    // One for each port, by the index of its cell.
     wakers: Vec<Waker>,
-    // Whether a thread looks for some microseconds before it sleeps.
+    // Whether a thread spins for some microseconds before it sleeps.
     pub(crate) looks: bool,
     ghost cells_are: { cells_id cells ≡ K.names.cells },
 }
 
-/// What a shared kernel leaves when it is closed.
+/// The log of a closed kernel, the number of each port's calls, and the completions that weren't collected.
 #[derive(Drop)]
 struct Closed<L> {
     log: L,
@@ -62,7 +64,7 @@ struct Closed<L> {
     left: Vec<Completion>,
 }
 
-/// Returns the completions without the numbers of their cells.
+/// Returns the completions without the indices of their cells.
 fn without_places(mut left: Vec<(usize, Completion)>, mut room: Vec<Completion>) -> Vec<Completion>
     requires room { (room.items ≡ []) × (length left.items ≤ vec_capacity room) }
     ensures { result.items ≡ map (λ x. x.1) left.items }
@@ -75,7 +77,7 @@ fn without_places(mut left: Vec<(usize, Completion)>, mut room: Vec<Completion>)
     room
 }
 
-/// Makes a port for each seat, with its share of the ledger, and what wakes the ports' threads.
+/// Makes a port for each token, with its share of the ledger, and the wakers of the ports' threads.
 fn ports_for<K: Tie>(
     kernel: &Kernel,
     threads: &[ThreadNo],
@@ -115,8 +117,8 @@ fn ports_for<K: Tie>(
     Ok((ports, wakers))
 }
 
-/// Takes the ports apart: collects their seats, the number of calls of each, the calls that each asked for, and the sum
-/// of all their shares. The past goes on from what each port saw.
+/// Takes the ports apart. Gathers their tokens, the number of calls of each, the list of calls that each
+/// asked for, and the sum of all their shares. The history extends the prefix that each port has seen.
 fn gather<K: Tie>(
     ports: Vec<Port<K>>,
     seats: &mut Vec<ThreadSeat<Completion>>,
@@ -153,7 +155,7 @@ fn gather<K: Tie>(
     }
 }
 
-/// States that the two halves of each of these lists are equal.
+/// Guarantees that the two halves of each of these lists are equal.
 fn agree(mut asked: Vec<Asked>, mut heard: Vec<Heard>)
     requires { map (λ a. a.name) asked.items ≡ map (λ h. h.name) heard.items }
     ensures { map (λ a. a.calls) asked.items ≡ map (λ h. h.calls) heard.items }
@@ -167,8 +169,8 @@ fn agree(mut asked: Vec<Asked>, mut heard: Vec<Heard>)
 }
 
 impl<K: Tie, L: Log> Shared<K, L> {
-    /// Opens a kernel of these parts whose past is kept by the log, with a port for each thread, in rising thread
-    /// number.
+    /// Opens a kernel of these parts, whose history the log keeps. Returns a port for each thread, in
+    /// ascending order of thread number.
     fn with_log(parts: Parts, log: L) -> Result<(Shared<K, L>, Vec<Port<K>>), AllocError>
         requires named { AreParts K.names K.name K.parts parts }
         requires log { (L.roster log ≡ K.names.roster) × (L.past log ≡ []) }
@@ -206,9 +208,9 @@ impl<K: Tie, L: Log> Shared<K, L> {
         Ok((shared, ports))
     }
 
-    /// Sets how many processors the ports' threads run on, as `std::thread::available_parallelism` returns it. With one
-    /// processor a thread that waits sleeps at once; with more, which is what a kernel is opened for, it first looks for
-    /// some microseconds whether it still has to wait.
+    /// Sets how many processors the ports' threads run on, as `std::thread::available_parallelism` returns
+    /// it. With one processor, a thread that waits sleeps at once. With more, which is the default, it spins
+    /// for some microseconds first.
     /// `course.rt` of the bench's round trips sets it.
     pub fn set_processors(&mut self, processors: usize)
         ensures looks { self.new.looks ≡ not (processors == 1) }
@@ -217,8 +219,8 @@ impl<K: Tie, L: Log> Shared<K, L> {
         self.looks = processors != 1;
     }
 
-    /// Returns whether these are all ports of the kernel, in rising thread number.
-    /// It is asked before `finish`, as in `opening.rt` of `crates/qcalls`.
+    /// Returns whether these are all ports of the kernel, in ascending order of thread number.
+    /// It serves to check the ports before `finish`, as in `opening.rt` of `crates/qcalls`.
     pub fn all(&self, ports: &[Port<K>]) -> bool
         ensures { IsTrue result ↔ AreAll (λ p. thread_of p.seat) K.names.cells.slots ports.now }
     {
@@ -233,7 +235,7 @@ impl<K: Tie, L: Log> Shared<K, L> {
         true
     }
 
-    /// Sets whether the thread of a cell sleeps or is about to, so that others wake it only then.
+    /// Sets whether the thread of a cell sleeps or is about to sleep. Other threads wake it only then.
     pub(crate) fn set_asleep(&self, place: usize, asleep: bool) {
         if place < self.wakers.len() {
             self.wakers[place].set_asleep(asleep);
@@ -255,7 +257,8 @@ impl<K: Tie, L: Log> Shared<K, L> {
         }
     }
 
-    /// Takes the kernel and all its ports apart. The ports must be all, in rising thread number.
+    /// Takes the kernel and all its ports apart. The list must have all ports, in ascending order of thread
+    /// number.
     fn close(self, ports: Vec<Port<K>>) -> Closed<L>
         requires all { AreAll (λ p. thread_of p.seat) K.names.cells.slots ports.items }
         ensures calls { result.calls.items ≡ map (λ p. p.calls) ports.items }
@@ -309,8 +312,8 @@ impl<K: Tie, L: Log> Shared<K, L> {
 }
 
 impl<K: Tie> Shared<K, Kept<K>> {
-    /// Opens a kernel of these parts that keeps its past in memory, with a port for each thread, in rising thread
-    /// number. `NoMemory` is the only error, and drops the parts.
+    /// Opens a kernel of these parts that keeps its history in memory. Returns a port for each thread, in
+    /// ascending order of thread number. The only error is `NoMemory`, which drops the parts.
     /// `two_threads.rt` of `crates/balsaeuchre_uses` opens one.
     pub fn open(parts: Parts) -> Result<(Shared<K, Kept<K>>, Vec<Port<K>>), Errno>
         requires named { AreParts K.names K.name K.parts parts }
@@ -324,9 +327,11 @@ impl<K: Tie> Shared<K, Kept<K>> {
         Ok(Shared::with_log(parts, log)?)
     }
 
-    /// Closes the kernel, which takes all its ports back, in rising thread number. Returns the trace, the number of
-    /// events of each port, and the endings that weren't collected. The endings that a port took, followed by the one
-    /// that is left for its thread, are those due to the thread.
+    /// Closes the kernel and takes back all its ports, in ascending order of thread number. Returns the
+    /// trace, the number of events of each port, and the completions that weren't collected.
+    ///
+    /// A thread's completions in the history are the completions that its port took, followed by the
+    /// completion that is left for it, if any.
     /// `opening.rt` of `crates/qcalls` closes one.
     pub fn finish(self, ports: Vec<Port<K>>) -> Report
         requires all { AreAll (λ p. thread_of p.seat) K.names.cells.slots ports.items }
@@ -350,8 +355,9 @@ impl<K: Tie> Shared<K, Kept<K>> {
 }
 
 impl<K: Tie> Shared<K, Unkept<K>> {
-    /// Opens a kernel of these parts that keeps no past, with a port for each thread, in rising thread number. The
-    /// limit of the parts is ignored. `NoMemory` is the only error, and drops the parts.
+    /// Opens a kernel of these parts that keeps no history. Returns a port for each thread, in ascending
+    /// order of thread number. The limit of the parts is ignored. The only error is `NoMemory`, which drops
+    /// the parts.
     /// `course.rt` of `bench/programs/qroundtrips` opens and closes one.
     pub fn open(parts: Parts) -> Result<(Shared<K, Unkept<K>>, Vec<Port<K>>), Errno>
         requires named { AreParts K.names K.name K.parts parts }
@@ -362,9 +368,11 @@ impl<K: Tie> Shared<K, Unkept<K>> {
         Ok(Shared::with_log(parts, Unkept::new())?)
     }
 
-    /// Closes the kernel, which takes all its ports back, in rising thread number. Returns the number of events of each
-    /// port, and the endings that weren't collected. There is a past by which the endings that a port took, followed by
-    /// the one that is left for its thread, are those due to the thread.
+    /// Closes the kernel and takes back all its ports, in ascending order of thread number. Returns the
+    /// number of events of each port, and the completions that weren't collected.
+    ///
+    /// There is a history of the calls, although it isn't kept. A thread's completions in it are the
+    /// completions that its port took, followed by the completion that is left for it, if any.
     pub fn finish(self, ports: Vec<Port<K>>) -> Tally
         requires all { AreAll (λ p. thread_of p.seat) K.names.cells.slots ports.items }
         ensures calls { result.calls.items ≡ map (λ p. p.calls) ports.items }

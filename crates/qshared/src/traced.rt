@@ -1,4 +1,5 @@
-//! A kernel with its past, and the kernel's seat of the cells.
+//! A kernel with its history, and the kernel's token of the cells.
+
 ghost use Rattle.std.specs.Prelude.{◌≡◌, ◌<◌, ◌≤◌, ◌^◌, [], length, IfSome, Some, true, false};
 ghost use Rattle.qrules.specs.Facts.{threads_of};
 ghost use Rattle.qrules.specs.Lawful.{IsLawful};
@@ -32,8 +33,8 @@ use qpast::history::{History, Seen};
 use std::marker::{Model, PhantomData};
 use std::snapshot::Snapshot;
 
-/// A kernel with its past, and the kernel's seat of the cells: the value under the lock, without the count of the
-/// ports' calls.
+/// A kernel with its history, and the kernel's token of the cells. This is the value under the lock, without
+/// the count of the ports' calls.
 #[derive(Drop)]
 pub struct Traced<K: Tie, L: Log> {
     pub(crate) kernel: Kernel,
@@ -57,7 +58,8 @@ impl<K: Tie, L: Log> Model for Traced<K, L> {
     ghost invariant = { λ t. (kernel_id t.seat ≡ K.names.cells) × (L.roster t.log ≡ K.names.roster) × IsUnderLock K.names.roster K.names.cells.slots t.kernel (desk t.seat) (threads_of (members_of t.kernel.threads)) (L.past t.log) × ((t.history.name ≡ K.names.history) × (t.history.trace ≡ L.past t.log)) };
 }
 
-// Returns the outcome of a call that is an event: `Done` if its own ending was among the endings, else `Blocked`.
+// Returns the outcome of a call that is an event: `Done` if its own completion came in the event, and
+// otherwise `Blocked`.
 fn ended_or_open(own: Option<Completion>) -> Called
     ensures { result ≡ outcome own }
 {
@@ -94,8 +96,8 @@ fn lent_of(call: &Call) -> Option<LentCall<'_>>
     }
 }
 
-/// Makes a call of the thread at a seat. The bytes of a Reply or a Write are lent, and the call stays in `lent`, so that
-/// they aren't freed under the lock.
+/// Makes a call of the thread at this index. The bytes of a Reply or a Write are only lent to the kernel, and
+/// the call stays in `lent`, so that they aren't freed under the lock.
 fn make_at(
     kernel: &mut Kernel,
     seat: &Seat,
@@ -122,7 +124,7 @@ fn make_at(
 }
 
 impl<K: Tie, L: Log> Traced<K, L> {
-    /// Makes the value for a kernel that made no call, with an empty past.
+    /// Makes the value for a kernel that has made no call, with an empty history.
     pub(crate) fn new(
         kernel: Kernel,
         seat: KernelSeat<Completion>,
@@ -146,7 +148,7 @@ impl<K: Tie, L: Log> Traced<K, L> {
         }
     }
 
-    /// Returns the number of events of the past, which is lawful.
+    /// Returns the number of events of the history, which is valid.
     pub fn len(&self) -> u64
         ensures value { result ≡ length self.now.past }
         ensures lawful { IsLawful K.names.roster self.now.past × HasProperties K.names.roster self.now.past }
@@ -155,10 +157,13 @@ impl<K: Tie, L: Log> Traced<K, L> {
         self.kernel.made()
     }
 
-    /// Makes a call of the thread whose turn it is, for `Port::call`, which holds the lock: opens the thread's cell, makes
-    /// the call, and puts every other thread's ending into its cell. If the call ended, closes the thread's cell and
-    /// returns its ending. What was seen is then the whole past. Refused, in this order: `Down` after Shutdown, `Busy` if
-    /// the thread has an open call or an ending that it didn't take, and then the errors of the log.
+    /// Makes a call of the thread that `turn` belongs to, for `Port::call`, which holds the lock. Opens the
+    /// thread's cell, makes the call, and puts every other thread's completion into its cell. If the call
+    /// completed, closes the thread's cell and returns the completion. Afterwards `seen` is the whole
+    /// history.
+    ///
+    /// The call is refused with `Down` after a Shutdown. Otherwise it is refused with `Busy` if the thread
+    /// has an open call, or a completion that it didn't take. Otherwise the log may refuse it.
     pub fn perform(
         &mut self,
         cells: &Cells<Completion>,

@@ -1,4 +1,4 @@
-//! A past that is kept nowhere.
+//! A history that isn't kept in memory.
 
 ghost use Rattle.std.specs.Prelude.{◌≡◌, ◌+◌, ◌<◌, ◌^◌, [], length, false, true};
 ghost use Rattle.qrules.specs.Rules.{effect_of};
@@ -17,12 +17,12 @@ use std::alloc::Global;
 use std::marker::PhantomData;
 use std::snapshot::Snapshot;
 
-/// A past that exists in proofs only: nothing is kept, nothing is copied, and the only limit is the kernel's own of
-/// 2^40 calls, the last of which is left to Shutdown. It has no bytes.
+/// A history that exists only in proofs: nothing is kept, and nothing is copied. Its only limit is the
+/// kernel's own: 2^40 calls, and the last is left for a Shutdown. It has no bytes.
 #[derive(Drop)]
 pub struct Unkept<K: Tie> {
     past: Past,
-    // The call that was noted and isn't an event yet; Shutdown if there is none.
+    // The call that was noted and isn't an event yet, or Shutdown if there is none.
     call: Snapshot<Call>,
     of: PhantomData<K>,
     ghost spare: { is_down past.trace ≡ false → length past.trace < 2 ^ 40 },
@@ -30,7 +30,7 @@ pub struct Unkept<K: Tie> {
 }
 
 impl<K: Tie> Unkept<K> {
-    /// Returns the past of a kernel that made no call.
+    /// Returns the history of a kernel that has made no call.
     pub(crate) fn new() -> Unkept<K>
         ensures { result.past.trace ≡ [] }
     {

@@ -1,3 +1,3 @@
--- What becomes of the queues and of the threads as calls are cancelled.
+-- The queues and the threads as calls are cancelled.
 pub mod Queues
 pub mod Threads

@@ -1,10 +1,10 @@
--- What a write to one channel's record changes, and what its removal does.
+-- The changes by a write to the record of one channel, and by its removal.
 use Rattle.qstate.proofs.Common.{◌≡◌, ℕ, ◌+◌, ◌≤◌, List, [], ◌∷◌, length, map, not, refl, ap, sym, ◌∙◌, cond, true, false, eqb, AllByRecursion, option_map, eqb-true, true≢false, Item, with_item_priority, entry_at, with_record, without_entry, eqb_either, Channel, SetsItems, ClosesIn, open_channel_of, channel_in, pending_in, items_waiting_on, Option, None, Some, is_some, OnSome}
 use Rattle.qqueue.specs.Contents.{Contents}
 use Rattle.qtables.proofs.LookUps.{entry_at-with_record, entry_at-without_entry}
 
 module _ {R : Type 0} where
-  -- the record of each number, after a write to one that is there
+  -- the record of each id, after a write to an entry that is in the table
   written_at : (entries : List (ℕ × R)) (id : ℕ) (c r : R) (k : ℕ) → entry_at entries id ≡ Some c → entry_at (with_record entries id r) k ≡ cond (eqb k id) (Some r) (entry_at entries k)
   written_at entries id c r k is =
       entry_at-with_record entries id r k ∙ ap (λ b. cond b (option_map (λ _. r) (entry_at entries k)) (entry_at entries k)) (eqb_either id k)
@@ -17,7 +17,7 @@ module _ {R : Type 0} where
   ids_same [] id r = refl
   ids_same (e ∷ entries) id r = ap (λ ns. e.0 ∷ ns) (ids_same entries id r)
 
-  -- what holds of each id holds of each that is left
+  -- a property of all ids is a property of all ids that are left after a removal
   ids_kept : (P : ℕ → Type 0) (entries : List (ℕ × R)) (id : ℕ) → AllByRecursion P (map (λ e. e.0) entries) → AllByRecursion P (map (λ e. e.0) (without_entry entries id))
   ids_kept P [] id h = tt
   ids_kept P (e ∷ entries) id h =
@@ -26,7 +26,7 @@ module _ {R : Type 0} where
         | false ↦ (h.0, ids_kept P entries id h.1)
       ]
 
--- a write that leaves a channel its owner and its flags
+-- a write that keeps the owner and the flags of a channel
 pub sets_items : (channels : List (ℕ × Channel)) (h : ℕ) (c d : Channel) (items : List Item) → entry_at channels h ≡ Some c → d.owner ≡ c.owner → d.flags ≡ c.flags → d.queue.items ≡ items
     → SetsItems h items channels (with_record channels h d)
 sets_items channels h c d items is owner flags now = record {
@@ -45,7 +45,7 @@ pub sets_queue : (channels : List (ℕ × Channel)) (h : ℕ) (c : Channel) (q :
     → SetsItems h items channels (with_record channels h (record { owner = c.owner; flags = c.flags; queue = q }))
 sets_queue channels h c q items is now = sets_items channels h c (record { owner = c.owner; flags = c.flags; queue = q }) items is refl refl now
 
--- what holds where there is a channel holds where one is open
+-- a statement about the channel's record holds if the channel is open
 on_open : {P : Type 0} (o : Option Channel) → is_some (option_map open_channel_of o) ≡ true → OnSome o P → P
 on_open None there h = absurd (true≢false (sym there))
 on_open (Some c) there h = h

@@ -6,7 +6,7 @@ use Rattle.qqueue.specs.Contents as contents
 use Rattle.qtables.specs.Entries.{IsRising}
 use Rattle.qstate.specs.Copies.{channel_told, entry_told}
 
--- ---- the entry at a place
+-- ---- the entry at an index
 
 module _ {R : Type 0} where
   pub entry_read : (entries : List (ℕ × R)) (i id : ℕ) (c : R) → option_map (λ e. e.0) (slice_get entries i) ≡ Some id → option_map (λ e. e.1) (slice_get entries i) ≡ Some c
@@ -29,9 +29,9 @@ module _ {R : Type 0} where
       let there : slice_get entries i ≡ Some (id, c) = entry_read entries i id c first second in
       map_more f entries i (id, c) (slice_get_within entries i (id, c) there) ∙ ap (λ e. map f (take i entries) ++ f e ∷ []) (get_or_from_slice_get entries i (id, c) (id, c) there)
 
--- ---- what rises
+-- ---- tables and queues in ascending order
 
--- each entry in front of a place of a rising table has a smaller number than the one there
+-- each entry before an index of a rising table has a smaller id than the entry at the index
 pub below : {R : Type 0} (entries : List (ℕ × R)) (i id : ℕ) → IsRising entries → option_map (λ e. e.0) (slice_get entries i) ≡ Some id → AllByRecursion (λ e. e.0 < id) (take i entries)
 below [] i id rising there = absurd (none-some id there)
 below (e ∷ entries) zero id rising there = tt
@@ -41,7 +41,7 @@ below {R = R} (e ∷ entries) (suc i) id rising there = (first entries i rising.
   first (x ∷ entries) zero all there = let same : x.0 ≡ id = same_Some x.0 id there in omega (arith, all.0, same)
   first (x ∷ entries) (suc i) all there = first entries i all.1 there
 
--- each item in front of a place has a smaller number than the one there
+-- each item before an index has a smaller number than the item at the index
 pub items_below : (items : List Item) (i : ℕ) (x : Item) → contents.IsRising items → i < length items → x ≡ get_or items i x → AllByRecursion (λ y. y.number < x.number) (take i items)
 items_below items i x rising low there = subst (λ z. AllByRecursion (λ y. y.number < z.number) (take i items)) (sym there) (below_at items i x rising low) where
   first : (n : ℕ) (items : List Item) (i : ℕ) (d : Item) → AllByRecursion (λ y. n < y.number) items → i < length items → n < (get_or items i d).number
@@ -54,7 +54,7 @@ items_below items i x rising low there = subst (λ z. AllByRecursion (λ y. y.nu
   below_at (x ∷ items) zero d rising low = tt
   below_at (x ∷ items) (suc i) d rising low = (first x.number items i d rising.0 (omega (arith, low)), below_at items i d rising.1 (omega (arith, low)))
 
--- ---- channels, as facts tell of them
+-- ---- channels, by the facts about them
 
 to_told : (id : ℕ) (channels : List (ℕ × Channel)) → AllByRecursion (λ e. e.0 < id) channels → AllByRecursion (λ t. t.0 < id) (map entry_told channels)
 to_told id [] all = tt
@@ -64,11 +64,11 @@ from_told : (id : ℕ) (channels : List (ℕ × Channel)) → AllByRecursion (λ
 from_told id [] all = tt
 from_told id (e ∷ channels) all = (all.0, from_told id channels all.1)
 
--- the ids of copies are below a number, as those of the channels are
+-- if the ids of channels are below a number, the ids of their copies are too
 pub below_copied : (copies channels : List (ℕ × Channel)) (id : ℕ) → map entry_told copies ≡ map entry_told channels → AllByRecursion (λ e. e.0 < id) channels → AllByRecursion (λ e. e.0 < id) copies
 below_copied copies channels id same all = from_told id copies (subst (AllByRecursion (λ t. t.0 < id)) (sym same) (to_told id channels all))
 
--- one channel more
+-- one more channel is copied
 pub told_more : (copies channels : List (ℕ × Channel)) (i id : ℕ) (copy c : Channel) → map entry_told copies ≡ map entry_told (take i channels) → channel_told copy ≡ channel_told c → option_map (λ e. e.0) (slice_get channels i) ≡ Some id → option_map (λ e. e.1) (slice_get channels i) ≡ Some c
     → map entry_told (copies ++ (id, copy) ∷ []) ≡ map entry_told (take (i + 1) channels)
 told_more copies channels i id copy c same told first second =

@@ -1,4 +1,4 @@
--- What is kept of where the threads stand stays right as their records are written.
+-- The index of guesses stays right when the records of threads are written.
 use Rattle.qstate.proofs.Common.{◌≡◌, ◌≢◌, ◌<◌, ◌≤◌, ℕ, suc, zero, ◌+◌, List, [], ◌∷◌, length, map, set, get_or, Bool, ◌&&◌, refl, ap, sym, ◌∙◌, cond, arith, true, false, eqb, option_and_then, slice_get, IfSome, position_from, option_map, eqb-true, eq-eqb, true≢false, ltb-true, and_parts, position_from-zero, length-map, same_Some, none-some, has, IsRoster, OpenCall, Receipt, Receive, Send, held_call, unblocked_call, written_call, with_buffer, CancelSet, Index, Thread, is_cancelled_by, is_cancelled_open, thread_after_cancelled, members_of, ready_thread, seat_in, IsIndexed, number_at, open_at, receive_at, opener_at, lay_over, Option, None, Some, nat_lt}
 use Rattle.qtables.specs.declared.member.Member.{Member}
 use Rattle.qstate.specs.Index.{is_receive, Forgets, Notes}
@@ -8,7 +8,7 @@ use Rattle.qstate.proofs.Senders.{roster_first}
 use Rattle.qrules.proofs.Traces.Past.Open.{held_number, buffer_number, held_thread, buffer_thread}
 use Rattle.qrules.specs.Facts.{threads_of}
 
--- ---- a thread stands where its number says
+-- ---- the index of a thread, found by its number
 
 from_first : (u : ℕ) (threads : List Thread) (i k : ℕ) → IsFirstAt threads u k → position_from (λ t. eqb t.member.thread u) i threads ≡ Some (i + k)
 from_first u [] i k h = absurd h
@@ -18,11 +18,11 @@ from_first u (t ∷ threads) i (suc k) h = rw h.0 (from_first u threads (i + 1) 
 pub seat_first : (u : ℕ) (threads : List Thread) (k : ℕ) → IsFirstAt threads u k → seat_in threads u ≡ Some k
 seat_first u threads k h = position_from-zero (λ t. eqb t.member.thread u) threads ∙ from_first u threads 0 k h ∙ ap Some (omega arith)
 
--- the thread of a record of a roster stands there
+-- in a roster the thread of the record at k has the index k
 pub seat_here : (threads : List Thread) (k : ℕ) (d : Thread) → IsRoster (members_of threads) → k < length threads → seat_in threads (get_or threads k d).member.thread ≡ Some k
 seat_here threads k d roster l = seat_first _ threads k (roster_first threads k d roster l)
 
--- ---- open calls by place
+-- ---- open calls by index
 
 written_here : (threads : List Thread) (k : ℕ) (x : Thread) → k < length threads → open_at (set threads k x) k ≡ x.open_call
 written_here [] k x l = absurd (omega arith)
@@ -42,14 +42,14 @@ call_written threads k j x l = elim (eqb j k) as (λ b. eqb j k ≡ b → open_a
   | false ↦ λ apart. written_elsewhere threads k j x (λ e. true≢false (sym (eq-eqb j k e) ∙ apart))
 ] refl
 
--- the number of an open call, and that of one that is a receive
+-- the number of an open call, and the number of an open receive
 abbrev pub call_number : Option OpenCall → Option ℕ
 call_number o = option_map number_of o
 
 abbrev pub receive_number : Option OpenCall → Option ℕ
 receive_number o = option_map (λ r. r.number) (option_and_then receive_in o)
 
--- the thread that it names
+-- the thread that an open call names
 abbrev pub opener : Option OpenCall → Option ℕ
 opener o = option_map thread_of o
 
@@ -76,7 +76,7 @@ indexed_fewer old new index after i members rising latest newest last stays numb
   others = λ r k n e other. rw newest (i.others (sym rising ∙ r) k n (receives k n e) (λ same. other (same ∙ sym last)));
 }
 
--- a write that leaves an open call with its number, or ends it
+-- a write that leaves the thread its open call's number, or takes the open call away
 written_at : (f : Option OpenCall → Option ℕ) (threads : List Thread) (k : ℕ) (d x : Thread) → k < length threads → ((n : ℕ) → f x.open_call ≡ Some n → f (get_or threads k d).open_call ≡ Some n)
     → (j n : ℕ) → f (open_at (set threads k x) j) ≡ Some n → f (open_at threads j) ≡ Some n
 written_at f threads k d x l less j n e =
@@ -108,7 +108,7 @@ receiving (Send s) n e = absurd (none-some n e)
 receiving (Receive r) n e = (refl, same_Some _ n e)
 
 module _ (threads : List Thread) (k : ℕ) (x : Thread) (call : OpenCall) (index after : Index) (i : IsIndexed threads index) (notes : Notes k call index after) (l : k < length threads) (opens : x.open_call ≡ Some call) where
-  -- the call at a place is the new one, or an old one elsewhere
+  -- the call at an index is the new call at k, and the old call elsewhere
   at_place : (f : Option OpenCall → Option ℕ) (j n : ℕ) → f (open_at (set threads k x) j) ≡ Some n → f (cond (eqb j k) (Some call) (open_at threads j)) ≡ Some n
   at_place f j n e = rw opens at (sym (ap f (call_written threads k j x l)) ∙ e)
 
@@ -192,7 +192,7 @@ indexed_new members index few roster = record {
   others = λ r k n e other. absurd (none-some n (sym (ap receive_number (ready_open members k)) ∙ e));
 }
 
--- ---- changes that keep a call's number and what it waits for
+-- ---- changes of a call that keep its number, its thread, and whether it is a receive
 
 pub record KeepsCall (change : OpenCall → OpenCall) : Type 0 where
   pub number : (o : OpenCall) → number_of (change o) ≡ number_of o
@@ -240,7 +240,7 @@ unblocked_thread (Receive r) = refl
 pub keeps_unblocked : KeepsCall unblocked_call
 keeps_unblocked = record { number = unblocked_number; receive = unblocked_receive; thread = unblocked_thread }
 
--- ---- by the seat that is written
+-- ---- by the index that is written
 
 -- the thread at an index
 thread_here : (threads : List Thread) (k : ℕ) (d : Thread) → k < length threads → slice_get (threads_of (members_of threads)) k ≡ Some (get_or threads k d).member.thread
@@ -251,7 +251,7 @@ thread_here (t ∷ threads) (suc k) d l = thread_here threads k d (omega arith)
 seated : (threads : List Thread) (u k : ℕ) (d : Thread) → seat_in threads u ≡ Some k → slice_get (threads_of (members_of threads)) k ≡ Some u
 seated threads u k d at = thread_here threads k d (first_below u threads k (first_at u threads k at)) ∙ ap Some (first_number u threads k d (first_at u threads k at))
 
--- the open call of the thread at a seat is the thread's own
+-- the open call of the thread at an index is the thread's own
 pub own_call : (threads : List Thread) (u k : ℕ) (d : Thread) (index : Index) (o : OpenCall) → IsIndexed threads index → seat_in threads u ≡ Some k → (get_or threads k d).open_call ≡ Some o → thread_of o ≡ u
 own_call threads u k d index o i at is =
     same_Some (thread_of o) u (sym (i.own k (thread_of o) (ap opener (call_here threads k d (first_below u threads k (first_at u threads k at)) ∙ is))) ∙ seated threads u k d at)
@@ -267,18 +267,18 @@ module _ (threads : List Thread) (u k : ℕ) (d x : Thread) (index : Index) (i :
   members : members_of (set threads k x) ≡ members_of threads
   members = set_members u threads k d x (first_at u threads k at) member
 
-  -- the open call stays
+  -- the open call doesn't change
   pub indexed_same : x.open_call ≡ (get_or threads k d).open_call → IsIndexed (set threads k x) index
   indexed_same same = indexed_written threads k d x index i within members (λ n e. rw same at e) (λ n e. rw same at e) (λ n e. rw same at e)
 
-  -- the open call is changed, but for its number and what it waits for
+  -- the open call changes, but keeps its number, its thread, and whether it is a receive
   pub indexed_changed : (change : OpenCall → OpenCall) → KeepsCall change → x.open_call ≡ option_map change (get_or threads k d).open_call → IsIndexed (set threads k x) index
   indexed_changed change keeps is = indexed_written threads k d x index i within members
       (λ n e. sym (kept_number change keeps (get_or threads k d).open_call) ∙ sym (ap call_number is) ∙ e)
       (λ n e. sym (kept_receive change keeps (get_or threads k d).open_call) ∙ sym (ap receive_number is) ∙ e)
       (λ n e. sym (kept_opener change keeps (get_or threads k d).open_call) ∙ sym (ap opener is) ∙ e)
 
-  -- the thread isn't blocked any more
+  -- the thread is no longer blocked
   pub indexed_ended : (after : Index) → Forgets k index after → x.open_call ≡ None → IsIndexed (set threads k x) after
   indexed_ended after f none = indexed_freed threads k d x index after i f within members none
 

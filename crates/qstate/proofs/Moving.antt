@@ -1,13 +1,13 @@
--- What becomes of a message that isn't received as its thread's priority is set.
+-- The change of an unread message when the priority of its thread is set.
 use Rattle.qstate.proofs.Common.{◌≡◌, ℕ, List, [], ◌∷◌, map, refl, ap, sym, ◌∙◌, cond, Bool, true, false, eqb, is_some, not, and-false, and-true, eqb-true, none-some, same_Some, with_item_priority, with_priority, Item, is_unread_send, OpenCall, Receive, Send, eqb_either, Channel, SetsItems, pending_in, MovesUnread, unread_in, OpenSend, Option, None, Some, ◌&&◌}
 use Rattle.qstate.specs.declared.unread.Unread.{Unread}
 
--- ---- an open call and what waits on a channel
+-- ---- an open call and the queued items of a channel
 
 abbrev that : OpenSend → Unread
 that s = record { number = s.number; channel = s.channel }
 
--- one that isn't the Send of a message to be received is none of any number
+-- an open call that isn't an unread Send isn't the unread Send of any number
 none_unread : (h i : ℕ) (o : Option OpenCall) → unread_in o ≡ None → is_unread_send h i o ≡ false
 none_unread h i None none = refl
 none_unread h i (Some (Receive r)) none = elim (eqb r.number i) as (λ b. (b && false && eqb r.channel h) ≡ false) [ true ↦ refl | false ↦ refl ]
@@ -17,7 +17,7 @@ none_unread h i (Some (Send s)) none =
       | false ↦ λ e. absurd (none-some _ (sym e))
     ] none
 
--- one that is is that of its number, on its channel
+-- an unread Send is the unread Send of its own number, on its own channel
 some_unread : (h i : ℕ) (o : Option OpenCall) (u : Unread) → unread_in o ≡ Some u → is_unread_send h i o ≡ (eqb u.number i && eqb u.channel h)
 some_unread h i None u is = absurd (none-some u is)
 some_unread h i (Some (Receive r)) u is = absurd (none-some u is)
@@ -29,12 +29,12 @@ some_unread h i (Some (Send s)) u is =
 
 -- ---- lists of items
 
--- nothing moves
+-- no item gets another priority
 unmoved : (p : ℕ → Bool) (priority : ℕ) (items : List Item) → ((i : ℕ) → p i ≡ false) → map (λ item. cond (p item.number) (with_priority priority item) item) items ≡ items
 unmoved p priority [] none = refl
 unmoved p priority (x ∷ items) none = rw (none x.number) (ap (λ l. x ∷ l) (unmoved p priority items none))
 
--- the one of a number moves
+-- the item of number n gets another priority
 moved : (p : ℕ → Bool) (n priority : ℕ) (items : List Item) → ((i : ℕ) → p i ≡ eqb n i) → with_item_priority n priority items ≡ map (λ item. cond (p item.number) (with_priority priority item) item) items
 moved p n priority [] one = refl
 moved p n priority (x ∷ items) one =
@@ -51,7 +51,7 @@ moves_none o priority channels none = record {
   pending = λ h. sym (unmoved (λ i. is_unread_send h i o) priority (pending_in channels h) (λ i. none_unread h i o none));
 }
 
--- the message's channel isn't open, so nothing waits there
+-- the message's channel isn't open, so no item is queued there
 pub moves_nowhere : (o : Option OpenCall) (priority : ℕ) (channels : List (ℕ × Channel)) (u : Unread) → unread_in o ≡ Some u → pending_in channels u.channel ≡ [] → MovesUnread o priority channels channels
 moves_nowhere o priority channels u is gone = record {
   ids = refl;

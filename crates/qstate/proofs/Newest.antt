@@ -1,13 +1,13 @@
--- The newest receiver, by a look at the receivers alone.
+-- The newest receiver, found by a search of only the receivers.
 use Rattle.qstate.proofs.Common.{◌≡◌, ◌≢◌, ◌<◌, ◌≤◌, ◌+◌, ℕ, suc, zero, List, [], ◌∷◌, drop, length, get_or, refl, ap, sym, ◌∙◌, arith, cond, ◌&&◌, ◌-◌, true, false, eqb, option_map, eqb-true, eq-eqb, ltb-false, ltb-true, true≢false, at_drop_more, drop_all, none-some, same_Some, has, HasNone, IsGreatest, may_take, Item, IsRoster, OpenCall, Receive, Send, wait_on, Index, Thread, members_of, later_of_two, newest_in, newer_of, newest_of, number_and_thread, open_at, receive_at, IsIndexed, IsSeatIn, Option, None, Some, nat_lt, IfSome}
 use Rattle.qbase.specs.declared.byte_set.ByteSet.{ByteSet}
 use Rattle.qstate.specs.declared.seat.Seat.{Seat}
 use Rattle.qstate.proofs.Indexing.{receive_number}
 use Rattle.qstate.proofs.Receivers.{newest_by, newest_found}
 
--- ---- a search from the front finds what one from behind finds
+-- ---- a search from the front finds the same receiver as a search from the back
 
--- the later of two
+-- the later of two receives
 abbrev later_of : Option (ℕ × ℕ) → Option (ℕ × ℕ) → Option (ℕ × ℕ)
 later_of None found = found
 later_of (Some a) None = Some a
@@ -50,7 +50,7 @@ found_behind h item best (t ∷ threads) =
 pub newest_is_found : (h : ℕ) (item : Item) (threads : List Thread) → IsRoster (members_of threads) → option_map (λ b. b.1) (newest_of h item threads) ≡ newest_in h item threads
 newest_is_found h item threads roster = ap (option_map (λ (b : ℕ × ℕ). b.1)) (sym (found_behind h item None threads)) ∙ newest_found h item threads roster
 
--- ---- a receiver that waits for the item is a receiver
+-- ---- a thread whose receive may take the item is RECEIVE-blocked
 
 pub waits_receives : (h : ℕ) (item : Item) (o : Option OpenCall) (n : ℕ) → wait_on h item o ≡ Some n → receive_number o ≡ Some n
 waits_receives h item None n e = absurd (none-some n e)
@@ -60,7 +60,7 @@ waits_receives h item (Some (Receive r)) n e = elim (eqb r.channel h && may_take
   | false ↦ λ is. absurd (none-some n is)
 ] e
 
--- ---- threads that don't wait for it are passed over
+-- ---- threads without such a receive are skipped
 
 pub newest_skip : (h : ℕ) (item : Item) (threads : List Thread) (i : ℕ) → wait_on h item (open_at threads i) ≡ None → newest_of h item (drop i threads) ≡ newest_of h item (drop (suc i) threads)
 newest_skip h item [] zero none = refl
@@ -75,12 +75,12 @@ newest_skips h item threads i (suc gap) none =
     ∙ newest_skips h item threads (suc i) gap (λ j l m. none j (omega arith) (omega arith))
     ∙ ap (λ k. newest_of h item (drop k threads)) (omega arith)
 
--- one thread more
+-- one more thread is searched
 pub newest_more : (h : ℕ) (item : Item) (threads : List Thread) (i : ℕ) (d : Thread) → i < length threads
     → newest_of h item (drop i threads) ≡ newer_of (get_or threads i d).member.thread (wait_on h item (get_or threads i d).open_call) (newest_of h item (drop (i + 1) threads))
 newest_more h item threads i d l = at_drop_more (newest_of h item) threads i d l
 
--- a thread that waits is the newest if none behind it waits, or the newest of those isn't newer
+-- a thread with such a receive is the newest if none after it has one, or if the newest after it isn't newer
 pub newer_alone : (u n : ℕ) (rest : Option (ℕ × ℕ)) → rest ≡ None → newer_of u (Some n) rest ≡ Some (n, u)
 newer_alone u n rest e = rw e refl
 
@@ -90,7 +90,7 @@ newer_first u n rest b e least = rw e (elim (nat_lt n b.0) as (λ p. nat_lt n b.
   | false ↦ λ more. refl
 ] refl)
 
--- ---- the one that is newer than all others
+-- ---- the receive that is newer than all others
 
 found_waits : (h : ℕ) (item : Item) (threads : List Thread) (b : ℕ × ℕ) → newest_of h item threads ≡ Some b → (j : ℕ) × (wait_on h item (open_at threads j) ≡ Some b.0)
 found_waits h item [] b e = absurd (none-some b e)
@@ -129,7 +129,7 @@ newest_is h item (t ∷ threads) (suc k) n d l waits others =
           ] refl
     ] refl)
 
--- the last receiver, where the numbers rise
+-- the last receiver is the newest, if call numbers have risen
 pub newest_is_last : (h : ℕ) (item : Item) (threads : List Thread) (index : Index) (n : ℕ) (d : Thread) → IsIndexed threads index → index.last < length threads → index.rising ≡ true → wait_on h item (get_or threads index.last d).open_call ≡ Some n → n ≡ index.newest
     → newest_in h item threads ≡ Some (get_or threads index.last d).member.thread
 newest_is_last h item threads index n d i l rises waits same =
@@ -137,7 +137,7 @@ newest_is_last h item threads index n d i l rises waits same =
 
 -- ---- the search through the receivers
 
--- of the receivers those below a bound are left, and the best is the newest from the bound on
+-- the receivers below a bound are left, and best is the newest at the bound and above
 pub record Searches (h : ℕ) (item : Item) (threads : List Thread) (receivers left : ByteSet) (best : Option (ℕ × Seat)) (turn : ℕ) : Type 0 where
   pub bound : ℕ
   pub fits : bound + turn ≤ 256
@@ -162,26 +162,26 @@ search_begins h item threads receivers few = record {
   seat = tt;
 }
 
--- where none is left, the best is the newest of all
+-- when no receiver is left, best is the newest of all
 pub search_ends : (h : ℕ) (item : Item) (threads : List Thread) (receivers left : ByteSet) (best : Option (ℕ × Seat)) (turn : ℕ) → ((k n : ℕ) → receive_at threads k ≡ Some n → has receivers k ≡ true) → Searches h item threads receivers left best turn → HasNone left
     → number_and_thread best ≡ newest_of h item threads
 search_ends h item threads receivers left best turn all s none =
     let end : s.bound ≡ 0 + s.bound = omega arith in
     s.newest ∙ ap (λ k. newest_of h item (drop k threads)) end ∙ sym (newest_skips h item threads 0 s.bound (λ j l m. no_waiter h item threads receivers j all (sym (s.remains j (omega arith)) ∙ none j)))
 
--- nor is any left after as many turns as there are numbers
+-- no receiver is left after as many turns as there are byte values
 pub search_over : (h : ℕ) (item : Item) (threads : List Thread) (receivers left : ByteSet) (best : Option (ℕ × Seat)) (turn : ℕ) → Searches h item threads receivers left best turn → 256 ≤ turn → number_and_thread best ≡ newest_of h item threads
 search_over h item threads receivers left best turn s over = (let fits : s.bound + turn ≤ 256 = s.fits in let end : s.bound ≡ 0 = omega arith in s.newest ∙ ap (λ k. newest_of h item (drop k threads)) end)
 
 module _ (h : ℕ) (item : Item) (threads : List Thread) (receivers left : ByteSet) (best : Option (ℕ × Seat)) (turn g : ℕ) (all : (k n : ℕ) → receive_at threads k ≡ Some n → has receivers k ≡ true) (s : Searches h item threads receivers left best turn) (greatest : IsGreatest left g) (byte : g < 256) where
-  -- the greatest that is left is below the bound
+  -- the greatest receiver that is left is below the bound
   greatest_below : g < s.bound
   greatest_below = elim (nat_lt g s.bound) as (λ b. nat_lt g s.bound ≡ b → g < s.bound) [
     | true ↦ λ e. ltb-true g s.bound e
     | false ↦ λ e. absurd (true≢false (sym greatest.0 ∙ s.passed g (ltb-false g s.bound e) byte))
   ] refl
 
-  -- and no thread waits between it and the bound
+  -- no thread between it and the bound has such a receive
   pub newest_behind : number_and_thread best ≡ newest_of h item (drop (g + 1) threads)
   newest_behind =
       let below : g < s.bound = greatest_below in
@@ -207,11 +207,11 @@ module _ (h : ℕ) (item : Item) (threads : List Thread) (receivers left : ByteS
         seat = seat;
       }
 
--- a seat of what was found
+-- the thread that the search found
 thread_found : (found : Option (ℕ × Seat)) → option_map (λ b. b.1.thread) found ≡ option_map (λ b. b.1) (number_and_thread found)
 thread_found None = refl
 thread_found (Some b) = refl
 
--- what the search found is the newest receiver
+-- the search finds the newest receiver
 pub seat_found : (h : ℕ) (item : Item) (threads : List Thread) (found : Option (ℕ × Seat)) → IsRoster (members_of threads) → number_and_thread found ≡ newest_of h item threads → option_map (λ b. b.1.thread) found ≡ newest_in h item threads
 seat_found h item threads found roster is = thread_found found ∙ ap (option_map (λ (b : ℕ × ℕ). b.1)) is ∙ newest_is_found h item threads roster

@@ -1,13 +1,13 @@
--- Where a thread stands among the threads, and what a write there changes.
+-- The index of a thread in the list of threads, and the changes by a write at this index.
 use Rattle.qstate.proofs.Common.{◌≡◌, ℕ, suc, zero, ◌+◌, ◌<◌, List, [], ◌∷◌, length, set, get_or, refl, ap, sym, subst, ◌∙◌, cond, arith, true, false, eqb, position_from, eqb-true, eqb-false, eq-eqb, ne_eqb, true≢false, position_from-zero, same_Some, none-some, member_at, Thread, open_in, seat_in, ChangesOpen, SetsOpen, SetsPriority, Wakes, members_of, thread_priority, open_at, IsRecordOf, OpenCall, option_map, None, Some, is_some, Option, unwrap_or}
 
--- the thread stands at k, and nowhere before
+-- thread u is at index k, and at no index before
 abbrev pub IsFirstAt : List Thread → ℕ → ℕ → Type 0
 IsFirstAt [] u k = ⊥
 IsFirstAt (t ∷ threads) u zero = t.member.thread ≡ u
 IsFirstAt (t ∷ threads) u (suc k) = ((eqb t.member.thread u) ≡ false) × IsFirstAt threads u k
 
--- what position_from finds
+-- the index that position_from finds
 found_from : (u : ℕ) (threads : List Thread) (i k : ℕ) → position_from (λ t. eqb t.member.thread u) i threads ≡ Some k → (j : ℕ) × (k ≡ i + j) × IsFirstAt threads u j
 found_from u [] i k e = absurd (none-some k e)
 found_from u (t ∷ threads) i k e =
@@ -47,7 +47,7 @@ first_level u [] k d h = absurd h
 first_level u (t ∷ threads) zero d h = rw (eq-eqb t.member.thread u h) refl
 first_level u (t ∷ threads) (suc k) d h = rw h.0 (first_level u threads k d h.1)
 
--- a write at the seat that changes the open call alone
+-- a write at the index that changes only the open call
 pub set_members : (u : ℕ) (threads : List Thread) (k : ℕ) (d x : Thread) → IsFirstAt threads u k → x.member ≡ (get_or threads k d).member → members_of (set threads k x) ≡ members_of threads
 set_members u [] k d x h m = absurd h
 set_members u (t ∷ threads) zero d x h m = ap (λ y. y ∷ members_of threads) m
@@ -85,7 +85,7 @@ sets_open u threads k d x h m p = record {
   priority = λ v. set_priority u threads k d x v h m p;
 }
 
--- a write at the seat that changes the priority
+-- a write at the index that changes the priority
 set_any_level : (u : ℕ) (threads : List Thread) (k : ℕ) (d x : Thread) (v : ℕ) → IsFirstAt threads u k → x.member ≡ (get_or threads k d).member → thread_priority (set threads k x) v ≡ cond (eqb v u) x.priority (thread_priority threads v)
 set_any_level u [] k d x v h m = absurd h
 set_any_level u (t ∷ threads) zero d x v h m =
@@ -100,7 +100,7 @@ set_any_level u (t ∷ threads) (suc k) d x v h m =
       | false ↦ λ e. set_any_level u threads k d x v h.1 m
     ] refl
 
--- where the priority is one that may be given, or the thread's own
+-- the new priority is the given priority, or the thread's old priority if none is given
 level_given : (u : ℕ) (threads : List Thread) (k : ℕ) (d : Thread) (p : Option ℕ) (v : ℕ) → IsFirstAt threads u k
     → cond (eqb v u) (unwrap_or p (get_or threads k d).priority) (thread_priority threads v) ≡ unwrap_or (cond (eqb u v) p None) (thread_priority threads v)
 level_given u threads k d p v h = elim (eqb u v) as (λ b. eqb u v ≡ b → cond (eqb v u) (unwrap_or p (get_or threads k d).priority) (thread_priority threads v) ≡ unwrap_or (cond b p None) (thread_priority threads v)) [
@@ -119,7 +119,7 @@ sets_level u threads k d x p h m o q = record {
   priority = λ v. set_any_level u threads k d x v h m ∙ ap (λ w. cond (eqb v u) w (thread_priority threads v)) q ∙ level_given u threads k d p v h;
 }
 
--- with another priority and then with no open call
+-- the priority is set, and then the open call is taken
 pub wakes : (u : ℕ) (p : Option ℕ) (old mid new : List Thread) → SetsPriority u p old mid → SetsOpen u None mid new → Wakes u p old new
 wakes u p old mid new takes ends = record {
   members = ends.members ∙ takes.members;
@@ -127,9 +127,9 @@ wakes u p old mid new takes ends = record {
   priority = λ v. ends.priority v ∙ takes.priority v;
 }
 
--- ---- a thread that stands nowhere
+-- ---- changes of the open call, and look-ups of the record
 
--- what the thread at a seat is blocked in is changed
+-- the open call of the thread at an index is changed
 pub changes_open : (u : ℕ) (change : OpenCall → OpenCall) (threads : List Thread) (k : ℕ) (d x : Thread) → IsFirstAt threads u k → x.member ≡ (get_or threads k d).member → x.priority ≡ (get_or threads k d).priority
     → x.open_call ≡ option_map change (get_or threads k d).open_call → ChangesOpen u change threads (set threads k x)
 changes_open u change threads k d x first m p o =
@@ -143,13 +143,13 @@ changes_open u change threads k d x first m p o =
       priority = s.priority;
     }
 
--- the record of the thread at a seat
+-- the record of the thread at an index
 pub record_there : (u : ℕ) (threads : List Thread) (k : ℕ) (d : Thread) → seat_in threads u ≡ Some k → IsRecordOf u threads (get_or threads k d)
 record_there u threads k d e =
     let first = first_at u threads k e in
     record { member = first_member u threads k d first; open_call = first_open u threads k d first; priority = first_level u threads k d first }
 
--- ---- seats go by the members
+-- ---- indices depend only on the members
 
 seat_from : (u : ℕ) (threads : List Thread) (i : ℕ) → position_from (λ t. eqb t.member.thread u) i threads ≡ position_from (λ m. eqb m.thread u) i (members_of threads)
 seat_from u [] i = refl
@@ -161,7 +161,7 @@ seat_by u threads = position_from-zero (λ t. eqb t.member.thread u) threads ∙
 pub seat_kept : (u : ℕ) (old new : List Thread) → members_of new ≡ members_of old → seat_in new u ≡ seat_in old u
 seat_kept u old new e = seat_by u new ∙ ap (position_from (λ m. eqb m.thread u) 0) e ∙ sym (seat_by u old)
 
--- ---- whether a thread is there
+-- ---- whether a thread is in the list
 
 found_some : (u : ℕ) (threads : List Thread) (i : ℕ) → is_some (position_from (λ t. eqb t.member.thread u) i threads) ≡ is_some (member_at (members_of threads) u)
 found_some u [] i = refl
@@ -174,7 +174,7 @@ found_some u (t ∷ threads) i =
 pub is_there : (u : ℕ) (threads : List Thread) → is_some (seat_in threads u) ≡ is_some (member_at (members_of threads) u)
 is_there u threads = ap is_some (position_from-zero (λ t. eqb t.member.thread u) threads) ∙ found_some u threads 0
 
--- the open call of the thread at a place
+-- the open call of the thread at an index
 pub call_here : (threads : List Thread) (k : ℕ) (d : Thread) → k < length threads → open_at threads k ≡ (get_or threads k d).open_call
 call_here [] k d l = absurd (omega arith)
 call_here (t ∷ threads) zero d l = refl
@@ -189,6 +189,6 @@ unknown_open u (t ∷ threads) e =
       | false ↦ λ rest. unknown_open u threads rest
     ] e
 
--- a seat is of a thread of the roster
+-- a thread that has an index is in the roster
 pub seat_known : (u : ℕ) (threads : List Thread) (k : ℕ) → seat_in threads u ≡ Some k → is_some (member_at (members_of threads) u) ≡ true
 seat_known u threads k e = sym (is_there u threads) ∙ ap is_some e

@@ -1,4 +1,4 @@
--- The thread whose open call is a Send, by its place and by its number.
+-- The thread whose open call is a Send of this number, by its index and by its thread number.
 use Rattle.qstate.proofs.Common.{◌≡◌, ℕ, suc, zero, ◌+◌, ◌<◌, List, [], ◌∷◌, length, get_or, refl, ap, sym, subst, ◌∙◌, cond, arith, true, false, eqb, option_and_then, position_from, AllByRecursion, eqb-true, eq-eqb, ne_eqb, true≢false, and_parts, position_from-zero, same_Some, none-some, IsRoster, Channel, OpenCall, Receive, Send, OpenSend, Thread, threads_of, is_send, sender_among, message_in, is_sending, open_in, seat_in, sender_in, sent_call, message_from, ChangesOpen, ChangesSender, members_of, channel_in, number_at, is_of, Option, None, Some, Result, Bool, is_some, find, position, ◌&&◌}
 use Rattle.std.specs.Option.{ok_or, option_map, IfNone, IfSome, option_map_or}
 use Rattle.std.specs.Result.{IfErr, IfOk}
@@ -8,7 +8,7 @@ use Rattle.qmodel.specs.OpenCalls.{send_in, number_of}
 use Rattle.qstate.specs.Held.{is_held_in, is_held_of}
 use Rattle.qstate.proofs.Seats.{call_here, first_at, first_number, IsFirstAt, first_open}
 
--- ---- each thread waits for what its own record says
+-- ---- each thread is blocked in the call of its own record
 
 later_own : (s : Thread) (threads rest : List Thread) → AllByRecursion (λ m. s.member.thread < m.thread) (members_of rest) → AllByRecursion (λ x. open_in threads x.member.thread ≡ x.open_call) rest
     → AllByRecursion (λ x. open_in (s ∷ threads) x.member.thread ≡ x.open_call) rest
@@ -21,7 +21,7 @@ pub own_open : (threads : List Thread) → IsRoster (members_of threads) → All
 own_open [] r = tt
 own_open (s ∷ threads) r = (rw (eq-eqb s.member.thread s.member.thread refl) refl, later_own s threads threads r.0 (own_open threads r.1))
 
--- the sender by records
+-- the sender of message i, found in the records
 abbrev pub sender_by : ℕ → List Thread → Option ℕ
 sender_by i [] = None
 sender_by i (t ∷ threads) = cond (is_send i t.open_call) (Some t.member.thread) (sender_by i threads)
@@ -34,9 +34,9 @@ sender_same open_call i (t ∷ threads) h = rw (h.0, sender_same open_call i thr
 pub sender_in-by : (i : ℕ) (threads : List Thread) → IsRoster (members_of threads) → sender_in threads i ≡ sender_by i threads
 sender_in-by i threads r = sender_same (open_in threads) i threads (own_open threads r)
 
--- ---- by places
+-- ---- by index
 
--- the Send of number i is the open call at k, and none before
+-- the Send of number i is the open call at index k, and at no index before
 abbrev pub IsSenderAt : List Thread → ℕ → ℕ → Type 0
 IsSenderAt [] i k = ⊥
 IsSenderAt (t ∷ threads) i zero = is_send i t.open_call ≡ true
@@ -82,7 +82,7 @@ above_all n [] k d h l = absurd (omega arith)
 above_all n (t ∷ threads) zero d h l = h.0
 above_all n (t ∷ threads) (suc k) d h l = above_all n threads k d h.1 (omega arith)
 
--- in a roster each thread stands where it first stands
+-- in a roster the thread of the record at k is first found at k
 pub roster_first : (threads : List Thread) (k : ℕ) (d : Thread) → IsRoster (members_of threads) → k < length threads → IsFirstAt threads (get_or threads k d).member.thread k
 roster_first [] k d r l = absurd (omega arith)
 roster_first (t ∷ threads) zero d r l = refl
@@ -107,13 +107,13 @@ module _ (i : ℕ) (threads : List Thread) (k : ℕ) (d : Thread) (r : IsRoster 
   pub message_there : message_from threads i ≡ message_in (get_or threads k d).open_call
   message_there = ap message_in call_there
 
--- ---- a sender that was looked up at a guess
+-- ---- a sender that was found by a guess
 
 send_number : (i : ℕ) (o : Option OpenCall) → is_send i o ≡ true → option_map number_of o ≡ Some i
 send_number i None e = absurd (true≢false (sym e))
 send_number i (Some o) e = ap Some (eqb-true (number_of o) i (and_parts _ _ e).0)
 
--- no other thread before it sends the same, where open calls have numbers of their own
+-- no other thread before it sends the same message, if no two open calls have the same number
 pub sender_alone : (i : ℕ) (threads : List Thread) (k : ℕ) (d : Thread) → k < length threads → is_send i (get_or threads k d).open_call ≡ true → ((j m n : ℕ) → number_at threads j ≡ Some n → number_at threads m ≡ Some n → j ≡ m)
     → sender_by i threads ≡ Some (get_or threads k d).member.thread
 sender_alone i [] k d l sends apart = absurd (omega arith)
@@ -124,12 +124,12 @@ sender_alone i (t ∷ threads) (suc k) d l sends apart =
       | false ↦ λ other. sender_alone i threads k d (omega arith) sends (λ j m n a b. let same : suc j ≡ suc m = apart (suc j) (suc m) n a b in omega arith)
     ] refl
 
--- the sender is the thread whose seat that is
+-- the sender is the thread that has this index
 pub sender_seated : (i : ℕ) (threads : List Thread) (k u : ℕ) → IsRoster (members_of threads) → position (λ t. is_send i t.open_call) threads ≡ Some k → seat_in threads u ≡ Some k → sender_in threads i ≡ Some u
 sender_seated i [] k u r at seat = absurd (sender_at i [] k at)
 sender_seated i (t ∷ threads) k u r at seat = sender_there i (t ∷ threads) k t r at ∙ ap Some (first_number u (t ∷ threads) k t (first_at u (t ∷ threads) k seat))
 
--- ---- by the thread that sent it
+-- ---- by the thread that sends it
 
 pub changes_none : (i : ℕ) (change : OpenCall → OpenCall) (threads : List Thread) → sender_in threads i ≡ None → ChangesSender i change threads threads
 changes_none i change threads none = record { members = refl; open_call = λ v. rw none refl; priority = λ v. refl }
@@ -152,7 +152,7 @@ held_sent channels p i u threads sent = rw sent refl
 pub call_sent : (i u : ℕ) (threads : List Thread) → sender_in threads i ≡ Some u → sent_call threads i ≡ open_in threads u
 call_sent i u threads sent = rw sent refl
 
--- the sender is blocked in a Send
+-- the sender of message i is blocked in the Send of number i
 pub sends_it : (threads : List Thread) (i u : ℕ) → sender_in threads i ≡ Some u → is_send i (open_in threads u) ≡ true
 sends_it threads i u e = found (threads_of (members_of threads)) e where
   found : (ts : List ℕ) → sender_among (open_in threads) i ts ≡ Some u → is_send i (open_in threads u) ≡ true
@@ -170,22 +170,22 @@ send_there i (Some (Receive r)) e = absurd (true≢false (sym (and_parts (eqb r.
 pub send_of_sender : (threads : List Thread) (i u : ℕ) → sender_in threads i ≡ Some u → is_some (option_and_then send_in (open_in threads u)) ≡ true
 send_of_sender threads i u sent = send_there i (open_in threads u) (sends_it threads i u sent)
 
--- what is there isn't missing
+-- a value that is Some isn't None
 pub there_not_none : {A : Type 0} (o : Option A) (P : Type 0) → is_some o ≡ true → IfNone o P
 there_not_none None P some = absurd (true≢false (sym some))
 there_not_none (Some x) P some = tt
 
--- a Send that is there is an Ok, and what holds of the thread's own Send holds of it
+-- if there is a Send, the result is Ok, and a property of the thread's own Send is a property of the result
 pub send_taken : {E : Type 0} (u : ℕ) (o : Option OpenCall) (s : Option OpenSend) (e : E) (r : Result OpenSend E) (P : OpenSend → Type 0) → r ≡ ok_or s e → s ≡ option_and_then send_in o → IfSome s (λ x. x.thread ≡ u) → ((x : OpenSend) → x.thread ≡ u → option_and_then send_in o ≡ Some x → P x) → IfOk r P
 send_taken u o None e r P is had own each = rw is tt
 send_taken u o (Some s) e r P is had own each = rw is (each s own (sym had))
 
--- and no error
+-- and the result isn't an error
 pub never_err : {A E : Type 0} (o : Option A) (e : E) (r : Result A E) (P : E → Type 0) → r ≡ ok_or o e → is_some o ≡ true → IfErr r P
 never_err None e r P is some = absurd (true≢false (sym some))
 never_err (Some x) e r P is some = rw is tt
 
--- how it ends that is answered
+-- the completion of a Send that gets a reply
 pub answered_by : (finish : Finish) (u : ℕ) (o : Option OpenCall) (s : OpenSend) → option_and_then send_in o ≡ Some s → answer_completion finish u o ≡ Some (record { call = s.number; thread = u; mark = (finish s.reply_buffer).0; buffer = (finish s.reply_buffer).1 })
 answered_by finish u None s e = absurd (none-some s e)
 answered_by finish u (Some (Receive r)) s e = absurd (none-some s e)

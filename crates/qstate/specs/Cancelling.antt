@@ -25,14 +25,14 @@ is_cancelled_by All u o = true
 is_cancelled_by (Of thread) u o = u == thread
 is_cancelled_by (Over coid) u o = is_over coid o
 
--- the completion of the call of thread u: own for the caller; for another thread, that of its open call if it
--- is cancelled
+-- the completion that thread u gets: own if it is the caller, and otherwise the completion of its open call,
+-- if the call is cancelled
 abbrev pub completion_for : CancelSet → Errno → Completion → ℕ → Option OpenCall
     → Option Completion
 completion_for cancel e own u o =
     if u == own.thread then Some own else cancel_where (is_cancelled_by cancel u) e u o
 
--- each thread whose call is cancelled has no open call any more, and nothing else changes
+-- each thread whose call is cancelled has no open call afterwards, and nothing else changes
 pub record AreCancelled (cancel : CancelSet) (e : Errno)
     (old new : List Thread) : Type
     0 where
@@ -42,15 +42,15 @@ pub record AreCancelled (cancel : CancelSet) (e : Errno)
       else open_in old v)
   pub priority : (v : ℕ) → thread_priority new v ≡ thread_priority old v
 
--- true if the Send of number i of one of these threads is cancelled while it is blocked on channel h and not
--- received
+-- true if one of these threads is blocked in the Send of number i on channel h, its message isn't received,
+-- and the Send is cancelled
 abbrev pub is_cancelled_among : CancelSet → Errno → List Thread → ℕ → ℕ → Bool
 is_cancelled_among cancel e threads h i =
     list_any (λ s. is_unread_send h i (open_in threads s)
     && is_some (cancel_where (is_cancelled_by cancel s) e s (open_in threads s)))
     (threads_of (members_of threads))
 
--- each message whose Send is cancelled leaves its channel, and nothing else changes
+-- each queued message whose Send is cancelled leaves its channel's queue, and nothing else changes
 pub record LoseCancelled (cancel : CancelSet) (e : Errno)
     (threads : List Thread)
     (old new : List (ℕ × Channel)) : Type 0 where
@@ -61,12 +61,12 @@ pub record LoseCancelled (cancel : CancelSet) (e : Errno)
 
 -- ---- one thread
 
--- the channel on which a Send's message waits, if the message isn't received
+-- the channel on which the message of a Send is queued, if the message isn't received
 abbrev pub unread_on_by : OpenCall → Option ℕ
 unread_on_by (Send s) = if is_some s.receipt then None else Some s.channel
 unread_on_by (Receive r) = None
 
--- the endings, followed by one more if there is one
+-- the completions, followed by one more if there is one
 abbrev pub with_completion : List Completion → Option Completion → List Completion
 with_completion endings None = endings
 with_completion endings (Some completion) = endings ++ completion ∷ []
@@ -76,11 +76,11 @@ abbrev pub is_cancelled_open : (OpenCall → Bool) → Option OpenCall → Bool
 is_cancelled_open is_cancelled None = false
 is_cancelled_open is_cancelled (Some o) = is_cancelled o
 
--- the open call if it is cancelled; else None
+-- the open call if it is cancelled, and otherwise None
 abbrev pub call_if_cancelled : (OpenCall → Bool) → Option OpenCall → Option OpenCall
 call_if_cancelled is_cancelled o = if is_cancelled_open is_cancelled o then o else None
 
--- the thread, without its open call if that is cancelled
+-- the thread, without its open call if the call is cancelled
 abbrev pub thread_unless_cancelled : (OpenCall → Bool) → Thread → Thread
 thread_unless_cancelled is_cancelled t =
     record {
@@ -91,7 +91,7 @@ thread_unless_cancelled is_cancelled t =
       key = t.key;
     }
 
--- the thread, without its open call if cancel applies to it
+-- the thread, without its open call if the set cancel contains the call
 abbrev pub thread_after_cancelled : CancelSet → Thread → Thread
 thread_after_cancelled cancel t =
     thread_unless_cancelled (is_cancelled_by cancel t.member.thread) t
@@ -101,7 +101,8 @@ abbrev pub is_taken_from : (OpenCall → Bool) → Option OpenCall → ℕ → �
 is_taken_from is_cancelled o h i =
     is_unread_send h i o && is_cancelled_open is_cancelled o
 
--- each item for which goes is true leaves its channel, and nothing else changes
+-- each item for which goes is true leaves its channel's queue, and nothing else changes; goes gets the
+-- channel's id and the item's number
 pub record Lose (goes : ℕ → ℕ → Bool) (old new : List (ℕ × Channel)) : Type 0 where
   pub ids : ids_of new ≡ ids_of old
   pub channel : (k : ℕ) → channel_in new k ≡ channel_in old k

@@ -1,4 +1,4 @@
--- The messages that are held, by the kernel's content.
+-- The held messages, looked up in the kernel's records.
 use Rattle.std.specs.Prelude.{ℕ, ◌&&◌, is_some, Bool, false, List, Option, None, Some, if◌then◌else◌}
 use Rattle.std.specs.Option.{option_and_then, option_map_or}
 use Rattle.qmodel.specs.declared.open_call.OpenCall.{OpenCall}

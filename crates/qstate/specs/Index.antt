@@ -11,8 +11,8 @@ abbrev pub is_receive : OpenCall → Bool
 is_receive (Send s) = false
 is_receive (Receive r) = true
 
--- a call blocks the thread at a place: rising stays true only if the call has a greater number than all
--- before, and a receive makes the thread a receiver and the last one
+-- a call blocks the thread at a place: rising stays true only if the call has a greater number than latest. A
+-- receive adds the thread to the receivers, and makes it the last receiver.
 pub record Notes (place : ℕ) (call : OpenCall) (old new : Index) : Type 0 where
   pub rising : new.rising ≡ (old.rising && nat_lt old.latest (number_of call))
   pub latest : new.latest ≡ number_of call
@@ -21,7 +21,7 @@ pub record Notes (place : ℕ) (call : OpenCall) (old new : Index) : Type 0 wher
   pub receivers : (k : ℕ) → has new.receivers k
       ≡ (if is_receive call && (k == place) then true else has old.receivers k)
 
--- the thread at a place isn't blocked any more, so it may leave the receivers; nothing else changes
+-- the thread at a place is no longer blocked, so it may leave the receivers; nothing else changes
 pub record Forgets (place : ℕ) (old new : Index) : Type 0 where
   pub rising : new.rising ≡ old.rising
   pub latest : new.latest ≡ old.latest

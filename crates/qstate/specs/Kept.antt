@@ -1,5 +1,5 @@
--- What contracts see of a kernel's records: the roster, the priorities of the threads, the open channels and
--- the items that wait on them.
+-- The parts of a kernel's records that contracts see: the roster, the priorities of the threads, the open
+-- channels and their queued items.
 use Rattle.std.specs.Prelude.{◌==◌, ℕ, List, [], ◌∷◌, map, Option, None, Some, if◌then◌else◌}
 use Rattle.std.specs.Option.{option_map}
 use Rattle.qqueue.specs.declared.item.Item.{Item}
@@ -26,11 +26,11 @@ open_channel_of c = record { owner = c.owner; flags = c.flags }
 abbrev pub channel_in : List (ℕ × Channel) → ℕ → Option OpenChannel
 channel_in channels h = option_map open_channel_of (entry_at channels h)
 
--- the items that wait on a channel
+-- the queued items of a channel
 abbrev pub items_waiting_on : Option Channel → List Item
 items_waiting_on None = []
 items_waiting_on (Some c) = c.queue.items
 
--- the items that wait on the channel of this id; none if it isn't open
+-- the queued items of the channel of this id; the list is empty if the channel isn't open
 abbrev pub pending_in : List (ℕ × Channel) → ℕ → List Item
 pending_in channels h = items_waiting_on (entry_at channels h)

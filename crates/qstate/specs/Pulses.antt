@@ -14,16 +14,16 @@ use Rattle.qstate.specs.Channel.{SetsItems}
 use Rattle.qstate.specs.Kept.{channel_in, pending_in}
 use Rattle.qstate.specs.Thread.{newest_in, open_in, Wakes}
 
--- true if fewer than 1,024 pulses wait on channel h
+-- true if fewer than 1,024 pulses are queued on channel h
 abbrev pub has_room : List (ℕ × Channel) → ℕ → Bool
 has_room channels h = nat_lt (pulses_among (pending_in channels h)) 1024
 
--- the priority that a receiver on channel h takes with an item of this priority; None if the channel has the
--- fixed-priority flag
+-- the priority that a receiver on channel h gets with an item of this priority; it is None if the channel has
+-- the fixed-priority flag
 abbrev pub level_on : List (ℕ × Channel) → ℕ → ℕ → Option ℕ
 level_on channels h priority = if is_fixed (channel_in channels h) then None else Some priority
 
--- no receiver may take the pulse, and it waits behind all others
+-- no receiver may take the pulse, and it is queued after all other items
 pub record IsLeft (h : ℕ) (item : Item) (threads : List Thread) (channels : List (ℕ × Channel))
     (after : List Thread) (now : List (ℕ × Channel)) : Type 0 where
   pub room : has_room channels h ≡ true
@@ -31,7 +31,7 @@ pub record IsLeft (h : ℕ) (item : Item) (threads : List Thread) (channels : Li
   pub threads_are : after ≡ threads
   pub sets : SetsItems h (pending_in channels h ++ item ∷ []) channels now
 
--- of the receivers that may take the pulse, the one that began last takes it, and y completes its call
+-- the newest receiver that may take the pulse takes it, and y completes its call
 pub record IsMet (h : ℕ) (item : Item) (threads : List Thread) (channels : List (ℕ × Channel))
     (after : List Thread) (now : List (ℕ × Channel)) (y : Completion) : Type 0 where
   pub room : has_room channels h ≡ true
@@ -41,26 +41,27 @@ pub record IsMet (h : ℕ) (item : Item) (threads : List Thread) (channels : Lis
   pub wakes : Wakes receiver (level_on channels h item.priority) threads after
   pub channels_are : now ≡ channels
 
--- the pulse is sent: into the queue if no call ends, or to the receiver whose call ends
+-- the pulse is sent: it is queued if no call completes, and otherwise the receiver whose call completes takes
+-- it
 abbrev pub IsSent : ℕ → Item → List Thread → List (ℕ × Channel) → List Thread → List (ℕ × Channel)
     → Option Completion → Type 0
 IsSent h item threads channels after now None = IsLeft h item threads channels after now
 IsSent h item threads channels after now (Some y) = IsMet h item threads channels after now y
 
--- a pulse is sent, if one is due; else nothing changes
+-- a pulse is sent, if one is due, and otherwise nothing changes
 abbrev pub IsSentIfDue : ℕ → Option Item → List Thread → List (ℕ × Channel) → List Thread → List (ℕ × Channel)
     → Option Completion → Type 0
 IsSentIfDue h None threads channels after now met = (after ≡ threads) × (now ≡ channels) × (met ≡ None)
 IsSentIfDue h (Some item) threads channels after now met = IsSent h item threads channels after now met
 
--- the channel is full: nothing changes
+-- the channel's queue is full, and nothing changes
 pub record IsFull (h : ℕ) (channels now : List (ℕ × Channel)) (e : Errno) : Type 0 where
   pub room : has_room channels h ≡ false
   pub channels_are : now ≡ channels
   pub error : e ≡ Again
 
--- no receiver may take the pulse, and there is no memory to queue it: nothing changes but the room of the
--- channel's queue
+-- no receiver may take the pulse, and there is no memory to queue it: at most the room of the channel's queue
+-- changes
 pub record IsUnstored (h : ℕ) (item : Item) (threads : List Thread) (channels now : List (ℕ × Channel))
     (e : Errno) : Type 0 where
   pub room : has_room channels h ≡ true
@@ -68,13 +69,13 @@ pub record IsUnstored (h : ℕ) (item : Item) (threads : List Thread) (channels 
   pub sets : SetsItems h (pending_in channels h) channels now
   pub error : e ≡ NoMemory
 
--- the error with which a pulse isn't sent; no thread changes
+-- e is the error of a pulse that isn't sent, and no thread changes
 abbrev pub IsTurnedAway : ℕ → Item → List Thread → List (ℕ × Channel) → List Thread → List (ℕ × Channel)
     → Errno → Type 0
 IsTurnedAway h item threads channels after now e =
     (after ≡ threads) × (IsFull h channels now e ⊎ IsUnstored h item threads channels now e)
 
--- a pulse is due, and isn't sent because of an error
+-- a pulse is due, and isn't sent because of the error e
 pub record IsUnsent (h : ℕ) (due : Option Item) (threads : List Thread) (channels : List (ℕ × Channel))
     (after : List Thread) (now : List (ℕ × Channel)) (e : Errno) : Type 0 where
   pub item : Item

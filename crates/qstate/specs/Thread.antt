@@ -1,4 +1,4 @@
--- The threads of a kernel, one after another.
+-- The list of a kernel's threads.
 use Rattle.std.specs.Prelude.{◌≡◌, ℕ, ◌+◌, ◌==◌, nat_lt, Bool, true, false, List, [], ◌∷◌, position}
 use Rattle.std.specs.Prelude.{is_some, unwrap_or, Option, None, Some, if◌then◌else◌}
 use Rattle.std.specs.Option.{option_map, option_and_then}
@@ -14,12 +14,12 @@ use Rattle.qrules.specs.Facts.{threads_of}
 use Rattle.qrules.specs.Records.{newest_receiver_among}
 use Rattle.qrules.specs.Records.{held_call, is_thread}
 
--- the open call of thread u; None if it isn't blocked
+-- the open call of thread u; it is None if the thread isn't blocked
 abbrev pub open_in : List Thread → ℕ → Option OpenCall
 open_in [] u = None
 open_in (t ∷ threads) u = if t.member.thread == u then t.open_call else open_in threads u
 
--- the open call is a Send
+-- true if the open call is a Send
 abbrev pub is_sending : Option OpenCall → Bool
 is_sending call = is_some (option_and_then send_in call)
 
@@ -36,16 +36,16 @@ seat_in threads u = position (λ t. t.member.thread == u) threads
 abbrev pub ready_thread : Member → Thread
 ready_thread m = record { member = m; priority = m.priority; open_call = None; key = 0 }
 
--- of the receivers on channel h that may take the item, the thread of the one that began last
+-- the thread of the newest receiver on channel h that may take the item
 abbrev pub newest_in : ℕ → Item → List Thread → Option ℕ
 newest_in h item threads = newest_receiver_among (open_in threads) h item (threads_of (members_of threads))
 
--- true if call m is later than the best so far, which is a pair of a call's number and its thread
+-- true if call m has a greater number than the best so far, a pair of a call's number and its thread
 abbrev pub is_later : ℕ → Option (ℕ × ℕ) → Bool
 is_later m None = true
 is_later m (Some best) = nat_lt best.0 m
 
--- the later of the best so far and call m of thread u; the best so far if there is no call m
+-- the later of the best so far and call m of thread u; the best so far stays if there is no call m
 abbrev pub later_of_two : Option (ℕ × ℕ) → ℕ → Option ℕ → Option (ℕ × ℕ)
 later_of_two best u None = best
 later_of_two best u (Some m) = if is_later m best then Some (m, u) else best
@@ -96,7 +96,7 @@ pub record ChangesSender (i : ℕ) (change : OpenCall → OpenCall) (old new : L
       ≡ (if is_thread (sender_in old i) v then option_map change (open_in old v) else open_in old v)
   pub priority : (v : ℕ) → thread_priority new v ≡ thread_priority old v
 
--- if the item is a message, its sender records the receipt; a pulse changes nothing
+-- if the item is a message, its Send gets the receipt; a pulse changes nothing
 abbrev pub HandsOver : Bool → ℕ → Receipt → List Thread → List Thread → Type 0
 HandsOver true i kept old new = new ≡ old
 HandsOver false i kept old new = ChangesSender i (held_call kept) old new

@@ -1,4 +1,4 @@
--- The seats of threads, and the index that is kept beside their records.
+-- Thread indices, and the index of guesses that the kernel keeps with the threads' records.
 use Rattle.std.specs.Prelude.{◌≡◌, ◌≢◌, ◌≤◌, ◌<◌, ℕ, zero, suc, true, List, [], ◌∷◌, length, nat_lt}
 use Rattle.std.specs.Prelude.{Option, None, Some, if◌then◌else◌, option_and_then, slice_get}
 use Rattle.std.specs.Option.{option_map}
@@ -15,7 +15,7 @@ use Rattle.qmodel.specs.OpenCalls.{receive_in, thread_of, number_of}
 use Rattle.qstate.specs.Thread.{open_in, seat_in}
 use Rattle.qrules.specs.Facts.{threads_of}
 
--- the seat has the index of its thread
+-- the Seat has the index of its thread in this list
 abbrev pub IsSeatIn : List Thread → Seat → Type 0
 IsSeatIn threads seat = seat_in threads seat.thread ≡ Some seat.index
 
@@ -35,17 +35,18 @@ open_at (t ∷ threads) (suc k) = open_at threads k
 abbrev pub number_at : List Thread → ℕ → Option ℕ
 number_at threads k = option_map number_of (open_at threads k)
 
--- the number of the open call of the thread at an index, if that is a receive
+-- the number of the open call of the thread at an index, if the call is a receive
 abbrev pub receive_at : List Thread → ℕ → Option ℕ
 receive_at threads k = option_map (λ r. r.number) (option_and_then receive_in (open_at threads k))
 
--- the thread that the open call of the thread at an index names
+-- the thread that is named in the open call of the thread at an index
 abbrev pub opener_at : List Thread → ℕ → Option ℕ
 opener_at threads k = option_map thread_of (open_at threads k)
 
--- there are at most 64 threads, each open call is its thread's own, and each thread that is blocked in a
--- receive is among the receivers; while rising is true, no two open calls have the same number, none is above
--- latest, and each receive but that of the last receiver is below newest
+-- there are at most 64 threads, and they are a roster. Each open call is its thread's own. Each thread that
+-- is blocked in a receive is among the receivers.
+-- While rising is true, no two open calls have the same number, no number is above latest, and each receive
+-- except the last receiver's is below newest.
 pub record IsIndexed (threads : List Thread) (index : Index) : Type 0 where
   pub few : length threads ≤ 64
   pub roster : IsRoster (members_of threads)
@@ -57,7 +58,8 @@ pub record IsIndexed (threads : List Thread) (index : Index) : Type 0 where
   pub others : index.rising ≡ true → (k n : ℕ) → receive_at threads k ≡ Some n → k ≢ index.last
       → n < index.newest
 
--- the newer of a receive of thread u, if there is one, and best; each is a pair of a number and a thread
+-- the newer of best and the receive of thread u, if it has one; each is a pair of a call's number and its
+-- thread
 abbrev pub newer_of : ℕ → Option ℕ → Option (ℕ × ℕ) → Option (ℕ × ℕ)
 newer_of u None best = best
 newer_of u (Some m) None = Some (m, u)
@@ -69,6 +71,6 @@ newest_of h item [] = None
 newest_of h item (t ∷ threads) =
     newer_of t.member.thread (wait_on h item t.open_call) (newest_of h item threads)
 
--- a pair of a number and a seat, as a pair of the number and the seat's thread
+-- a pair of a number and a Seat, as a pair of the number and the Seat's thread
 abbrev pub number_and_thread : Option (ℕ × Seat) → Option (ℕ × ℕ)
 number_and_thread found = option_map (λ b. (b.0, b.1.thread)) found

@@ -1,4 +1,4 @@
--- The messages that are not received, by the kernel's content.
+-- The queued messages, looked up in the kernel's records.
 use Rattle.std.specs.Prelude.{◌≡◌, ℕ, List, map, Option, None, Some, if◌then◌else◌, option_and_then, is_some}
 use Rattle.qqueue.specs.Best.{with_priority}
 use Rattle.qrules.specs.Records.{is_unread_send}
@@ -19,7 +19,7 @@ unread_of (Receive r) = None
 abbrev pub unread_in : Option OpenCall → Option Unread
 unread_in call = option_and_then unread_of call
 
--- if the message of this open call isn't received, it has this priority in its channel's queue; nothing else
+-- the message of this open call gets this priority in its channel's queue, if it isn't received; nothing else
 -- changes
 pub record MovesUnread (o : Option OpenCall) (priority : ℕ)
     (old new : List (ℕ × Channel)) : Type 0 where

@@ -1,4 +1,4 @@
-//! Calls that are ended by force.
+//! Cancels open calls: they complete with an error because of another thread's call.
 
 ghost use Rattle.std.specs.Prelude.{◌≡◌, ◌==◌, ◌&&◌, ◌≤◌, ◌<◌, [], true, Some, None, is_some, length, filter_map, map, if◌then◌else◌};
 ghost use Rattle.qtables.specs.Members.{IsRoster};
@@ -20,10 +20,10 @@ use qmodel::call::{Completion, Mark};
 use qmodel::open_call::OpenCall;
 use qtables::channels::Channels;
 
-/// The calls that are cancelled.
+/// A set of open calls to cancel.
 #[derive(Clone, Copy, Debug, PartialEq, Eq)]
 pub enum CancelSet {
-    /// All calls that are blocked on this channel.
+    /// All calls that are blocked on this channel: Sends, received or not, and receives.
     On(ChannelId),
     /// All open calls.
     All,
@@ -33,7 +33,7 @@ pub enum CancelSet {
     Over(ConnectionId),
 }
 
-/// The calls that are cancelled, and the error with which each ends.
+/// A set of open calls to cancel, and the error with which each completes.
 #[derive(Clone, Copy)]
 struct Cancel {
     set: CancelSet,
@@ -50,7 +50,7 @@ fn is_on(chid: ChannelId, call: &OpenCall) -> bool
     }
 }
 
-/// Returns whether the open call of a thread is cancelled.
+/// Returns whether the open call of a thread is in the set.
 fn is_cancelled(cancel: &CancelSet, thread: ThreadNo, call: &OpenCall) -> bool
     ensures { result ≡ is_cancelled_by cancel.now thread call.now }
 {
@@ -65,7 +65,8 @@ fn is_cancelled(cancel: &CancelSet, thread: ThreadNo, call: &OpenCall) -> bool
     }
 }
 
-/// Returns the channel on which a Send's message waits, if the message isn't received yet.
+/// Returns the channel on which the message of a Send is queued. Returns `None` if the message is received,
+/// or if the call isn't a Send.
 fn unread_on(call: &OpenCall) -> Option<ChannelId>
     ensures { result ≡ unread_on_by call.now }
 {
@@ -77,8 +78,8 @@ fn unread_on(call: &OpenCall) -> Option<ChannelId>
     }
 }
 
-/// Takes the message of a Send out of its channel's queue, where it has this key. Does nothing if the message is
-/// received already, or the call isn't a Send.
+/// Removes the message of a Send from its channel's queue. `key` is the message's key there. Does nothing if
+/// the message is received, or if the call isn't a Send.
 fn take_message(channels: &mut Channels<Channel>, call: &OpenCall, key: usize)
     ensures { Lose (λ h i. is_unread_send h i (Some call.now)) channels.old channels.new }
 {
@@ -91,8 +92,8 @@ fn take_message(channels: &mut Channels<Channel>, call: &OpenCall, key: usize)
     let _ = channel.queue.remove(call.number(), key);
 }
 
-/// Returns the completion of a thread's open call that is cancelled: it failed with the error, and gets its buffer
-/// back.
+/// Returns the completion of a thread's cancelled call. Its result is the error, and it returns the call's
+/// buffer.
 fn cancel_completion(call: OpenCall, thread: ThreadNo, errno: Errno) -> Completion
     ensures { result ≡ cancel_call errno thread call }
 {
@@ -104,7 +105,7 @@ fn cancel_completion(call: OpenCall, thread: ThreadNo, errno: Errno) -> Completi
     }
 }
 
-/// Takes the open call of a thread, and returns it, if it is cancelled.
+/// Takes the thread's open call and returns it, if the call is in the set.
 fn take_cancelled(thread: &mut Thread, cancel: &CancelSet) -> Option<OpenCall>
     ensures had { result ≡ call_if_cancelled (is_cancelled_by cancel.now thread.old.member.thread) thread.old.open_call }
     ensures after { thread.new ≡ thread_unless_cancelled (is_cancelled_by cancel.now thread.old.member.thread) thread.old }
@@ -117,7 +118,7 @@ fn take_cancelled(thread: &mut Thread, cancel: &CancelSet) -> Option<OpenCall>
     }
 }
 
-/// Ends the open call of a thread, and returns its completion, if it is cancelled.
+/// Cancels the thread's open call and returns its completion, if the call is in the set.
 fn cancel_thread(
     thread: &mut Thread,
     channels: &mut Channels<Channel>,
@@ -132,8 +133,8 @@ fn cancel_thread(
     Some(cancel_completion(call, thread.member.thread, cancel.errno))
 }
 
-/// Ends the call of a thread: returns `own`, the caller's completion, if the thread is the caller; else ends the
-/// thread's open call, if it is cancelled.
+/// Takes and returns `own`, the completion of the caller's call, if the thread is the caller. Otherwise does
+/// what `cancel_thread` does.
 fn end_thread(
     thread: &mut Thread,
     channels: &mut Channels<Channel>,
@@ -164,7 +165,8 @@ fn push_completion(endings: &mut Endings, completion: Option<Completion>)
     }
 }
 
-/// Ends each call that is cancelled. The endings are in rising thread number, with the caller's own at its place.
+/// Cancels each open call of the set. The list gets the completions in ascending order of thread number, with
+/// `own`, the completion of the caller's call, among them.
 fn cancel_each(
     threads: &mut Vec<Thread>,
     channels: &mut Channels<Channel>,
@@ -189,8 +191,9 @@ fn cancel_each(
 }
 
 impl Objects {
-    /// Ends each call of a set with an error. The endings are in rising thread number, with the caller's own at its
-    /// place. A message that is cancelled before it is received leaves its channel's queue.
+    /// Cancels each open call of a set with this error. The list gets the completions in ascending order of
+    /// thread number, with `own`, the completion of the caller's call, among them. A message that isn't
+    /// received when its Send is cancelled leaves its channel's queue.
     pub fn cancel(&mut self, set: CancelSet, errno: Errno, own: Completion, endings: &mut Endings)
         requires idle { open_in self.old.threads own.thread ≡ None }
         requires none { endings.old.items ≡ [] }

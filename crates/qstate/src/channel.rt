@@ -1,4 +1,4 @@
-//! The record of an open channel.
+//! The record of an open channel, and look-ups of channels and connections.
 
 ghost use Rattle.std.specs.Prelude.{◌≡◌, ◌==◌, ◌+◌, ◌<◌, ◌++◌, ◌∷◌, ◌&&◌, [], count_by, is_some, true, None, Some, if◌then◌else◌, IsOk, OnOk, OnErr, IfErr};
 ghost use Rattle.std.specs.List.{AllByRecursion};
@@ -15,19 +15,19 @@ use qbase::priority::Priority;
 use qqueue::item::Item;
 use qqueue::queue::Queue;
 
-/// An open channel.
+/// An open channel, with its queue.
 #[derive(Drop)]
 pub struct Channel {
-    /// The process that created it, any thread of which may receive on it and answer.
+    /// The process that created it. Any thread of this process may receive on it and reply to its messages.
     pub owner: ProcessNo,
     pub flags: ChannelFlags,
-    /// The messages and pulses that were sent to it and aren't received yet.
+    /// Its queued messages and pulses: sent, and not yet received.
     pub queue: Queue,
 }
 
 impl Channel {
-    /// Returns the priority that a receiver takes with an item of this priority; `None` if the channel has the
-    /// fixed-priority flag and leaves its receivers' priorities as they are.
+    /// Returns the priority that a receiver gets with an item of this priority. Returns `None` if the channel
+    /// has the fixed-priority flag: then receivers keep their own priorities.
     pub fn carried(&self, priority: Priority) -> Option<Priority>
         ensures { result ≡ (if is_fixed (Some (open_channel_of self.now)) then None else Some priority) }
     {
@@ -38,8 +38,8 @@ impl Channel {
         }
     }
 
-    /// Makes room for an item, adds it behind all others in the queue, and returns its key there. `NoMemory` if the
-    /// allocator refuses; takes no memory if there is room already.
+    /// Adds an item to the queue, as its newest, and returns its key there. Takes memory only if the queue
+    /// has no room, and fails with `NoMemory` if the allocator refuses.
     #[inline(always)]
     pub fn enqueue(&mut self, item: Item) -> Result<usize, Errno>
         requires newest { AllByRecursion (λ x. x.number < item.number) self.old.queue.items }
@@ -73,8 +73,8 @@ impl Objects {
         }
     }
 
-    /// Returns the channel to which the process may send over a connection; `None` unless the connection is the
-    /// process's own and its channel is open.
+    /// Returns the channel to which the process may send over a connection. Returns `None` if the process has
+    /// no such live connection, or if the channel isn't open.
     pub fn route(&self, process: ProcessNo, coid: ConnectionId) -> Option<ChannelId>
         ensures { result ≡ route_in process self.now.channels (entry_at self.now.connections coid) }
     {
@@ -86,7 +86,8 @@ impl Objects {
         }
     }
 
-    /// Returns whether a channel has the disconnect flag, and the process has exactly one live connection to it.
+    /// Returns whether a channel has the disconnect flag, and the process has exactly one live connection to
+    /// it. A detach of this connection has to send the disconnect pulse.
     pub fn tells_detached(&self, process: ProcessNo, chid: ChannelId) -> bool
         ensures { result ≡ (tells_disconnect (channel_in self.now.channels chid) && (count_by (λ e. (e.1.process == process) && (e.1.channel == chid)) self.now.connections == 1)) }
     {
@@ -108,7 +109,7 @@ impl Objects {
         }
     }
 
-    /// Removes an open channel, with all messages and pulses that wait on it.
+    /// Removes an open channel with its queued messages and pulses.
     pub fn close(&mut self, chid: ChannelId)
         requires { is_some (channel_in self.old.channels chid) ≡ true }
         ensures threads { self.new.threads ≡ self.old.threads }

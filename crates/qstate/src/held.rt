@@ -1,4 +1,4 @@
-//! Messages that are held: received, and not yet answered.
+//! Held messages: received, and without a reply yet.
 
 ghost use Rattle.std.specs.Prelude.{◌≡◌, None, Some, true, false, option_and_then, option_map, IfOk, IfErr, OnErr};
 ghost use Rattle.qbase.specs.Laying.{laid_count};
@@ -17,19 +17,19 @@ use qbase::ids::{ChannelId, ProcessNo, ReceiveId};
 use qmodel::call::Info;
 use qmodel::open_call::{OpenCall, OpenSend, Receipt};
 
-/// A message that is held: received, and not yet answered.
+/// A held message: its receive id, its channel and its receipt.
 #[derive(Clone, Copy, Debug, PartialEq, Eq)]
 pub struct Held {
     pub rcvid: ReceiveId,
     /// The channel on which it was received.
     pub channel: ChannelId,
-    /// The record of its receipt.
+    /// Its priority, the number of bytes copied, and whether an unblock pulse was sent for it.
     pub receipt: Receipt,
 }
 
 impl Objects {
-    /// Returns the message with which the thread at a seat is REPLY-blocked; `None` unless there is such a message and
-    /// its channel has the unblock flag.
+    /// Returns the held message of the thread at this index, if its channel has the unblock flag. Returns
+    /// `None` if the thread isn't REPLY-blocked, or if the channel doesn't have the flag.
     pub fn guarded_message(&self, seat: &Seat) -> Option<Held>
         requires { IsSeatIn self.now.threads seat.now }
         ensures { result ≡ guarded_message_in self.now.channels (open_in self.now.threads seat.now.thread) }
@@ -46,8 +46,8 @@ impl Objects {
         })
     }
 
-    /// Returns the seat of the thread whose message is held under this receive id on a channel of this process; `Srch`
-    /// if there is none.
+    /// Returns the thread index of the client whose message is held under this receive id, on a channel of
+    /// this process. Fails with `Srch` if there is no such message.
     #[inline(always)]
     pub fn holder(&self, process: ProcessNo, rcvid: ReceiveId) -> Result<Seat, Errno>
         ensures held { IfOk result (λ seat. is_held_in self.now.threads self.now.channels process rcvid ≡ true) }
@@ -66,7 +66,8 @@ impl Objects {
         }
     }
 
-    /// Returns the message that is held under this receive id on a channel of this process; `Srch` if there is none.
+    /// Returns the message that is held under this receive id, on a channel of this process. Fails with
+    /// `Srch` if there is none.
     pub fn held_message(&self, process: ProcessNo, rcvid: ReceiveId) -> Result<&[u8], Errno>
         ensures held { IfOk result (λ message. is_held_in self.now.threads self.now.channels process rcvid ≡ true) }
         ensures message { IfOk result (λ message. message.now ≡ message_from self.now.threads rcvid) }
@@ -80,8 +81,8 @@ impl Objects {
         }
     }
 
-    /// Ends the Send of the thread that `holder` finds, and returns it. `Srch` if there is no such thread; then nothing
-    /// changes.
+    /// Takes the Send of the thread that `holder` finds and returns it. The thread then isn't blocked. If
+    /// there is no such thread, fails with `Srch` and changes nothing.
     #[inline(always)]
     pub fn take_held(&mut self, process: ProcessNo, rcvid: ReceiveId) -> Result<OpenSend, Errno>
         ensures held { IfOk result (λ sent. is_held_in self.old.threads self.old.channels process rcvid ≡ true) }
@@ -91,7 +92,7 @@ impl Objects {
         ensures channels { self.new.channels ≡ self.old.channels }
         ensures connections { self.new.connections ≡ self.old.connections }
 
-        // The error, and that it changes nothing.
+        // On an error nothing changes.
         ensures none { IfErr result (λ e. is_held_in self.old.threads self.old.channels process rcvid ≡ false) }
         ensures unchanged { OnErr result (self.new ≡ self.old) }
         ensures error { IfErr result (λ e. e ≡ Errno.Srch) }
@@ -102,7 +103,8 @@ impl Objects {
 }
 
 impl Threads {
-    /// Records that an unblock pulse was made for the message of the thread at a seat.
+    /// Records in the receipt of a held message that an unblock pulse was sent for it. Does nothing if the
+    /// thread at this index has no held message.
     pub fn mark_unblocked(&mut self, seat: &Seat)
         requires { IsSeatIn self.old seat.now }
         ensures { ChangesOpen seat.now.thread unblocked_call self.old self.new }
@@ -111,8 +113,8 @@ impl Threads {
         there.mark_unblocked();
     }
 
-    /// Copies bytes into the reply buffer of the Send that the thread at a seat is blocked in, from the offset on, and
-    /// returns the number of bytes copied.
+    /// Copies bytes into the reply buffer of the open Send of the thread at this index, beginning at an
+    /// offset. Returns the number of bytes copied.
     pub fn write_sent(&mut self, seat: &Seat, offset: usize, bytes: &[u8]) -> usize
         requires seat { IsSeatIn self.old seat.now }
         requires sends { is_sending (open_in self.old seat.now.thread) ≡ true }
@@ -125,7 +127,7 @@ impl Threads {
 }
 
 impl Thread {
-    /// Records that an unblock pulse was made for the thread's message, if the message is held.
+    /// Records that an unblock pulse was sent for the thread's message, if the message is held.
     fn mark_unblocked(&mut self)
         ensures member { self.new.member ≡ self.old.member }
         ensures priority { self.new.priority ≡ self.old.priority }
@@ -138,8 +140,8 @@ impl Thread {
         }
     }
 
-    /// Copies bytes into the reply buffer of the Send that the thread is blocked in, from the offset on, and returns
-    /// the number of bytes copied.
+    /// Copies bytes into the reply buffer of the thread's open Send, beginning at an offset. Returns the
+    /// number of bytes copied.
     fn write(&mut self, offset: usize, bytes: &[u8]) -> usize
         requires { is_sending self.old.open_call ≡ true }
         ensures member { self.new.member ≡ self.old.member }
@@ -153,7 +155,7 @@ impl Thread {
         }
     }
 
-    /// Returns what `Info` returns for the thread's message, if the message is held.
+    /// Returns the result that an `Info` has for the thread's message, if the message is held.
     pub fn info(&self) -> Option<Info>
         ensures { result ≡ info_of_open self.now.member self.now.open_call }
     {

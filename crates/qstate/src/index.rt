@@ -1,4 +1,4 @@
-//! The index at which to look first for a thread: a guess, which is checked before it is used.
+//! Guesses of thread indices: where to look first for a thread. Each guess is checked before it is used.
 
 ghost use Rattle.std.specs.Prelude.{◌≡◌, ◌<◌, true};
 ghost use Rattle.qbase.specs.ByteSet.{has};
@@ -9,22 +9,28 @@ use qbase::ids::ThreadNo;
 use qmodel::open_call::OpenCall;
 use qtables::member::Member;
 
-/// Guesses of a thread's index in the roster: by thread number, by the number of its Send, and as the newest receiver.
+/// Guesses of a thread's index in the roster: by thread number, by the number of its Send, and as the newest
+/// receiver.
 #[derive(Clone, Copy, Debug)]
 pub struct Index {
-    // What a call writes that blocks or wakes a thread stands first, beside the kernel's count of calls.
-    // The indices of all threads that are RECEIVE-blocked, and possibly of others.
+    // The fields that a blocking or waking call writes come first: in memory they are next to the kernel's
+    // count of calls.
+    //
+    // The indices of all threads that are RECEIVE-blocked, and possibly of other threads.
     pub(crate) receivers: ByteSet,
     // The number of the last call that blocked its thread.
     pub(crate) latest: u64,
     // The number of the last receive that blocked its thread, and the index of that thread.
     pub(crate) newest: u64,
     pub(crate) last: u8,
-    // Whether the numbers of the calls that blocked their threads have risen so far, as they do in a kernel.
+    // Whether each call that blocked its thread had a greater number than all before it. In a kernel this is
+    // always true.
     pub(crate) rising: bool,
-    // For each thread number, the index of that thread, if it is in the roster. Small numbers lie beside what is above.
+    // For each thread number, the index of that thread, if it is in the roster. The entries of small numbers
+    // are next to the fields above in memory.
     threads: [u8; 256],
-    // For each last byte of a Send's number, the index of the thread that made the last Send with such a number.
+    // For each last byte of a Send's number, the index of the thread that last blocked in a Send with this
+    // byte.
     senders: [u8; 256],
 }
 
@@ -79,7 +85,7 @@ impl Index {
         }
     }
 
-    /// Records that the thread at this index isn't blocked any more.
+    /// Records that the thread at this index is no longer blocked.
     pub fn forget(&mut self, place: usize)
         requires { place < 64 }
         ensures { Forgets place self.old self.new }

@@ -1,5 +1,4 @@
-//! The records that make up a kernel: its threads, its channels, the messages that are held, and the endings of one
-//! event.
+//! The records of a kernel: its threads, channels and held messages, and the completions of one event.
 #![tactic(auto)]
 
 pub mod cancelling;

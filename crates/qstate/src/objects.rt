@@ -1,4 +1,4 @@
-//! What a kernel is made of: its threads, its channels and its connections.
+//! The records of a kernel: its threads, channels and connections.
 
 ghost use Rattle.std.specs.Prelude.{◌≡◌, true, false, IfOk, IfErr};
 ghost use Rattle.qtables.specs.Entries.{entry_at};
@@ -25,7 +25,8 @@ pub struct Objects {
 }
 
 impl Objects {
-    /// Returns the seat of a thread of this process; `Srch` if the thread isn't in the roster or is another process's.
+    /// Returns the index of a thread of this process. Fails with `Srch` if the thread isn't in the roster or
+    /// belongs to another process.
     pub fn fellow(&self, process: ProcessNo, thread: ThreadNo) -> Result<Seat, Errno>
         ensures seat { IfOk result (λ seat. IsSeatIn self.now.threads seat) }
         ensures thread { IfOk result (λ seat. seat.thread ≡ thread) }
@@ -41,7 +42,8 @@ impl Objects {
         }
     }
 
-    /// Returns the channel of a connection; `None` unless the connection is live and the process's own.
+    /// Returns the channel of a live connection of this process, or `None` if the process has no such
+    /// connection.
     pub fn own_connection(&self, process: ProcessNo, coid: ConnectionId) -> Option<ChannelId>
         ensures { result ≡ own_channel_in process (entry_at self.now.connections coid) }
     {

@@ -1,4 +1,4 @@
-//! Sending a pulse: to a receiver that waits, or into the queue of a channel.
+//! Sends a pulse to a blocked receiver, or into the queue of a channel.
 
 ghost use Rattle.std.specs.Prelude.{◌≡◌, ◌<◌, true, is_some, IfOk, IfErr, IfSome};
 ghost use Rattle.std.specs.List.{AllByRecursion};
@@ -12,10 +12,10 @@ use qbase::ids::ChannelId;
 use qmodel::call::{Completion, Mark};
 use qqueue::item::Item;
 
-/// The most pulses that may wait on a channel: our own profile.
+/// The most pulses that may be queued on a channel. The limit is Balsaeuchre's own.
 pub const PULSE_LIMIT: usize = 1024;
 
-/// Returns the mark of a receive that takes this pulse.
+/// Returns the result of a receive that takes this pulse.
 pub(crate) fn pulse_mark(item: &Item) -> Mark
     ensures { result ≡ Mark.Pulse item.now.number item.now.priority item.now.what }
 {
@@ -27,9 +27,12 @@ pub(crate) fn pulse_mark(item: &Item) -> Mark
 }
 
 impl Objects {
-    /// Sends a pulse. If receivers of the channel may take it, the one that began to wait last does, and the completion
-    /// of its call is returned. Else the pulse joins the channel's queue, whose room is all that takes memory. `Again`
-    /// if 1,024 pulses wait there, and `NoMemory` if no receiver may take it and the allocator refuses.
+    /// Sends a pulse. The newest receiver on the channel that may take the pulse gets it, and the completion
+    /// of its receive is returned. If there is no such receiver, the pulse is queued. Only the room of the
+    /// queue takes memory.
+    ///
+    /// Fails with `Again` if 1,024 pulses are queued, and with `NoMemory` if no receiver may take the pulse
+    /// and the allocator refuses.
     pub fn send_pulse(&mut self, chid: ChannelId, item: Item) -> Result<Option<Completion>, Errno>
         requires pulse { is_pulse item.what ≡ true }
         requires there { is_some (channel_in self.old.channels chid) ≡ true }
@@ -54,7 +57,7 @@ impl Objects {
         }
     }
 
-    /// Sends a pulse as `send_pulse` does, if there is one to send.
+    /// Sends a pulse, if there is one to send, as `send_pulse` does.
     pub fn send_due(
         &mut self,
         chid: ChannelId,

@@ -16,7 +16,7 @@ use qbase::priority::Priority;
 use qmodel::open_call::OpenReceive;
 use qqueue::item::Item;
 
-/// Returns the seat of a thread that has this index.
+/// Returns the number of a thread together with its index.
 fn seat_of(there: &Thread, index: usize) -> Seat
     ensures thread { result.thread ≡ there.now.member.thread }
     ensures index { result.index ≡ index }
@@ -27,8 +27,8 @@ fn seat_of(there: &Thread, index: usize) -> Seat
     }
 }
 
-/// Returns the thread at an index, if it receives on the channel, may take the item and is newer than `best`; else
-/// `best`. Each is paired with the number of its receive.
+/// Returns the newer of `best` and the thread at an index, each with the number of its receive. The thread
+/// counts only if it is blocked in a receive on the channel that may take the item.
 fn newer(
     threads: &[Thread],
     best: Option<(u64, Seat)>,
@@ -55,7 +55,9 @@ fn newer(
 }
 
 impl Threads {
-    /// Returns the seat of the last thread that began to receive, if it receives on the channel and may take the item.
+    /// Returns the index of the last thread that blocked in a receive, if it is still blocked there, on this
+    /// channel, and may take the item. Returns `None` if the numbers of calls haven't risen, since the
+    /// last receiver may then not be the newest.
     fn last_receiver(&self, channel: ChannelId, item: &Item) -> Option<Seat>
         ensures seat { IfSome result (λ seat. IsSeatIn self.now seat) }
         ensures newest { IfSome result (λ seat. newest_in channel item.now self.now ≡ Some seat.thread) }
@@ -69,7 +71,8 @@ impl Threads {
         }
     }
 
-    /// Returns the newest receiver of the channel that may take the item, found by a search of all receivers.
+    /// Returns the newest receiver of the channel that may take the item, and the number of its receive.
+    /// Searches all receivers.
     fn search_receiver(&self, channel: ChannelId, item: &Item) -> Option<(u64, Seat)>
         ensures newest { option_map (λ b. b.1.thread) result ≡ newest_in channel item.now self.now }
         ensures seat { IfSome result (λ b. IsSeatIn self.now b.1) }
@@ -87,8 +90,8 @@ impl Threads {
         best
     }
 
-    /// Returns the seat of the thread that receives on the channel, may take the item and began to wait last; `None` if
-    /// there is none.
+    /// Returns the index of the newest receiver of the channel that may take the item, or `None` if there is
+    /// none.
     pub fn newest_receiver(&self, channel: ChannelId, item: &Item) -> Option<Seat>
         ensures seat { IfSome result (λ seat. IsSeatIn self.now seat) }
         ensures newest { option_map (λ seat. seat.thread) result ≡ newest_in channel item.now self.now }
@@ -99,7 +102,8 @@ impl Threads {
         }
     }
 
-    /// Returns whether it is known without a search that no thread is blocked in a receive.
+    /// Returns whether it is known without a search that no thread is blocked in a receive. A `false` says
+    /// nothing.
     #[inline(always)]
     fn has_no_receiver(&self) -> bool
         ensures { result ≡ true → (channel : ℕ) → (item : Item) → newest_in channel item self.now ≡ None }
@@ -107,8 +111,9 @@ impl Threads {
         self.index.receivers.is_empty()
     }
 
-    /// Ends the receive of the thread that `newest_receiver` finds, returns it, and gives that thread this priority, or
-    /// leaves its priority as it is. `None` if there is no such thread; then nothing changes.
+    /// Takes the receive of the thread that `newest_receiver` finds, and returns it. The thread then isn't
+    /// blocked. It gets this priority, or keeps its own if `priority` is `None`. If there is no such thread,
+    /// returns `None` and changes nothing.
     #[inline(always)]
     pub fn wake_newest(
         &mut self,

@@ -1,11 +1,11 @@
-//! The place of a thread in the roster.
+//! The index of a thread in the roster.
 
 ghost use Rattle.std.specs.Prelude.{◌≡◌};
 
 use qbase::ids::ThreadNo;
 
-/// A thread of a roster with its index there, kept so that no call searches for the thread again. `Threads::seat` makes
-/// it.
+/// The number of a thread and its index in the roster. `Threads::seat` looks it up once, and later calls need
+/// no search.
 #[derive(Clone, Copy, Debug)]
 pub struct Seat {
     pub(crate) thread: ThreadNo,
@@ -20,8 +20,8 @@ impl Seat {
         self.thread
     }
 
-    /// Returns the thread's index in the roster, where threads are in rising number, from 0. The thread's cell has the
-    /// same index.
+    /// Returns the thread's index in the roster, from 0, in ascending order of thread number. The thread's
+    /// cell has the same index.
     pub fn index(&self) -> usize
         ensures { result ≡ self.now.index }
     {

@@ -1,4 +1,4 @@
-//! The senders of messages.
+//! Look-ups of a message's sender, and the hand-over of an item to a receive.
 
 ghost use Rattle.std.specs.Prelude.{◌≡◌, Some, false, option_map, position, IfSome};
 ghost use Rattle.qbase.specs.Laying.{laid_count, lay_over};
@@ -19,7 +19,7 @@ use qbase::priority::Priority;
 use qmodel::call::Mark;
 use qqueue::item::Item;
 
-/// Returns the index of the thread whose open call is the Send of this number, found by a search of all threads.
+/// Returns the index of the thread whose open call is the Send of this number. Searches all threads.
 fn sender_index(threads: &[Thread], number: u64) -> Option<usize>
     ensures { result ≡ position (λ t. is_send number t.open_call) threads.now }
 {
@@ -27,7 +27,7 @@ fn sender_index(threads: &[Thread], number: u64) -> Option<usize>
 }
 
 impl Threads {
-    /// Returns the seat of the sender of a message, if it is at the index that is looked at first.
+    /// Returns the index of a message's sender, if the first guess is right.
     #[inline(always)]
     fn guess_sender(&self, number: u64) -> Option<Seat>
         ensures seat { IfSome result (λ seat. IsSeatIn self.now seat) }
@@ -41,7 +41,8 @@ impl Threads {
         }
     }
 
-    /// Returns the seat of the thread whose open call is the Send of this number; `None` if there is none.
+    /// Returns the index of the thread whose open call is the Send of this number, or `None` if there is
+    /// none.
     #[inline(always)]
     pub fn sender(&self, number: u64) -> Option<Seat>
         ensures seat { IfSome result (λ seat. IsSeatIn self.now seat) }
@@ -53,8 +54,8 @@ impl Threads {
         }
     }
 
-    /// Copies the message of this number to the front of a buffer, records the receipt with its sender, and returns the
-    /// number of bytes copied; 0 if there is no such message.
+    /// Copies the message of this number to the front of a buffer and records the receipt in its Send.
+    /// Returns the number of bytes copied, which is 0 if there is no such message.
     fn hand_over(&mut self, number: u64, priority: Priority, buffer: &mut Bytes) -> usize
         ensures kept { ChangesSender number (held_call (record { priority = priority; copied = result; unblocked = false })) self.old self.new }
         ensures buffer { buffer.new ≡ lay_over buffer.old 0 (message_from self.old number) }
@@ -69,8 +70,8 @@ impl Threads {
         }
     }
 
-    /// Hands an item to a receive: copies a message to the front of the buffer and records the receipt with the sender;
-    /// a pulse changes neither. Returns the mark of the receive's completion.
+    /// Hands an item to a receive, and returns the result of the receive's completion. A message is copied to
+    /// the front of the buffer, and its Send records the receipt. A pulse changes neither.
     pub fn hand_item(&mut self, item: Item, buffer: &mut Bytes) -> Mark
         ensures kept { HandsOver (is_pulse item.what) item.number (record { priority = item.priority; copied = laid_count buffer.old 0 (message_from self.old item.number); unblocked = false }) self.old self.new }
         ensures mark { result ≡ (delivery_of item (message_from self.old item.number) buffer.old).0 }

@@ -14,28 +14,28 @@ use qmodel::open_call::{OpenCall, OpenReceive, OpenSend, Receipt};
 use qqueue::item::Item;
 use qtables::member::Member;
 
-/// A thread of the roster.
+/// A thread of the roster, with the call that it is blocked in.
 #[derive(Debug, Drop)]
 pub struct Thread {
-    /// Its number, its process and the priority that it began with.
+    /// Its number, its process and its initial priority.
     pub member: Member,
-    /// Its priority.
+    /// Its current priority.
     pub priority: Priority,
     /// Its open call, if it is blocked.
     pub open_call: Option<OpenCall>,
-    /// The key of its message in the queue of the channel, if it is SEND-blocked; any number otherwise.
+    /// The key of its message in the channel's queue, if it is SEND-blocked. Otherwise it may be any number.
     pub key: usize,
 }
 
 impl Thread {
-    /// Returns the Send that the thread is blocked in.
+    /// Returns the Send that the thread is blocked in, if it is blocked in one.
     pub fn send(&self) -> Option<&OpenSend>
         ensures { option_copied result ≡ option_and_then send_in self.now.open_call }
     {
         self.open_call.as_ref()?.send()
     }
 
-    /// Returns the receive that the thread is blocked in.
+    /// Returns the receive that the thread is blocked in, if it is blocked in one.
     pub fn receive(&self) -> Option<&OpenReceive>
         ensures { option_copied result ≡ option_and_then receive_in self.now.open_call }
     {
@@ -52,7 +52,8 @@ impl Thread {
         }
     }
 
-    /// Returns the number of the thread's open call, if that is a receive on this channel that may take the item.
+    /// Returns the number of the thread's open call, if the call is a receive on this channel that may take
+    /// the item.
     pub fn receives(&self, channel: ChannelId, item: &Item) -> Option<u64>
         ensures { result ≡ wait_on channel item.now self.now.open_call }
     {
@@ -64,8 +65,8 @@ impl Thread {
         }
     }
 
-    /// Copies the message of the Send that the thread is blocked in to the front of a buffer, records the receipt, and
-    /// returns the number of bytes copied.
+    /// Copies the message of the thread's open Send to the front of a buffer and records the receipt. Returns
+    /// the number of bytes copied.
     pub fn hand_over(&mut self, priority: Priority, buffer: &mut Bytes) -> usize
         requires { is_sending self.old.open_call ≡ true }
         ensures member { self.new.member ≡ self.old.member }

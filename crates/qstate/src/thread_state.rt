@@ -26,7 +26,7 @@ pub fn state_of(call: &OpenCall) -> ThreadState
 }
 
 impl Objects {
-    /// Returns the state of the thread at a seat.
+    /// Returns the state of the thread at this index.
     pub fn state(&self, seat: &Seat) -> ThreadState
         requires { IsSeatIn self.now.threads seat.now }
         ensures { result ≡ option_map_or state_in (open_in self.now.threads seat.now.thread) Ready }

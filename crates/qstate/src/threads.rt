@@ -19,13 +19,14 @@ use std::alloc::{AllocError, Global};
 use std::marker::Model;
 use std::mem;
 
-/// The threads of a roster, with the call that each is blocked in. Contracts see the records, in rising thread number.
+/// The threads of a roster, with the call that each is blocked in. Contracts see the records, in ascending
+/// order of thread number.
 ///
-/// A thread, the sender of a message and the newest receiver of a channel are looked up first at an index that is kept
-/// beside the records. Each index is a guess: a wrong one costs a search and nothing else.
+/// `index` says where to look first for a thread, for the sender of a message and for the newest receiver of
+/// a channel. Each index there is a guess: a wrong guess costs a search and changes no result.
 #[derive(Drop)]
 pub struct Threads {
-    // The index at which to look first for a thread.
+    // Guesses of where to look first for a thread.
     pub(crate) index: Index,
     pub(crate) records: Vec<Thread>,
 }
@@ -62,11 +63,11 @@ fn index_of(threads: &[Thread], thread: ThreadNo) -> Option<usize>
 }
 
 impl Threads {
-    /// Makes the threads of a roster, none of them blocked. The records are all that takes memory.
+    /// Makes the threads of a roster, with none of them blocked. Only the records take memory.
     pub fn new(alloc: Global, roster: &Roster) -> Result<Threads, AllocError>
         ensures threads { IfOk result (λ threads. threads ≡ map ready_thread roster.now) }
 
-        // Every roster has at most 64 threads, in rising number.
+        // Every roster has at most 64 threads, in ascending order of their numbers.
         ensures rising { IfOk result (λ threads. IsRoster roster.now) }
         ensures few { IfOk result (λ threads. length roster.now ≤ 64) }
     {
@@ -81,14 +82,14 @@ impl Threads {
         })
     }
 
-    /// Returns the records of the threads, in rising thread number.
+    /// Returns the records of the threads, in ascending order of thread number.
     pub fn records(&self) -> &[Thread]
         ensures { result.now ≡ self.now }
     {
         &self.records
     }
 
-    /// Returns the seat of the thread at an index.
+    /// Returns the number and the index of the thread at an index.
     pub(crate) fn seat_at(&self, index: usize) -> Seat
         requires { index < length self.now }
         ensures seat { IsSeatIn self.now result }
@@ -100,7 +101,7 @@ impl Threads {
         }
     }
 
-    /// Returns the index of a thread, if it is the index that is looked at first.
+    /// Returns the index of a thread, if the first guess is right.
     fn guess(&self, thread: ThreadNo) -> Option<usize>
         ensures { IfSome result (λ index. seat_in self.now thread ≡ Some index) }
     {
@@ -112,7 +113,7 @@ impl Threads {
         }
     }
 
-    /// Returns the seat of a thread; `None` if the thread isn't in the roster.
+    /// Returns the index of a thread, or `None` if the thread isn't in the roster.
     pub fn seat(&self, thread: ThreadNo) -> Option<Seat>
         ensures seat { IfSome result (λ seat. IsSeatIn self.now seat) }
         ensures thread { IfSome result (λ seat. seat.thread ≡ thread) }
@@ -125,7 +126,7 @@ impl Threads {
         Some(Seat { thread, index })
     }
 
-    /// Returns the record of the thread at a seat.
+    /// Returns the record of the thread at this index.
     pub fn record(&self, seat: &Seat) -> &Thread
         requires { IsSeatIn self.now seat.now }
         ensures { IsRecordOf seat.now.thread self.now result.now }
@@ -133,7 +134,7 @@ impl Threads {
         &self.records[seat.index]
     }
 
-    /// Returns the priority of the thread at a seat.
+    /// Returns the current priority of the thread at this index.
     pub fn priority(&self, seat: &Seat) -> Priority
         requires { IsSeatIn self.now seat.now }
         ensures { result ≡ thread_priority self.now seat.now.thread }
@@ -141,7 +142,7 @@ impl Threads {
         self.record(seat).priority
     }
 
-    /// Gives the thread at a seat this priority; `None` leaves it as it is.
+    /// Sets the priority of the thread at this index. Does nothing if `priority` is `None`.
     pub fn set_priority(&mut self, seat: &Seat, priority: Option<Priority>)
         requires { IsSeatIn self.old seat.now }
         ensures { SetsPriority seat.now.thread priority self.old self.new }
@@ -150,7 +151,7 @@ impl Threads {
         there.priority = priority.unwrap_or(there.priority);
     }
 
-    /// Takes the open call of the thread at a seat and returns it. The thread then isn't blocked.
+    /// Takes the open call of the thread at this index and returns it. The thread then isn't blocked.
     #[inline(always)]
     fn take_open(&mut self, seat: &Seat) -> Option<OpenCall>
         requires { IsSeatIn self.old seat.now }
@@ -163,8 +164,8 @@ impl Threads {
         mem::replace(&mut there.open_call, None)
     }
 
-    /// Blocks the thread at a seat in a call of its own. `key` is the key of the call's message in the channel's queue, if the
-    /// message waits there.
+    /// Blocks the thread at this index in a call, which has to be the thread's own. `key` is the key of the
+    /// call's message in the channel's queue, if the message is queued.
     #[inline(always)]
     pub fn block(&mut self, seat: &Seat, call: OpenCall, key: usize)
         requires seat { IsSeatIn self.old seat.now }
@@ -177,8 +178,8 @@ impl Threads {
         there.key = key;
     }
 
-    /// Ends the call that the thread at a seat is blocked in, and gives the thread this priority; `None` leaves the
-    /// priority as it is. Returns the call if it is a receive.
+    /// Takes the call that the thread at this index is blocked in, and returns it if it is a receive. The
+    /// thread then isn't blocked. It gets this priority, or keeps its own if `priority` is `None`.
     #[inline(always)]
     pub(crate) fn wake(&mut self, seat: &Seat, priority: Option<Priority>) -> Option<OpenReceive>
         requires { IsSeatIn self.old seat.now }
@@ -190,7 +191,8 @@ impl Threads {
         self.take_open(seat)?.into_receive()
     }
 
-    /// Ends the call that the thread at a seat is blocked in, and returns it if it is a Send.
+    /// Takes the call that the thread at this index is blocked in, and returns it if it is a Send. The thread
+    /// then isn't blocked.
     #[inline(always)]
     pub(crate) fn take_sent(&mut self, seat: &Seat) -> Option<OpenSend>
         requires { IsSeatIn self.old seat.now }

@@ -1,4 +1,4 @@
-//! Messages that are sent and not yet received: the sender of each is SEND-blocked.
+//! Queued messages: sent, and not yet received. The sender of each is SEND-blocked.
 
 ghost use Rattle.std.specs.Prelude.{◌≡◌};
 ghost use Rattle.qstate.specs.Thread.{open_in};
@@ -11,7 +11,7 @@ use crate::thread::Thread;
 use qbase::ids::ChannelId;
 use qbase::priority::Priority;
 
-/// A message that isn't received.
+/// A queued message: its Send and its channel.
 #[derive(Clone, Copy, Debug, PartialEq, Eq)]
 pub struct Unread {
     /// The number of its Send.
@@ -21,7 +21,7 @@ pub struct Unread {
 }
 
 impl Thread {
-    /// Returns the thread's message, if the message isn't received yet.
+    /// Returns the thread's message, if it is queued.
     pub fn unread(&self) -> Option<Unread>
         ensures { result ≡ unread_in self.now.open_call }
     {
@@ -37,7 +37,7 @@ impl Thread {
 }
 
 impl Objects {
-    /// Gives the message with which the thread at a seat is SEND-blocked another priority in its channel's queue. Does
+    /// Sets the priority of the queued message of the thread at this index, in its channel's queue. Does
     /// nothing if the thread isn't SEND-blocked. Takes no memory.
     pub fn requeue_unread(&mut self, seat: &Seat, priority: Priority)
         requires { IsSeatIn self.old.threads seat.now }

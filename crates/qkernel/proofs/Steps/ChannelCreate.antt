@@ -14,7 +14,7 @@ ids_push : (channels : List (ℕ × Channel)) (e : ℕ × Channel) → ids_of (c
 ids_push [] e = refl
 ids_push (x ∷ channels) e = ap (λ ns. x.0 ∷ ns) (ids_push channels e)
 
--- the table's refusal is the row's, or want of memory
+-- the table refuses an entry with the error of the row, or because it has no memory
 may_refuse : (s : State) (t : ℕ) (flags : ChannelFlags) (e : Errno) → s.down ≡ false → open_in s.threads t ≡ None → nat_lt flags.0 8 ≡ true → e ≡ cond (nat_lt (length s.channels) 64) NoMemory Again
     → MayRefuse (facts_in s) t (ChannelCreate flags) e
 may_refuse s t flags e up free known is =

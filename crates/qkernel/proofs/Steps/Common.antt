@@ -1,9 +1,9 @@
--- What the steps of all calls share.
+-- Lemmas for the steps of all calls.
 use Rattle.qkernel.proofs.Common.{◌≡◌, ℕ, ◌+◌, ◌<◌, ◌≤◌, List, [], ◌∷◌, ◌++◌, length, refl, ap, sym, ◌∙◌, cond, arith, true, false, eqb, Option, None, Some, is_some, ◌&&◌, Connection, MayRefuse, refusal_of, refusal_completion, receipt_of, names, closes, makes, sets, uncancelled_items, items_with_priority_set, pending_after, unreceived_items, EndsSettled, none_cancelled, row_passes, is_forceful, row_laws, OpenChannel, is_owned_by, leads_to, AllByRecursion, eqb-true, length-map, entry_at, member_at, Member, Call, Completion, Channel, Thread, Errno, Item, made_on, ids_of, is_of, route_in, channel_in, pending_in, members_of, thread_priority, Facts, is_in_process, State, IsSound, Steps, facts_in, open_in}
 
--- ---- refused calls
+-- ---- calls that fail in their own event
 
--- one more call was made, and of the channels at most their room has changed
+-- one more call was counted, and at most the room of the channels has changed
 pub record Counted (old new : State) : Type 0 where
   pub made : new.made ≡ old.made + 1
   pub down : new.down ≡ old.down
@@ -22,7 +22,7 @@ counted_alone s = record { made = refl; down = refl; threads = refl; connections
 pub count_same : (old new : List (ℕ × Channel)) → ids_of new ≡ ids_of old → length new ≡ length old
 count_same old new e = sym (length-map new (λ e. e.0)) ∙ ap length e ∙ length-map old (λ e. e.0)
 
--- a call that is refused only counts
+-- a call that fails in its own event is only counted
 pub step_refused : (s : State) (t : ℕ) (c : Call) (e : Errno) (X : List Completion) (new : State) → MayRefuse (facts_in s) t c e → X ≡ refusal_completion (facts_in s) t c e ∷ [] → Counted s new → Steps s t c X new
 step_refused s t c e X new may is counted = (
   false,
@@ -43,14 +43,14 @@ step_refused s t c e X new may is counted = (
   },
 )
 
--- the same where nothing else changed
+-- the same if nothing else has changed
 pub step_refused_alone : (s : State) (t : ℕ) (c : Call) (e : Errno) (X : List Completion) → MayRefuse (facts_in s) t c e → X ≡ refusal_completion (facts_in s) t c e ∷ []
     → Steps s t c X (counted s)
 step_refused_alone s t c e X may is = step_refused s t c e X _ may is (counted_alone s)
 
 -- ---- accepted calls
 
--- what is pending after a call that neither destroys a channel nor ends a Send which isn't received
+-- the queued items after a call that neither destroys a channel nor cancels a Send that isn't received
 pub uncancelled_by : (s : State) (t : ℕ) (c : Call) → EndsSettled (facts_in s) t c → closes c ≡ None → sets c ≡ None → (h : ℕ) {x : List Item}
     → x ≡ unreceived_items (receipt_of (facts_in s) t c) h (pending_in s.channels h ++ made_on h (makes (facts_in s) t c)) → x ≡ pending_after (facts_in s) t c h
 uncancelled_by s t c settled closes_none sets_none h {x} is =
@@ -61,7 +61,7 @@ uncancelled_by s t c settled closes_none sets_none h {x} is =
     ∙ ap (λ o. cond (names o h) [] (unreceived_items (receipt_of f t c) h (uncancelled_items f t c h items))) (sym closes_none)
     ∙ ap (λ o. cond (names (closes c) h) [] (items_with_priority_set f h o (unreceived_items (receipt_of f t c) h (uncancelled_items f t c h items)))) (sym sets_none)
 
--- the same of a call that is accepted and ends no other by force
+-- the same for a call that is accepted and cancels no other call
 pub uncancelled : (s : State) (t : ℕ) (c : Call) → refusal_of (facts_in s) t c ≡ None → is_forceful c ≡ false → closes c ≡ None → sets c ≡ None → (h : ℕ) {x : List Item}
     → x ≡ unreceived_items (receipt_of (facts_in s) t c) h (pending_in s.channels h ++ made_on h (makes (facts_in s) t c)) → x ≡ pending_after (facts_in s) t c h
 uncancelled s t c passed mild closes_none sets_none h is = uncancelled_by s t c ((row_laws (facts_in s) t c (row_passes (facts_in s) t c passed)).ends_settled mild) closes_none sets_none h is
@@ -103,7 +103,7 @@ pub route-leads_to : (s : State) (t : ℕ) (m : Member) (o : Option Connection) 
 route-leads_to s t m None e = refl
 route-leads_to s t m (Some c) e = ap (λ x. cond (is_in_process c.process x && is_some (channel_in s.channels c.channel)) (Some c.channel) None) e
 
--- a caller that isn't blocked waits for nothing after a call that doesn't block it
+-- a caller that isn't blocked has no open call after a call that doesn't block it
 pub stays_free : (threads : List Thread) (t : ℕ) (u : ℕ) → open_in threads t ≡ None → open_in threads u ≡ cond (eqb u t) None (open_in threads u)
 stays_free threads t u free = elim (eqb u t) as (λ b. eqb u t ≡ b → open_in threads u ≡ cond b None (open_in threads u)) [
   | true ↦ λ e. ap (open_in threads) (eqb-true u t e) ∙ free

@@ -4,7 +4,7 @@ use Rattle.qkernel.proofs.Steps.Common.{uncancelled, counted, step_refused_alone
 use Rattle.qkernel.proofs.Tables.{entry_at-push, length-push, rising_push}
 use Rattle.qmodel.specs.declared.call.Mark.TheVariants as mark
 
--- the table's refusal is the row's, or want of memory
+-- the table refuses an entry with the error of the row, or because it has no memory
 may_refuse : (s : State) (t chid : ℕ) (e : Errno) → s.down ≡ false → open_in s.threads t ≡ None → is_some (channel_in s.channels chid) ≡ true → e ≡ cond (nat_lt (length s.connections) 1024) NoMemory Again
     → MayRefuse (facts_in s) t (ConnectAttach chid) e
 may_refuse s t chid e up free opens is =

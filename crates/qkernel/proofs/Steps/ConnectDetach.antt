@@ -10,9 +10,9 @@ use Rattle.qkernel.proofs.Steps.Cancelling.{mine, sound_less}
 use Rattle.qkernel.proofs.Steps.Delivering.{count_kept}
 use Rattle.qkernel.proofs.Steps.Told.{IsNew, IsTold, made_for, not_caller, told_waits}
 
--- ---- the connection, and how many there are
+-- ---- the connection, and the number of its process's connections to the channel
 
--- the connection is of process p and leads to channel h
+-- the connection belongs to process p and leads to channel h
 pub record IsOf (p h : ℕ) (o : Option Connection) : Type 0 where
   pub connection : Connection
   pub is : o ≡ Some connection
@@ -33,7 +33,7 @@ not_own s t m (Some c) known e = rw known (elim (eqb m.process c.process) as (λ
 between_is : (p h : ℕ) (c : Connection) → is_some (connection_between p h (Some c)) ≡ (eqb c.process p && eqb c.channel h)
 between_is p h c = elim (eqb c.process p && eqb c.channel h) as (λ b. is_some (cond b (Some c) None) ≡ b) [ true ↦ refl | false ↦ refl ]
 
--- how many live connections a process has to a channel is counted over the table
+-- a count over the table gives the number of live connections of a process to a channel
 pub counted_between : (s : State) (p h : ℕ) → IsSound s → connections_between (facts_in s) p h ≡ count_by (λ e. (eqb e.1.process p) && (eqb e.1.channel h)) s.connections
 counted_between s p h sound =
     count_picked (connection_between p h) s.connections (s.made + 1) refl sound.connections.0 (all_up_to (λ e. e.0) s.made s.connections sound.connection_ids) sound.connections.1
@@ -45,7 +45,7 @@ counted_between s p h sound =
 filter_swapped : (p q : Item → Bool) (items : List Item) → filter p (filter q items) ≡ filter q (filter p items)
 filter_swapped p q items = filter_twice q p items ∙ filter_agree (λ x. q x && p x) (λ x. p x && q x) (λ x. and_comm (q x) (p x)) items ∙ sym (filter_twice p q items)
 
--- what is taken out and what leaves may go in either order
+-- an item can be taken out before or after others leave the queue
 taken_filtered : (p : Item → Bool) (receipt : Option Received) (k : ℕ) (items : List Item) → filter p (unreceived_items receipt k items) ≡ unreceived_items receipt k (filter p items)
 taken_filtered p None k items = refl
 taken_filtered p (Some r) k items = elim (eqb r.channel k) as (λ b. filter p (cond b (without_item r.item items) items) ≡ cond b (without_item r.item (filter p items)) (filter p items)) [
@@ -53,7 +53,7 @@ taken_filtered p (Some r) k items = elim (eqb r.channel k) as (λ b. filter p (c
   | false ↦ refl
 ]
 
--- the pulse is one of the call's number
+-- the pulse has the call's number
 pub new_pulse : (n priority p : ℕ) (last : Bool) (d : Option Item) → d ≡ cond last (Some (disconnect_item n priority p)) None → IsNew n d
 new_pulse n priority p last d is = subst (IsNew n) (sym is) (elim last as (λ b. IsNew n (cond b (Some (disconnect_item n priority p)) None)) [ true ↦ (refl, refl) | false ↦ tt ])
 
@@ -97,7 +97,7 @@ module _ (s : State) (t coid : ℕ) (m : Member) (known : member_at (members_of 
             refl,
           )
 
-      -- what is cancelled once the pulse is sent
+      -- the cancelled calls, after the pulse is sent
       module _ (sound : IsSound s) (mid : List Thread) (between : List (ℕ × Channel)) (met : Option Completion) (is : IsTold s t (made_for h d) mid between met) where
         abbrev o : Option SentItem
         o = made_for h d
@@ -105,11 +105,11 @@ module _ (s : State) (t coid : ℕ) (m : Member) (known : member_at (members_of 
         abbrev ts : List ℕ
         ts = threads_of (members_of s.threads)
 
-        -- how the call of u ends, as it is cancelled
+        -- the completion of the call of u as it is cancelled
         abbrev cancel : ℕ → Option Completion
         cancel u = cancel_where (is_over coid) Badf u (open_in s.threads u)
 
-        -- what meets the pulse isn't cancelled
+        -- the receiver of the pulse isn't cancelled
         met_uncancelled : (u : ℕ) (y : Completion) → ends_receiver (facts_in s) o u ≡ Some y → cancel u ≡ None
         met_uncancelled u y e = let k = told_waits s o u y e in rw k.is refl
 
@@ -122,7 +122,7 @@ module _ (s : State) (t coid : ℕ) (m : Member) (known : member_at (members_of 
           | Some y ↦ λ e. sym (met_uncancelled u y e)
         ] refl)
 
-        -- how the calls end in the threads that are left
+        -- the completions in the threads that are left
         abbrev g : ℕ → Option Completion
         g u = completion_for (Over coid) Badf (mine s t) u (open_in mid u)
 

@@ -1,4 +1,4 @@
--- What the calls on held messages share, by the kernel's content.
+-- Lemmas for the calls on held messages, by the kernel's content.
 use Rattle.qkernel.proofs.Common.{◌≡◌, ◌≢◌, ℕ, ◌+◌, List, [], ◌∷◌, refl, ap, sym, ◌∙◌, cond, true, false, eqb, inl, Option, None, Some, is_some, ◌||◌, ◌&&◌, refusal_completion, Finish, ends_sender, answer_completion, sender_among, refusal_unless_held, holds, is_held_for, is_held_in, is_held_of, open_in, sender_in, sent_call, SetsOpen, two_endings, filter_map, eqb-true, eq-eqb, same_Some, none-some, Srch, member_at, Member, Call, Completion, OpenCall, Thread, completion_to, row_of, channel_in, members_of, with_completion_in_place, State, IsSound, Steps, facts_in, unless, is_among, cond_same, rises, among, filter_map_same, option_map_or}
 use Rattle.qmodel.specs.declared.open_call.OpenCall.TheVariants.{Receive, Send}
 use Rattle.qrules.proofs.Words.Facts.{is_send, sender, threads_of}
@@ -12,11 +12,11 @@ module _ (s : State) (t : ℕ) (m : Member) (i : ℕ) (sound : IsSound s) (known
   held_same (Some (Receive r)) = refl
   held_same (Some (Send x)) = ap (λ b. is_some x.receipt && b) (owned_by_member (facts_in s) t m (channel_in s.channels x.channel) known)
 
-  -- what the row tests is what the kernel finds
+  -- the rule and the kernel agree on whether the message is held
   pub is_held : holds (facts_in s) t i ≡ is_held_in s.threads s.channels m.process i
   is_held = holds_by_call (facts_in s) t i ∙ held_same (sent_call s.threads i)
 
-  -- refused where no message is held so
+  -- the call fails if no such message is held
   pub step_unheld : (c : Call) (X : List Completion) → (row_of (facts_in s) t c).refusal ≡ refusal_unless_held (facts_in s) t i → s.down ≡ false → open_in s.threads t ≡ None → is_held_in s.threads s.channels m.process i ≡ false
       → X ≡ refusal_completion (facts_in s) t c Srch ∷ [] → Steps s t c X (counted s)
   step_unheld c X row up free none is = step_refused_alone s t c Srch X (inl (rw (row, up, free, is_held, none) refl)) is
@@ -32,7 +32,7 @@ among_senders threads i u e = found (threads_of (members_of threads)) e where
     | false ↦ λ e. elim (eqb v u) as (λ b. (b || is_among ts u) ≡ true) [ true ↦ refl | false ↦ found ts e ]
   ] e
 
--- ---- an answer
+-- ---- a reply
 
 finished_thread : (finish : Finish) (u : ℕ) (o : Option OpenCall) (y : Completion) → answer_completion finish u o ≡ Some y → y.thread ≡ u
 finished_thread finish u None y e = absurd (none-some y e)
@@ -41,14 +41,14 @@ finished_thread finish u (Some (Receive r)) y e = absurd (none-some y e)
 
 module _ (s : State) (t : ℕ) (m : Member) (i : ℕ) (sound : IsSound s) (known : member_at (members_of s.threads) t ≡ Some m) (finish : Finish) (u : ℕ) (y : Completion) (up : s.down ≡ false) (free : open_in s.threads t ≡ None)
     (is_sender : sender_in s.threads i ≡ Some u) (ended : answer_completion finish u (open_in s.threads u) ≡ Some y) where
-  -- the completion of the call that answers
+  -- the completion of the call that replies
   abbrev pub mine : Completion
   mine = record { call = s.made + 1; thread = t; mark = mark.Ok; buffer = [] }
 
   apart : t ≢ u
   apart e = none-some y (sym (ap (answer_completion finish u) (ap (open_in s.threads) (sym e) ∙ free)) ∙ ended)
 
-  -- the endings of the two threads
+  -- the completions of the two threads
   module _ (c : Call) (own : (row_of (facts_in s) t c).own ≡ Some mine) (others : (v : ℕ) → (row_of (facts_in s) t c).others v ≡ ends_sender (facts_in s) finish (sender (facts_in s) i) v) where
     pub two_ended : (X : List Completion) → X ≡ with_completion_in_place y (mine ∷ []) → X ≡ filter_map (completion_to (facts_in s) t c) (threads_of (members_of s.threads))
     two_ended X is =
@@ -59,7 +59,7 @@ module _ (s : State) (t : ℕ) (m : Member) (i : ℕ) (sound : IsSound s) (known
           | false ↦ λ f. refl
         ] refl))))
 
-    -- the sender waits no more
+    -- the sender is no longer blocked
     pub answered_calls : (threads : List Thread) → SetsOpen u None s.threads threads → (v : ℕ)
         → open_in threads v ≡ cond (eqb v t) None (unless (is_some ((row_of (facts_in s) t c).others v)) (open_in s.threads v))
     answered_calls threads takes v = rw (others v, is_sender) (takes.open_call v ∙ (elim (eqb v t) as (λ b. eqb v t ≡ b → cond (eqb v u) None (open_in s.threads v)

@@ -9,22 +9,22 @@ use Rattle.qkernel.proofs.Steps.Common.{uncancelled, counted, stays_free}
 use Rattle.qkernel.proofs.Steps.Held.{is_held}
 use Rattle.qrules.proofs.Traces.Past.Waits.{some_map}
 
--- what is told of the thread that sent it
+-- the information about the sender's thread
 pub info_there : (s : State) (i u : ℕ) (t : Thread) → sender_in s.threads i ≡ Some u → IsRecordOf u s.threads t → info_of (facts_in s) (sender (facts_in s) i) ≡ info_of_open t.member t.open_call
 info_there s i u t sent is =
     ap (info_of (facts_in s)) sent
     ∙ ap (option_and_then (λ m. info_of_open m (open_in s.threads u))) is.member
     ∙ ap (info_of_open t.member) is.open_call
 
--- nothing is told where no thread waits for the answer
+-- there is no information if no thread is blocked in this Send
 pub info_nowhere : (s : State) (i : ℕ) → sender_in s.threads i ≡ None → info_of (facts_in s) (sender (facts_in s) i) ≡ None
 info_nowhere s i none = ap (info_of (facts_in s)) none
 
--- what is told by the kernel's content is told at every trace at which it stands
+-- information from the kernel's content is right for every history that the kernel matches
 pub info_at_traces : (s : State) (i : ℕ) (told : Option Told) → IsRoster (members_of s.threads) → told ≡ info_of (facts_in s) (sender (facts_in s) i) → InfoAtTraces s i told
 info_at_traces s i told rises is roster past stands = is ∙ ap (λ f. info_of f (sender f i)) stands
 
--- what is held is told of
+-- there is information about a held message
 told_some : (channels : List (ℕ × Channel)) (p : ℕ) (m : Member) (o : Option OpenCall) → option_map_or (is_held_of channels p) o false ≡ true → is_some (info_of_open m o) ≡ true
 told_some channels p m None e = absurd (true≢false (sym e))
 told_some channels p m (Some (Receive r)) e = absurd (true≢false (sym e))

@@ -7,7 +7,7 @@ use Rattle.qkernel.proofs.Steps.Common.{count_same, counted, stays_free, step_re
 use Rattle.qmodel.specs.declared.call.Mark.TheVariants as mark
 
 module _ (s : State) (t thread priority : ℕ) (m : Member) (known : member_at (members_of s.threads) t ≡ Some m) (up : s.down ≡ false) (free : open_in s.threads t ≡ None) where
-  -- how the call ends
+  -- the completion of the call
   abbrev mine : Completion
   mine = record { call = s.made + 1; thread = t; mark = mark.Ok; buffer = [] }
 

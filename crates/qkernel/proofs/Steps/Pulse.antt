@@ -8,14 +8,14 @@ use Rattle.qkernel.proofs.Steps.Telling.{Tells}
 
 -- ---- the tests of the code and of the queue
 
--- a code that isn't below 0
+-- a code of at least 0
 pub natural : (code : ℤ) → lt_z code (pos 0) ≡ false → int_lt code (pos 0) ≡ false
 natural code e = e
 
--- ---- refusals
+-- ---- failures
 
 module _ (s : State) (t coid priority : ℕ) (code value : ℤ) (m : Member) (known : member_at (members_of s.threads) t ≡ Some m) (up : s.down ≡ false) (free : open_in s.threads t ≡ None) where
-  -- with the channel full, and with no memory for the pulse to wait in
+  -- the call fails if the channel's queue is full, or if there is no memory to queue the pulse
   pub pulse_full : (h : ℕ) → route_in m.process s.channels (entry_at s.connections coid) ≡ Some h → int_lt code (pos 0) ≡ false → has_room s.channels h ≡ false → MayRefuse (facts_in s) t (Pulse coid priority code value) Again
   pulse_full h found positive refusal_if_full =
       let there : route (facts_in s) t coid ≡ Some h = route-leads_to s t m (entry_at s.connections coid) known ∙ found in

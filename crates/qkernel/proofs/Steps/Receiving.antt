@@ -7,7 +7,7 @@ use Rattle.qkernel.proofs.Steps.Delivering.{count_kept, sound_items}
 use Rattle.qrules.proofs.Traces.Calls.Receiving.{receiver}
 use Rattle.qmodel.specs.declared.call.Mark.TheVariants as mark
 
--- ---- refused
+-- ---- failures
 
 pub step_receive_refused : (s : State) (t chid : ℕ) (kind : Kind) (buffer : List ℕ) (m : Member) (X : List Completion) → (kind ≡ PulseOnly → buffer ≡ []) → member_at (members_of s.threads) t ≡ Some m → s.down ≡ false → open_in s.threads t ≡ None
     → is_of m.process (channel_in s.channels chid) ≡ false → X ≡ record { call = s.made + 1; thread = t; mark = mark.Failed Srch; buffer = buffer } ∷ [] → Steps s t (receive_of kind chid buffer) X (counted s)
@@ -18,24 +18,24 @@ step_receive_refused s t chid PulseOnly buffer m X none known up free other is =
     let not_own : owns (facts_in s) t chid ≡ false = owned_by_member (facts_in s) t m (channel_in s.channels chid) known ∙ other in
     step_refused_alone s t (ReceivePulse chid) Srch X (inl (rw (up, free, not_own) refl)) (rw (none refl) at is)
 
--- the items of a channel that a write left as they were
+-- the items of a channel that a write doesn't change
 kept_items : (s : State) (h k : ℕ) → cond (eqb k h) (pending_in s.channels h) (pending_in s.channels k) ≡ pending_in s.channels k ++ []
 kept_items s h k = elim (eqb k h) as (λ b. eqb k h ≡ b → cond b (pending_in s.channels h) (pending_in s.channels k) ≡ pending_in s.channels k ++ []) [
   | true ↦ λ e. ap (pending_in s.channels) (sym (eqb-true k h e)) ∙ sym (append-nil _)
   | false ↦ λ e. sym (append-nil _)
 ] refl
 
--- ---- what is answered and what follows, whichever call it is
+-- ---- the completion and the changes, for both calls
 
--- how the call ends
+-- the completion of the call
 abbrev own_of : State → ℕ → List ℕ → Option Item → Option Completion
 own_of s t buffer o = own_receipt (facts_in s) t buffer o
 
--- what it receives
+-- the item that it receives
 abbrev receipt_by : State → ℕ → ℕ → List ℕ → Option Item → Option Received
 receipt_by s t chid buffer o = receipt_when_taken (facts_in s) chid (own_of s t buffer o) o
 
--- the endings, the open calls and the items of the step that a row of this best item says
+-- the completions, the open calls and the items after a step for which the rule has this best item
 record Receives (s : State) (t chid : ℕ) (kind : Kind) (buffer : List ℕ) (o : Option Item) (X : List Completion) (threads : List Thread) (channels : List (ℕ × Channel)) : Type 0 where
   endings : X ≡ filter_map (λ u. cond (eqb u t) (own_of s t buffer o) None) (threads_of (members_of s.threads))
   roster : members_of threads ≡ members_of s.threads
@@ -94,7 +94,7 @@ step_of s t chid PulseOnly buffer m o X threads channels none known up free owne
     },
   )
 
--- ---- with nothing to take, and with an item
+-- ---- no item to take, and an item to take
 
 module _ (s : State) (t chid : ℕ) (kind : Kind) (buffer : List ℕ) (m : Member) (sound : IsSound s) (known : member_at (members_of s.threads) t ≡ Some m) (up : s.down ≡ false) (free : open_in s.threads t ≡ None)
     (own : is_of m.process (channel_in s.channels chid) ≡ true) (empty : kind ≡ PulseOnly → buffer ≡ []) where
@@ -121,7 +121,7 @@ module _ (s : State) (t chid : ℕ) (kind : Kind) (buffer : List ℕ) (m : Membe
       | false ↦ λ e. refl
     ] refl)
 
-    -- what the sender of a message keeps
+    -- the receipt in the sender's open call
     abbrev pub kept : Receipt
     kept = record { priority = item.priority; copied = laid_count buffer 0 (message_from s.threads item.number); unblocked = false }
 
@@ -139,7 +139,7 @@ module _ (s : State) (t chid : ℕ) (kind : Kind) (buffer : List ℕ) (m : Membe
     idle_after : (u : ℕ) → open_in s.threads u ≡ cond (eqb u t) None (open_in s.threads u)
     idle_after u = stays_free s.threads t u free
 
-    -- the priority that the receiver takes
+    -- the priority that the receiver gets
     abbrev pub priority : List (ℕ × Channel) → Option ℕ
     priority channels = cond (is_fixed (channel_in channels chid)) None (Some item.priority)
 

@@ -4,7 +4,7 @@ use Rattle.qmodel.specs.declared.open_call.OpenCall.TheVariants.{Send as InSend}
 use Rattle.qkernel.proofs.Steps.Delivering.{counted_room, count_kept, items_after, some_sent, some_way, with_item, priority_at}
 use Rattle.qkernel.proofs.Steps.Common.{uncancelled, counted, step_refused, step_refused_alone, route-leads_to}
 
--- ---- refusals
+-- ---- failures
 
 pub step_send_nowhere : (s : State) (t coid : ℕ) (message reply_buffer : List ℕ) (m : Member) (X : List Completion) → member_at (members_of s.threads) t ≡ Some m → s.down ≡ false → open_in s.threads t ≡ None
     → route_in m.process s.channels (entry_at s.connections coid) ≡ None → X ≡ refusal_completion (facts_in s) t (Send coid message reply_buffer) Badf ∷ [] → Steps s t (Send coid message reply_buffer) X (counted s)
@@ -72,7 +72,7 @@ module _ (s : State) (t coid : ℕ) (message reply_buffer : List ℕ) (m : Membe
     others_is : (u : ℕ) → (row_of (facts_in s) t (Send coid message reply_buffer)).others u ≡ cond (eqb u r) (takes item message u (open_in s.threads u)) None
     others_is u = sent_same (facts_in s) t coid message reply_buffer u (rw over_way refl) ∙ rw (over_way, newest_is_r) refl
 
-    -- the sender waits with the receipt, the receiver no longer
+    -- the sender is blocked with the receipt, and the receiver is no longer blocked
     calls_after : (threads_1 : List Thread) → Wakes r (priority_at s h item) s.threads threads_1 → (u : ℕ)
         → cond (eqb u t) (Some (waiting (Some (record { priority = thread_priority s.threads t; copied = copied; unblocked = false })))) (open_in threads_1 u)
         ≡ cond (eqb u t) (unless false (cond (eqb u t) (Some (waiting (Some (record { priority = thread_priority s.threads t; copied = copied; unblocked = false })))) (Some (waiting None))))

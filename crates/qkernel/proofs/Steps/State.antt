@@ -9,7 +9,7 @@ module _ (s : State) (t target : ℕ) (m : Member) (known : member_at (members_o
   pub step_state_nobody : (X : List Completion) → is_some (member_at (members_of s.threads) target) ≡ false → X ≡ refusal_completion (facts_in s) t (Ask target) Srch ∷ [] → Steps s t (Ask target) X (counted s)
   step_state_nobody X nobody is = step_refused_alone s t (Ask target) Srch X (inl (rw (up, free, nobody) refl)) is
 
-  -- how the call ends
+  -- the completion of the call
   abbrev pub telling : Completion
   telling = record { call = s.made + 1; thread = t; mark = mark.State (option_map_or state_in (open_in s.threads target) Ready) (thread_priority s.threads target); buffer = [] }
 

@@ -1,4 +1,4 @@
--- What the steps share that send a pulse.
+-- Lemmas for the steps that send a pulse.
 use Rattle.qkernel.proofs.Common.{◌≡◌, ℕ, ◌+◌, List, [], ◌∷◌, refl, ap, sym, subst, ◌∙◌, cond, arith, true, false, eqb, inl, inr, MayRefuse, completion_to, refusal_of, attaches, closes, creates, detaches, makes, sets, shuts_down, unblocks, writes, after_unblock, unless, IsSent, IsSentIfDue, IsTurnedAway, has_room, own_first, own_one, IsSettled, eqb-true, ne_eqb, option_or, Item, member_at, Member, Errno, Again, NoMemory, cond_same, refusal_completion, receipt_of, ends_receiver, pulse_receipt, row_of, Facts, threads_of, SentItem, Call, Completion, OpenCall, Channel, Thread, with_completion_if, newest_in, open_in, thread_priority, members_of, State, IsSound, Steps, facts_in, among, filter_map_same, only_own, rises, Bool, Option, None, Some, is_some}
 use Rattle.qrules.proofs.Traces.Past.OpenCalls.{unblock_none}
 use Rattle.qkernel.proofs.Steps.Common.{Counted, counted_alone, sound_counted, sound_counted_alone, step_refused, uncancelled_by}
@@ -6,7 +6,7 @@ use Rattle.qkernel.proofs.Steps.Cancelling.{mine}
 use Rattle.qkernel.proofs.Steps.Delivering.{count_kept, counted_room, sound_threads, sound_with_item}
 use Rattle.qkernel.proofs.Steps.Told.{IsNew, IsTold, not_caller, told_settled}
 
--- of its own the call neither creates nor attaches, detaches, destroys, sets or writes anything
+-- apart from the pulse, the call creates, attaches, detaches, destroys, sets and writes nothing
 pub record Quiet (f : Facts) (t : ℕ) (c : Call) : Type 0 where
   pub closes_none : closes c ≡ None
   pub detaches_none : detaches c ≡ None
@@ -25,7 +25,7 @@ pub record Tells (s : State) (t : ℕ) (c : Call) (o : Option SentItem) : Type 0
   pub ends : (u : ℕ) → (row_of (facts_in s) t c).others u ≡ ends_receiver (facts_in s) o u
   pub receipt : (receipt_of (facts_in s) t c) ≡ pulse_receipt (facts_in s) o
 
--- the threads once it is kept that an unblock pulse was made, if it was
+-- the threads after a receipt records that an unblock pulse was sent, if one was sent
 pub record AreMarked (c : Call) (o : Option SentItem) (mid threads : List Thread) : Type 0 where
   pub members : members_of threads ≡ members_of mid
   pub open_call : (u : ℕ) → open_in threads u ≡ after_unblock o (unblocks c) u (open_in mid u)
@@ -46,7 +46,7 @@ module _ (s : State) (t : ℕ) (c : Call) (m : Member) (o : Option SentItem) (so
   completion_is : (u : ℕ) → option_or (g u) (ends_receiver (facts_in s) o u) ≡ completion_to (facts_in s) t c u
   completion_is u = rw (tells.own, tells.ends u) (own_first (eqb u t) (Some (mine s t)) (ends_receiver (facts_in s) o u))
 
-  -- the receiver of the pulse isn't marked, and neither is the caller
+  -- the receipt changes in the same way before and after an open call is taken
   unless_after : (b : Bool) (u : ℕ) (w : Option OpenCall) → after_unblock o (unblocks c) u (unless b w) ≡ unless b (after_unblock o (unblocks c) u w)
   unless_after true u w = unblock_none o (unblocks c) u
   unless_after false u w = refl
@@ -65,7 +65,7 @@ module _ (s : State) (t : ℕ) (c : Call) (m : Member) (o : Option SentItem) (so
   settled : (u : ℕ) (y : Completion) → (row_of (facts_in s) t c).others u ≡ Some y → IsSettled (open_in s.threads u)
   settled u y e = told_settled s o u y (sym (tells.ends u) ∙ e)
 
-  -- it waits, or meets a receiver
+  -- the pulse is queued, or a receiver takes it
   pub step_told : (threads : List Thread) (X : List Completion) → AreMarked c o mid threads → X ≡ with_completion_if met (mine s t ∷ [])
       → Steps s t c X (record { made = s.made + 1; down = s.down; threads = threads; channels = channels; connections = s.connections })
   step_told threads X marked is_X =
@@ -92,11 +92,11 @@ module _ (s : State) (t : ℕ) (c : Call) (m : Member) (o : Option SentItem) (so
         },
       )
 
--- a call that unblocks none leaves all as it is
+-- a call that sends no unblock pulse changes no receipt
 pub none_marked : (c : Call) (o : Option SentItem) (mid : List Thread) → unblocks c ≡ None → AreMarked c o mid mid
 none_marked c o mid none = record { members = refl; open_call = λ u. rw none refl; priority = λ u. refl }
 
--- ---- a pulse that is turned away
+-- ---- a pulse that can't be sent
 
 module _ (s : State) (t : ℕ) (c : Call) (h : ℕ) (item : Item) (e : Errno) (threads : List Thread) (channels : List (ℕ × Channel)) (away : IsTurnedAway h item s.threads s.channels threads channels e) where
   only_counted : Counted s (record { made = s.made + 1; down = s.down; threads = threads; channels = channels; connections = s.connections })
@@ -122,7 +122,7 @@ sound_sent s h item threads channels None number sent sound = sound_with_item s 
 sound_sent s h item threads channels (Some y) number sent sound =
     subst (λ cs. IsSound (record { made = s.made + 1; down = s.down; threads = threads; channels = cs; connections = s.connections })) (sym sent.channels_are) (sound_threads s threads sound sent.wakes.members)
 
--- and so where none may be due
+-- the kernel also stays sound if no pulse is due
 pub sound_due : (s : State) (h : ℕ) (d : Option Item) (mid : List Thread) (channels : List (ℕ × Channel)) (met : Option Completion) → IsSound s → IsNew (s.made + 1) d → IsSentIfDue h d s.threads s.channels mid channels met
     → IsSound (record { made = s.made + 1; down = s.down; threads = mid; channels = channels; connections = s.connections })
 sound_due s h None mid channels met sound new sent = rw (sent.0, sent.1) (sound_counted_alone s sound)

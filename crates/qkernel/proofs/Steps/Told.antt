@@ -1,4 +1,4 @@
--- A pulse that is sent, if one is due: what becomes of the threads and the channels, and whose call ends.
+-- A pulse that is sent, if one is due: the threads and channels afterwards, and the call that completes.
 use Rattle.qkernel.proofs.Common.{◌≡◌, ◌≢◌, ℕ, ◌+◌, ◌<◌, ◌≤◌, List, [], ◌++◌, length, refl, ap, sym, subst, ◌∙◌, cond, true, false, eqb, Option, None, Some, IfSome, is_some, unwrap_or, eqb_same, is_among, or_none, refusal_if_full_for, newest_receiver, ends_receiver, pulse_receipt, item_in, takes, after_receipt, priority_taken, unreceived_items, unless, ForAnItem, met_item, met_settled, IsSettled, IsLeft, IsMet, IsSentIfDue, endings_fewer, inserted_among, ended_thread, newest_receives, waits_among, AllByRecursion, filter_map, eqb-true, ne_eqb, true≢false, none-some, same_Some, option_or, is_pulse, Item, threads_of, SentItem, made_on, Completion, OpenCall, filter_map_same, rises, ids_of, channel_in, pending_in, thread_priority, members_of, with_completion_if, open_in, Channel, Thread, State, IsSound, facts_in}
 use Rattle.std.proofs.lemmas.List.{append-nil}
 use Rattle.qmodel.specs.declared.open_call.OpenCall.TheVariants.{Receive, Send}
@@ -9,7 +9,7 @@ abbrev pub made_for : ℕ → Option Item → Option SentItem
 made_for h None = None
 made_for h (Some item) = Some (record { item = item; channel = h })
 
--- what has become of the threads and the channels, and how the call of its receiver ends
+-- the threads and the channels afterwards, and the completion of the pulse's receiver
 pub record IsTold (s : State) (t : ℕ) (o : Option SentItem) (mid : List Thread) (channels : List (ℕ × Channel)) (met : Option Completion) : Type 0 where
   pub room : refusal_if_full_for (facts_in s) o ≡ None
   pub members : members_of mid ≡ members_of s.threads
@@ -25,7 +25,7 @@ pub record IsTold (s : State) (t : ℕ) (o : Option SentItem) (mid : List Thread
   pub few : (g : ℕ → Option Completion) → ((u : ℕ) → is_some (ends_receiver (facts_in s) o u) ≡ true → g u ≡ None) → is_some met ≡ true
       → length (filter_map g (threads_of (members_of s.threads))) + 1 ≤ length (threads_of (members_of s.threads))
 
--- ---- none is due
+-- ---- no pulse is due
 
 untold : (s : State) (t : ℕ) → IsTold s t None s.threads s.channels None
 untold s t = record {
@@ -42,9 +42,9 @@ untold s t = record {
   few = λ g none e. absurd (true≢false (sym e));
 }
 
--- ---- one is due
+-- ---- a pulse is due
 
--- a receipt of a pulse is one of its number, with no bytes
+-- the receipt of a pulse has the pulse's number and no bytes
 told_mark : (item : Item) (r : ℕ) (o : Option OpenCall) (y : Completion) → is_pulse item.what ≡ true → takes item [] r o ≡ Some y → item_in y.mark ≡ Some (record { number = item.number; copied = 0 })
 told_mark item r None y pulse e = absurd (none-some y e)
 told_mark item r (Some (Send s)) y pulse e = absurd (none-some y e)
@@ -54,7 +54,7 @@ module _ (s : State) (t h : ℕ) (item : Item) (sound : IsSound s) (free : open_
   abbrev sent : Option SentItem
   sent = Some (record { item = item; channel = h })
 
-  -- it waits
+  -- the pulse is queued
   told_left : IsLeft h item s.threads s.channels mid channels → IsTold s t sent mid channels None
   told_left left =
       let none : newest_receiver (facts_in s) h item ≡ None = left.nobody in
@@ -72,7 +72,7 @@ module _ (s : State) (t h : ℕ) (item : Item) (sound : IsSound s) (free : open_
         few = λ g nothing e. absurd (true≢false (sym e));
       }
 
-  -- it meets a receiver
+  -- a receiver takes the pulse
   module _ (y : Completion) (pulse : is_pulse item.what ≡ true) (met : IsMet h item s.threads s.channels mid channels y) where
     abbrev r : ℕ
     r = met.receiver
@@ -95,7 +95,7 @@ module _ (s : State) (t h : ℕ) (item : Item) (sound : IsSound s) (free : open_
     told_r : is_some (ends_receiver (facts_in s) sent r) ≡ true
     told_r = rw (told_is r, eqb_same r) refl
 
-    -- the receiver waits no more
+    -- the receiver is no longer blocked
     waits_after : (u : ℕ) → open_in mid u ≡ unless (is_some (cond (eqb u r) (Some y) None)) (open_in s.threads u)
     waits_after u = met.wakes.open_call u ∙ (elim (eqb u r) as (λ b. cond b None (open_in s.threads u) ≡ unless (is_some (cond b (Some y) None)) (open_in s.threads u)) [ true ↦ refl | false ↦ refl ])
 
@@ -118,13 +118,13 @@ module _ (s : State) (t h : ℕ) (item : Item) (sound : IsSound s) (free : open_
           few = λ g none e. endings_fewer g r (threads_of (members_of s.threads)) (none r told_r) there;
         }
 
--- ---- one or none
+-- ---- a pulse, if one is due
 
--- a pulse of the call's number
+-- a pulse with the call's number
 abbrev pub IsNew : ℕ → Option Item → Type 0
 IsNew n d = IfSome d (λ item. (item.number ≡ n) × (is_pulse item.what ≡ true))
 
--- it has a greater number than all that waits
+-- it has a greater number than all queued items
 pub newest_due : (n : ℕ) (d : Option Item) (items : List Item) → IsNew n d → AllByRecursion (λ x. x.number < n) items → IfSome d (λ item. AllByRecursion (λ x. x.number < item.number) items)
 newest_due n None items new below = tt
 newest_due n (Some item) items new below = subst (λ k. AllByRecursion (λ (x : Item). x.number < k) items) (sym new.0) below
@@ -135,11 +135,11 @@ is_told s t h None mid channels met sound free new sent = rw (sent.0, sent.1, se
 is_told s t h (Some item) mid channels None sound free new sent = told_left s t h item sound free new.0 mid channels sent
 is_told s t h (Some item) mid channels (Some y) sound free new sent = told_met s t h item sound free new.0 mid channels y new.1 sent
 
--- what meets the pulse isn't the caller
+-- the receiver of the pulse isn't the caller
 pub not_caller : (s : State) (t u : ℕ) (o : Option SentItem) (mid : List Thread) (channels : List (ℕ × Channel)) (met : Option Completion) → IsTold s t o mid channels met → is_some (ends_receiver (facts_in s) o u) ≡ true → u ≢ t
 not_caller s t u o mid channels met is there same = true≢false (sym there ∙ ap (λ v. is_some (ends_receiver (facts_in s) o v)) same ∙ ap is_some is.idle)
 
--- what meets the pulse waits for an item
+-- the receiver of the pulse is blocked in a receive
 pub told_waits : (s : State) (o : Option SentItem) (u : ℕ) (y : Completion) → ends_receiver (facts_in s) o u ≡ Some y → ForAnItem (open_in s.threads u)
 told_waits s None u y e = absurd (none-some y e)
 told_waits s (Some x) u y e = met_item (facts_in s) x.item [] (Some x.channel) u y e

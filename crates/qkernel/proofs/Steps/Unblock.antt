@@ -11,19 +11,21 @@ use Rattle.qkernel.proofs.Steps.Telling.{AreMarked, Tells}
 use Rattle.qkernel.proofs.Steps.Told.{IsNew}
 use Rattle.qmodel.specs.declared.open_call.OpenSend.{OpenSend}
 
--- ---- what guards an open call, by the kernel's content
+-- ---- the guard of an open call, by the kernel's content: a channel with UNBLOCK on which its message is
+-- held
 
 -- no channel guards the open call, and no pulse is due
 record Unguarded (s : State) (o : Option OpenCall) : Type 0 where
   none_due : due_pulse_of_open (facts_in s) o ≡ None
   unguarded : (w : OpenCall) → o ≡ Some w → guards (facts_in s) w ≡ false
 
--- the channel of the message guards it, and the pulse is the one for that message
+-- the channel of the message guards the call, and the pulse is for that message
 record Guarded (s : State) (o : Option OpenCall) (held : Held) : Type 0 where
   due_is : due_pulse_of_open (facts_in s) o ≡ cond held.receipt.unblocked None (Some (record { item = unblock_item (s.made + 1) held.receipt.priority held.rcvid; channel = held.channel }))
   guarded : (w : OpenCall) → o ≡ Some w → guards (facts_in s) w ≡ true
 
--- whether a channel guards a Send, and the pulse that is then due, by the receipt and by whether the channel tells
+-- whether a channel guards a Send, and the pulse that is then due. Both follow from the receipt and the
+-- channel's UNBLOCK flag.
 abbrev guards_by : Option Receipt → Bool → Bool
 guards_by receipt tells = is_some receipt && tells
 
@@ -120,12 +122,12 @@ module _ (s : State) (t thread : ℕ) (m : Member) (sound : IsSound s) (known : 
         },
       )
 
-    -- a channel guards its message
+    -- a channel guards the thread's message
     module _ (g : Held) (guarded : guarded_message_in s.channels (open_in s.threads thread) ≡ Some g) where
       q : Guarded s (open_in s.threads thread) g
       q = one_guards s (open_in s.threads thread) g guarded
 
-      -- which had its pulse
+      -- an unblock pulse was sent for this message before
       module _ (told : g.receipt.unblocked ≡ true) where
         none_due : unblock_pulse (facts_in s) thread ≡ None
         none_due = q.due_is ∙ rw told refl
@@ -164,7 +166,7 @@ module _ (s : State) (t thread : ℕ) (m : Member) (sound : IsSound s) (known : 
           },
         )
 
-      -- which is told now, by this pulse
+      -- this pulse is the first for the message
       module _ (first : g.receipt.unblocked ≡ false) (pulse : Item) (is_pulse : pulse ≡ unblock_item (s.made + 1) g.receipt.priority g.rcvid) where
         due_is : unblock_pulse (facts_in s) thread ≡ Some (record { item = pulse; channel = g.channel })
         due_is = q.due_is ∙ rw (first, is_pulse) refl
@@ -187,11 +189,11 @@ module _ (s : State) (t thread : ℕ) (m : Member) (sound : IsSound s) (known : 
           receipt = ap (pulse_receipt (facts_in s)) due_is;
         }
 
--- the pulse is one of the call's number
+-- the pulse has the call's number
 pub new_pulse : (n priority i : ℕ) (pulse : Item) → pulse ≡ unblock_item n priority i → IsNew n (Some pulse)
 new_pulse n priority i pulse is = subst (λ x. IsNew n (Some x)) (sym is) (refl, refl)
 
--- what the thread is blocked in is marked
+-- the receipt in the thread's open call is changed
 pub are_marked : (thread : ℕ) (m : SentItem) (mid threads : List Thread) → ChangesOpen thread unblocked_call mid threads → AreMarked (Unblock thread) (Some m) mid threads
 are_marked thread m mid threads marks = record {
   members = marks.members;

@@ -6,7 +6,7 @@ use Rattle.qmodel.specs.declared.call.Mark.TheVariants as mark
 
 module _ (s : State) (t : ℕ) (m : Member) (i : ℕ) (sound : IsSound s) (known : member_at (members_of s.threads) t ≡ Some m) (up : s.down ≡ false) (free : open_in s.threads t ≡ None)
     (held : is_held_in s.threads s.channels m.process i ≡ true) where
-  -- the caller waits for nothing, and the sender's buffer is written over
+  -- the caller has no open call, and the sender's reply buffer is written over
   calls_after : (offset : ℕ) (bytes : List ℕ) (u : ℕ) → cond (is_thread (sender_in s.threads i) u) (option_map (written_call offset bytes) (open_in s.threads u)) (open_in s.threads u)
       ≡ cond (eqb u t) None (cond (is_thread (sender_in s.threads i) u) (option_map (written_call offset bytes) (open_in s.threads u)) (open_in s.threads u))
   calls_after offset bytes u = elim (eqb u t) as (λ b. eqb u t ≡ b → cond (is_thread (sender_in s.threads i) u) (option_map (written_call offset bytes) (open_in s.threads u)) (open_in s.threads u)

@@ -1,4 +1,4 @@
-//! The threads that are blocked.
+//! The blocked threads.
 
 ghost use Rattle.std.specs.Prelude.{◌≡◌, ◌++◌, List, Some, is_some, IfOk, OnOk};
 ghost use Rattle.qstate.specs.Thread.{open_in};
@@ -33,7 +33,7 @@ fn push_blocked(list: &mut Vec<Blocked>, thread: &Thread) -> Result<(), AllocErr
 impl Kernel {
     ghost use Rattle.qkernel.specs.Stands.{StandsAt};
 
-    /// Returns whether the thread is blocked; false if it isn't in the roster.
+    /// Returns whether the thread is blocked. Returns `false` if it isn't in the roster.
     pub fn is_blocked(&self, thread: ThreadNo) -> bool
         ensures { result ≡ is_some (open_in self.now.threads thread) }
     {
@@ -43,8 +43,8 @@ impl Kernel {
         }
     }
 
-    /// Returns the threads that are blocked, in rising number, for a report of how a run ended. The list is all that
-    /// takes memory.
+    /// Returns the blocked threads, in ascending order of their numbers, for a report of how a run ended.
+    /// Only the list takes memory.
     pub fn blocked(&self, alloc: Global) -> Result<Vec<Blocked>, AllocError>
         ensures { (roster : List Member) (past : Trace) → StandsAt roster self.now past → IfOk result (λ list. list.items ≡ blocked_threads (facts_of roster past)) }
     {

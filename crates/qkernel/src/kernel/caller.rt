@@ -13,16 +13,16 @@ use qstate::seat::Seat;
 use std::alloc::Global;
 use std::mem;
 
-/// The caller of a call.
+/// The thread that makes a call.
 #[derive(Clone, Copy, Debug)]
 pub(crate) struct Caller {
     /// The number of calls that were made before its call. The call's own number is one more.
     pub(crate) made: u64,
-    /// Its seat.
+    /// The index of the thread.
     pub(crate) seat: Seat,
-    /// Its process.
+    /// The thread's process.
     pub(crate) process: ProcessNo,
-    /// The allocator, for a buffer of no bytes.
+    /// The allocator, for empty buffers.
     pub(crate) alloc: Global,
     ghost few: { made < 2 ^ 40 },
 }
@@ -55,8 +55,8 @@ impl Caller {
         self.completion_with(mark, Bytes::new(self.alloc))
     }
 
-    /// Returns the completion of the caller's call, which succeeded. Its buffer is empty, and has the memory of a message,
-    /// so that the message isn't freed here but with the completion.
+    /// Returns the completion of the caller's call, with the result `Ok`. Its buffer is empty, but has the
+    /// memory of a message. So the message is freed with the completion, and not here.
     pub(crate) fn completion_taking(&self, message: &mut Bytes) -> Completion
         ensures { result ≡ record { call = self.now.made + 1; thread = self.now.seat.thread; mark = Mark.Ok; buffer = [] } }
     {
@@ -65,7 +65,7 @@ impl Caller {
         self.completion_with(Mark::Ok, Bytes::from(memory))
     }
 
-    /// Returns the message or pulse that the caller's call sends. Its number is that of the call.
+    /// Returns the message or pulse that the caller's call sends. It has the number of the call.
     pub(crate) fn item(&self, priority: Priority, what: What) -> Item
         ensures { result ≡ record { number = self.now.made + 1; priority = priority; what = what } }
     {
@@ -76,7 +76,7 @@ impl Caller {
         }
     }
 
-    /// Refuses the caller's call with an error; the call gets its buffer back.
+    /// Completes the caller's call with an error, and returns its buffer.
     pub(crate) fn refuse(&self, endings: &mut Endings, errno: Errno, buffer: Bytes)
         requires { endings.old.items ≡ [] }
         ensures { endings.new.items ≡ record { call = self.now.made + 1; thread = self.now.seat.thread; mark = Mark.Failed errno; buffer = buffer } ∷ [] }

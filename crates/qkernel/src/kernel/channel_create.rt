@@ -1,4 +1,4 @@
-//! ChannelCreate.
+//! The call `ChannelCreate`.
 
 use super::Kernel;
 use super::caller::Caller;
@@ -13,7 +13,7 @@ use qstate::endings::{Endings, put};
 impl Kernel {
     ghost use Rattle.qkernel.specs.Private.Caller.{MayCall, MakesOrRefuses};
 
-    /// Creates a channel of the caller's process. The channel's record is all that takes memory.
+    /// Creates a channel of the caller's process. Only the channel's record takes memory.
     pub(super) fn channel_create(
         &mut self,
         caller: &Caller,

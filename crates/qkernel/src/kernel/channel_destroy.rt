@@ -1,4 +1,4 @@
-//! ChannelDestroy.
+//! The call `ChannelDestroy`.
 
 use super::Kernel;
 use super::caller::Caller;
@@ -11,9 +11,9 @@ use qstate::endings::Endings;
 impl Kernel {
     ghost use Rattle.qkernel.specs.Private.Caller.{MayCall, MakesOrRefuses};
 
-    /// Destroys a channel of the caller's process, after each call that is blocked on it has ended with `Srch`. The
-    /// messages and pulses that wait there are dropped, and the connections to it stay: our own profile. Never blocks,
-    /// and takes no memory.
+    /// Destroys a channel of the caller's process, and cancels, with `Srch`, each call that is blocked on it.
+    /// Under Balsaeuchre's own rule, its queued messages and pulses are dropped, and the connections to it
+    /// stay. Never blocks, and takes no memory.
     pub(super) fn channel_destroy(
         &mut self,
         caller: &Caller,

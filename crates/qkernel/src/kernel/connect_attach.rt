@@ -1,4 +1,4 @@
-//! ConnectAttach.
+//! The call `ConnectAttach`.
 
 use super::Kernel;
 use super::caller::Caller;
@@ -11,7 +11,7 @@ use qtables::connection::Connection;
 impl Kernel {
     ghost use Rattle.qkernel.specs.Private.Caller.{MayCall, MakesOrRefuses};
 
-    /// Attaches the caller's process to an open channel. The connection's record is all that takes memory.
+    /// Attaches the caller's process to an open channel. Only the connection's record takes memory.
     pub(super) fn connect_attach(
         &mut self,
         caller: &Caller,

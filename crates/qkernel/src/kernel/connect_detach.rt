@@ -1,4 +1,4 @@
-//! ConnectDetach.
+//! The call `ConnectDetach`.
 
 ghost use Rattle.std.specs.Prelude.{◌≡◌, ◌+◌, None, Some, if◌then◌else◌};
 ghost use Rattle.qrules.specs.Records.{disconnect_item};
@@ -13,8 +13,8 @@ use qqueue::item::{Item, What};
 use qstate::cancelling::CancelSet;
 use qstate::endings::{Endings, put_if};
 
-/// Returns the pulse that tells a server that the caller's process has detached its last connection; `None` if it isn't
-/// the last.
+/// Returns the pulse by which a server learns that the caller's process has detached its last connection.
+/// Returns `None` if the connection isn't the last.
 fn pulse_for(caller: &Caller, last: bool, priority: Priority) -> Option<Item>
     ensures { result ≡ (if last then Some (disconnect_item (caller.now.made + 1) priority caller.now.process) else None) }
 {
@@ -28,9 +28,9 @@ fn pulse_for(caller: &Caller, last: bool, priority: Priority) -> Option<Item>
 impl Kernel {
     ghost use Rattle.qkernel.specs.Private.Caller.{MayCall, MakesOrRefuses};
 
-    /// Detaches a connection of the caller's process, after each Send over it has ended with `Badf`. If it was the
-    /// process's last connection to a channel with the disconnect flag, the channel's server gets a pulse of the
-    /// caller's priority. Never blocks, and takes memory only if that pulse is queued.
+    /// Detaches a connection of the caller's process, and cancels each Send over it with `Badf`. If it was
+    /// the process's last connection to a channel with the disconnect flag, the channel's server gets a pulse
+    /// with the caller's priority. Never blocks, and takes memory only if that pulse is queued.
     pub(super) fn connect_detach(
         &mut self,
         caller: &Caller,

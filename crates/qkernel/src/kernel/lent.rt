@@ -1,4 +1,4 @@
-//! Making a call that borrows its bytes.
+//! Calls that borrow their bytes.
 
 ghost use Rattle.std.specs.Prelude.{◌≡◌, ◌+◌, ◌<◌, ◌≤◌, ◌^◌, [], length, IfErr, OnErr, OnOk};
 ghost use Rattle.qstate.specs.Thread.{blocked_count};
@@ -20,8 +20,8 @@ impl Kernel {
     ghost use Rattle.qkernel.specs.Stands.{AnswersAtTraces, LeavesIfRefused};
     ghost use Rattle.qkernel.specs.Private.Caller.{MayCall, MakesOrRefuses};
 
-    /// Makes a call by its own method, after it was counted and `refusal` found no error. An `Err` is the error of a
-    /// refusal.
+    /// Makes a call by its own method, after `refusal` found no error and the call was counted. On an `Err`
+    /// the call fails with this error, and its completion isn't in the list yet.
     fn make_lent(
         &mut self,
         caller: &Caller,
@@ -45,8 +45,8 @@ impl Kernel {
         }
     }
 
-    /// Counts a call of the thread at a seat, and then makes it, or refuses it if the kernel is shut down or the thread
-    /// is blocked.
+    /// Counts a call of the thread at this index and makes it. The call fails if the kernel is shut down or
+    /// the thread is blocked.
     fn perform_lent(&mut self, seat: &Seat, call: &LentCall, endings: &mut Endings)
         requires limit { self.old.made < 2 ^ 40 }
         requires seat { IsSeatIn self.old.threads seat.now }
@@ -65,8 +65,8 @@ impl Kernel {
         }
     }
 
-    /// Makes one call as `call_at` does, but of a call that borrows its bytes: they are copied once, into the reply
-    /// buffer.
+    /// Makes one call as `call_at` does, but the call borrows its bytes. They are copied once, into the
+    /// sender's reply buffer.
     pub fn call_lent_at(
         &mut self,
         seat: &Seat,
@@ -80,10 +80,10 @@ impl Kernel {
         ensures roster { members_of self.new.threads ≡ members_of self.old.threads }
         ensures ok { OnOk result ((self.old.made < 2 ^ 40) × (self.new.made ≡ self.old.made + 1)) }
 
-        // An event ends at most its own call and calls that were open.
+        // An event completes at most its own call and calls that were open.
         ensures room { OnOk result (length endings.new.items + blocked_count self.new.threads ≤ blocked_count self.old.threads + 1) }
 
-        // The error, and that it changes nothing.
+        // On an error nothing changes.
         ensures unchanged { OnErr result ((self.new ≡ self.old) × (endings.new.items ≡ [])) }
         ensures error { IfErr result (λ e. (2 ^ 40 ≤ self.old.made) × (e ≡ Errno.Exhausted)) }
     {

@@ -1,4 +1,4 @@
-//! PrioritySet.
+//! The call `PrioritySet`.
 
 use super::Kernel;
 use super::caller::Caller;
@@ -11,8 +11,8 @@ use qstate::endings::{Endings, put};
 impl Kernel {
     ghost use Rattle.qkernel.specs.Private.Caller.{MayCall, MakesOrRefuses};
 
-    /// Gives a thread of the caller's process another priority, and with it the message with which it is SEND-blocked.
-    /// Never blocks, and takes no memory.
+    /// Sets the priority of a thread of the caller's process, and of the message with which the thread is
+    /// SEND-blocked. Never blocks, and takes no memory.
     pub(super) fn priority_set(
         &mut self,
         caller: &Caller,

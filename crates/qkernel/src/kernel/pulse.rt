@@ -1,4 +1,4 @@
-//! Pulse.
+//! The call `Pulse`.
 
 use super::Kernel;
 use super::caller::Caller;
@@ -12,8 +12,8 @@ use qstate::endings::{Endings, put, put_if};
 impl Kernel {
     ghost use Rattle.qkernel.specs.Private.Caller.{MayCall, MakesOrRefuses};
 
-    /// Sends a pulse: to the receiver that may take it and began to wait last, or into the channel's queue, whose room
-    /// is all that takes memory. Never blocks. A code below 0 is refused: our own profile.
+    /// Sends a pulse to the newest receiver that may take it, or into the channel's queue. Only the room of
+    /// the queue takes memory. Never blocks. Under Balsaeuchre's own rule, a code below 0 fails with `Inval`.
     pub(super) fn pulse(
         &mut self,
         caller: &Caller,

@@ -1,4 +1,4 @@
-//! Read and Write.
+//! The calls `Read` and `Write`.
 
 use super::Kernel;
 use super::caller::Caller;
@@ -11,8 +11,8 @@ use qstate::endings::{Endings, put};
 impl Kernel {
     ghost use Rattle.qkernel.specs.Private.Caller.{MayCall, Makes, MakesOrRefuses};
 
-    /// Copies bytes of a held message, from an offset on, to the front of the buffer. An offset at or past the
-    /// message's end copies nothing. Changes nothing, never blocks, and takes no memory.
+    /// Copies bytes of a held message, beginning at an offset, to the front of the buffer. An offset at or
+    /// past the message's end copies nothing. Changes nothing, never blocks, and takes no memory.
     pub(super) fn read(
         &mut self,
         caller: &Caller,
@@ -33,8 +33,9 @@ impl Kernel {
         put(endings, caller.completion_with(Mark::Count(copied), buffer));
     }
 
-    /// Copies bytes into the reply buffer of a held message's sender, from an offset on; the sender stays blocked. An
-    /// offset at or past the buffer's end copies nothing. Never blocks, and takes no memory.
+    /// Copies bytes into the reply buffer of a held message's sender, beginning at an offset. The sender
+    /// stays blocked. An offset at or past the buffer's end copies nothing. Never blocks, and takes no
+    /// memory.
     pub(super) fn write(
         &mut self,
         caller: &Caller,

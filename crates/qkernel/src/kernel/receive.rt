@@ -1,4 +1,4 @@
-//! Receive and ReceivePulse.
+//! The calls `Receive` and `ReceivePulse`.
 
 ghost use Rattle.std.specs.Prelude.{◌≡◌, []};
 ghost use Rattle.qrules.specs.Records.{receive_of};
@@ -15,8 +15,10 @@ use qstate::endings::{Endings, put};
 impl Kernel {
     ghost use Rattle.qkernel.specs.Private.Caller.{MayCall, Makes};
 
-    /// Takes the best message or pulse of a channel that a receive of this kind may take, or blocks until one arrives;
-    /// takes no memory. ReceivePulse takes pulses only, and brings no buffer.
+    /// Takes an item from the channel's queue. Of the items that a receive of this kind may take, it takes
+    /// the item with the greatest priority, and among equals the item that was sent first. If there is none,
+    /// the caller blocks until such an item is sent. Takes no memory. A `ReceivePulse` takes only pulses, and
+    /// has no buffer.
     pub(super) fn receive(
         &mut self,
         caller: &Caller,

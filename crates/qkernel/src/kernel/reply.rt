@@ -1,4 +1,4 @@
-//! Reply and Error.
+//! The calls `Reply` and `Error`.
 
 ghost use Rattle.std.specs.Prelude.{◌≡◌};
 ghost use Rattle.qrules.specs.Records.{error_mark};
@@ -12,7 +12,7 @@ use qmodel::call::{Call, Completion, Mark};
 use qmodel::open_call::OpenSend;
 use qstate::endings::{Endings, put};
 
-/// Returns the completion of a Send that is answered: the bytes are copied to the front of its reply buffer.
+/// Returns the completion of a Send that gets a reply: the bytes are copied to the front of its reply buffer.
 fn reply_completion(sent: OpenSend, status: i64, bytes: &[u8]) -> Completion
     ensures { result ≡ record { call = sent.number; thread = sent.thread; mark = Mark.Replied status (laid_count sent.reply_buffer 0 bytes.now); buffer = lay_over sent.reply_buffer 0 bytes.now } }
 {
@@ -21,7 +21,8 @@ fn reply_completion(sent: OpenSend, status: i64, bytes: &[u8]) -> Completion
     sent.completion(Mark::Replied { status, copied })
 }
 
-/// Returns the mark of the sender's call: the code 0 is a reply of status 0 with no bytes, our own profile.
+/// Returns the result of the sender's call. Under Balsaeuchre's own rule, the code 0 is a reply of status 0
+/// with no bytes.
 fn error_mark(code: i32) -> Mark
     ensures { result ≡ error_mark code }
 {
@@ -38,7 +39,7 @@ fn error_mark(code: i32) -> Mark
 impl Kernel {
     ghost use Rattle.qkernel.specs.Private.Caller.{MayCall, MakesOrRefuses};
 
-    /// Answers a held message, which ends its sender's call. Never blocks, and takes no memory.
+    /// Replies to a held message, which completes its sender's Send. Never blocks, and takes no memory.
     pub(super) fn reply(
         &mut self,
         caller: &Caller,
@@ -56,8 +57,8 @@ impl Kernel {
         Ok(())
     }
 
-    /// Answers a held message with a code and no bytes, which ends its sender's call. Never blocks, and takes no
-    /// memory.
+    /// Replies to a held message with an error code and no bytes, which completes its sender's Send. Never
+    /// blocks, and takes no memory.
     pub(super) fn error(
         &mut self,
         caller: &Caller,

@@ -1,4 +1,4 @@
-//! Send.
+//! The call `Send`.
 
 ghost use Rattle.std.specs.Prelude.{◌≡◌, Some, false};
 ghost use Rattle.qqueue.specs.Best.{is_pulse};
@@ -15,7 +15,8 @@ use qmodel::open_call::{OpenCall, OpenReceive, OpenSend, Receipt};
 use qqueue::item::{Item, What};
 use qstate::endings::{Endings, put};
 
-/// Hands the message to a receive that ended. Returns the receive's completion, and the receipt for the sender's record.
+/// Hands the message to a receive and completes it. Returns the receive's completion, and the receipt for the
+/// sender's open call.
 fn deliver(receive: OpenReceive, item: &Item, message: &Bytes) -> (Completion, Receipt)
     requires { is_pulse item.now.what ≡ false }
     ensures ended { result.0 ≡ receipt_completion item.now message.now receive.thread receive.number receive.buffer }
@@ -36,8 +37,8 @@ fn deliver(receive: OpenReceive, item: &Item, message: &Bytes) -> (Completion, R
 impl Kernel {
     ghost use Rattle.qkernel.specs.Private.Caller.{MayCall, Makes};
 
-    /// Sends a message: to the receiver that began to wait last, or into the channel's queue, whose room is
-    /// all that takes memory. The caller stays blocked until it is answered.
+    /// Sends a message to the newest receiver, or into the channel's queue. Only the room of the queue takes
+    /// memory. The caller is blocked until the reply.
     pub(super) fn send(
         &mut self,
         caller: &Caller,

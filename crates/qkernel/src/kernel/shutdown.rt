@@ -1,4 +1,4 @@
-//! Shutdown.
+//! The call `Shutdown`.
 
 use super::Kernel;
 use super::caller::Caller;
@@ -10,8 +10,8 @@ use qstate::endings::Endings;
 impl Kernel {
     ghost use Rattle.qkernel.specs.Private.Caller.{MayCall, Makes};
 
-    /// Ends every open call with `Srch`, and shuts the kernel down: every later call is refused. Our own
-    /// profile. Never blocks, and takes no memory.
+    /// Cancels every open call with `Srch`, and shuts the kernel down: every later call fails with `Down`.
+    /// The call is Balsaeuchre's own. Never blocks, and takes no memory.
     pub(super) fn shutdown(&mut self, caller: &Caller, endings: &mut Endings)
         requires { MayCall self.old caller.now endings.old.items }
         ensures { Makes self.old caller.now Call.Shutdown endings.new.items self.new }

@@ -1,4 +1,4 @@
-//! State.
+//! The call `State`.
 
 use super::Kernel;
 use super::caller::Caller;
@@ -10,7 +10,8 @@ use qstate::endings::{Endings, put};
 impl Kernel {
     ghost use Rattle.qkernel.specs.Private.Caller.{MayCall, MakesOrRefuses};
 
-    /// Answers with the state and the priority of any thread. Changes nothing, never blocks, and takes no memory.
+    /// Completes with the state and the priority of any thread of the roster. Changes nothing, never blocks,
+    /// and takes no memory.
     pub(super) fn state(
         &mut self,
         caller: &Caller,

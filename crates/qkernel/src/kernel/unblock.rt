@@ -1,4 +1,4 @@
-//! Unblock.
+//! The call `Unblock`.
 
 use super::Kernel;
 use super::caller::Caller;
@@ -12,10 +12,11 @@ use qstate::endings::{Endings, put, put_if};
 impl Kernel {
     ghost use Rattle.qkernel.specs.Private.Caller.{MayCall, MakesOrRefuses};
 
-    /// Ends the call in which a thread of the caller's process is blocked, with `Intr`; but if its message is held on a
-    /// channel with the unblock flag, the call stays and the server gets a pulse, once. If the thread isn't blocked,
-    /// nothing changes. It stands for a signal or a timeout: our own profile. Never blocks, and takes memory only if
-    /// that pulse is queued.
+    /// Cancels, with `Intr`, the call that a thread of the caller's process is blocked in. But if the
+    /// thread's message is held on a channel with the unblock flag, the call stays open, and the server gets
+    /// one pulse for the message. If the thread isn't blocked, nothing changes. The call is Balsaeuchre's
+    /// own: it has the effect of a signal or a timeout. Never blocks, and takes memory only if that pulse is
+    /// queued.
     pub(super) fn unblock(
         &mut self,
         caller: &Caller,

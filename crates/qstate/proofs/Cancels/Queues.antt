@@ -1,7 +1,7 @@
--- What becomes of the queues as items leave them.
+-- The queues as items leave them.
 use Rattle.qstate.proofs.Common.{◌≡◌, ℕ, List, [], Bool, not, ◌&&◌, ◌||◌, refl, ap, sym, subst, ◌∙◌, cond, true, false, eqb, is_some, eqb-true, and_left, and_right, not_from_false, none-some, filter_agree, and-true, Item, without_item, entry_at, OpenCall, Receive, Send, is_unread_send, Channel, SetsItems, pending_in, items_waiting_on, unread_on_by, call_if_cancelled, is_taken_from, Lose, eqb_either, filter_twice, filter_whole, number_of, Option, None, Some, filter}
 
--- without those of which one thing is so, and then without those of which another is
+-- a list without the elements that satisfy p, and then without the elements that satisfy q
 pub filter_after : {A : Type 0} (p q : A → Bool) (xs : List A) → filter (λ x. not (q x)) (filter (λ x. not (p x)) xs) ≡ filter (λ x. not (p x || q x)) xs
 filter_after p q xs =
     filter_twice (λ x. not (p x)) (λ x. not (q x)) xs
@@ -9,7 +9,7 @@ filter_after p q xs =
 
 -- ---- channels
 
--- nothing leaves
+-- no item leaves
 pub loses_nothing : (goes : ℕ → ℕ → Bool) (channels : List (ℕ × Channel)) → ((k i : ℕ) → goes k i ≡ false) → Lose goes channels channels
 loses_nothing goes channels none = record {
   ids = refl;
@@ -17,7 +17,7 @@ loses_nothing goes channels none = record {
   pending = λ k. sym (filter_whole (λ item. not (goes k item.number)) (pending_in channels k) (λ item. not_from_false _ (none k item.number)));
 }
 
--- what leaves is on a channel that isn't open
+-- the items that leave are on a channel that isn't open
 pub loses_gone : (goes : ℕ → ℕ → Bool) (channels : List (ℕ × Channel)) (h : ℕ) → entry_at channels h ≡ None → ((k i : ℕ) → eqb h k ≡ false → goes k i ≡ false) → Lose goes channels channels
 loses_gone goes channels h gone others = record {
   ids = refl;
@@ -29,7 +29,7 @@ loses_gone goes channels h gone others = record {
   ] refl;
 }
 
--- an item leaves channel h
+-- one item leaves channel h
 pub loses_one : (goes : ℕ → ℕ → Bool) (channels new : List (ℕ × Channel)) (h n : ℕ) → SetsItems h (without_item n (pending_in channels h)) channels new → ((k i : ℕ) → goes k i ≡ (eqb n i && eqb h k)) → Lose goes channels new
 loses_one goes channels new h n sets so = record {
   ids = sets.ids;
@@ -45,7 +45,8 @@ loses_one goes channels new h n sets so = record {
 
 -- ---- a Send that isn't received
 
--- a call of number n whose message waits on this channel, if on any, is the Send of number i on channel h
+-- a call of number n, with its message queued on this channel if on any, is the unread Send of number i on
+-- channel h
 abbrev pub waits_so : Option ℕ → ℕ → ℕ → ℕ → Bool
 waits_so None n h i = false
 waits_so (Some c) n h i = eqb n i && eqb c h
@@ -57,7 +58,7 @@ unread_so (Send s) h i = elim (is_some s.receipt) as (λ b. (eqb s.number i && n
 ]
 unread_so (Receive r) h i = and_left _ _ (and_right (eqb r.number i) false refl)
 
--- a call that isn't cancelled takes nothing
+-- a call that isn't cancelled takes no message from a queue
 pub untaken : (is_cancelled : OpenCall → Bool) (o : Option OpenCall) (h i : ℕ) → call_if_cancelled is_cancelled o ≡ None → is_taken_from is_cancelled o h i ≡ false
 untaken is_cancelled None h i none = refl
 untaken is_cancelled (Some o) h i none =

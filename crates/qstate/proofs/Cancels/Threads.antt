@@ -1,4 +1,4 @@
--- What a pass through the threads has done, that ends their calls one after another.
+-- The result of a pass through the threads that cancels their calls one after another.
 use Rattle.qstate.proofs.Common.{◌≡◌, ℕ, suc, zero, ◌+◌, ◌<◌, ◌≤◌, List, [], ◌∷◌, ◌++◌, map, length, length-append, take, drop, set, get_or, append_assoc, Bool, not, ◌&&◌, ◌||◌, refl, ap, sym, subst, ◌∙◌, cond, arith, true, false, eqb, AllByRecursion, list_any, cons_option, eqb-true, ne_eqb, true≢false, append-nil, drop_more, drop_all, take_at, filter_agree, IsRoster, Completion, OpenCall, cancel_call, cancel_where, is_unread_send, threads_of, Channel, CancelSet, Thread, ids_of, channel_in, pending_in, members_of, thread_priority, is_cancelled_by, is_cancelled_open, is_taken_from, is_cancelled_among, completion_for, with_completion, thread_after_cancelled, Lose, LoseCancelled, AreCancelled, open_in, filter_whole}
 use Rattle.std.specs.Prelude.{Option, None, Some, is_some, filter, filter_map}
 use Rattle.qbase.specs.declared.errno.Errno.{Errno}
@@ -7,7 +7,7 @@ use Rattle.qstate.proofs.Senders.{own_open}
 
 -- ---- the threads themselves
 
--- the first i are changed so
+-- the list with the first i threads changed by f
 abbrev pub swept : (Thread → Thread) → ℕ → List Thread → List Thread
 swept f zero threads = threads
 swept f (suc i) [] = []
@@ -27,7 +27,7 @@ pub swept_all : (f : Thread → Thread) (threads : List Thread) → swept f (len
 swept_all f [] = refl
 swept_all f (t ∷ threads) = ap (λ ts. f t ∷ ts) (swept_all f threads)
 
--- ---- what the records say is what the look-ups say
+-- ---- look-ups by thread number find what the records have
 
 some_cancelled : (is_cancelled : OpenCall → Bool) (e : Errno) (u : ℕ) (o : Option OpenCall) → is_some (cancel_where is_cancelled e u o) ≡ is_cancelled_open is_cancelled o
 some_cancelled is_cancelled e u None = refl
@@ -51,7 +51,7 @@ module _ (cancel : CancelSet) (e : Errno) where
         | false ↦ λ other. left_calls threads v
       ] refl
 
--- the threads once all are passed
+-- the threads after the pass
 pub are_cancelled : (cancel : CancelSet) (e : Errno) (threads : List Thread) → AreCancelled cancel e threads (map (thread_after_cancelled cancel) threads)
 are_cancelled cancel e threads = record {
   members = left_members cancel e threads;
@@ -69,13 +69,14 @@ any_by : (g test : ℕ → Option OpenCall → Bool) (open_call : ℕ → Option
 any_by g test open_call [] same h = refl
 any_by g test open_call (t ∷ threads) same h = rw (h.0, same t.member.thread t.open_call, any_by g test open_call threads same h.1) refl
 
--- ---- what is left to do
+-- ---- the rest of the pass
 
--- the thread is among these
+-- the thread is in the list
 abbrev pub is_among : ℕ → List Thread → Bool
 is_among u threads = list_any (λ t. eqb t.member.thread u) threads
 
--- a Send of number i on channel h is cancelled, of one of these threads
+-- the Send of number i on channel h is the open call of one of these threads, isn't received, and is
+-- cancelled
 abbrev pub goes_among : (ℕ → OpenCall → Bool) → List Thread → ℕ → ℕ → Bool
 goes_among is_cancelled threads h i = list_any (λ t. is_taken_from (is_cancelled t.member.thread) t.open_call h i) threads
 
@@ -91,11 +92,11 @@ completion_joins endings more None = refl
 completion_joins endings more (Some completion) = append_assoc endings (completion ∷ []) more
 
 module _ (cancel : CancelSet) (e : Errno) (own : Completion) where
-  -- how the thread's call ends
+  -- the completion that a thread gets
   abbrev pub completion_of : Thread → Option Completion
   completion_of t = completion_for cancel e own t.member.thread t.open_call
 
-  -- what the rest of the threads is yet to bring, with what was brought so far, is what all of them bring
+  -- the changes so far, followed by the changes of the rest, are the changes of the whole pass
   pub record Sweeps (all rest : List Thread) (first now : List (ℕ × Channel)) (left : Option Completion) (endings : List Completion) : Type 0 where
     pub ids : ids_of now ≡ ids_of first
     pub channel : (k : ℕ) → channel_in now k ≡ channel_in first k
@@ -149,7 +150,7 @@ module _ (cancel : CancelSet) (e : Errno) (own : Completion) where
     idle = so.idle.1;
   }
 
-  -- at the end all of the threads are passed
+  -- the completions, when the pass is over
   pub swept_endings : (all : List Thread) (first now : List (ℕ × Channel)) (left : Option Completion) (endings : List Completion) → IsRoster (members_of all) → Sweeps all [] first now left endings
       → endings ≡ filter_map (λ u. completion_for cancel e own u (open_in all u)) (threads_of (members_of all))
   swept_endings all first now left endings roster so =
@@ -167,7 +168,7 @@ module _ (cancel : CancelSet) (e : Errno) (own : Completion) where
         (pending_in first k);
   }
 
-  -- ---- by places
+  -- ---- by index
 
   abbrev pub passed : Thread → Thread
   passed = thread_after_cancelled cancel
@@ -177,7 +178,7 @@ module _ (cancel : CancelSet) (e : Errno) (own : Completion) where
       ap (λ z. set items i z) now ∙ ap (λ ts. set ts i (passed (get_or ts i d))) is ∙ ap (λ t. set (swept passed i all) i (passed t)) (swept_at passed i all d) ∙ swept_on passed i all d l
       ∙ (let more : suc i ≡ i + 1 = omega arith in ap (λ n. swept passed n all) more)
 
-  -- the thread whose turn it is, before the others
+  -- the thread at index i, before the rest
   at_turn : (all items : List Thread) (i : ℕ) (d : Thread) → items ≡ swept passed i all → i < length all → drop i all ≡ get_or items i d ∷ drop (i + 1) all
   at_turn all items i d is l = drop_more all i d l ∙ ap (λ t. t ∷ drop (i + 1) all) (sym (ap (λ ts. get_or ts i d) is ∙ swept_at passed i all d))
 

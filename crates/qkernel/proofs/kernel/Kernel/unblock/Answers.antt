@@ -22,7 +22,7 @@ returns-in_default c =
     rw (← c.self.view_is, may.counted, c.cancel.ensures.connections) (step_unblock_cancelled _ c.args.caller.now.seat.thread c.args.target _ may.sound may.among.known may.up may.free fellow none _ _ _ c.cancel.ensures.threads c.cancel.ensures.channels
     (rw c.completion-own.ensures at c.cancel.ensures.endings))
 
--- ---- its message had its pulse
+-- ---- its message had its unblock pulse before
 
 pub returns-then-held : goal.returns-then-held
 returns-then-held c =
@@ -31,7 +31,7 @@ returns-then-held c =
     let guards = rw c.in_ok-fellow.ensures.thread at (sym c.guarded_message.ensures ∙ c.in-Some.is) in
     rw (← c.self.view_is, may.counted) (step_unblock_again _ c.args.caller.now.seat.thread c.args.target _ may.sound may.among.known may.up may.free fellow c.in-Some.held guards c.if-held.true _ (rw (c.completion.ensures, may.none) at c.put.ensures))
 
--- ---- its server is told
+-- ---- its server gets an unblock pulse
 
 pub send_pulse-requires-clause-pulse : goal.send_pulse-requires-clause-pulse
 send_pulse-requires-clause-pulse c = (new_pulse (c.args.caller.now.made + 1) _ _ _ c.item-pulse.ensures).1

@@ -1,4 +1,4 @@
--- `add` moves the past on by an event. Assumes `Logic`.
+-- `add` extends the history by an event. Assumes `Logic`.
 use Rattle.qpast.proofs.Common.{◌≡◌, List, [], ◌∷◌, refl, sym, subst, Ura, Fn, Val, vunit, vptr, SProp, ent, via, fst∗, snd∗, Fml, ftrue, flft, WpFn, Model, Logic, sem, fact_use, WpFn-mono, ‵, raw, later, await, use1, ◌⊛◌, ◌$◌, ◌∵◌, !, qed, by, move, keep, drop, split, join, fsplit, fsplit3, fjoin, fjoin3, suffices, frame, feq_i, unit_lit, of_opd, returns, enter, alloc_all, pass_all, free_all, look_at, sets, yes, RattleType, owns, RefOf, Are, Ises, owns_show, showss, types_at, plain, nothing, opens, closes, Clauses, Ended, closing, on_entry, alive, Meets, triple_of, entered, Stays, stay_dropped, stay_ref, walk_of, ends_at, Goes-dropped, Goes-ref, walk_Meets, Event, history_owns, number}
 use contract.Running.{Running, MachineTables, tables, tables_of}
 use contract.CodeStep

@@ -1,4 +1,4 @@
--- `begin` makes the name of a past, and sees it. Assumes `Logic`.
+-- `begin` makes the name of a history, and its prefix without events. Assumes `Logic`.
 use Rattle.qpast.proofs.Common.{◌≡◌, ℕ, List, [], ◌∷◌, ◌++◌, refl, Ura, Fn, Val, vstruct, vcons, vnil, of_list, SProp, ent, feq, fsep, Memory, Routine, Calls, Loops, WpFn, Tables, Fun, WpFn-mono, Logic, ‵, raw, some, later, await, pick, use0, use1, ◌⊛◌, ◌$◌, ◌∵◌, !, qed, by, move, keep, drop, split, join, fjoin, fjoin3, fpack, feq_i, suffices, frame, agg, enter, returns, no_more, and_then, alloc_all, pass_all, free_all, look_at, get, sets, RattleType, Valss, owns, types_at, nothing, Clauses, Ended, closing, alive, Meets, triple_of, entered, Stays, walk_of, ends_at, walk_Meets, history_owns, seen_owns}
 use contract.Running.{tables, tables_of}
 use Rattle.qpast.proofs.Walks.{none, none_made}

@@ -1,4 +1,4 @@
--- `look` compares what was seen with the past, and sees it whole. Assumes `Logic`.
+-- `look` compares a prefix with the history, and sets it to the whole history. Assumes `Logic`.
 use Rattle.qpast.proofs.Common.{◌≡◌, List, [], ◌∷◌, ℕ, refl, sym, subst, Ura, Fn, Val, vunit, vptr, SProp, ent, via, fst∗, snd∗, Fml, ftrue, flft, WpFn, Model, Logic, sem, fact_use, WpFn-mono, ‵, raw, given, learn, use2, ◌⊛◌, ◌$◌, ◌∵◌, !, qed, by, move, keep, drop, split, join, fsplit, fsplit3, fjoin, fjoin3, suffices, frame, feq_i, rewrite, unit_lit, of_opd, returns, enter, alloc_all, pass_all, free_all, look_at, sets, RattleType, owns, Are, Ises, owns_show, showss, types_at, plain, nothing, opens, closes, Clauses, Ended, closing, on_entry, alive, Meets, triple_of, entered, Stays, stay_ref, walk_of, ends_at, Goes-ref, walk_Meets, Extends, history_owns, seen_owns}
 use contract.Running.{Running, MachineTables, tables, tables_of}
 use contract.CodeStep

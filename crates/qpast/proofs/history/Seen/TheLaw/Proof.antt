@@ -1,4 +1,4 @@
--- A `&` to a `Seen` holds what was seen, which can be had twice. Assumes `Logic`.
+-- A `&` to a `Seen` holds the resource of a prefix, which can be duplicated. Assumes `Logic`.
 use Rattle.qpast.proofs.Common.{snd∗, sem, of_Lends, seen_owns}
 use base.Before.{before}
 use Rattle.qpast.specs.contracts.history.Seen as C

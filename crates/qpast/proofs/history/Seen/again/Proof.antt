@@ -1,4 +1,4 @@
--- `again` copies what was seen.
+-- `again` duplicates a prefix.
 use Rattle.qpast.proofs.Common.{◌≡◌, [], ◌∷◌, refl, proved, leaves, named, Val, vptr, emp, fact, fact_i, tables, ‵, raw, ◌⊛◌, ◌$◌, ◌∵◌, !, qed, by, keep, drop, split, fsplit, fjoin, use0, agg, no_more, returns, enter, alloc_all, pass_all, free_all, look_at, sets, RefOf, yes, unhide, owns, shr_vals, shr_Tells, types_at, plain, nothing, alive, Stays, stay_dropped, walk_of, Goes-dropped}
 use Rattle.qpast.proofs.Walks.{none, none_made}
 use Rattle.qpast.specs.contracts.history.Seen as Seen

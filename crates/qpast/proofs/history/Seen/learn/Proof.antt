@@ -1,4 +1,4 @@
--- `learn` keeps the longer of two beginnings of one past.
+-- `learn` keeps the longer of two prefixes of one history.
 use Rattle.qpast.proofs.Common.{◌≡◌, List, [], ◌∷◌, ℕ, refl, sym, proved, leaves, named, Val, vunit, vptr, Fml, ftrue, fsep, flft, tables, ‵, raw, given, learn, ◌⊛◌, ◌$◌, ◌∵◌, !, qed, by, move, keep, drop, split, fsplit, fsplit3, fjoin, fjoin3, use0, use2, rewrite, feq_i, unit_lit, of_opd, returns, enter, alloc_all, pass_all, free_all, look_at, sets, RefOf, yes, unhide, owns, mut_vals, mut_Tells, shr_vals, shr_Tells, types_at, plain, nothing, opens, closes, Stays, stay_dropped, stay_ref, walk_of, Goes-dropped, Goes-ref, Extends, longer, seen_owns}
 use Rattle.qpast.proofs.Facts.{facts, hears_last, tells_all}
 use Rattle.qpast.proofs.Pasts.{Learned, learns}
