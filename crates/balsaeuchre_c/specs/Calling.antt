@@ -74,8 +74,8 @@ pub record IsEvent (old : Session) (r : Request) (sent room : List ℕ) (new : S
   pub informs : OfEachRow Informs old.kernel r.thread call new.endings.items rows
   pub restores : OfEachRow (λ roster. Restores bytes) old.kernel r.thread call new.endings.items rows
 
--- the error of a call that isn't an event: there are fewer than 64 rows, the request encodes no call, there
--- is no memory, or the kernel makes no event of it
+-- the error of a call that isn't an event. It has one of four reasons: fewer than 64 rows, a request that
+-- encodes no call, no memory, or the kernel's own refusal
 abbrev pub CallError : Session → Request → List ℕ → List ℕ → ℕ → Errno → Type 0
 CallError session r sent room row_count errno =
     ((row_count < 64) × (errno ≡ Inval))

@@ -11,8 +11,8 @@ use Rattle.balsaeuchre_c.specs.Rows.{Tells, told_bytes}
 abbrev pub buffers : List Completion → List ℕ
 buffers endings = flat_map told_bytes endings
 
--- the index in the byte array at which the bytes of the completion at `place` begin: after the bytes of the
--- completions before it, but at most at the array's end
+-- the index in the byte array at which the bytes of the completion at `place` begin. They come after the
+-- bytes of the completions before it, but at most at the array's end
 abbrev pub start_of : List Completion → List ℕ → ℕ → ℕ
 start_of endings room place = laid_count room 0 (buffers (take place endings))
 

@@ -5,7 +5,7 @@ ghost use Rattle.balsaeuchre_c.specs.Numbers.{numbered};
 
 use qmodel::kind::{CallKind, KINDS};
 
-/// Returns the kind with this number, 1 to 17; `None` for any other number.
+/// Returns the kind with this number, 1 to 17, or `None` for any other number.
 pub fn kind_of(number: u8) -> Option<CallKind>
     ensures { result ≡ numbered KINDS number }
 {

@@ -44,8 +44,8 @@ pub struct Request {
 }
 
 impl Request {
-    /// Returns the priority of a call of this kind: the lowest if the kind has no priority; `None` if it has
-    /// one and the field is 0.
+    /// Returns the priority of a call of this kind. It is the lowest if the kind has no priority, and `None`
+    /// if the kind has one and the field is 0.
     fn priority(&self, kind: CallKind) -> Option<Priority>
         ensures { result ≡ priority_as kind self.now }
     {
@@ -61,7 +61,7 @@ impl Request {
         }
     }
 
-    /// Returns the operands of a call of this kind; `None` if the kind has a priority and the field is 0.
+    /// Returns the operands of a call of this kind, or `None` if the kind has a priority and the field is 0.
     fn operands(&self, kind: CallKind) -> Option<Operands>
         ensures { result ≡ operands_as kind self.now }
     {

@@ -73,7 +73,7 @@ impl Alarms {
         Ok(())
     }
 
-    /// Clears the alarm of a thread, and returns whether it rang; `false` if none is set.
+    /// Clears the alarm of a thread. Returns whether it rang, or `false` if none is set.
     pub(crate) fn clear<R: Wait>(&self, rt: &R, thread: ThreadNo) -> bool {
         let mut list = self.list.lock(rt);
         let place = list.alarms.iter().position(|alarm| alarm.thread == thread);

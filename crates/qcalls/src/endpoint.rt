@@ -139,7 +139,7 @@ impl<'a, K: Tie, L: Log> KernelPort<'a, K, L> {
         self.port.learn(other);
     }
 
-    /// Returns the kind of the last call's outcome; `Done` before the first call.
+    /// Returns the kind of the last call's outcome, or `Done` before the first call.
     pub fn told(&self) -> Told
         ensures { result ≡ self.now.told }
     {

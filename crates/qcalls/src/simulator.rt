@@ -130,9 +130,9 @@ impl Simulator {
         kept::has(&self.kept, thread)
     }
 
-    /// Takes the completion of a thread's blocked call; `None` if the call hasn't completed or its completion
-    /// was taken. `Ending::answer` reads the result of a `msg_send` from it, `received` the result of a
-    /// `msg_receive`, and `pulse` the result of a `msg_receive_pulse`.
+    /// Takes the completion of a thread's blocked call. It is `None` if the call hasn't completed or its
+    /// completion was taken. `Ending::answer` reads the result of a `msg_send` from it, `received` the result
+    /// of a `msg_receive`, and `pulse` the result of a `msg_receive_pulse`.
     pub fn take(&mut self, thread: ThreadNo) -> Option<Ending>
         ensures ending { result ≡ option_map ending_after_wait (ending_of thread self.old.kept) }
         ensures rest { self.new ≡ record self.old { kept = without thread self.old.kept } }
@@ -160,7 +160,7 @@ impl Simulator {
         Some((completion.thread, ending))
     }
 
-    /// Returns the error that refuses a thread's call before it is made; `None` if the call can be made.
+    /// Returns the error that refuses a thread's call before it is made, or `None` if the call can be made.
     fn unmade(&self, thread: ThreadNo) -> Option<Errno>
         ensures why { result ≡ unmade self.now thread }
 
@@ -200,7 +200,7 @@ impl Simulator {
         })
     }
 
-    /// Makes a call that completes in its own event; `Unexpected` if it blocks.
+    /// Makes a call that completes in its own event. If it blocks, the error is `Unexpected`.
     fn complete(&mut self, thread: ThreadNo, call: Call) -> Result<Ending, CallError>
         ensures { Simulates (at_once ending_in) thread call self.old self.new result }
     {

@@ -38,8 +38,8 @@ impl<'a, E: Endpoint, R: Wait + Clock> Caller<'a, E, R> {
         unreachable!()
     }
 
-    /// Rings an alarm if its time has come. Returns how long to wait before the next look at it; `None` if it
-    /// has rung.
+    /// Rings an alarm if its time has come. Returns how long to wait before the next look at it, or `None` if
+    /// it has rung.
     fn ring(&mut self, alarm: &mut Alarm) -> Result<Option<Duration>, CallError> {
         if alarm.rang {
             return Ok(None);
