@@ -63,8 +63,8 @@ pub record IsMade (old : Session) (r : Request) (sent room : List ℕ) (new : Se
 
 -- the kernel made exactly the call that the request encodes. The completions follow the rules after every
 -- valid history that the kernel may have made, and they are written to the rows. The row of a received
--- message has the data that `Info` would return. Written are also all bytes of the buffers that may have
--- changed since their calls passed them in
+-- message has the data that `Info` would return. The bytes of the buffers that may have changed since their
+-- calls passed them in are written too
 pub record IsEvent (old : Session) (r : Request) (sent room : List ℕ) (new : Session)
     (old_rows rows : List Row) (old_bytes bytes : List ℕ) (done : Done) : Type 0 where
   pub call : Call

@@ -13,8 +13,8 @@ use Rattle.qcalls.specs.Making.{MakesSome, ending_in}
 use Rattle.qcalls.specs.declared.error.CallError.{CallError}
 use Rattle.qcalls.specs.declared.error.CallError.TheVariants.{NoClock, NoMemory}
 
--- an endpoint's statement about a call: the endpoint before it, the call, its outcome, and the prefix of the
--- history that the endpoint has seen after it
+-- an endpoint's statement about a call. It relates the endpoint before the call, the call, its outcome, and
+-- the prefix of the history that the endpoint has seen after it
 abbrev pub Says : Type 0 → Type 1
 Says E = E → Call → Called → Trace → Type 0
 
@@ -57,8 +57,8 @@ ComesWithin history came before call was seen after result =
     ComesOfBytes history came before call was seen after result ⊎ ((seen ≡ was) × (result ≡ Err NoClock))
 
 -- two calls were made in one turn with some outcome: the endpoint's statement about it holds, and the
--- collected completions agree with it. Then nothing more was done, or the second call was made on its own: if
--- the first waited for its completion and succeeded
+-- collected completions agree with it. Then nothing more was done, or the second call was made by itself, as
+-- after a first call that waited and succeeded
 pub record ComesOfBoth {E : Type 0} (history : E → History) (seen : E → Trace) (came : Says E)
     (came_both : SaysBoth E) (before : E) (first second : Call) (sees : Trace) (after : History)
     : Type 0 where

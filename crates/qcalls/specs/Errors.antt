@@ -23,7 +23,7 @@ abbrev pub failure : Bool → Errno → CallError
 failure true e = cancelled e
 failure false e = refusal e
 
--- the error of a call that completed with this result, which its kind of call doesn't return. The flag is
+-- the error of a call that completed with this result, if it isn't a success of its kind of call. The flag is
 -- true after a wait
 abbrev pub error_in : Bool → Mark → CallError
 error_in waited (Failed e) = failure waited e

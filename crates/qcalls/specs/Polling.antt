@@ -20,7 +20,8 @@ abbrev pub option_in : {A : Type 0} → Reading A → Reading (Option A)
 option_in read waited mark buffer = option_of (read waited mark buffer)
 
 -- the effect of starting a call, by the kind of its outcome. A call that blocked was made and is pending,
--- with nothing collected. Any other has the effect that it always has
+-- with nothing collected. A call with any other outcome has the effect `Comes`, and leaves `pending` as it
+-- was
 abbrev pub Begins : {A : Type 0} → Reading A → Call → History → History → Result (Option A) CallError → Told
     → Type 0
 Begins read call before after result Blocked =

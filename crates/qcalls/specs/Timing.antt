@@ -8,8 +8,8 @@ use Rattle.qcalls.specs.Results.{Reading}
 use Rattle.qcalls.specs.declared.error.CallError.{CallError}
 use Rattle.qcalls.specs.declared.error.CallError.TheVariants.{Cancelled, NoClock, TimedOut}
 
--- the result that is returned once the caller's alarm is cleared: the call's own, or `TimedOut`, but that
--- only if the call was cancelled with `Intr`
+-- the result that is returned once the caller's alarm is cleared. It is the call's own, or it may be
+-- `TimedOut` if the call was cancelled with `Intr`
 abbrev pub IsTimed : {A : Type 0} → Result A CallError → Result A CallError → Type 0
 IsTimed called result = (result ≡ called) ⊎ ((called ≡ Err (Cancelled Intr)) × (result ≡ Err TimedOut))
 

@@ -23,7 +23,7 @@ use qshared::shared::Shared;
 use qshared::tie::Tie;
 use std::sync::Wait;
 
-/// The kind of outcome of an endpoint's last call.
+/// The kind of the outcome of an endpoint's last call.
 #[derive(Clone, Copy, Debug, PartialEq, Eq)]
 pub enum Told {
     /// The call completed in its own event.

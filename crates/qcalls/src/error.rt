@@ -70,8 +70,8 @@ pub(crate) fn refusal(errno: Errno) -> CallError
     }
 }
 
-/// Returns the error of a call whose completion doesn't have the result of its kind of call. A call that
-/// waited was cancelled, and not refused.
+/// Returns the error of a call whose result isn't a success of its kind of call. A call that failed after a
+/// wait was cancelled. A call that failed in its own event was refused.
 pub(crate) fn error_in(waited: bool, mark: Mark) -> CallError
     ensures { result ≡ error_in waited mark }
 {

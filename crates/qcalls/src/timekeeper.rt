@@ -10,8 +10,8 @@ use qbase::state::ThreadState;
 use std::sync::Wait;
 use std::time::{Clock, Duration, Instant};
 
-/// After this time, in milliseconds, the timekeeper tries again: if a call whose time is over isn't blocked
-/// yet, or no pulse can be sent to its server.
+/// The timekeeper tries again after this time, in milliseconds, if a call whose time is over isn't blocked
+/// yet, or if no pulse can be sent to its server.
 const RETRY_MILLIS: u64 = 1;
 
 impl<'a, E: Endpoint, R: Wait + Clock> Caller<'a, E, R> {

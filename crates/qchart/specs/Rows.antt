@@ -65,7 +65,8 @@ TellsChanges old new changes = (roster : List Member) (past now : Trace) → Sta
     → StandsAt roster new now → changes ≡ changed_threads (facts_of roster past) (facts_of roster now)
 
 -- a kernel made these calls, which led from the old state to the new one, and these are the rows of their
--- events. The rows are right after every valid history that leads to the old state
+-- events. Their changed priorities and blocked threads follow from every valid history that leads to the old
+-- state
 pub record HasRows (old : State) (calls : List (ℕ × Call)) (new : State) (rows : List Row) : Type 0 where
   pub events : List Event
   pub ran : RunsAtTraces old events new
