@@ -1,4 +1,4 @@
--- A new kernel.
+-- How a kernel is made from the threads that C passes.
 use Rattle.std.specs.Prelude.{◌≡◌, is_some, List, [], ◌∷◌, Option, None, Some, Result, Ok, Err, if◌then◌else◌}
 use Rattle.std.specs.Prelude.{◌⊎◌}
 use Rattle.qbase.specs.Priority.{priority_of}

@@ -1,4 +1,4 @@
-//! Makes a new kernel.
+//! Makes a kernel from the threads that C passes.
 
 ghost use Rattle.std.specs.Prelude.{MatchResult};
 ghost use Rattle.balsaeuchre_c.specs.Opening.{IsNewOf, NewError};

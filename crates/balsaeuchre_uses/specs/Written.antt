@@ -1,4 +1,4 @@
--- The contract of a run.
+-- The contract of an example that runs fixed calls.
 use Rattle.std.specs.Prelude.{◌≡◌, List, []}
 use Rattle.qtables.specs.declared.member.Member.{Member}
 use Rattle.balsaeuchre.specs.Lawful.{HadMemory, IsLawful}

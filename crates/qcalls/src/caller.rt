@@ -1,4 +1,4 @@
-//! A thread that makes calls.
+//! A caller: a thread that makes calls, and waits for their completions.
 
 ghost use Rattle.std.specs.Prelude.{◌≡◌, ⊤, false, true, MatchResult};
 ghost use Rattle.qshared.specs.Counting.{pends};
@@ -36,7 +36,7 @@ impl<'a, E: Endpoint, R: Wait> Caller<'a, E, R> {
         }
     }
 
-    /// Returns the endpoint.
+    /// Returns the endpoint, and ends the caller.
     pub fn into_endpoint(self) -> E
         ensures { result ≡ self.entry.endpoint }
     {

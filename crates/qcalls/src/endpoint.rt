@@ -115,7 +115,7 @@ impl<'a, K: Tie, L: Log> KernelPort<'a, K, L> {
         }
     }
 
-    /// Returns the port.
+    /// Returns the port, and ends the endpoint.
     pub fn into_port(self) -> Port<K>
         ensures { result ≡ self.entry.port }
     {

@@ -41,7 +41,7 @@ impl<'a, 'p, K: Tie, L: Log, R: Wait> Caller<'a, KernelPort<'p, K, L>, R> {
         Caller::new(KernelPort::new(port, shared), rt, alloc)
     }
 
-    /// Returns the port.
+    /// Returns the port, which `close` needs, and ends the caller.
     pub fn into_port(self) -> Port<K>
         ensures { result ≡ self.entry.endpoint.port }
     {

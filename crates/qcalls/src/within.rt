@@ -1,4 +1,4 @@
-//! Calls with a time limit.
+//! Calls with a time limit, which the process's timekeeper ends.
 
 ghost use Rattle.std.specs.Prelude.{replicate};
 ghost use Rattle.qmodel.specs.declared.call.Call.TheVariants as Call;

@@ -1,4 +1,4 @@
--- The chart of a script.
+-- The chart of a script's run, and the reasons why there is none.
 use Rattle.std.specs.Prelude.{◌≡◌, ℕ, ◌<◌, ◌≤◌, List, [], length}
 use Rattle.std.specs.List.Sorted.{IsPermutation}
 use Rattle.qtables.specs.declared.member.Member.{Member}

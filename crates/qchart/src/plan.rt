@@ -1,4 +1,4 @@
-//! Places the words of a row.
+//! Chooses the sides of lifelines on which words and arrows are.
 
 use crate::arrow::Arrow;
 use crate::chart::Chart;

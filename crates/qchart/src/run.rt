@@ -1,4 +1,4 @@
-//! Makes the rows of a run.
+//! Makes the calls of a run, and a row for each.
 
 ghost use Rattle.std.specs.Prelude.{◌≡◌, ◌+◌, ◌∷◌, ◌++◌, [], is_some, map, true, IfOk, OnOk};
 ghost use Rattle.std.specs.List.{filter_map};

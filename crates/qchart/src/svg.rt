@@ -30,7 +30,6 @@ pub fn svg_of(names: Context<'_>, chart: &Chart) -> Result<String, AllocError> {
 }
 
 impl Sheet<'_> {
-    /// Adds the whole drawing.
     fn push_all(&self, out: &mut String) -> Added {
         let (width, height) = (self.width(), self.height());
         write!(
@@ -252,7 +251,7 @@ fn push_words(out: &mut String, side: Side, at: Place, words: &str) -> Added {
     }
 }
 
-/// Adds words that were made for this place.
+/// Like `push_text`, for a string that is used only here.
 fn push_made(out: &mut String, class: &str, at: Place, words: String) -> Added {
     push_text(out, class, at, words.as_str())
 }

@@ -54,7 +54,6 @@ impl Page<'_> {
         MARGIN.saturating_add(self.gap.saturating_mul(column))
     }
 
-    /// Adds the whole chart.
     fn push_all(&self, out: &mut String) -> Added {
         self.push_heads(out)?;
         for row in &self.chart.rows {

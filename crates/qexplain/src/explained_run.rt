@@ -40,7 +40,7 @@ impl ExplainedRun {
         Ok(self.history.add(past, self.run.endings())?)
     }
 
-    /// Returns the run.
+    /// Returns the run, for reading.
     pub fn run(&self) -> &Run {
         &self.run
     }

@@ -60,7 +60,7 @@ impl ReportedRun {
         })
     }
 
-    /// Returns the run.
+    /// Returns the run, for reading.
     pub fn run(&self) -> &Run {
         self.run.run()
     }

@@ -133,7 +133,7 @@ impl Session {
         Ok(())
     }
 
-    /// Returns the allocator.
+    /// Returns the allocator of the session.
     pub fn alloc(&self) -> Global {
         self.alloc
     }

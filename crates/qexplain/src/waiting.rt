@@ -12,7 +12,7 @@ use std::alloc::{AllocError, Global};
 #[derive(Clone, Copy, PartialEq, Eq)]
 pub struct Wait {
     pub thread: ThreadNo,
-    /// Its message.
+    /// The number of its message.
     pub message: u64,
     /// The process of the channel. Each of its threads may receive the message and reply to it.
     pub server: ProcessNo,

@@ -1,4 +1,4 @@
-//! Runs a demonstration.
+//! Runs a demonstration, and writes its results.
 
 ghost use Rattle.std.specs.Prelude.{IfOk, IfSome, string_bytes};
 ghost use Rattle.qserve.specs.Fit.{Fit};

@@ -57,9 +57,9 @@ impl Settings {
 /// The sizes of the threads' stacks, in bytes, each rounded up to a multiple of 128 KiB.
 #[derive(Clone, Copy, PartialEq, Eq)]
 pub struct Stacks {
-    /// The stack of a server.
+    /// The stack size of a server's thread.
     pub server: usize,
-    /// The stack of a client.
+    /// The stack size of a client's thread.
     pub client: usize,
 }
 

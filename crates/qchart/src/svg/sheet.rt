@@ -86,7 +86,7 @@ impl Sheet<'_> {
         BARS.saturating_add(ROW.saturating_mul(rows))
     }
 
-    /// Returns the width of the drawing.
+    /// Returns the width of the drawing: enough for all lifelines and for the legend.
     pub fn width(&self) -> usize {
         let last = self.chart.lifelines.len().saturating_sub(1);
         self.x(last).saturating_add(self.right).max(LEAST_WIDTH)

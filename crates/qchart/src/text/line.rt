@@ -29,7 +29,7 @@ impl Line {
         Ok(())
     }
 
-    /// Writes words that were made for this line.
+    /// Like `put`, for a string that is used only here.
     pub fn put_made(&mut self, place: usize, words: String) -> Result<(), AllocError> {
         self.put(place, words.as_str())
     }
