@@ -1,4 +1,4 @@
--- The mark of each ending fits the call that it ends.
+-- The result of each completion fits the call that it completes.
 use Rattle.qrules.proofs.Traces.Rows.{answer_same, pulse_same, sent_same, unblocked_same}
 use Rattle.std.proofs.Common.{◌≡◌, ◌∙◌, ◌+◌, ℕ, List, [], ◌∷◌, length, refl, ap, sym, subst, cond, Bool, true, false, inl, inr, int_eq}
 use Rattle.std.specs.Prelude.{ℤ, pos, Result, Err, Option, None, Some, option_map}
@@ -59,7 +59,7 @@ use Rattle.qcalls.specs.declared.error.CallError.{CallError}
 use Rattle.qcalls.specs.declared.error.CallError.TheVariants.{Unexpected}
 use Rattle.balsaeuchre.specs.Fitting.{fits, reading_of, EndingsFit, FittingIsExpected, NeverUnexpected}
 
--- the call that waits in this way
+-- the receive of this kind
 abbrev receive_call : Kind → ℕ → List ℕ → Call
 receive_call Any chid buffer = Receive chid buffer
 receive_call PulseOnly chid buffer = ReceivePulse chid
@@ -68,7 +68,7 @@ abbrev call_in : OpenCall → Call
 call_in (InSend s) = Send s.connection s.message s.reply_buffer
 call_in (InReceive r) = receive_call r.kind r.channel r.buffer
 
--- ---- the call's own ending
+-- ---- the completion of the event's own call
 
 taking_fits : (taken : Item) (bytes buffer : List ℕ) (kind : Kind) (chid : ℕ) (b : List ℕ) → may_take kind taken ≡ true → fits (receive_call kind chid b) (delivery_of taken bytes buffer).0 ≡ true
 taking_fits taken bytes buffer Any chid b may = elim (is_pulse taken.what) as (λ p. fits (Receive chid b) (cond {A = Mark × List ℕ} p (mark.Pulse taken.number taken.priority taken.what, buffer) (mark.Message taken.number (laid_count buffer 0 bytes), lay_over buffer 0 bytes)).0 ≡ true) [ true ↦ refl | false ↦ refl ]
@@ -86,9 +86,9 @@ own_fits f t (Info rcvid) y e = told (info_of f (sender f rcvid)) e where
   told (Some info) e = ap (λ x. fits (Info rcvid) x.mark) (sym (same_Some _ y e))
 own_fits f t c y e = ap (λ x. fits c x.mark) (sym (same_Some _ y e))
 
--- ---- another thread's ending
+-- ---- the completion of another thread's call
 
--- the ending fits what thread u waits for
+-- the completion fits the call in which thread u is blocked
 abbrev FitsOpen : Facts → ℕ → Completion → Type 0
 FitsOpen f u y = (o : OpenCall) → f.open_call u ≡ Some o → fits (call_in o) y.mark ≡ true
 
@@ -128,7 +128,7 @@ ends_fits f t (ConnectDetach coid) u y p e = elim (detach_ends f coid (connect_d
 ]
 ends_fits f t c u y p e = absurd (none-some y e)
 
--- ---- the call that is open
+-- ---- the open call, and the call that opened it
 
 asked_fits : (n t h : ℕ) (c : Call) (b : OpenCall) (m : Mark) → asks n t h c ≡ Some b → fits c m ≡ fits (call_in b) m
 asked_fits n t h (Send coid message reply_buffer) b m e = ap (λ o. fits (call_in o) m) (same_Some _ b e)
@@ -145,7 +145,7 @@ received_fits priority unblocked None o m = refl
 received_fits priority unblocked (Some copied) (InSend s) m = refl
 received_fits priority unblocked (Some copied) (InReceive r) m = refl
 
--- what is known of the ending of call i
+-- a completion fits the call with its number, if it fits call i and has the number i
 of_call : (past : Trace) (x : Completion) (i : ℕ) (c : Call) → x.call ≡ i → call_at past i ≡ Some c → fits c x.mark ≡ true → option_map (λ c. fits c x.mark) (call_at past x.call) ≡ Some true
 of_call past x i c at is fit = ap (option_map (λ c. fits c x.mark)) (ap (call_at past) at ∙ is) ∙ ap Some fit
 
@@ -168,9 +168,9 @@ endings_fit roster past e r l =
       | inr a ↦ subst (AllByRecursion P) (sym a.2) (of_call (e ∷ past) (refusal_completion f e.thread e.call a.0) (length past + 1) e.call refl (call_newest e past) refl, tt)
     ]
 
--- ---- what is read off an ending
+-- ---- values that are read from a completion
 
--- the result is the error Unexpected
+-- true if the value is the error `Unexpected`
 abbrev is_unexpected : {A : Type 0} → Result A CallError → Bool
 is_unexpected (Err Unexpected) = true
 is_unexpected other = false

@@ -1,4 +1,4 @@
--- The marks that a call may end with, and the readings of its result.
+-- The results that each kind of call may complete with, and the values that are read from them.
 use Rattle.std.specs.Prelude.{◌∷◌, ◌≡◌, ◌≢◌, ⊤, Err}
 use Rattle.qrules.specs.Words.{false, option_map, true, Bool, Call, Info, List, Mark, Some, ℕ}
 use Rattle.qrules.specs.Words.calls
@@ -13,7 +13,7 @@ use Rattle.qcalls.specs.declared.results.Pulse.{Pulse}
 use Rattle.qcalls.specs.declared.results.Received.{Received}
 use Rattle.qcalls.specs.declared.results.State.{State}
 
--- the call may end with this mark: a failure, or a result of its kind
+-- the call may complete with this result: a failure, or a result of its kind
 abbrev pub fits : Call → Mark → Bool
 fits call (mark.Failed errno) = true
 fits (calls.ChannelCreate flags) (mark.Channel chid) = true
@@ -37,12 +37,13 @@ fits (calls.Unblock thread) mark.Ok = true
 fits calls.Shutdown mark.Ok = true
 fits call other = false
 
--- each ending of each event has a mark that fits the call that it ends: the event's own, or an earlier one
+-- each completion of each event has a result that fits the call that it completes: the event's own call, or
+-- an earlier one
 abbrev pub EndingsFit : Type 0
 EndingsFit = OfEachEnding (λ roster past e x.
     option_map (λ call. fits call x.mark) (call_at (e ∷ past) x.call) ≡ Some true)
 
--- the type of a call's result under its QNX name, and how the result is read off the ending
+-- the type of the value that a call returns under its QNX name, and how the value is read from the completion
 abbrev pub reading_of : Call → (A : Type 0) × Reading A
 reading_of (calls.ChannelCreate flags) = (ℕ, channel_in)
 reading_of (calls.ConnectAttach chid) = (ℕ, connection_in)
@@ -55,15 +56,15 @@ reading_of (calls.Info rcvid) = (Info, info_in)
 reading_of (calls.State thread) = (State, state_in)
 reading_of other = (⊤, done_in)
 
--- the result of a call with this ending is never read as Unexpected, whether the call waited or not
+-- the value of a call with this completion is never read as `Unexpected`, whether the call waited or not
 abbrev pub IsExpected : Call → Mark → Bytes → Type 0
 IsExpected call m buffer = (waited : Bool) → (reading_of call).1 waited m buffer ≢ Err Unexpected
 
--- a mark that fits a call is expected
+-- a result that fits a call is never read as `Unexpected`
 abbrev pub FittingIsExpected : Type 0
 FittingIsExpected = (call : Call) (m : Mark) (buffer : Bytes) → fits call m ≡ true → IsExpected call m buffer
 
--- so each ending of each event is expected
+-- so no completion of any event is read as `Unexpected`
 abbrev pub NeverUnexpected : Type 0
 NeverUnexpected = OfEachEnding (λ roster past e x. (call : Call) → call_at (e ∷ past) x.call ≡ Some call
     → IsExpected call x.mark x.buffer)

@@ -1,9 +1,9 @@
--- The words of the contracts that a caller sees.
--- how the bytes of a message, a reply or a read are copied, and what is counted
+-- The definitions in the contracts that a caller sees.
+-- how the bytes of a message, a reply or a read are copied and counted
 pub use Rattle.qbase.specs.Laying
 -- rosters
 pub use Rattle.qtables.specs.Members
--- the rules of the calls, the past, lawful traces and their properties
+-- the rules of the calls, the history, valid histories and their properties
 pub use Rattle.qrules.specs.Words as RuleWords
 pub use Rattle.qrules.specs.Trace
 pub use Rattle.qrules.specs.Facts
@@ -13,7 +13,7 @@ pub use Rattle.qrules.specs.Outcome
 pub use Rattle.qrules.specs.Past
 pub use Rattle.qrules.specs.Lawful
 pub use Rattle.qrules.specs.Properties
--- the kernel at its past, and a run of it
+-- the kernel after its history, and a run of calls
 pub use Rattle.qstate.specs.Thread
 pub use Rattle.qkernel.specs.Kernel
 pub use Rattle.qkernel.specs.LentCall
@@ -31,7 +31,7 @@ pub use Rattle.qshared.specs.Names
 pub use Rattle.qshared.specs.Naming
 pub use Rattle.qshared.specs.TwoCalls
 pub use Rattle.qshared.specs.Unkept
--- the calls under QNX's names: what an endpoint did, how a call ends, and from what its result is read
+-- the calls under QNX's names: the record of an endpoint, the effect of a call, and how its result is read
 pub use Rattle.qcalls.specs.History
 pub use Rattle.qcalls.specs.Errors
 pub use Rattle.qcalls.specs.Results

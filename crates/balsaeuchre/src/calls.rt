@@ -1,7 +1,7 @@
-//! The calls of a thread over the shared kernel, under QNX Neutrino's names.
+//! The calls of a thread to a shared kernel, under QNX Neutrino's names.
 //!
-//! A thread makes a `Caller` of its `Port` and the shared kernel. Each method of the caller waits until its call ends,
-//! and returns the result or a `CallError`. The calls that never block are those of the trait `Calls`.
+//! A thread makes a `Caller` from its `Port` and the shared kernel. Each method of the caller waits until its
+//! call completes, and returns the result or a `CallError`. The trait `Calls` has the calls that never block.
 
 pub use qcalls::Result;
 pub use qcalls::alarms::Alarms;

@@ -1,4 +1,5 @@
-//! Laws of every lawful trace, and of what threads see of it. The functions do nothing: their contracts are the laws.
+//! The laws of every valid history, and of the prefixes that threads see. The functions do nothing: their
+//! contracts are the laws.
 
 pub use crate::fitting::results_fit_calls;
 pub use qlaws::{endings, ids, open_calls, pending};

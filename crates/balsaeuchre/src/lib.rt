@@ -1,5 +1,6 @@
-//! All that a caller of the kernel needs, under one name: in `calls` the calls of a thread of its own, in `simulator`
-//! the calls of many threads in one, in `shared` the kernel under its lock, and here the kernel itself.
+//! Everything that a caller of the kernel needs, under one name. `calls` has the calls of a thread that runs
+//! by itself. `simulator` has the calls of many threads, made by one. `shared` has the kernel under its lock.
+//! The kernel itself is here.
 //!
 //! `docs/LIBRARY.md` begins with a server and its client, and lists the items.
 #![tactic(auto)]

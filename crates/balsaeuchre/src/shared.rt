@@ -1,8 +1,9 @@
-//! The kernel for threads of its own: one lock round a kernel, and a port for each thread.
+//! The kernel for threads that run in parallel: one lock around a kernel, and a port for each thread.
 //!
-//! `Parts` are made of a roster. A function over `K: Tie` opens a `Shared` kernel of them and gets a `Port` for each
-//! thread; it is called with `std::marker::Brand`. Once all ports are returned, `finish` returns a report of what the
-//! kernel did.
+//! `Parts` are made from a roster. A function over `K: Tie` opens a `Shared` kernel from them, and gets a
+//! `Port` for each thread; it is called with `std::marker::Brand`. Once all ports are returned, `finish`
+//! returns a report: the history, if the kernel keeps it, the number of calls, and the completions that
+//! weren't collected.
 
 pub use qshared::kept::Kept;
 pub use qshared::log::Log;

@@ -1,4 +1,4 @@
--- A message that an event receives is held after it, and `Info` tells of it.
+-- A message that an event receives is held after it, and `Info` returns its data.
 use Rattle.balsaeuchre_c.proofs.Common.{AllByRecursion, Answers, Bool, Call, Completion, ConnectDetach, Delivers, Facts, IsLawful, IsRoster, Item, Kind, List, Member, None, OpenCall, Option, Outcome, Pulse, Send, SentItem, Some, Trace, Unblock, all_filter_map, ap, arith, best_of, call_laws, completion_to, copied_count_of, delivery_meets, detach_ends, ended_below, ends_other, ends_own, eq-eqb, eqb, facts_of, false, filled, has_completion_of, info_of, info_of_open, inl, inr, is_ended, is_for_answer, is_pulse, is_some, is_unblocked, item_in, kept, kept_number, laws_of, length, makes, member_at, ne_eqb, none-some, number_of, open_call, open_from, open_known, open_parts, passes_of, priority_of_item, pulse_same, receipt_completion, receipt_for_answer, receive_takes, refl, row_of, sender, sender_sends, sent_same, sent_way, some_of, subst, sym, threads_of, true, unblocked_same, with_event, with_receipt, ℕ, ◌+◌, ◌∙◌, ◌≡◌}
 use Rattle.qmodel.specs.declared.call.Info.{Info as Told}
 use Rattle.qrules.proofs.Traces.Past.Receipts.{accepted_receipts, best_pending, completion_receives}
@@ -11,16 +11,16 @@ use Rattle.qrules.specs.Rules.Pulse as pulse
 use Rattle.qrules.specs.Rules.Unblock as unblock
 use Rattle.qmodel.specs.declared.call.Mark.TheVariants as mark
 
--- ---- a receipt whose mark is of a message
+-- ---- a receipt whose result is a message
 
--- such an ending takes a message of that number
+-- such a completion takes the message with this number
 abbrev TakesMessage : Item → ℕ → Type 0
 TakesMessage x i = (is_pulse x.what ≡ false) × (x.number ≡ i)
 
 message_taken : (x : Item) (sent : List ℕ) (u m : ℕ) (buffer : List ℕ) (y : Completion) (i copied : ℕ) → receipt_completion x sent u m buffer ≡ y → y.mark ≡ mark.Message i copied → TakesMessage x i
 message_taken x sent u m buffer y i copied e is = grind arith
 
--- the caller takes the best that was pending, and ends no other call
+-- the caller takes the best queued item, and completes no other call
 record TakesBest (f : Facts) (t : ℕ) (c : Call) (i : ℕ) : Type 0 where
   pub channel : ℕ
   pub kind : Kind
@@ -32,7 +32,7 @@ record TakesBest (f : Facts) (t : ℕ) (c : Call) (i : ℕ) : Type 0 where
 own_message : (f : Facts) (t : ℕ) (c : Call) (y : Completion) (i copied : ℕ) → (row_of f t c).own ≡ Some y → y.mark ≡ mark.Message i copied → TakesBest f t c i
 own_message f t c y i copied e m = grind (arith, receive_takes f t, message_taken)
 
--- another thread takes what the call makes
+-- another thread takes the item that the call makes
 record TakesMade (f : Facts) (t : ℕ) (c : Call) (i : ℕ) : Type 0 where
   pub made : SentItem
   pub is_made : makes f t c ≡ Some made
@@ -53,9 +53,9 @@ ends_message f t (Pulse coid level code value) u y i copied r e m =
     told_message f t (Pulse coid level code value) (pulse.pulse_over f coid level code value) u y i copied refl (told_meets f (pulse.pulse_over f coid level code value) u y (sym (pulse_same f (pulse.pulse_over f coid level code value) u) ∙ e)) m
 ends_message f t c u y i copied r e m = grind arith
 
--- ---- what is told of it
+-- ---- the data that `Info` returns for it
 
--- an open Send with a receipt is told with its count
+-- for an open Send with a receipt it returns data with the count of the receipt
 pub record IsToldOf (told : Option Told) (copied : ℕ) : Type 0 where
   pub info : Told
   pub is : told ≡ Some info
@@ -80,11 +80,12 @@ held_told roster past i copied rises l going count =
     ap (info_of f) h.is_sender ∙ ap (option_and_then (λ x. info_of_open x (f.open_call h.thread))) m.1 ∙ ap (info_of_open m.0) (s.is ∙ ap Some k.same) in
     record { info = told.info; is = same ∙ told.is; count = told.count }
 
--- of each message that an event receives `Info` tells after it, with the count that its receiver got
+-- after the event `Info` returns the data of each message that the event receives, with the count that the
+-- receiver got
 abbrev pub IsHeldAfter : List Member → Trace → Completion → Type 0
 IsHeldAfter roster past x = (i copied : ℕ) → x.mark ≡ mark.Message i copied → IsToldOf (info_of (facts_of roster past) (sender (facts_of roster past) i)) copied
 
--- ---- it isn't ended in the event that receives it
+-- ---- the message's Send isn't completed in the event that receives it
 
 module _ (roster : List Member) (past : Trace) (t : ℕ) (c : Call) (X : List Completion) (rises : IsRoster roster) (l : IsLawful roster past) (member : is_some (member_at roster t) ≡ true) (a : Outcome true (facts_of roster past) t c X) where
   -- the facts before
@@ -107,7 +108,7 @@ module _ (roster : List Member) (past : Trace) (t : ℕ) (c : Call) (X : List Co
       let none : has_completion_of X (length past + 1) ≡ false = ends_own roster past t c X member a ∙ ap is_some ((laws_of f t c X a).sends k.made k.is_made k.takes.0) in
       subst (λ j. is_ended (with_event t c X past) j ≡ false) (sym ((call_laws c).makes_one f t k.made k.is_made).number ∙ k.takes.1) (rw (none, ended_below roster past (length past + 1) l (omega arith)) refl)
 
-  -- so `Info` tells of it after it, with the count that its receiver got
+  -- so `Info` returns its data after the event, with the count that the receiver got
   told_after : (v : ℕ) (y : Completion) → completion_to f t c v ≡ Some y → IsHeldAfter roster (with_event t c X past) y
   told_after v y given i copied m =
       let r = completion_receives f t c v y (record { number = i; copied = copied }) (laws_of f t c X a) given (ap item_in m) in

@@ -1,4 +1,4 @@
-//! Makes calls.
+//! Makes a call for C, and writes its completions.
 
 ghost use Rattle.std.specs.Prelude.{◌≡◌, length, IfOk, IfErr};
 ghost use Rattle.qstate.specs.Kept.{members_of};
@@ -10,10 +10,11 @@ use crate::session::Session;
 use crate::telling::{Done, tell};
 use qbase::errno::Errno;
 
-/// The rows that a call needs: an event has at most this many endings.
+/// The number of rows that a call needs: an event has at most this many completions.
 const ROW_LIMIT: usize = 64;
 
-/// Makes the call of a request, writes the endings of its event, and returns how many there are.
+/// Makes the call of a request, writes the completions of its event, and returns their counts. Fails with
+/// `Inval` if there are fewer than `ROW_LIMIT` rows, or like `Session::make`.
 pub fn make_call(
     session: &mut Session,
     request: &Request,

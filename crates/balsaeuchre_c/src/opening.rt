@@ -1,4 +1,4 @@
-//! Makes a new kernel.
+//! Makes a kernel from the threads that C passes.
 
 ghost use Rattle.std.specs.Prelude.{MatchResult};
 ghost use Rattle.balsaeuchre_c.specs.Opening.{IsNewOf, NewError};
@@ -10,7 +10,7 @@ use qbase::errno::Errno;
 use qkernel::kernel::Kernel;
 use std::alloc::Global;
 
-/// Returns a kernel of these threads, on the heap.
+/// Returns a kernel of these threads, on the heap. Fails like `roster_of`, or with `NoMemory`.
 pub fn new_session(alloc: Global, threads: &[Thread]) -> Result<Box<Session, Global>, Errno>
     ensures { MatchResult result (λ session. IsNewOf threads.now session.value) (NewError threads.now) }
 {

@@ -31,8 +31,8 @@ fn add(roster: &mut Roster, thread: &Thread) -> Result<(), Errno>
     roster.add(ThreadNo(thread.thread), ProcessNo(thread.process), priority)
 }
 
-/// Returns the roster of these threads; takes no memory. Fails with `Inval` if a thread has the priority 0 or its
-/// number comes twice, and with `Again` if it is the 65th; the first such thread decides.
+/// Returns the roster of these threads, and allocates nothing. Fails for the first thread that can't be
+/// added: with `Inval` if its priority is 0 or its number comes twice, with `Again` if it is the 65th.
 pub fn roster_of(alloc: Global, threads: &[Thread]) -> Result<Roster, Errno>
     ensures { result ≡ roster_from [] threads.now }
 {

@@ -1,4 +1,4 @@
-//! An ending in the form that C gets: only numbers.
+//! A completion in the form that C gets: only numbers.
 
 ghost use Rattle.std.specs.Prelude.{◌≡◌, ℕ, length, Some};
 ghost use Rattle.qkernel.specs.Stands.{InfoAtTraces};
@@ -14,7 +14,7 @@ use qkernel::call::{Completion, Info, Mark};
 use qkernel::kernel::Kernel;
 use qqueue::item::What;
 
-/// Returns the facts of the message that was received with this mark.
+/// Returns the data of the message, if this result is the receipt of one.
 fn info_beside(kernel: &Kernel, mark: Mark) -> Option<Info>
     ensures { (rcvid copied : ℕ) → mark ≡ Mark.Message rcvid copied → InfoAtTraces kernel.now rcvid result }
 {
@@ -24,19 +24,19 @@ fn info_beside(kernel: &Kernel, mark: Mark) -> Option<Info>
     }
 }
 
-/// The ending of a call. `mark` says which fields are used; the others are 0.
+/// The completion of a call. `mark` says which fields are used; the others are 0.
 #[repr(C)]
 #[derive(Clone, Copy, Default)]
 pub struct Row {
-    /// The number of the ended call; the first call of a kernel is 1.
+    /// The number of the completed call; the first call of a kernel is 1.
     pub call: u64,
-    /// The thread that made it.
+    /// The thread that made the call.
     pub thread: u8,
-    /// The number of the mark, 1 to 11.
+    /// The number of the result's kind, 1 to 11.
     pub mark: u8,
     /// The error's number, 1 to 11.
     pub errno: u8,
-    /// A priority, 1 to 255; for a message the one with which it was received.
+    /// A priority, 1 to 255; for a message, the priority that it was received with.
     pub priority: u8,
     /// A thread's state, 1 to 4.
     pub state: u8,
@@ -44,7 +44,7 @@ pub struct Row {
     pub what: u8,
     /// A pulse's code.
     pub pulse_code: i8,
-    /// A process; for a message the sender's.
+    /// A process; for a message, the sender's process.
     pub process: u8,
     /// A pulse's value, or an Error's code.
     pub value: i32,
@@ -58,21 +58,21 @@ pub struct Row {
     pub status: i64,
     /// The number of bytes that were copied.
     pub count: usize,
-    /// The bytes of a message.
+    /// The length of a message in bytes.
     pub srcmsglen: usize,
-    /// The bytes of the sender's reply buffer.
+    /// The length of the sender's reply buffer in bytes.
     pub dstmsglen: usize,
-    /// The index in the room for bytes at which the bytes of the buffer begin.
+    /// The index in `bytes` at which the buffer's bytes begin.
     pub start: usize,
-    /// The number of bytes of the buffer that the ending has.
+    /// The number of the buffer's bytes that belong to the completion.
     pub length: usize,
-    /// The number of these bytes that were written; fewer if there wasn't room.
+    /// The number of these bytes that were written: fewer if there wasn't room.
     pub written: usize,
 }
 
 impl Row {
-    /// Returns the row of an ending without its mark. `told_len` bytes of its buffer belong to it; they begin at
-    /// `start` in the room for bytes, and `written` of them were written.
+    /// Returns the row of a completion without its result. `told_len` bytes of its buffer belong to it. They
+    /// begin at `start` in C's array `bytes`, and `written` of them were written.
     fn without_mark(ending: &Completion, start: usize, told_len: usize, written: usize) -> Row
         requires { told_len ≡ length (told_bytes ending.now) }
         ensures { IsOf result ending.now start written }
@@ -243,8 +243,8 @@ impl Row {
         }
     }
 
-    /// Returns the row of an ending of the kernel's last event. `told_len` bytes of its buffer belong to it; they begin
-    /// at `start` in the room for bytes, and `written` of them were written.
+    /// Returns the row of a completion of the kernel's last event. `told_len` bytes of its buffer belong to
+    /// it. They begin at `start` in C's array `bytes`, and `written` of them were written.
     pub fn of(
         kernel: &Kernel,
         ending: &Completion,

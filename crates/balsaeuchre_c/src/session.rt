@@ -1,4 +1,4 @@
-//! A kernel with the list that takes its endings.
+//! A kernel with the list for the completions of its events.
 
 ghost use Rattle.std.specs.Prelude.{◌≡◌, ◌<◌, ◌^◌, ◌⊎◌, [], true, is_some, IfOk, IfErr};
 ghost use Rattle.qkernel.specs.Kernel.{IsSound};
@@ -20,7 +20,7 @@ use qkernel::kernel::{CALL_LIMIT, Kernel};
 use qkernel::lent_call::LentCall;
 use qkernel::seat::Seat;
 
-/// A kernel, and the endings of its last event.
+/// A kernel, and the completions of its last event.
 #[derive(Drop)]
 pub struct Session {
     pub kernel: Kernel,
@@ -28,8 +28,8 @@ pub struct Session {
 }
 
 impl Session {
-    /// Empties the list for the next call of a thread, and returns the thread's seat. Fails if the thread is not in the
-    /// roster, or if no more calls can be numbered.
+    /// Empties the list for the next call of a thread, and returns the thread's index. Fails with `NoThread`
+    /// if the thread isn't in the roster, or with `Exhausted` if no more calls can be numbered.
     fn begin(&mut self, thread: ThreadNo) -> Result<Seat, Errno>
         ensures seat { IfOk result (λ seat. IsSeatIn self.old.kernel.threads seat) }
         ensures thread { IfOk result (λ seat. seat.thread ≡ thread) }
@@ -48,8 +48,8 @@ impl Session {
         Ok(seat)
     }
 
-    /// Makes a call. `Ok` is an event, whose endings are in the list in rising thread number; on an error nothing is
-    /// called.
+    /// Makes a call. `Ok` is an event: its completions are in the list, by rising thread number. On an error
+    /// no call is made.
     fn call(&mut self, thread: ThreadNo, call: Call) -> Result<(), Errno>
         ensures event { IfOk result (λ _. AnswersAtTraces self.old.kernel thread call self.new.endings.items self.new.kernel) }
         ensures known { IfOk result (λ _. is_some (member_at (members_of self.old.kernel.threads) thread) ≡ true) }
@@ -64,7 +64,7 @@ impl Session {
             .map_err(|refused| refused.0)
     }
 
-    /// Makes a call with bytes that are lent.
+    /// Makes a call whose bytes are borrowed, like `call`.
     fn call_lent(&mut self, thread: ThreadNo, call: &LentCall) -> Result<(), Errno>
         ensures event { IfOk result (λ _. AnswersAtTraces self.old.kernel thread (call_lent call.now) self.new.endings.items self.new.kernel) }
         ensures known { IfOk result (λ _. is_some (member_at (members_of self.old.kernel.threads) thread) ≡ true) }
@@ -77,9 +77,9 @@ impl Session {
         self.kernel.call_lent_at(&seat, call, &mut self.endings)
     }
 
-    /// Makes the call of a request. A Reply and a Write borrow their bytes; the other kinds get copies of the bytes and
-    /// the buffer that they need. Fails with `Inval` if the request means no call, since its kind or its priority is
-    /// none.
+    /// Makes the call of a request. A Reply and a Write borrow their bytes; the other kinds get copies of the
+    /// bytes and the buffer. Fails with `Inval` if no kind has the request's number, or if the kind has a
+    /// priority and the request's is 0.
     pub fn make(&mut self, request: &Request, sent: &[u8], room: &[u8]) -> Result<(), Errno>
         ensures made { IfOk result (λ _. IsMade self.old request.now sent.now room.now self.new) }
         ensures roster { members_of self.new.kernel.threads ≡ members_of self.old.kernel.threads }

@@ -1,4 +1,4 @@
-//! Writes endings for C.
+//! Writes completions for C.
 
 ghost use Rattle.std.specs.Prelude.{◌≡◌, ◌≤◌, length, take};
 ghost use Rattle.balsaeuchre_c.specs.Rows.{told_bytes};
@@ -9,8 +9,8 @@ use qbase::laying::lay;
 use qkernel::call::{Completion, Mark};
 use qkernel::kernel::Kernel;
 
-/// The number of endings of an event, the number of bytes of their buffers that were written, and the number of the
-/// event's call.
+/// The number of completions of an event, the number of bytes of their buffers that were written, and the
+/// number of the event's call.
 #[repr(C)]
 #[derive(Clone, Copy)]
 pub struct Done {
@@ -27,7 +27,7 @@ fn front(bytes: &[u8], count: usize) -> &[u8]
     &bytes[..count.min(bytes.len())]
 }
 
-/// Returns the bytes of an ending's buffer that are written for it.
+/// Returns the part of a completion's buffer that is written for C.
 fn told_front(ending: &Completion) -> &[u8]
     ensures { result.now ≡ told_bytes ending.now }
 {
@@ -40,8 +40,8 @@ fn told_front(ending: &Completion) -> &[u8]
     }
 }
 
-/// Writes the endings of a kernel's last event into the first rows, and the bytes of their buffers one behind another
-/// into the room for bytes, cut at its end.
+/// Writes the completions of a kernel's last event into the first rows. Writes the bytes of their buffers
+/// into `bytes`, one after another, as far as there is room.
 pub fn tell(kernel: &Kernel, endings: &[Completion], rows: &mut [Row], bytes: &mut [u8]) -> Done
     requires { length endings.now ≤ length rows.old }
     ensures { IsTold kernel.now endings.now rows.old rows.new bytes.old bytes.new result }

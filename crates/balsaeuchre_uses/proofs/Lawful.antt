@@ -1,4 +1,4 @@
--- The runs that are written out are lawful, and had memory.
+-- The runs that are written out are valid histories, and had memory.
 use Rattle.balsaeuchre_uses.proofs.Common.{HadMemory, IsLawful, List, [], followed_by, inl, inr, refl, ℕ}
 use Rattle.qbase.specs.declared.errno.Errno.TheVariants.{Srch, Down}
 use Rattle.balsaeuchre_uses.specs.FirstMessage as first

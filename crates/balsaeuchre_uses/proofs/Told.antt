@@ -1,4 +1,4 @@
--- What is told stands in the past that a later call meets.
+-- The history after which a later call is made has the event that the note reports.
 use Rattle.balsaeuchre_uses.proofs.Common.{List, Member, Trace, [], ap, arith, length, refl, sym, true, ◌++◌, ◌+◌, ◌∙◌, ◌∷◌, ◌≡◌}
 use Rattle.std.proofs.lemmas.Bool.{true≢false}
 use Rattle.std.proofs.lemmas.List.{append_assoc}
@@ -8,7 +8,7 @@ use Rattle.balsaeuchre.specs.Laws.{InRealTime}
 use Rattle.balsaeuchre.specs.SeenPast.{Extends}
 use Rattle.balsaeuchre_uses.specs.Answered.{is_sent, ToldAfterAnswer}
 
--- a past that is met after the note was learned has the newest event of the note
+-- a history that a port meets after it learned the note has the newest event of the note
 pub met_after : {roster : List Member} {t : _} {made : List Call} {before between : Trace} {P : Trace → Type 0} (told : Trace) → is_sent told ≡ true → InRealTime → Extends between before → Extends between told
     → AtPast roster t made between P → AtPast roster t made before (ToldAfterAnswer told P)
 met_after [] sent law own others m = absurd (true≢false (sym sent))

@@ -8,7 +8,7 @@ use Rattle.qmodel.specs.declared.call.Mark.TheVariants as mark
 use Rattle.qworked.specs.Runs.{member, event, ended, flags_of}
 use Rattle.balsaeuchre.specs.Trace.{Event}
 
--- a store and a server of priority 10, an urgent client and a less urgent one, each in a process of its own
+-- a store and a server of priority 10, an urgent client and a less urgent one, each in its own process
 abbrev pub roster : List Member
 roster = member 1 1 10 ∷ member 2 2 10 ∷ member 3 3 40 ∷ member 4 4 20 ∷ []
 

@@ -7,7 +7,7 @@ use Rattle.qworked.specs.Runs.{member, event, ended, flags_of}
 use Rattle.balsaeuchre.specs.Laying.{laid_count, lay_over}
 use Rattle.balsaeuchre.specs.Trace.{Event}
 
--- a server and a client, each in a process of its own
+-- a server and a client, each in its own process
 abbrev pub roster : List Member
 roster = member 1 1 1 ∷ member 2 2 1 ∷ []
 
@@ -15,7 +15,7 @@ roster = member 1 1 1 ∷ member 2 2 1 ∷ []
 abbrev pub zeros : List ℕ
 zeros = replicate 8 0
 
--- five calls: the message is copied into the server's buffer, and the answer into the client's
+-- five calls: the message is copied into the server's buffer, and the reply into the client's buffer
 abbrev pub events : List ℕ → List ℕ → List Event
 events message answer =
     event 1 (ChannelCreate (flags_of 0)) (ended 1 1 (mark.Channel 1) [] ∷ [])

@@ -7,7 +7,7 @@ use Rattle.qmodel.specs.declared.call.Mark.TheVariants as mark
 use Rattle.qworked.specs.Runs.{event, ended, flags_of}
 use Rattle.balsaeuchre.specs.Trace.{Event}
 
--- message 3 is answered, message 5 ends with the channel, and the last call is refused
+-- message 3 gets a reply, message 5 is cancelled with the channel, and the last call is refused
 abbrev pub events : List Event
 events =
     event 1 (ChannelCreate (flags_of 0)) (ended 1 1 (mark.Channel 1) [] ∷ [])

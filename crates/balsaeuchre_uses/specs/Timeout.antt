@@ -10,12 +10,12 @@ use Rattle.qmodel.specs.declared.call.Mark.TheVariants as mark
 use Rattle.qworked.specs.Runs.{event, ended, flags_of}
 use Rattle.balsaeuchre.specs.Trace.{Event}
 
--- the server holds message 3, and the timer unblocks its sender
+-- the server holds message 3, and thread 3 unblocks its sender
 abbrev pub begun : ChannelFlags → List (ℕ × Call)
 begun flags = (1, ChannelCreate flags) ∷ (2, ConnectAttach 1) ∷ (2, Send 2 [] []) ∷ (1, Receive 1 [])
     ∷ (3, Unblock 2) ∷ []
 
--- no flag: the Send ends with Intr in the event of the Unblock, and the Reply comes too late
+-- no flag: the Send fails with Intr in the event of the Unblock, and the Reply comes too late
 abbrev pub cut_events : List Event
 cut_events =
     event 1 (ChannelCreate (flags_of 0)) (ended 1 1 (mark.Channel 1) [] ∷ [])
@@ -26,7 +26,7 @@ cut_events =
     ∷ event 1 (Reply 3 (pos 0) []) (ended 6 1 (mark.Failed Srch) [] ∷ [])
     ∷ []
 
--- the flag UNBLOCK: the server gets the unblock pulse of call 5, and ends the Send with the code 110
+-- the flag UNBLOCK: the server gets the unblock pulse of call 5, and completes the Send with the code 110
 abbrev pub told_events : List Event
 told_events =
     event 1 (ChannelCreate (flags_of 2)) (ended 1 1 (mark.Channel 1) [] ∷ [])

@@ -1,5 +1,5 @@
-//! A client's message is answered, and the client tells so to another, by a channel of the program's own. The other's
-//! next call comes after that message.
+//! A client's message gets a reply, and the client reports this to another client, by a channel of the
+//! program's own. In the history, the other client's next call comes after that message.
 
 ghost use Rattle.std.specs.Prelude.{◌≡◌, true, IfOk, Ok, Some, option_map, replicate, slice_get};
 ghost use Rattle.qmodel.specs.declared.call.Call.TheVariants as calls;
@@ -25,7 +25,8 @@ use std::marker::Brand;
 use std::sync::Wait;
 use std::thread::{Threads, join};
 
-/// The answer to a client's message, and what the client saw of the past, whose newest event sends the message.
+/// The reply to a client's message, and the prefix of the history that the client has seen. The newest event
+/// of the prefix sends the message.
 #[derive(Drop)]
 struct Note<K: Tie> {
     answer: Answer,
@@ -33,7 +34,7 @@ struct Note<K: Tie> {
     ghost sent: { is_sent seen ≡ true },
 }
 
-/// Sends a message, waits for its answer, and makes the note.
+/// Sends a message, waits for its reply, and makes the note.
 fn ask<'a, 'p, K: Tie, L: Log, R: Wait>(
     client: &mut PortCaller<'a, 'p, K, L, R>,
     coid: ConnectionId,
@@ -49,7 +50,7 @@ fn ask<'a, 'p, K: Tie, L: Log, R: Wait>(
     })
 }
 
-/// Learns the note, and looks at a thread's state. The kernel's past had the client's message in it by then.
+/// Learns the note, and reads a thread's state. By then the kernel's history has the client's message.
 fn look<'a, 'p, K: Tie, L: Log, R: Wait>(
     other: &mut PortCaller<'a, 'p, K, L, R>,
     note: &Note<K>,
@@ -62,7 +63,7 @@ fn look<'a, 'p, K: Tie, L: Log, R: Wait>(
     other.state(thread)
 }
 
-/// Attaches, asks, sends the note to the other, and detaches.
+/// Attaches, sends a message, passes the note to the other client, and detaches.
 fn tell<K: Tie, L: Log, R: Wait>(
     client: &mut PortCaller<K, L, R>,
     chid: ChannelId,
@@ -76,7 +77,7 @@ fn tell<K: Tie, L: Log, R: Wait>(
     client.connect_detach(coid)
 }
 
-/// Waits for the client's note, and looks at the client. Returns the answer and the client's state.
+/// Waits for the client's note, and reads the client's state. Returns the reply and the state.
 fn hear<K: Tie, L: Log, R: Wait>(
     other: &mut PortCaller<K, L, R>,
     notes: Receiver<Note<K>>,
@@ -88,7 +89,7 @@ fn hear<K: Tie, L: Log, R: Wait>(
     Ok((note.answer, state))
 }
 
-/// Runs both clients concurrently.
+/// Runs both clients in parallel.
 fn ask_and_look<K: Tie + Send + Sync, L: Log + Send + Sync, R: Threads + Wait + Sync>(
     client: &mut PortCaller<K, L, R>,
     other: &mut PortCaller<K, L, R>,
@@ -134,7 +135,8 @@ fn run<K: Tie + Send + Sync, R: Threads + Wait + Sync>(
     run_all(rt, &mut server, &mut client, &mut other)
 }
 
-/// Lets one client tell another of its answer. Returns the answer, and the first client's state as the other saw it.
+/// One client reports its reply to another. Returns the reply, and the first client's state as the other read
+/// it.
 pub fn told_of_an_answer<R: Threads + Wait + Sync>(
     rt: &R,
     alloc: Global,

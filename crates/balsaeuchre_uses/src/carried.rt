@@ -1,5 +1,6 @@
-//! Carries a priority through two servers. An urgent client asks a server, which asks a store on its behalf: both work
-//! at the client's priority, and the store receives this request before one that was sent earlier and is less urgent.
+//! Carries a priority through two servers. An urgent client sends to a server, which sends to a store on its
+//! behalf. Both work at the client's priority. The store receives this request before a less urgent request
+//! that was sent earlier.
 
 ghost use Rattle.std.specs.Prelude.{◌≡◌, [], pos, IfOk};
 ghost use Rattle.balsaeuchre.specs.Stands.{StandsAt};
@@ -20,7 +21,7 @@ const URGENT: ThreadNo = ThreadNo(3);
 
 const MIDDLING: ThreadNo = ThreadNo(4);
 
-/// Returns the priority with this number; an error for 0.
+/// Returns the priority with this number, or an error for 0.
 fn level(number: u8) -> Result<Priority, Errno>
     ensures { IfOk result (λ priority. priority ≡ number) }
 {
@@ -30,7 +31,8 @@ fn level(number: u8) -> Result<Priority, Errno>
     }
 }
 
-/// Returns four threads, each in a process of its own: store and server of priority 10, clients of 40 and 20.
+/// Returns the roster of four threads, each in its own process: a store and a server of priority 10, and
+/// clients of priorities 40 and 20.
 fn roster_of_four(alloc: Global) -> Result<Roster, Errno>
     ensures { IfOk result (λ members. members ≡ roster) }
 {
@@ -45,7 +47,7 @@ fn roster_of_four(alloc: Global) -> Result<Roster, Errno>
     Ok(roster)
 }
 
-/// Returns a kernel of the four threads, before any call.
+/// Returns a kernel of the four threads that has made no call.
 fn kernel_of_four(alloc: Global) -> Result<Kernel, Errno>
     ensures { IfOk result (λ kernel. StandsAt roster kernel []) }
 {
@@ -64,7 +66,7 @@ fn send(alloc: Global, coid: ConnectionId) -> Call
     }
 }
 
-/// Returns a receive on a channel, with no room for bytes.
+/// Returns a receive on a channel, with an empty buffer.
 fn receive(alloc: Global, chid: ChannelId) -> Call
     ensures { result ≡ Call.Receive chid [] }
 {
@@ -74,7 +76,7 @@ fn receive(alloc: Global, chid: ChannelId) -> Call
     }
 }
 
-/// Returns an answer without bytes.
+/// Returns a reply without bytes.
 fn reply(alloc: Global, rcvid: ReceiveId) -> Call
     ensures { result ≡ Call.Reply rcvid (pos 0) [] }
 {
@@ -85,7 +87,7 @@ fn reply(alloc: Global, rcvid: ReceiveId) -> Call
     }
 }
 
-/// Lets the less urgent client's request wait at the store, and then the urgent client ask the server.
+/// The less urgent client's request is queued at the store, and then the urgent client sends to the server.
 pub fn carry_priority(alloc: Global) -> Result<Trace, Errno>
     ensures { IfOk result (λ trace. IsRunOf roster events trace) }
 {

@@ -1,4 +1,5 @@
-//! A driver: a server whose client waits until the device has a value, which a third thread reports by a pulse.
+//! A driver: a server whose client waits until the device has a value. A third thread reports each value by a
+//! pulse.
 
 ghost use Rattle.balsaeuchre.specs.Naming.{AreParts};
 
@@ -11,7 +12,7 @@ use std::marker::Brand;
 use std::sync::Wait;
 use std::thread::{Threads, join};
 
-/// Does the driver's work: answers each message with the device's next value, until the client has detached.
+/// The driver's work: replies to each message with the device's next value, until the client has detached.
 fn drive<E: Endpoint, R: Wait>(driver: &mut Caller<E, R>, chid: ChannelId) -> Result<()> {
     let mut values = Vec::new(driver.alloc());
     let mut held = None;
@@ -32,7 +33,7 @@ fn drive<E: Endpoint, R: Wait>(driver: &mut Caller<E, R>, chid: ChannelId) -> Re
     Ok(())
 }
 
-/// Does the work of the device's thread: reports each value to the driver, as an interrupt would.
+/// The work of the device's thread: reports each value to the driver, as an interrupt would.
 fn interrupt<E: Endpoint, R: Wait>(
     device: &mut Caller<E, R>,
     chid: ChannelId,
@@ -45,7 +46,8 @@ fn interrupt<E: Endpoint, R: Wait>(
     Ok(())
 }
 
-/// Does the client's work: asks for this many values, and waits for each.
+/// The client's work: asks for this many values, waits for each, and compares it. Fails with `Unexpected` if
+/// a value differs.
 fn read<E: Endpoint, R: Wait>(
     client: &mut Caller<E, R>,
     chid: ChannelId,
@@ -61,7 +63,7 @@ fn read<E: Endpoint, R: Wait>(
     client.connect_detach(coid)
 }
 
-/// Runs the device's thread and the client's concurrently.
+/// Runs the device's thread and the client's thread in parallel.
 fn use_device<D: Endpoint + Send, C: Endpoint + Send, R: Threads + Wait + Sync>(
     rt: &R,
     device: &mut Caller<D, R>,
@@ -111,7 +113,8 @@ fn run<K: Tie + Send + Sync, R: Threads + Wait + Sync>(
     run_all(rt, &mut driver, &mut device, &mut client, values)
 }
 
-/// Lets a client read these values of a device through its driver, which is of one process with the device's thread.
+/// A client reads these values of a device through its driver. The driver and the device's thread are in one
+/// process.
 pub fn with_a_driver<R: Threads + Wait + Sync>(
     rt: &R,
     alloc: Global,

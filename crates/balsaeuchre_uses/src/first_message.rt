@@ -1,4 +1,4 @@
-//! All steps on one page: a roster, a kernel, a channel, a connection, a message and its answer.
+//! All steps in one file: a roster, a kernel, a channel, a connection, a message and its reply.
 
 ghost use Rattle.std.specs.Prelude.{◌≡◌, [], IfOk};
 ghost use Rattle.balsaeuchre.specs.Stands.{StandsAt};
@@ -15,7 +15,7 @@ const SERVER: ThreadNo = ThreadNo(1);
 
 const CLIENT: ThreadNo = ThreadNo(2);
 
-/// Returns a server and a client, each in a process of its own.
+/// Returns the roster of a server and a client, each in its own process.
 fn roster_of_two(alloc: Global) -> Result<Roster, Errno>
     ensures { IfOk result (λ members. members ≡ roster) }
 {
@@ -25,7 +25,7 @@ fn roster_of_two(alloc: Global) -> Result<Roster, Errno>
     Ok(roster)
 }
 
-/// Returns a kernel of both threads, before any call.
+/// Returns a kernel of both threads that has made no call.
 fn kernel_of_two(alloc: Global) -> Result<Kernel, Errno>
     ensures { IfOk result (λ kernel. StandsAt roster kernel []) }
 {
@@ -33,7 +33,7 @@ fn kernel_of_two(alloc: Global) -> Result<Kernel, Errno>
     Ok(Kernel::new(alloc, &roster)?)
 }
 
-/// Lets the server receive the client's message, and answer it with bytes of its own.
+/// The server receives the client's message, and replies with bytes of its own.
 pub fn first_message(alloc: Global, message: &[u8], answer: &[u8]) -> Result<Trace, Errno>
     ensures { IfOk result (λ trace. IsRunOf roster (events message.now answer.now) trace) }
 {

@@ -1,5 +1,5 @@
-//! A server of one resource that keeps clients waiting: it holds the message of a client that asks while the resource
-//! is taken, and answers it once the resource is given back. All that a client does is one Send.
+//! A server of one resource that keeps clients waiting. It holds the message of a client that asks while the
+//! resource is taken, and replies once the resource is given back. The client makes only one Send.
 
 ghost use Rattle.std.specs.Prelude.{◌≡◌, ◌++◌, [], ◌∷◌, true, false, IfOk, IfSome, IfNone, OnErr, Some, None, if◌then◌else◌};
 
@@ -18,7 +18,7 @@ const FIRST: ThreadNo = ThreadNo(2);
 
 const SECOND: ThreadNo = ThreadNo(3);
 
-/// The byte of a message that takes the resource; `GIVE_BACK` is that of one that gives it back.
+/// The byte of a message that takes the resource. `GIVE_BACK` is the byte of a message that gives it back.
 const TAKE: u8 = 1;
 
 const GIVE_BACK: u8 = 2;
@@ -31,7 +31,7 @@ pub struct Resource {
 }
 
 impl Resource {
-    /// Returns the resource, which nobody has.
+    /// Returns the resource, which no client has.
     pub fn new(alloc: Global) -> Resource
         ensures { (result.taken ≡ false) × (result.waiting.items ≡ []) }
     {
@@ -41,8 +41,8 @@ impl Resource {
         }
     }
 
-    /// Takes the resource for the client of this message. Returns the message if it has to be answered now, and else
-    /// keeps it until the resource is given back.
+    /// Takes the resource for the client of this message. Returns the message if the server has to reply now.
+    /// Otherwise it keeps the message until the resource is given back.
     pub fn ask(&mut self, rcvid: ReceiveId) -> Result<Option<ReceiveId>, AllocError>
         ensures answer { IfOk result (λ next. next ≡ (if self.old.taken then None else Some rcvid)) }
         ensures kept { IfOk result (λ next. self.new.waiting.items ≡ (if self.old.taken then self.old.waiting.items ++ rcvid ∷ [] else self.old.waiting.items)) }
@@ -57,7 +57,8 @@ impl Resource {
         Ok(Some(rcvid))
     }
 
-    /// Gives the resource back. Returns the message of the client that has it next, which has to be answered now.
+    /// Gives the resource back. Returns the message of the client that gets it next, to which the server has
+    /// to reply now.
     pub fn give_back(&mut self) -> Option<ReceiveId>
         ensures next { IfSome result (λ rcvid. (self.old.waiting.items ≡ rcvid ∷ self.new.waiting.items) × (self.new.taken ≡ true)) }
         ensures free { IfNone result ((self.old.waiting.items ≡ []) × (self.new.waiting.items ≡ []) × (self.new.taken ≡ false)) }
@@ -91,7 +92,7 @@ impl Client {
         })
     }
 
-    /// Sends a wish, which blocks the client.
+    /// Sends `TAKE` or `GIVE_BACK`, which blocks the client.
     fn wish(&mut self, simulator: &mut Simulator, wish: u8) -> Result<(), CallError> {
         let _blocked = simulator
             .thread(self.thread)
@@ -100,7 +101,7 @@ impl Client {
         Ok(())
     }
 
-    /// Takes the answer if there is one.
+    /// Adds the client's reply to `replies`, if it has come.
     fn take_answer(
         &self,
         simulator: &mut Simulator,
@@ -117,13 +118,14 @@ impl Client {
     }
 }
 
-/// Returns a simulator of a server and two clients, each in a process of its own.
+/// Returns a simulator of a server and two clients, each in its own process.
 fn simulator_of_three(alloc: Global) -> Result<Simulator, CallError> {
     let roster = roster_of_three(alloc)?;
     Simulator::new(alloc, &roster)
 }
 
-/// Returns the three threads. (No clause says which: the prover would go through the kernel's facts about them.)
+/// Returns the roster of the three threads. It has no contract, so that the prover doesn't unfold the
+/// kernel's facts about them.
 fn roster_of_three(alloc: Global) -> Result<Roster, Errno> {
     let mut roster = Roster::new(alloc);
     roster.add(SERVER, ProcessNo(1), Priority::lowest())?;
@@ -132,7 +134,7 @@ fn roster_of_three(alloc: Global) -> Result<Roster, Errno> {
     Ok(roster)
 }
 
-/// Lets the server receive one message, and answer the client that can go on.
+/// The server receives one message, and replies to the clients that can continue.
 fn serve_one(
     simulator: &mut Simulator,
     chid: ChannelId,
@@ -156,7 +158,7 @@ fn serve_one(
     }
 }
 
-/// Lets a client send its wish, and the server serve it.
+/// A client sends `TAKE` or `GIVE_BACK`, and the server handles it.
 fn ask(
     simulator: &mut Simulator,
     client: &mut Client,
@@ -168,7 +170,8 @@ fn ask(
     serve_one(simulator, chid, resource)
 }
 
-/// Lets both clients ask for the resource, and the first give it back. Adds the answers in the order in which they came.
+/// Both clients ask for the resource, and the first gives it back. Adds the replies in the order in which
+/// they came.
 fn use_resource(
     simulator: &mut Simulator,
     resource: &mut Resource,
@@ -187,7 +190,7 @@ fn use_resource(
     second.take_answer(simulator, replies)
 }
 
-/// Runs the server and its clients. Returns the answers in the order in which they came.
+/// Runs the server and its clients. Returns the replies in the order in which they came.
 pub fn kept_waiting(alloc: Global) -> Result<Vec<Reply>, CallError> {
     let mut simulator = simulator_of_three(alloc)?;
     let (mut resource, mut replies) = (Resource::new(alloc), Vec::new(alloc));

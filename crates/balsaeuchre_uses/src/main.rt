@@ -1,4 +1,5 @@
-//! Examples of the kernel as a library, each on one page. The program runs all of them, and prints how the calls ended.
+//! Examples of the kernel as a library, each in its own file. The program runs all of them, and prints how
+//! the calls completed.
 #![tactic(auto)]
 
 mod answered;
@@ -19,14 +20,14 @@ use reply::Reply;
 use std::io;
 use std::test::Fail;
 
-/// Prints an ending: the number of the ended call, its thread, its mark, and the buffer that came back.
+/// Prints a completion: the number of its call, its thread, its result, and the buffer that it returns.
 fn show(rt: &impl Print, ending: &Completion) -> io::Result<()> {
     let (call, thread, mark) = (ending.call, ending.thread.0, ending.mark);
     let buffer = ending.buffer.as_slice();
     println!(rt; "  call {call} of thread {thread}: {mark:?} {buffer:?}")
 }
 
-/// Prints an answer in the same way.
+/// Prints a reply in the same form.
 fn show_reply(rt: &impl Print, reply: &Reply) -> io::Result<()> {
     let (call, thread, answer) = (reply.call, reply.thread.0, &reply.answer);
     let (status, copied) = (answer.status, answer.copied);
@@ -36,7 +37,7 @@ fn show_reply(rt: &impl Print, reply: &Reply) -> io::Result<()> {
     )
 }
 
-/// Prints the endings of a run under its name.
+/// Prints the completions of a run under its name.
 fn show_all(rt: &impl Print, name: &str, trace: &Trace) -> io::Result<()> {
     println!(rt; "{name}")?;
     for k in 0..trace.len() {

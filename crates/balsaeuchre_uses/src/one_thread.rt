@@ -1,4 +1,5 @@
-//! A server and a client in one thread. The client's send leaves it blocked; it takes the answer after the reply.
+//! A server and a client in one thread. The client's send blocks it, and the client takes the completion
+//! after the reply.
 
 use crate::reply::Reply;
 use balsaeuchre::calls::{CallError, Calls, Received};
@@ -12,13 +13,14 @@ const SERVER: ThreadNo = ThreadNo(1);
 
 const CLIENT: ThreadNo = ThreadNo(2);
 
-/// Returns a simulator of both threads, each in a process of its own.
+/// Returns a simulator of both threads, each in its own process.
 fn simulator_of_two(alloc: Global) -> Result<Simulator, CallError> {
     let roster = roster_of_two(alloc)?;
     Simulator::new(alloc, &roster)
 }
 
-/// Returns both threads. (No clause says which, so that the prover doesn't go through the kernel's facts about them.)
+/// Returns the roster of both threads. It has no contract, so that the prover doesn't unfold the kernel's
+/// facts about them.
 fn roster_of_two(alloc: Global) -> Result<Roster, Errno> {
     let mut roster = Roster::new(alloc);
     roster.add(SERVER, ProcessNo(1), Priority::lowest())?;
@@ -34,7 +36,7 @@ fn connect(simulator: &mut Simulator) -> Result<(ChannelId, ConnectionId), CallE
     Ok((chid, simulator.thread(CLIENT).connect_attach(chid)?))
 }
 
-/// Lets the server receive a message, and answer it with the buffer into which it received it.
+/// The server receives a message, and replies with the buffer that it was received into.
 fn serve(simulator: &mut Simulator, chid: ChannelId) -> Result<(), CallError> {
     let Outcome::Done(Received::Message(request)) = simulator.thread(SERVER).msg_receive(chid, 8)?
     else {
@@ -45,7 +47,7 @@ fn serve(simulator: &mut Simulator, chid: ChannelId) -> Result<(), CallError> {
         .msg_reply(request.rcvid, 0, request.buffer.as_slice())
 }
 
-/// Lets the client send a message, and the server answer it.
+/// The client sends a message, and the server replies.
 pub fn echo(alloc: Global, message: &[u8]) -> Result<Reply, CallError> {
     let mut simulator = simulator_of_two(alloc)?;
     let (chid, coid) = connect(&mut simulator)?;

@@ -1,9 +1,9 @@
-//! The answer to a client.
+//! The reply to a client.
 
 use balsaeuchre::ThreadNo;
 use balsaeuchre::calls::Answer;
 
-/// An answer to a client, with the number of the client's send.
+/// A reply to a client, with the number of the client's send and its thread.
 #[derive(Debug, Drop)]
 pub struct Reply {
     pub call: u64,

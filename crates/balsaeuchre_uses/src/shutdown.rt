@@ -1,5 +1,6 @@
-//! A clean shutdown: the server answers what it holds and destroys its channel, which ends the calls blocked on it; the
-//! client detaches, and the kernel is shut down. Nobody is blocked then, and a later call is refused.
+//! A clean shutdown. The server replies to the message that it holds, and destroys its channel, which cancels
+//! the calls that are blocked on it. The client detaches, and the kernel is shut down. No thread is blocked
+//! then, and a later call is refused.
 
 ghost use Rattle.std.specs.Prelude.{IfOk};
 ghost use Rattle.balsaeuchre_uses.specs.ShutDown.{events};
@@ -10,7 +11,7 @@ use crate::three_threads::{CLIENT, FELLOW, SERVER, kernel_of_three, receive, rep
 use balsaeuchre::{Call, ChannelFlags, ChannelId, ConnectionId, Errno, Trace, run};
 use std::alloc::Global;
 
-/// Shuts down while the server holds one client's message and another's waits.
+/// Shuts down while the server holds one client's message and another client's message is queued.
 pub fn shut_down(alloc: Global) -> Result<Trace, Errno>
     ensures { IfOk result (λ trace. IsRunOf roster events trace) }
 {

@@ -5,14 +5,14 @@ use balsaeuchre::shared::{Log, Port, Shared, Tie};
 use std::alloc::Global;
 use std::sync::Wait;
 
-/// Three callers, in rising thread number.
+/// Three callers, by rising thread number.
 pub type Three<'a, 'p, K, L, R> = (
     PortCaller<'a, 'p, K, L, R>,
     PortCaller<'a, 'p, K, L, R>,
     PortCaller<'a, 'p, K, L, R>,
 );
 
-/// Makes the callers of a kernel of three threads. `Unexpected` if there are fewer ports.
+/// Makes the callers of a kernel of three threads. The error is `Unexpected` if there are fewer ports.
 pub fn three_callers<'a, 'p, K: Tie, L: Log, R: Wait>(
     mut ports: Vec<Port<K>>,
     shared: &'p Shared<K, L>,

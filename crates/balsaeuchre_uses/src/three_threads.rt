@@ -1,4 +1,5 @@
-//! What the examples with three threads share: a server, a client, and another thread of the client's process.
+//! The roster and the calls that the examples with three threads share: a server, a client, and another
+//! thread of the client's process.
 
 ghost use Rattle.std.specs.Prelude.{◌≡◌, [], pos, IfOk};
 ghost use Rattle.balsaeuchre.specs.Stands.{StandsAt};
@@ -19,7 +20,7 @@ pub const CLIENT: ThreadNo = ThreadNo(2);
 /// Another thread of process 2.
 pub const FELLOW: ThreadNo = ThreadNo(3);
 
-/// Returns the three threads.
+/// Returns the roster of the three threads.
 fn roster_of_three(alloc: Global) -> Result<Roster, Errno>
     ensures { IfOk result (λ members. members ≡ roster) }
 {
@@ -30,7 +31,7 @@ fn roster_of_three(alloc: Global) -> Result<Roster, Errno>
     Ok(roster)
 }
 
-/// Returns a kernel of the three threads, before any call.
+/// Returns a kernel of the three threads that has made no call.
 pub fn kernel_of_three(alloc: Global) -> Result<Kernel, Errno>
     ensures { IfOk result (λ kernel. StandsAt roster kernel []) }
 {
@@ -49,7 +50,7 @@ pub fn send(alloc: Global) -> Call
     }
 }
 
-/// Returns a receive on channel 1, with no room for bytes.
+/// Returns a receive on channel 1, with an empty buffer.
 pub fn receive(alloc: Global) -> Call
     ensures { result ≡ Call.Receive 1 [] }
 {
@@ -59,7 +60,7 @@ pub fn receive(alloc: Global) -> Call
     }
 }
 
-/// Returns an answer without bytes to message 3.
+/// Returns a reply to message 3, without bytes.
 pub fn reply(alloc: Global) -> Call
     ensures { result ≡ Call.Reply 3 (pos 0) [] }
 {

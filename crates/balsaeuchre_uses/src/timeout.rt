@@ -1,4 +1,4 @@
-//! A timeout by `Unblock`. A client's message is received and not answered, and another thread of the client's process
+//! A timeout by `Unblock`. A server holds a client's message, and another thread of the client's process
 //! unblocks the client. The flags of the server's channel decide what happens.
 
 ghost use Rattle.std.specs.Prelude.{◌≡◌, IfOk};
@@ -12,7 +12,7 @@ use balsaeuchre::{
 };
 use std::alloc::Global;
 
-/// Returns calls 1 to 4, by which the server holds message 3, and call 5, which is the timeout.
+/// Returns calls 1 to 4, after which the server holds message 3, and call 5, which is the timeout.
 fn until_the_timeout(alloc: Global, flags: ChannelFlags) -> Result<Vec<(ThreadNo, Call)>, Errno>
     ensures { IfOk result (λ calls. calls.items ≡ begun flags) }
 {
@@ -26,7 +26,7 @@ fn until_the_timeout(alloc: Global, flags: ChannelFlags) -> Result<Vec<(ThreadNo
     Ok(calls)
 }
 
-/// Makes the timeout without a flag: the Send ends at once, with `Intr`, and the server's answer comes too late.
+/// The timeout without a flag: the Send fails at once with `Intr`, and the server's reply comes too late.
 pub fn without_flag(alloc: Global) -> Result<Trace, Errno>
     ensures { IfOk result (λ trace. IsRunOf roster cut_events trace) }
 {
@@ -36,8 +36,8 @@ pub fn without_flag(alloc: Global) -> Result<Trace, Errno>
     Ok(run(&mut kernel, calls)?)
 }
 
-/// Makes the timeout with the flag `UNBLOCK`: the client stays blocked, and the server gets a pulse that names the
-/// message. The server answers with an error code of its own.
+/// The timeout with the flag `UNBLOCK`: the client stays blocked, and the server gets a pulse that names the
+/// message. The server replies with an error code of its own.
 pub fn with_flag(alloc: Global) -> Result<Trace, Errno>
     ensures { IfOk result (λ trace. IsRunOf roster told_events trace) }
 {

@@ -1,4 +1,5 @@
-//! A server and a client on threads of their own. A `DISCONNECT` pulse tells the server when its client has gone.
+//! A server and a client, each on its own thread. The server learns by a `DISCONNECT` pulse that its client
+//! has detached.
 
 ghost use Rattle.std.specs.Prelude.{IfOk};
 ghost use Rattle.balsaeuchre.specs.Closing.{IsPast};
@@ -17,7 +18,7 @@ use std::thread::{Threads, join};
 /// The client's messages.
 pub const MESSAGES: [&[u8]; 3] = [b"one", b"two", b"three"];
 
-/// Answers each message with its own bytes, until the client has detached.
+/// Replies to each message with the message's bytes, until the client has detached.
 pub fn serve<E: Endpoint, R: Wait>(server: &mut Caller<E, R>, chid: ChannelId) -> Result<()> {
     let mut received = server.msg_receive(chid, 8)?;
     for _ in server.rt().forever() {
@@ -29,7 +30,8 @@ pub fn serve<E: Endpoint, R: Wait>(server: &mut Caller<E, R>, chid: ChannelId) -
     Ok(())
 }
 
-/// Attaches, sends messages one after the other, and detaches.
+/// Attaches, sends the messages one after another, and detaches. Fails with `Unexpected` if a reply differs
+/// from its message.
 fn send<E: Endpoint, R: Wait>(client: &mut Caller<E, R>, chid: ChannelId) -> Result<()> {
     let coid = client.connect_attach(chid)?;
     for message in MESSAGES {
@@ -72,7 +74,7 @@ fn run<K: Tie + Send + Sync, R: Threads + Wait + Sync>(
     close(shared, ports)
 }
 
-/// Runs a server that answers its client's messages, each on a thread of its own. Returns the kernel's trace.
+/// Runs a server that replies to its client's messages, each on its own thread. Returns the kernel's history.
 pub fn on_two_threads<R: Threads + Wait + Sync>(rt: &R, alloc: Global) -> Result<Trace> {
     let mut roster = Roster::new(alloc);
     roster.add(ThreadNo(1), ProcessNo(1), Priority::lowest())?;

@@ -1,16 +1,16 @@
--- The endings that are kept: the first of a thread, and the list without it.
+-- The completions that are kept: the first of a thread, and the list without it.
 use Rattle.qcalls.proofs.Common.{Completion, List, None, Some, [], ap, arith, cond, drop, ending_of, eqb, false, get_or, is_of, is_some, length, none-some, position, refl, same_Some, suc, sym, take, true, without, ℕ, ◌++◌, ◌+◌, ◌<◌, ◌∙◌, ◌∷◌, ◌≡◌}
 use Rattle.std.specs.List.{position_from}
 use Rattle.std.proofs.lemmas.Iterator.Adapters.{position_from-zero}
 
--- the first ending of thread t stands at place j
+-- the first completion of thread t is at index j
 pub record IsAt (t : ℕ) (endings : List Completion) (j : ℕ) : Type 0 where
   pub below : j < length endings
   pub first : (d : Completion) → ending_of t endings ≡ Some (get_or endings j d)
   pub found : is_some (ending_of t endings) ≡ true
   pub rest : without t endings ≡ take j endings ++ drop (suc j) endings
 
--- what is found from place i on
+-- what `position_from` finds, counting from i
 found_from : (t : ℕ) (endings : List Completion) (i k : ℕ) → position_from (is_of t) i endings ≡ Some k → (j : ℕ) × (k ≡ i + j) × IsAt t endings j
 found_from t [] i k e = absurd (none-some k e)
 found_from t (x ∷ endings) i k e =
@@ -40,7 +40,7 @@ found_at t endings k e =
     let at : r.0 ≡ k = omega arith in
     rw at at r.2
 
--- where there is none, nothing is taken
+-- if thread t has no completion, the list without its first is the same list
 none_from : (t : ℕ) (endings : List Completion) (i : ℕ) → position_from (is_of t) i endings ≡ None → (ending_of t endings ≡ None) × (without t endings ≡ endings)
 none_from t [] i e = (refl, refl)
 none_from t (x ∷ endings) i e =
@@ -55,7 +55,7 @@ none_from t (x ∷ endings) i e =
 pub none_at : (t : ℕ) (endings : List Completion) → position (is_of t) endings ≡ None → (ending_of t endings ≡ None) × (without t endings ≡ endings)
 none_at t endings e = none_from t endings 0 (sym (position_from-zero (is_of t) endings) ∙ e)
 
--- there is a place where there is an ending
+-- `position` finds an index exactly if thread t has a completion
 pub has_place : (t : ℕ) (endings : List Completion) → is_some (position (is_of t) endings) ≡ is_some (ending_of t endings)
 has_place t endings =
     elim (position (is_of t) endings)

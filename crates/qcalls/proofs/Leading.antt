@@ -1,4 +1,4 @@
--- What an answer to a call, or to two calls in turn, leads to.
+-- The effect of a call, or of two calls in turn, follows from its outcome.
 use Rattle.qcalls.proofs.Common.{Call, CallError, Completion, Done, Ending, Err, Follows, Gives, History, Leads, List, Makes, MakesBoth, Ok, Reading, Result, [], ap, done_in, ending_in, false, if◌then◌else◌, read_off, refl, sym, told_by, true, ⊤, ◌++◌, ◌∙◌, ◌∷◌, ◌≡◌}
 use Rattle.std.proofs.lemmas.List.{append-nil, append_assoc}
 use Rattle.qmodel.specs.declared.call.Mark.{Mark}
@@ -9,14 +9,14 @@ use Rattle.qshared.specs.Counting.{is_call, gives, pends}
 use Rattle.qshared.specs.TwoCalls.{is_ok}
 use Rattle.qcalls.proofs.Reading.{makes_off}
 
--- what an endpoint answered a call
+-- the endpoint's record after a call with this outcome, as the contract of `Endpoint::call` says
 pub record IsAnswer (call : Call) (answer : Called) (before after : History) : Type 0 where
   pub asked : after.asked ≡ before.asked ++ (if is_call answer then call ∷ [] else [])
   pub taken : after.taken ≡ before.taken ++ gives answer
   pub pending : after.pending ≡ pends answer before.pending
   pub told : after.told ≡ told_by answer
 
--- what the answer leads to is what the call comes to
+-- the record after the outcome, and the effect of the outcome, are together the effect of the call
 pub leads_makes : (call : Call) (answer : Called) {before between after : History} {result : Result Ending CallError}
     → IsAnswer call answer before between → Leads answer between after result → Makes ending_in call before after result
 leads_makes call (called.Refused errno given) {before} {between} {after} {result} was (same, is) =
@@ -35,36 +35,36 @@ leads_makes call called.Blocked {before} {between} {after} {result} was (x, took
       idle = λ idle. none;
     }
 
--- what was answered stays so until the ending is there
+-- the kind of the outcome stays the same until the completion is collected
 pub leads_told : (answer : Called) (before after : History) (result : Result Ending CallError) → Leads answer before after result → after.told ≡ before.told
 leads_told (called.Refused errno given) before after result l = ap (λ h. h.told) l.0
 leads_told (called.Done x) before after result l = ap (λ h. h.told) l.0
 leads_told called.Blocked before after result l = l.4
 
--- what was taken at an answer, and after it, is what the answer gives
+-- the completions collected with the outcome and after it satisfy `Gives`
 pub leads_gives : (answer : Called) (before : List Completion) (between after : History) (result : Result Ending CallError)
     → between.taken ≡ before ++ gives answer → Leads answer between after result → Gives answer before after.taken
 leads_gives (called.Refused errno given) before between after result took l = ap (λ h. h.taken) l.0 ∙ took ∙ append-nil before
 leads_gives (called.Done x) before between after result took l = ap (λ h. h.taken) l.0 ∙ took
 leads_gives called.Blocked before between after result took l = (l.0 ∷ [], l.1 ∙ ap (λ xs. xs ++ l.0 ∷ []) (took ∙ append-nil before))
 
--- and so it is at the answer to two calls that were both made
+-- the same for two calls that were both made
 pub leads_gives_both : (x : Completion) (answer : Called) (before : List Completion) (between after : History) (result : Result Ending CallError)
     → between.taken ≡ before ++ x ∷ gives answer → Leads answer between after result → Gives answer (before ++ x ∷ []) after.taken
 leads_gives_both x answer before between after result took l =
     leads_gives answer (before ++ x ∷ []) between after result (took ∙ sym (append_assoc before (x ∷ []) (gives answer))) l
 
--- an ending with the mark `Ok` is that of a call that did what it says
+-- a completion with the result `Ok` has the returned value `Ok`
 done_of_ok : (m : Mark) (buffer : List _) → is_ok m ≡ true → Ok tt ≡ done_in false m buffer
 done_of_ok mark.Ok buffer ok = refl
 done_of_ok other buffer ok = search
 
--- whether a call did what it says is read off its ending
+-- whether a call succeeded is read from its completion
 pub reads_done : {made : Result Ending CallError} {e : Ending} {done said : Result ⊤ CallError} → made ≡ Ok e
     → done ≡ done_in e.waited e.mark e.buffer → done ≡ said → read_off done_in made ≡ said
 reads_done is reads says = ap (read_off done_in) is ∙ sym reads ∙ says
 
--- where an endpoint is after the first of two calls, which did what it says in its own event
+-- the endpoint's record after the first of two calls, which succeeded in its own event
 abbrev pub after_first : Call → Completion → History → History
 after_first call x before =
     record { asked = before.asked ++ call ∷ []; taken = before.taken ++ x ∷ []; pending = before.pending; told = Done }
@@ -74,7 +74,7 @@ first_makes : (call : Call) (x : Completion) (before : History) → is_ok x.mark
 first_makes call x before ok =
     record { comes = (refl, (x, refl, done_of_ok x.mark x.buffer ok)); idle = λ idle. idle }
 
--- what an endpoint answered the second
+-- the endpoint's record after the second of two calls, as after a call by itself
 second_answer : (first second : Call) (x : Completion) (answer : Called) (before after : History)
     → after.asked ≡ before.asked ++ (first ∷ (if is_call answer then second ∷ [] else []))
     → after.taken ≡ before.taken ++ (x ∷ gives answer) → after.pending ≡ pends answer before.pending
@@ -87,7 +87,7 @@ second_answer first second x answer before after asked taken pending told =
       told = told;
     }
 
--- both calls are made where the endpoint made both
+-- both calls are made if the endpoint made both in one turn
 pub both_make : (first second : Call) (x : Completion) (answer : Called) {before between after : History}
     {result : Result Ending CallError} → is_ok x.mark ≡ true
     → between.asked ≡ before.asked ++ (first ∷ (if is_call answer then second ∷ [] else []))
@@ -101,7 +101,7 @@ both_make first second x answer {before} {between} {after} {result} ok asked tak
       follows = leads_makes second answer (second_answer first second x answer before between asked taken pending told) leads;
     }
 
--- the first alone is made, and fails
+-- only the first is made, and fails
 pub first_fails : (first second : Call) (answer : Called) (made : Result Ending CallError) {before between after : History}
     {result : Result Ending CallError} {e : CallError} → IsAnswer first answer before between → Leads answer between after made → read_off done_in made ≡ Err e
     → result ≡ Err e → MakesBoth ending_in first second before after result
@@ -113,7 +113,7 @@ first_fails first second answer made {before} {between} {after} {result} {e} was
       follows = rw is (refl, fails);
     }
 
--- the first is made, does what it says after a wait, and then the second is made
+-- the first is made and succeeds, possibly after a wait, and then the second is made
 pub second_makes : (first second : Call) (answer : Called) (made : Result Ending CallError) {given : Call}
     {before between waited after : History} {result : Result Ending CallError} → IsAnswer first answer before between → Leads answer between waited made
     → read_off done_in made ≡ Ok tt → given ≡ second → Makes ending_in given waited after result
@@ -126,20 +126,20 @@ second_makes first second answer made {given} {before} {between} {waited} {after
       follows = rw (is, ← same) makes;
     }
 
--- a call that follows is made with what is read off its ending
+-- `Follows` holds also with the result that is read from the completion
 follows-off : {A : Type 0} (read : Reading A) (call : Call) (came : Result ⊤ CallError) (before after : History)
     (made : Result Ending CallError) → Follows ending_in call came before after made
     → Follows read call came before after (read_off read made)
 follows-off read call (Ok done) before after made follows = makes_off read follows
 follows-off read call (Err e) before after made (same, is) = (same, ap (read_off read) is)
 
--- two calls are made in turn with what is read off the ending of the second
+-- the same for `MakesBoth`: the result is read from the completion of the second call
 both-off : {A : Type 0} (read : Reading A) {first second : Call} {before after : History} {made : Result Ending CallError}
     → MakesBoth ending_in first second before after made → MakesBoth read first second before after (read_off read made)
 both-off read {first} {second} {before} {after} {made} m =
     record { between = m.between; came = m.came; makes = m.makes; follows = follows-off read second m.came m.between after made m.follows }
 
--- and so they are where the result is read off it
+-- the same for a result that is read from this completion, e
 pub both_read : {A : Type 0} {read : Reading A} {first second one other : Call} {before after : History}
     {made : Result Ending CallError} {e : Ending} {result : Result A CallError} → MakesBoth ending_in one other before after made
     → one ≡ first → other ≡ second → made ≡ Ok e → result ≡ read e.waited e.mark e.buffer
@@ -148,7 +148,7 @@ both_read {A} {read} {first} {second} {one} {other} {before} {after} {made} {e} 
     let off : result ≡ read_off read made = reads ∙ sym (ap (read_off read) is) in
     rw (← same_one, ← same_other, off) (both-off read m)
 
--- or is the error that either came to
+-- the same for an error: it is the error of either call
 pub both_fail : {A : Type 0} {read : Reading A} {first second one other : Call} {before after : History}
     {made : Result Ending CallError} {e : CallError} {result : Result A CallError} → MakesBoth ending_in one other before after made
     → one ≡ first → other ≡ second → made ≡ Err e → result ≡ Err e → MakesBoth read first second before after result

@@ -1,21 +1,21 @@
--- A result that is read off the ending of a call that was made.
+-- A call's result may be read from its completion by any `Reading`, as its contract says.
 use Rattle.qcalls.proofs.Common.{Blocked, Call, CallError, Comes, Done, Ending, History, Makes, Ok, Reading, Refused, Result, ap, ending_in, read_off, sym, ◌∙◌, ◌≡◌}
 use Rattle.qcalls.specs.declared.endpoint.Told.{Told}
 
--- what comes of a call comes of what is read off its ending
+-- a call whose result is its completion has the effect `Comes` also with the result that is read from it
 comes-read : {A : Type 0} (read : Reading A) (call : Call) (before after : History) (made : Result Ending CallError)
     (told : Told) → Comes ending_in call before after made told → Comes read call before after (read_off read made) told
 comes-read read call before after made (Refused errno) (asked, taken, is) = (asked, taken, ap (read_off read) is)
 comes-read read call before after made Done (asked, (x, taken, is)) = (asked, (x, taken, ap (read_off read) is))
 comes-read read call before after made Blocked (asked, (x, taken, is)) = (asked, (x, taken, ap (read_off read) is))
 
--- and so does the call
+-- the same for `Makes`
 pub makes_off : {A : Type 0} (read : Reading A) {call : Call} {before after : History} {made : Result Ending CallError}
     → Makes ending_in call before after made → Makes read call before after (read_off read made)
 makes_off read {call} {before} {after} {made} m =
     record { comes = comes-read read call before after made after.told m.comes; idle = m.idle }
 
--- also where its result is told by its ending
+-- the same for a result that is read from this completion, e
 pub makes_read : {A : Type 0} {read : Reading A} {call asked : Call} {before after : History} {made : Result Ending CallError}
     {e : Ending} {result : Result A CallError} → Makes ending_in asked before after made → asked ≡ call → made ≡ Ok e
     → result ≡ read e.waited e.mark e.buffer → Makes read call before after result

@@ -1,4 +1,4 @@
--- A result that is read off the event of a call in one thread.
+-- A simulator's call has the result that is read from its event.
 use Rattle.qcalls.proofs.Common.{Call, CallError, Completion, Ending, Err, Ok, Reading, Result, ap, cond, ending_in, false, inl, inr, none-some, read_off, refl, subst, sym, true, ℕ, ◌∙◌, ◌≡◌}
 use Rattle.std.specs.Prelude.{Option, None, Some, List, Bool, is_some, nat_lt, ◌^◌}
 use Rattle.qbase.specs.declared.errno.Errno.TheVariants as errno
@@ -9,7 +9,7 @@ use Rattle.qcalls.specs.Simulating.{Comes, IsEvent, Simulates, Simulation, at_on
 use Rattle.qcalls.specs.declared.simulator.Outcome.{Outcome}
 use Rattle.qcalls.specs.declared.simulator.Outcome.TheVariants.{Done, Blocked}
 
--- what comes of a call comes of what is read off its result, where errors stay
+-- a call keeps its effect `Comes` if a function that keeps errors is applied to its result
 comes-read : {A B : Type 0} (f : Result A CallError → Result B CallError) (read : Option Completion → Result A CallError) (other : Option Completion → Result B CallError)
     → ((x : Option Completion) → f (read x) ≡ other x) → ((e : CallError) → f (Err e) ≡ Err e)
     → (t : ℕ) (call : Call) (before after : Simulation) (made : Result A CallError) (why : Option Errno)
@@ -18,7 +18,7 @@ comes-read f read other same errors t call before after made (Some e) (kept, is)
 comes-read f read other same errors t call before after made None (inl (endings, event, is)) = inl (endings, event, ap f is ∙ same (ending_of t endings))
 comes-read f read other same errors t call before after made None (inr (kept, is)) = inr (kept, ap f is ∙ errors _)
 
--- what is read off a call in which its thread may be blocked
+-- the result of a call that may block its thread, read from its completion
 abbrev pub read_outcome : {A : Type 0} → Reading A → Result (Outcome Ending) CallError → Result (Outcome A) CallError
 read_outcome read (Ok (Done e)) = done (read e.waited e.mark e.buffer)
 read_outcome read (Ok Blocked) = Ok Blocked
@@ -35,7 +35,7 @@ reads_unless_blocked {A} read {t} {call} {asked} {before} {after} {made} {outcom
     let same : result ≡ read_outcome read made = r ∙ sym (ap (read_outcome read) is) in
     record { comes = rw (← same_call, same) (comes-read (read_outcome read) (unless_blocked ending_in) (unless_blocked read) (unless_blocked-read read) (λ e. refl) t asked before after made (unmade before t) m.comes) }
 
--- a call that is an event
+-- a call that is an event has its effect
 pub event_made : {A : Type 0} (read : Option Completion → Result A CallError) (t : ℕ) (call : Call) (before after : Simulation) (endings : List Completion) (result : Result A CallError)
     → unmade before t ≡ None → IsEvent t call before after endings → result ≡ read (ending_of t endings) → Simulates read t call before after result
 event_made read t call before after endings result free event is =

@@ -1,4 +1,4 @@
--- The history of an endpoint, as contracts see it.
+-- An endpoint's record of its calls, as contracts see it.
 use Rattle.std.specs.Prelude.{◌≡◌, Bool, true, false, List}
 use Rattle.qmodel.specs.declared.call.Call.{Call}
 use Rattle.qmodel.specs.declared.call.Completion.{Completion}
@@ -10,26 +10,27 @@ use Rattle.qshared.specs.TwoCalls.{is_accepted, is_ok}
 use Rattle.qcalls.specs.declared.endpoint.Told.{Told}
 use Rattle.qcalls.specs.declared.endpoint.Told.TheVariants.{Done, Blocked, Refused}
 
--- its calls that are events, the endings that it took, whether a call is pending, and what it answered last
+-- the calls that it made, each of them an event, and the completions that it collected. A call is pending if
+-- it blocked and its completion isn't collected yet. `told` is the kind of its last outcome
 pub record History : Type 0 where
   pub asked : List Call
   pub taken : List Completion
   pub pending : Bool
   pub told : Told
 
--- the kind of an answer to a call
+-- the kind of a call's outcome
 abbrev pub told_by : Called → Told
 told_by (called.Done x) = Done
 told_by called.Blocked = Blocked
 told_by (called.Refused errno call) = Refused errno
 
--- the kind of an answer to two calls: of the second if it was made, else of the first
+-- the kind of the outcome of two calls: the second's if it was made, otherwise the first's
 abbrev pub told_by_both : CalledBoth → Told
 told_by_both (Both x second) = told_by second
 told_by_both (First first given) = told_by first
 
--- the second of two calls was made exactly if the first ended in its own event and succeeded; else it is
--- given back
+-- the second of two calls, d, was made exactly if the first completed in its own event and succeeded;
+-- otherwise d is returned
 abbrev pub IsInTurn : Call → CalledBoth → Type 0
 IsInTurn d (Both x second) = is_ok x.mark ≡ true
 IsInTurn d (First first given) = (is_accepted first ≡ false) × (given ≡ d)

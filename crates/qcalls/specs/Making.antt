@@ -1,5 +1,5 @@
--- The outcome of a call that is made: the calls that the port asked for, the endings that it took, and the
--- ending that the result is read off.
+-- The effect of a call: the calls that the endpoint made, the completions that it collected, and the
+-- completion from which the result is read.
 use Rattle.std.specs.Prelude.{◌≡◌, ◌⊎◌, ⊤, Bool, true, false, [], ◌∷◌, ◌++◌, Result, Ok, Err}
 use Rattle.qmodel.specs.declared.call.Call.{Call}
 use Rattle.qmodel.specs.declared.call.Completion.{Completion}
@@ -14,45 +14,46 @@ use Rattle.qcalls.specs.declared.endpoint.Told.TheVariants.{Done, Blocked, Refus
 use Rattle.qcalls.specs.declared.error.CallError.{CallError}
 use Rattle.qcalls.specs.declared.error.CallError.TheVariants.{NoMemory}
 
--- exactly this call was asked for and exactly one ending was taken, and the result is read off that ending
+-- exactly this call was made and exactly one completion was collected, from which the result is read
 abbrev pub Ends : {A : Type 0} → Reading A → Bool → Call → History → History → Result A CallError → Type 0
 Ends read waited call before after result =
     (after.asked ≡ before.asked ++ call ∷ [])
     × ((x : Completion) × (after.taken ≡ before.taken ++ x ∷ []) × (result ≡ read waited x.mark x.buffer))
 
--- the outcome of a call that was answered like this: it was refused, with nothing asked for or taken, or it
--- ended, at once or after a wait
+-- the effect of a call by the kind of its outcome. A refused call makes no event and collects nothing. Any
+-- other completes, at once or after a wait
 abbrev pub Comes : {A : Type 0} → Reading A → Call → History → History → Result A CallError → Told → Type 0
 Comes read call before after result (Refused errno) =
     (after.asked ≡ before.asked) × (after.taken ≡ before.taken) × (result ≡ Err (refusal errno))
 Comes read call before after result Done = Ends read false call before after result
 Comes read call before after result Blocked = Ends read true call before after result
 
--- a call is made, and no call is pending afterwards if none was before
+-- a call is made or refused, and afterwards no call is pending if none was before
 pub record Makes {A : Type 0} (read : Reading A) (call : Call) (before after : History)
     (result : Result A CallError) : Type 0 where
   pub comes : Comes read call before after result after.told
   pub idle : before.pending ≡ false → after.pending ≡ false
 
--- a call with bytes is made, or there was no memory for them and the port did nothing
+-- a call with bytes is made or refused; or there was no memory for the bytes, and the endpoint did nothing
 abbrev pub MakesOfBytes : {A : Type 0} → Reading A → Call → History → History → Result A CallError → Type 0
 MakesOfBytes read call before after result =
     Makes read call before after result ⊎ ((after ≡ before) × (result ≡ Err NoMemory))
 
--- a call is made, with some result
+-- a call is made or refused, with some result
 abbrev pub MakesSome : {A : Type 0} → Reading A → Call → History → History → Type 0
 MakesSome read call before after = (result : Result _ CallError) × Makes read call before after result
 
--- the result that is read off an ending; the error if there is no ending
+-- the result that is read from a completion, or the error if there is no completion
 abbrev pub read_off : {A : Type 0} → Reading A → Result Ending CallError → Result A CallError
 read_off read (Ok e) = read e.waited e.mark e.buffer
 read_off read (Err e) = Err e
 
--- the ending itself as the result
+-- the completion itself as the result
 abbrev pub ending_in : Reading Ending
 ending_in waited mark buffer = Ok (record { waited = waited; mark = mark; buffer = buffer })
 
--- the outcome of an answer: a refusal, or an ending, which came with the answer or is taken after a wait
+-- the effect of a call's outcome: an error, or a completion, which came with the outcome or is collected
+-- after a wait
 abbrev pub Leads : Called → History → History → Result Ending CallError → Type 0
 Leads (called.Refused errno given) before after result = (after ≡ before) × (result ≡ Err (refusal errno))
 Leads (called.Done x) before after result = (after ≡ before) × (result ≡ ending_in false x.mark x.buffer)
@@ -60,7 +61,8 @@ Leads called.Blocked before after result =
     (x : Completion) × (after.taken ≡ before.taken ++ x ∷ []) × (after.pending ≡ false)
     × (after.asked ≡ before.asked) × (after.told ≡ before.told) × (result ≡ ending_in true x.mark x.buffer)
 
--- a call is made after one that succeeded; after any other nothing is done, and its error is the result
+-- the effect of a call after an earlier one: it is made if the earlier one succeeded. Otherwise nothing is
+-- done, and the earlier one's error is the result
 abbrev pub Follows : {A : Type 0} → Reading A → Call → Result ⊤ CallError → History → History
     → Result A CallError → Type 0
 Follows read call (Ok done) before after result = Makes read call before after result
@@ -74,18 +76,19 @@ pub record MakesBoth {A : Type 0} (read : Reading A) (first second : Call) (befo
   pub makes : Makes done_in first before between came
   pub follows : Follows read second came between after result
 
--- two calls with bytes are made in turn, or there was no memory for the bytes and the port did nothing
+-- two calls with bytes are made in turn; or there was no memory for the bytes, and the endpoint did nothing
 abbrev pub MakesBothOfBytes : {A : Type 0} → Reading A → Call → Call → History → History
     → Result A CallError → Type 0
 MakesBothOfBytes read first second before after result =
     MakesBoth read first second before after result ⊎ ((after ≡ before) × (result ≡ Err NoMemory))
 
--- this is said of the ending of a call, or of its error, and the result is read off that ending
+-- `said` holds of a call's completion or error, and the result is read from it
 abbrev pub Reads : {A : Type 0} → Reading A → (Result Ending CallError → Type 0) → Result A CallError → Type 0
 Reads read said result =
     (ending : Result Ending CallError) × said ending × (result ≡ read_off read ending)
 
--- the same of a call with bytes, or there was no memory for them and nothing was done
+-- `said` holds of the completion or error of a call with bytes, and the result is read from it. Or there was
+-- no memory for the bytes, and nothing was done
 abbrev pub ReadsOfBytes : {A M : Type 0} → Reading A → (Result Ending CallError → Type 0) → M → M
     → Result A CallError → Type 0
 ReadsOfBytes read said before after result =

@@ -1,4 +1,4 @@
--- The outcome of a call that is started, and then polled.
+-- The effect of a call that is started, and then polled.
 use Rattle.std.specs.Prelude.{◌≡◌, ◌⊎◌, true, false, [], ◌∷◌, ◌++◌, Option, Some, None, Result, Ok, Err}
 use Rattle.qmodel.specs.declared.call.Call.{Call}
 use Rattle.qmodel.specs.declared.call.Completion.{Completion}
@@ -10,17 +10,18 @@ use Rattle.qcalls.specs.declared.endpoint.Told.TheVariants.{Blocked}
 use Rattle.qcalls.specs.declared.error.CallError.{CallError}
 use Rattle.qcalls.specs.declared.error.CallError.TheVariants.{NoMemory}
 
--- the result of a call that has ended, as Some
+-- the result of a completed call, as `Some`
 abbrev pub option_of : {A : Type 0} → Result A CallError → Result (Option A) CallError
 option_of (Ok a) = Ok (Some a)
 option_of (Err e) = Err e
 
--- the result of a call that has ended, read off its ending, as Some
+-- the result that is read from a completion, as `Some`
 abbrev pub option_in : {A : Type 0} → Reading A → Reading (Option A)
 option_in read waited mark buffer = option_of (read waited mark buffer)
 
--- the outcome of a call that was started and answered like this: it was refused or has ended, as any call, or
--- it was asked for and is pending, with nothing taken
+-- the effect of starting a call, by the kind of its outcome. A call that blocked was made and is pending,
+-- with nothing collected. A call with any other outcome has the effect `Comes`, and leaves `pending` as it
+-- was
 abbrev pub Begins : {A : Type 0} → Reading A → Call → History → History → Result (Option A) CallError → Told
     → Type 0
 Begins read call before after result Blocked =
@@ -29,19 +30,21 @@ Begins read call before after result Blocked =
 Begins read call before after result told =
     Comes (option_in read) call before after result told × (after.pending ≡ before.pending)
 
--- a call with bytes is started, or there was no memory for them and the port did nothing
+-- a call with bytes is started; or there was no memory for the bytes, and the endpoint did nothing
 abbrev pub StartsOfBytes : {A : Type 0} → Reading A → Call → History → History → Result (Option A) CallError
     → Type 0
 StartsOfBytes read call before after result =
     Begins read call before after result after.told ⊎ ((after ≡ before) × (result ≡ Err NoMemory))
 
--- exactly one ending was taken, no call is pending, and the result is read off that ending, after a wait
+-- exactly one completion was collected, no call is pending, and the result is read from that completion,
+-- after a wait
 abbrev pub Came : {A : Type 0} → Reading A → History → History → Result (Option A) CallError → Type 0
 Came read before after result =
     (x : Completion) × (after.taken ≡ before.taken ++ x ∷ []) × (after.pending ≡ false)
     × (result ≡ option_in read true x.mark x.buffer)
 
--- the pending call is polled, and nothing is asked for: its ending has arrived, or nothing has changed
+-- the pending call is polled, and no call is made: its completion has arrived and is collected, or nothing
+-- has changed
 abbrev pub Polls : {A : Type 0} → Reading A → History → History → Result (Option A) CallError → Type 0
 Polls read before after result =
     (after.asked ≡ before.asked) × (after.told ≡ before.told)

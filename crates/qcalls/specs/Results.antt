@@ -1,5 +1,5 @@
--- The results of calls, read off the mark and the buffer of the ending: after a wait or in the call's own
--- event.
+-- The values that calls return, read from the result and the buffer of a completion. The flag `waited` is
+-- true if the call was blocked before.
 use Rattle.std.specs.Prelude.{ℕ, Bool, List, ⊤, Result, Ok, Err, take}
 use Rattle.qmodel.specs.declared.call.Mark.{Mark}
 use Rattle.qmodel.specs.declared.call.Mark.TheVariants as mark
@@ -12,11 +12,11 @@ use Rattle.qcalls.specs.declared.results.Received.{Received}
 use Rattle.qcalls.specs.declared.results.Received.TheVariants as received
 use Rattle.qcalls.specs.declared.results.State.{State}
 
--- a function that reads a result off an ending
+-- a function that reads what a call returns from its completion: from the flag, the result and the buffer
 abbrev pub Reading : Type 0 → Type 0
 Reading A = Bool → Mark → List ℕ → Result A CallError
 
--- nothing, for a call that has no result
+-- nothing, for a call that returns only whether it succeeded
 abbrev pub done_in : Reading ⊤
 done_in waited mark.Ok buffer = Ok tt
 done_in waited other buffer = Err (error_in waited other)
@@ -31,7 +31,7 @@ abbrev pub connection_in : Reading ℕ
 connection_in waited (mark.Connection coid) buffer = Ok coid
 connection_in waited other buffer = Err (error_in waited other)
 
--- the server's status, and the reply buffer with the number of bytes that were copied to its front
+-- the server's status, and the reply buffer with the number of bytes that were copied to its start
 abbrev pub answer_in : Reading Answer
 answer_in waited (mark.Replied status copied) buffer =
     Ok (record { status = status; copied = copied; buffer = buffer })
@@ -45,7 +45,7 @@ received_in waited (mark.Pulse item priority what) buffer =
     Ok (received.Pulse (record { priority = priority; what = what }))
 received_in waited other buffer = Err (error_in waited other)
 
--- a pulse, and never a message
+-- a pulse; a message is an error
 abbrev pub pulse_in : Reading Pulse
 pulse_in waited (mark.Pulse item priority what) buffer = Ok (record { priority = priority; what = what })
 pulse_in waited other buffer = Err (error_in waited other)
@@ -60,7 +60,7 @@ abbrev pub count_in : Reading ℕ
 count_in waited (mark.Count copied) buffer = Ok copied
 count_in waited other buffer = Err (error_in waited other)
 
--- the data of a held message
+-- the sender, connection, priority and lengths of a held message
 abbrev pub info_in : Reading Info
 info_in waited (mark.Info info) buffer = Ok info
 info_in waited other buffer = Err (error_in waited other)

@@ -1,5 +1,5 @@
--- Calls of many threads to a kernel that one caller holds: the event of a call, what its result is read off,
--- and where the event's other endings are kept.
+-- The simulator, in which one caller makes the calls of all threads: the event of a call, how its result is
+-- read, and where the event's other completions are kept.
 use Rattle.std.specs.Prelude.{◌≡◌, ◌⊎◌, ℕ, ◌+◌, ◌^◌, ◌==◌, nat_lt, Bool, true, List, []}
 use Rattle.std.specs.Prelude.{◌∷◌, ◌++◌, find, is_some, Option, None}
 use Rattle.std.specs.Prelude.{Some, Result, Ok, Err, if◌then◌else◌, false}
@@ -19,27 +19,26 @@ use Rattle.qcalls.specs.declared.error.CallError.TheVariants.{NoMemory, Unexpect
 use Rattle.qcalls.specs.declared.simulator.Outcome.{Outcome}
 use Rattle.qcalls.specs.declared.simulator.Outcome.TheVariants.{Done, Blocked}
 
--- the kernel's content, and the endings of blocked calls that their threads haven't taken, the oldest in
--- front
+-- the kernel's content, and the completions of blocked calls that weren't taken yet, the oldest first
 pub record Simulation : Type 0 where
   pub kernel : State
   pub kept : List Completion
 
--- true if an ending is that of a call of thread t
+-- true if this is the completion of a call of thread t
 abbrev pub is_of : ℕ → Completion → Bool
 is_of t x = x.thread == t
 
--- the first ending of thread t, if there is one
+-- the first completion of thread t, if there is one
 abbrev pub ending_of : ℕ → List Completion → Option Completion
 ending_of t endings = find (is_of t) endings
 
--- the endings without the first of thread t
+-- the completions without the first of thread t
 abbrev pub without : ℕ → List Completion → List Completion
 without t [] = []
 without t (x ∷ endings) = if x.thread == t then endings else x ∷ without t endings
 
--- the error with which a call of thread t isn't made: t isn't in the roster, or else the kernel has made all
--- the calls that it can number, or else the thread hasn't taken the ending of its last call
+-- the error with which a call of thread t isn't made. The first that applies: t isn't in the roster; the
+-- kernel has made all the calls that it can number; the completion of the thread's last call isn't taken yet
 abbrev pub unmade : Simulation → ℕ → Option Errno
 unmade s t =
     if is_some (member_at (members_of s.kernel.threads) t)
@@ -48,8 +47,8 @@ unmade s t =
     else Some errno.Exhausted)
     else Some errno.NoThread
 
--- thread t made this call, and no other call was made: these are the endings of its event; all but the
--- caller's own are kept
+-- thread t made this call, and no other call was made: these are the completions of its event, and all but
+-- the caller's own are kept
 pub record IsEvent (t : ℕ) (call : Call) (before after : Simulation)
     (endings : List Completion) : Type 0 where
   pub event : AnswersAtTraces before.kernel t call endings after.kernel
@@ -58,12 +57,13 @@ pub record IsEvent (t : ℕ) (call : Call) (before after : Simulation)
   pub made : after.kernel.made ≡ before.kernel.made + 1
   pub kept : after.kept ≡ before.kept ++ without t endings
 
--- a function that reads a result off the caller's own ending of the event, if it has one
+-- a function that reads a result from the caller's own completion in the event, if there is one
 abbrev pub OwnReading : Type 0 → Type 0
 OwnReading A = Option Completion → Result A CallError
 
--- the outcome of a call that isn't made, with this errno, or that is made or has no memory for its bytes; the
--- result is read off the caller's own ending of the event, if it has one
+-- the effect of a call. With an errno, the call isn't made, and nothing changes. Otherwise it is made, and
+-- its result is read from the caller's own completion in the event; or there is no memory, and nothing
+-- changes
 abbrev pub Comes : {A : Type 0} → OwnReading A → ℕ → Call → Simulation → Simulation → Result A CallError
     → Option Errno → Type 0
 Comes read t call before after result (Some e) = (after ≡ before) × (result ≡ Err (refusal e))
@@ -77,37 +77,38 @@ pub record Simulates {A : Type 0} (read : OwnReading A) (t : ℕ) (call : Call) 
     (result : Result A CallError) : Type 0 where
   pub comes : Comes read t call before after result (unmade before t)
 
--- a call with bytes of thread t is made or refused, or there was no memory for the bytes and nothing was done
+-- a call with bytes of thread t is made or refused; or there was no memory for the bytes, and nothing was
+-- done
 abbrev pub SimulatesOfBytes : {A : Type 0} → OwnReading A → ℕ → Call → Simulation → Simulation
     → Result A CallError → Type 0
 SimulatesOfBytes read t call before after result =
     Simulates read t call before after result ⊎ ((after ≡ before) × (result ≡ Err NoMemory))
 
--- the result of a call that ends in its own event
+-- the result of a call that always completes in its own event
 abbrev pub at_once : {A : Type 0} → Reading A → OwnReading A
 at_once read None = Err Unexpected
 at_once read (Some x) = read false x.mark x.buffer
 
--- a result of a call as the outcome Done
+-- a result of a call as the outcome `Done`
 abbrev pub done : {A : Type 0} → Result A CallError → Result (Outcome A) CallError
 done (Ok x) = Ok (Done x)
 done (Err e) = Err e
 
--- the result of a call in which its thread may be blocked
+-- the result of a call that may block its thread
 abbrev pub unless_blocked : {A : Type 0} → Reading A → OwnReading (Outcome A)
 unless_blocked read None = Ok Blocked
 unless_blocked read (Some x) = done (read false x.mark x.buffer)
 
--- the ending of a blocked call
+-- the completion of a blocked call, as an `Ending`
 abbrev pub ending_after_wait : Completion → Ending
 ending_after_wait x = record { waited = true; mark = x.mark; buffer = x.buffer }
 
--- the oldest of the endings with its thread, if there is one
+-- the oldest of the completions with its thread, if there is one
 abbrev pub oldest : List Completion → Option (ℕ × Ending)
 oldest [] = None
 oldest (x ∷ endings) = Some (x.thread, ending_after_wait x)
 
--- the endings without the oldest
+-- the completions without the oldest
 abbrev pub later : List Completion → List Completion
 later [] = []
 later (x ∷ endings) = endings

@@ -9,24 +9,24 @@ use std::alloc::Global;
 use std::sync::{Condvar, Mutex, MutexGuard, Wait};
 use std::time::{Clock, Duration, Instant};
 
-/// The time at which the call of a thread is to be ended.
+/// The time at which the timekeeper ends a thread's call.
 #[derive(Clone, Copy)]
 pub(crate) struct Alarm {
     pub thread: ThreadNo,
     pub at: Instant,
-    /// Whether the timekeeper has ended the call, or sent its server a pulse.
+    /// Whether the timekeeper has made its `unblock`, which cancels the call or sends its server a pulse.
     pub rang: bool,
 }
 
-/// The alarms that are set.
+/// The alarms that are set, and whether they are closed.
 #[derive(Drop)]
 pub(crate) struct AlarmList {
     pub alarms: Vec<Alarm>,
     pub closed: bool,
 }
 
-/// The alarms of a process: at most one for each of its threads, set while the thread makes a call with a time limit.
-/// The process's timekeeper rings them.
+/// The alarms of a process: at most one for each of its threads, set while the thread makes a call with a
+/// time limit. The process's timekeeper rings them.
 #[derive(Drop)]
 pub struct Alarms {
     list: Mutex<AlarmList>,
@@ -45,13 +45,14 @@ impl Alarms {
         }
     }
 
-    /// Makes the timekeeper return. No alarm rings any more.
+    /// Closes the alarms: the timekeeper returns, and no alarm rings after that.
     pub fn close<R: Wait>(&self, rt: &R) {
         self.list.lock(rt).closed = true;
         self.changed.notify_all();
     }
 
-    /// Sets the alarm of a thread to ring after this time.
+    /// Sets the alarm of a thread to ring after this time. Fails with `NoClock` if the clock can't be read,
+    /// or the time is later than the clock can count.
     pub(crate) fn set<R: Wait + Clock>(
         &self,
         rt: &R,
@@ -72,7 +73,7 @@ impl Alarms {
         Ok(())
     }
 
-    /// Clears the alarm of a thread, and returns whether it rang.
+    /// Clears the alarm of a thread. Returns whether it rang, or `false` if none is set.
     pub(crate) fn clear<R: Wait>(&self, rt: &R, thread: ThreadNo) -> bool {
         let mut list = self.list.lock(rt);
         let place = list.alarms.iter().position(|alarm| alarm.thread == thread);
@@ -82,7 +83,7 @@ impl Alarms {
         }
     }
 
-    /// Locks the list, which no other thread can read or change until the guard is dropped.
+    /// Locks the list: no other thread can read or change it until the guard is dropped.
     pub(crate) fn lock<'a, R: Wait>(&'a self, rt: &R) -> MutexGuard<'a, AlarmList> {
         self.list.lock(rt)
     }

@@ -1,4 +1,4 @@
-//! A thread that makes calls.
+//! A caller: a thread that makes calls, and waits for their completions.
 
 ghost use Rattle.std.specs.Prelude.{◌≡◌, ⊤, false, true, MatchResult};
 ghost use Rattle.qshared.specs.Counting.{pends};
@@ -16,7 +16,7 @@ use qshared::port::{Called, CalledBoth};
 use std::alloc::Global;
 use std::sync::Wait;
 
-/// A thread that makes calls: its endpoint, with the runtime that it waits by and the allocator.
+/// A thread that makes calls: its endpoint, the runtime by which it waits, and the allocator of its buffers.
 #[derive(Drop)]
 pub struct Caller<'a, E: Endpoint, R: Wait> {
     pub(crate) endpoint: E,
@@ -36,7 +36,7 @@ impl<'a, E: Endpoint, R: Wait> Caller<'a, E, R> {
         }
     }
 
-    /// Returns the endpoint.
+    /// Returns the endpoint, and ends the caller.
     pub fn into_endpoint(self) -> E
         ensures { result ≡ self.entry.endpoint }
     {
@@ -61,8 +61,8 @@ impl<'a, E: Endpoint, R: Wait> Caller<'a, E, R> {
         self.endpoint.thread()
     }
 
-    /// Does a thread's work, and returns the result. If the work fails, the kernel is shut down, so that no other
-    /// thread is left blocked.
+    /// Runs a thread's work, and returns its result. If the work fails, the kernel is shut down, so that no
+    /// other thread stays blocked.
     pub fn run<T, X, F: FnOnce(&mut Caller<'a, E, R>) -> Result<T, X>>(
         &mut self,
         work: F,
@@ -74,8 +74,8 @@ impl<'a, E: Endpoint, R: Wait> Caller<'a, E, R> {
         self.or_shutdown(done)
     }
 
-    /// Shuts the kernel down if a thread's work failed, so that no other thread is left blocked, and returns the result
-    /// of the work. An error of the shutdown is dropped.
+    /// Shuts the kernel down if a thread's work failed, so that no other thread stays blocked, and returns
+    /// the result of the work. An error of the shutdown is dropped.
     pub fn or_shutdown<T, F>(&mut self, work: Result<T, F>) -> Result<T, F>
         ensures same { result ≡ work }
         ensures made { MatchResult work (λ _. (E.history self.new.endpoint ≡ E.history self.old.endpoint) × (E.seen self.new.endpoint ≡ E.seen self.old.endpoint)) (λ _. ShutsDown (λ e. E.history e) E.came self.old.endpoint (E.history self.new.endpoint) (E.seen self.new.endpoint)) }
@@ -86,7 +86,8 @@ impl<'a, E: Endpoint, R: Wait> Caller<'a, E, R> {
         work
     }
 
-    /// Returns the ending of a call that had this answer, and waits for it if the call is blocked.
+    /// Returns the completion of a call with this outcome. If the call is blocked, it waits for the
+    /// completion.
     fn ending_of(&mut self, called: Called) -> Result<Ending, CallError>
         requires { pends called false ≡ true → (E.history self.old.endpoint).pending ≡ true }
         ensures leads { Leads called (E.history self.old.endpoint) (E.history self.new.endpoint) result }
@@ -105,7 +106,7 @@ impl<'a, E: Endpoint, R: Wait> Caller<'a, E, R> {
         })
     }
 
-    /// Makes a call, and waits for its ending.
+    /// Makes a call, and waits for its completion.
     pub(crate) fn make(&mut self, call: Call) -> Result<Ending, CallError>
         ensures makes { Makes ending_in call (E.history self.old.endpoint) (E.history self.new.endpoint) result }
         ensures came { ComesOf (λ e. E.history e) E.came self.old.endpoint call (E.seen self.new.endpoint) (E.history self.new.endpoint) }
@@ -114,8 +115,8 @@ impl<'a, E: Endpoint, R: Wait> Caller<'a, E, R> {
         self.ending_of(called)
     }
 
-    /// Makes two calls in turn, and waits for the ending of the second. The second is made only if the first succeeded;
-    /// else the first's error is returned.
+    /// Makes two calls in turn, and waits for the completion of the second. The second is made only if the
+    /// first succeeded; otherwise the first's error is returned.
     pub(crate) fn make_both(&mut self, first: Call, second: Call) -> Result<Ending, CallError>
         ensures makes { MakesBoth ending_in first second (E.history self.old.endpoint) (E.history self.new.endpoint) result }
         ensures came { ComesOfBoth (λ e. E.history e) (λ e. E.seen e) E.came E.came_both self.old.endpoint first second (E.seen self.new.endpoint) (E.history self.new.endpoint) }

@@ -1,4 +1,4 @@
-//! The ending of a call, and the results that are read off it.
+//! The completion of a call, and the results that are read from it.
 
 ghost use Rattle.std.specs.Prelude.{◌≡◌};
 ghost use Rattle.qcalls.specs.Results.{answer_in, bytes_in, channel_in, connection_in, count_in, done_in, info_in, pulse_in, received_in, state_in};
@@ -9,20 +9,20 @@ use qbase::bytes::Bytes;
 use qbase::ids::{ChannelId, ConnectionId};
 use qmodel::call::{Info, Mark};
 
-/// The ending of a call. Each method takes one kind of result off it: it returns the call's error if the call failed,
-/// and `Unexpected` if the call ended with another kind of result.
+/// The completion of a call. Each method reads one kind of result from it. It returns the call's error if the
+/// call failed, and `Unexpected` if the completion has another kind of result.
 #[derive(Debug, Drop)]
 pub struct Ending {
     /// Whether the call was blocked before.
     pub waited: bool,
-    /// The mark of the ending: the call's result, or its error.
+    /// The result in the completion: the call's value, or its error.
     pub mark: Mark,
-    /// The buffer that the call got back.
+    /// The buffer that the call lent to the kernel, and got back.
     pub buffer: Bytes,
 }
 
 impl Ending {
-    /// Returns `Ok(())` if the call succeeded, for a call that has no result.
+    /// Returns `Ok(())` if the call succeeded, for a call that has no value.
     pub fn done(self) -> Result<(), CallError>
         ensures { result ≡ done_in self.waited self.mark self.buffer }
     {
@@ -55,7 +55,7 @@ impl Ending {
         }
     }
 
-    /// Returns the answer to a message.
+    /// Returns the reply to a message.
     pub fn answer(self) -> Result<Answer, CallError>
         ensures { result ≡ answer_in self.waited self.mark self.buffer }
     {
@@ -105,7 +105,7 @@ impl Ending {
         }
     }
 
-    /// Returns the bytes that were read.
+    /// Returns the bytes that were read: the part of the buffer that was copied to.
     pub fn bytes(self) -> Result<Bytes, CallError>
         ensures { result ≡ bytes_in self.waited self.mark self.buffer }
     {
@@ -135,7 +135,7 @@ impl Ending {
         }
     }
 
-    /// Returns the data of a held message.
+    /// Returns the sender, priority, connection and lengths of a held message.
     pub fn info(self) -> Result<Info, CallError>
         ensures { result ≡ info_in self.waited self.mark self.buffer }
     {

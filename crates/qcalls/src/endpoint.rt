@@ -23,35 +23,38 @@ use qshared::shared::Shared;
 use qshared::tie::Tie;
 use std::sync::Wait;
 
-/// What an endpoint answered its last call.
+/// The kind of the outcome of an endpoint's last call.
 #[derive(Clone, Copy, Debug, PartialEq, Eq)]
 pub enum Told {
-    /// The call ended in its own event.
+    /// The call completed in its own event.
     Done,
     /// The call was blocked.
     Blocked,
-    /// The call was refused, and is no event.
+    /// The call was refused, and isn't an event.
     Refused(Errno),
 }
 
-/// A thread's access to the kernel. A port with its shared kernel is one; a test may have another.
+/// A thread's access to the kernel. `KernelPort` is one; a test may have another.
 pub trait Endpoint {
-    /// The calls that it asked for, the endings that it took, whether a call is pending, and what it answered last.
+    /// The calls that it made, the completions that it collected, whether a call is pending, and the kind of
+    /// its last outcome.
     ghost history: { Self → History };
 
-    /// What it saw of the past.
+    /// The prefix of the history that it has seen.
     ghost seen: { Self → Trace };
 
-    /// What its answer to a call says, given the endpoint before the call and what it saw after it.
+    /// Its statement about a call: the endpoint before the call, the call, its outcome, and the prefix that
+    /// it has seen after it.
     ghost came: { Self → Asking → Answer → Trace → Type 0 };
 
-    /// What its answer to two calls says.
+    /// Its statement about two calls in one turn.
     ghost came_both: { Self → Asking → Asking → Answers → Trace → Type 0 };
 
     /// Returns the thread that it belongs to.
     fn thread(&self) -> ThreadNo;
 
-    /// Makes a call, and may wait while other threads are in the kernel.
+    /// Makes a call. It may wait while other threads are in the kernel, but not for the completion of a
+    /// blocked call.
     fn call<R: Wait>(&mut self, rt: &R, call: Call) -> Called
         ensures asked { (history self.new).asked ≡ (history self.old).asked ++ (if is_call result then call ∷ [] else []) }
         ensures taken { (history self.new).taken ≡ (history self.old).taken ++ gives result }
@@ -59,8 +62,8 @@ pub trait Endpoint {
         ensures told { (history self.new).told ≡ told_by result }
         ensures came { came self.old call result (seen self.new) };
 
-    /// Makes two calls in turn: the second only if the first ends in its own event with the mark `Ok`. A port takes the
-    /// lock once for both.
+    /// Makes two calls in turn: the second only if the first completes in its own event with the result `Ok`.
+    /// A port takes the lock once for both.
     fn call_both<R: Wait>(&mut self, rt: &R, first: Call, second: Call) -> CalledBoth
         ensures asked { (history self.new).asked ≡ (history self.old).asked ++ asked_by first second result }
         ensures taken { (history self.new).taken ≡ (history self.old).taken ++ gives_both result }
@@ -69,20 +72,20 @@ pub trait Endpoint {
         ensures turn { IsInTurn second result }
         ensures came { came_both self.old first second result (seen self.new) };
 
-    /// Returns bytes whose memory serves for those of the next reply, if it has some.
+    /// Returns bytes whose memory the next reply or write reuses, if there are any.
     fn spare(&mut self) -> Option<Bytes>
         ensures { self.new ≡ self.old }
     {
         None
     }
 
-    /// Takes the ending of the blocked call if it has arrived. It never waits.
+    /// Collects the completion of the blocked call if it has arrived. It never waits.
     fn poll(&mut self) -> Option<Completion>
         ensures taken { MatchOption result ((history self.new).taken ≡ (history self.old).taken) (λ x. (history self.new).taken ≡ (history self.old).taken ++ x ∷ []) }
         ensures pending { MatchOption result ((history self.new).pending ≡ (history self.old).pending) (λ x. (history self.new).pending ≡ false) }
         ensures same { ((history self.new).asked ≡ (history self.old).asked) × ((history self.new).told ≡ (history self.old).told) × (seen self.new ≡ seen self.old) };
 
-    /// Waits for the ending of the blocked call, and takes it.
+    /// Waits for the completion of the blocked call, and collects it.
     fn wait<R: Wait>(&mut self, rt: &R) -> Completion
         requires { (history self.old).pending ≡ true }
         ensures taken { (history self.new).taken ≡ (history self.old).taken ++ result ∷ [] }
@@ -90,7 +93,7 @@ pub trait Endpoint {
         ensures same { ((history self.new).asked ≡ (history self.old).asked) × ((history self.new).told ≡ (history self.old).told) × (seen self.new ≡ seen self.old) };
 }
 
-/// A port with its shared kernel.
+/// The endpoint of a port: the port with its shared kernel.
 #[derive(Drop)]
 pub struct KernelPort<'a, K: Tie, L: Log> {
     port: Port<K>,
@@ -112,7 +115,7 @@ impl<'a, K: Tie, L: Log> KernelPort<'a, K, L> {
         }
     }
 
-    /// Returns the port.
+    /// Returns the port, and ends the endpoint.
     pub fn into_port(self) -> Port<K>
         ensures { result ≡ self.entry.port }
     {
@@ -120,14 +123,14 @@ impl<'a, K: Tie, L: Log> KernelPort<'a, K, L> {
         port
     }
 
-    /// Returns what the port saw of the past.
+    /// Returns the prefix of the history that the port has seen.
     pub(crate) fn seen(&self) -> Seen<K>
         ensures { result ≡ self.now.port.seen.trace }
     {
         self.port.seen()
     }
 
-    /// Learns what another port of the kernel saw.
+    /// Learns the prefix that another port of the kernel has seen.
     pub(crate) fn learn(&mut self, other: &Seen<K>)
         ensures own { Extends self.new.port.seen.trace self.old.port.seen.trace }
         ensures others { Extends self.new.port.seen.trace other.entry.now }
@@ -136,7 +139,7 @@ impl<'a, K: Tie, L: Log> KernelPort<'a, K, L> {
         self.port.learn(other);
     }
 
-    /// Returns what the port answered the last call; `Done` before the first call.
+    /// Returns the kind of the last call's outcome, or `Done` before the first call.
     pub fn told(&self) -> Told
         ensures { result ≡ self.now.told }
     {
@@ -144,7 +147,7 @@ impl<'a, K: Tie, L: Log> KernelPort<'a, K, L> {
     }
 }
 
-/// Returns which kind of answer a port gave.
+/// Returns the kind of a call's outcome.
 pub fn told_by(called: &Called) -> Told
     ensures { result ≡ told_by called.now }
 {

@@ -9,29 +9,29 @@ use qmodel::call::Mark;
 use std::alloc::{AllocError, AllocFailed};
 use thiserror::Error;
 
-/// The error of a call, which then has no result.
+/// The error that a call returns in place of its result.
 #[derive(Clone, Copy, Debug, PartialEq, Eq, Error)]
 pub enum CallError {
-    /// The kernel refused the call. It changed nothing.
+    /// The call was refused, and changed nothing.
     #[error("call refused: {0:?}")]
     Refused(Errno),
-    /// The call was blocked, and was ended by force: `Srch` by `channel_destroy` or `shutdown`, `Badf` by
-    /// `connect_detach`, `Intr` by `unblock`.
+    /// The call was blocked, and was cancelled: with `Srch` by `channel_destroy` or `shutdown`, with `Badf`
+    /// by `connect_detach`, with `Intr` by `unblock`.
     #[error("call cancelled: {0:?}")]
     Cancelled(Errno),
-    /// The server answered the message with this code, by `msg_error`. It isn't 0.
+    /// The server replied to the message with this code, by `msg_error`. It isn't 0.
     #[error("message answered with the code {0}")]
     Code(i32),
-    /// The timekeeper ended the call since its time was over.
+    /// The timekeeper cancelled the call because its time was over.
     #[error("call timed out")]
     TimedOut,
     /// The clock could not be read, or the time limit is later than the clock can count.
     #[error("clock not read")]
     NoClock,
-    /// The allocator refused, to the caller or to the kernel.
+    /// The allocator refused memory to the caller or to the kernel.
     #[error("out of memory")]
     NoMemory,
-    /// The call ended with the result of another kind of call. A lawful kernel never ends a call like this.
+    /// The call completed with the result of another kind of call. In a valid history no call does this.
     #[error("call ended with the result of another kind of call")]
     Unexpected,
 }
@@ -60,7 +60,7 @@ impl From<Errno> for CallError {
     }
 }
 
-/// Returns the error of a call that the kernel refused.
+/// Returns the error of a call that was refused.
 pub(crate) fn refusal(errno: Errno) -> CallError
     ensures { result ≡ refusal errno }
 {
@@ -70,7 +70,8 @@ pub(crate) fn refusal(errno: Errno) -> CallError
     }
 }
 
-/// Returns the error of a call that ended with a mark that isn't a result of its kind of call.
+/// Returns the error of a call whose result isn't a success of its kind of call. A call that failed after a
+/// wait was cancelled. A call that failed in its own event was refused.
 pub(crate) fn error_in(waited: bool, mark: Mark) -> CallError
     ensures { result ≡ error_in waited mark }
 {

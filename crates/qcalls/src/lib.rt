@@ -1,4 +1,5 @@
-//! The kernel's calls under QNX Neutrino's names. Each waits for its ending and returns the call's result.
+//! The kernel's calls under QNX Neutrino's names. Each waits for its completion and returns the call's
+//! result.
 #![tactic(auto)]
 
 pub mod alarms;
@@ -16,5 +17,5 @@ mod timekeeper;
 mod with_bytes;
 mod within;
 
-/// The result of a call.
+/// The result of a call, or its error.
 pub type Result<T> = std::result::Result<T, error::CallError>;

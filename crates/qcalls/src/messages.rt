@@ -19,8 +19,9 @@ use qshared::port::Called;
 use std::sync::Wait;
 
 impl<'a, E: Endpoint, R: Wait> Caller<'a, E, R> {
-    /// Sends a message over a connection, and waits for the answer in a reply buffer of `reply_len` bytes (`MsgSend`).
-    /// Refused with `Badf` if the connection isn't live, is another process's, or its channel isn't open.
+    /// Sends a message over a connection, and waits for the reply in a buffer of `reply_len` bytes
+    /// (`MsgSend`). Refused with `Badf` if the connection isn't live, is another process's, or its channel
+    /// isn't open.
     pub fn msg_send(
         &mut self,
         coid: ConnectionId,
@@ -34,8 +35,8 @@ impl<'a, E: Endpoint, R: Wait> Caller<'a, E, R> {
         self.make(send)?.answer()
     }
 
-    /// Takes a message, into a buffer of `len` bytes, or a pulse of a channel, and waits for one if there is none
-    /// (`MsgReceive`). Refused with `Srch` if the channel isn't open or is another process's.
+    /// Receives a message, into a buffer of `len` bytes, or a pulse from a channel, and waits if there is
+    /// none (`MsgReceive`). Refused with `Srch` if the channel isn't open or is another process's.
     pub fn msg_receive(&mut self, chid: ChannelId, len: usize) -> Result<Received, CallError>
         ensures makes { MakesOfBytes received_in (Call.Receive chid (replicate len 0)) (E.history self.old.endpoint) (E.history self.new.endpoint) result }
         ensures came { ComesOfBytes (λ e. E.history e) E.came self.old.endpoint (Call.Receive chid (replicate len 0)) (E.seen self.old.endpoint) (E.seen self.new.endpoint) (E.history self.new.endpoint) result }
@@ -44,7 +45,7 @@ impl<'a, E: Endpoint, R: Wait> Caller<'a, E, R> {
         self.make(receive)?.received()
     }
 
-    /// Takes a pulse of a channel, and waits for one if there is none; messages stay queued (`MsgReceivePulse`).
+    /// Receives a pulse from a channel, and waits if there is none; messages stay queued (`MsgReceivePulse`).
     /// Refused with `Srch` if the channel isn't open or is another process's.
     pub fn msg_receive_pulse(&mut self, chid: ChannelId) -> Result<Pulse, CallError>
         ensures makes { Makes pulse_in (Call.ReceivePulse chid) (E.history self.old.endpoint) (E.history self.new.endpoint) result }
@@ -53,9 +54,10 @@ impl<'a, E: Endpoint, R: Wait> Caller<'a, E, R> {
         self.make(Call::ReceivePulse(chid))?.pulse()
     }
 
-    /// Answers a held message with a status and bytes, and then receives from a channel into a buffer of `len` bytes:
-    /// `msg_reply` followed by `msg_receive`, with the kernel's lock taken once for both, for a server's loop. If the
-    /// reply is refused, nothing is received and its error is returned. Own profile: QNX has no such call.
+    /// Replies to a held message with a status and bytes, and then receives from a channel into a buffer of
+    /// `len` bytes. It is `msg_reply` followed by `msg_receive`, for a server's loop: the kernel's lock is
+    /// taken once for both. If the reply is refused, nothing is received, and the reply's error is returned.
+    /// Not a QNX call.
     pub fn msg_reply_receive(
         &mut self,
         rcvid: ReceiveId,
@@ -72,9 +74,9 @@ impl<'a, E: Endpoint, R: Wait> Caller<'a, E, R> {
         self.make_both(reply, receive)?.received()
     }
 
-    /// Takes a message, into a buffer of `len` bytes, or a pulse of a channel, as `msg_receive` does, but doesn't wait
-    /// for one. If there is none it returns `None`, and the caller is RECEIVE-blocked: each call but `msg_receive_poll`
-    /// is refused with `Busy` until `msg_receive_poll` has returned the message or pulse.
+    /// Receives like `msg_receive`, but doesn't wait. If there is no message or pulse it returns `None`, and
+    /// the caller is RECEIVE-blocked. Then each call except `msg_receive_poll` is refused with `Busy`, until
+    /// `msg_receive_poll` has returned the message or pulse.
     pub fn msg_receive_start(
         &mut self,
         chid: ChannelId,
@@ -91,8 +93,8 @@ impl<'a, E: Endpoint, R: Wait> Caller<'a, E, R> {
         }
     }
 
-    /// Returns the message or pulse of the receive that was started, if one has arrived. It never waits, and always
-    /// returns `None` if no receive was started.
+    /// Returns the message or pulse for the receive that was started, if it has arrived. It never waits, and
+    /// always returns `None` if no receive was started.
     pub fn msg_receive_poll(&mut self) -> Result<Option<Received>, CallError>
         ensures polls { Polls received_in (E.history self.old.endpoint) (E.history self.new.endpoint) result }
         ensures seen { E.seen self.new.endpoint ≡ E.seen self.old.endpoint }
@@ -104,7 +106,7 @@ impl<'a, E: Endpoint, R: Wait> Caller<'a, E, R> {
     }
 }
 
-/// Returns the message or pulse of a receive that has ended.
+/// Returns the message or pulse of a completed receive.
 fn received_by(waited: bool, completion: Completion) -> Result<Option<Received>, CallError>
     ensures { result ≡ option_in received_in waited completion.mark completion.buffer }
 {

@@ -1,4 +1,5 @@
-//! Callers of the ports of a shared kernel: how they are made, what they saw, and how the kernel is closed.
+//! Callers for the ports of a shared kernel: how they are made, the history that they have seen, and how the
+//! kernel is closed.
 
 ghost use Rattle.std.specs.Prelude.{◌≡◌, ◌≢◌, ◌≤◌, [], ◌∷◌, IfErr, IfOk, length, map, sum};
 ghost use Rattle.qrules.specs.Trace.{followed_by};
@@ -24,11 +25,11 @@ use qshared::tie::Tie;
 use std::alloc::Global;
 use std::sync::Wait;
 
-/// A thread that makes calls through its port of a shared kernel.
+/// A caller that makes its calls through a port of a shared kernel.
 pub type PortCaller<'a, 'p, K, L, R> = Caller<'a, KernelPort<'p, K, L>, R>;
 
 impl<'a, 'p, K: Tie, L: Log, R: Wait> Caller<'a, KernelPort<'p, K, L>, R> {
-    /// Makes a caller of this port of this kernel.
+    /// Makes a caller for this port of this kernel.
     pub fn of(
         port: Port<K>,
         shared: &'p Shared<K, L>,
@@ -40,22 +41,23 @@ impl<'a, 'p, K: Tie, L: Log, R: Wait> Caller<'a, KernelPort<'p, K, L>, R> {
         Caller::new(KernelPort::new(port, shared), rt, alloc)
     }
 
-    /// Returns the port.
+    /// Returns the port, which `close` needs, and ends the caller.
     pub fn into_port(self) -> Port<K>
         ensures { result ≡ self.entry.endpoint.port }
     {
         self.into_endpoint().into_port()
     }
 
-    /// Returns what the caller saw of the past: all of it, as it was at its last call. It has no bytes, so it can go
-    /// beside a message of the program's own to another thread.
+    /// Returns the prefix of the history that the caller has seen: all events up to its last call, and what
+    /// it has learned since. The prefix has no bytes, so a program can send it to another thread together
+    /// with a message of its own.
     pub fn seen(&self) -> Seen<K>
         ensures { result ≡ self.now.endpoint.port.seen.trace }
     {
         self.endpoint.seen()
     }
 
-    /// Learns what another caller saw, so that the next call is known to come after it.
+    /// Learns the prefix that another caller has seen, so that the next call is known to come after it.
     pub fn learn(&mut self, other: &Seen<K>)
         ensures own { Extends self.new.endpoint.port.seen.trace self.old.endpoint.port.seen.trace }
         ensures others { Extends self.new.endpoint.port.seen.trace other.entry.now }
@@ -65,7 +67,8 @@ impl<'a, 'p, K: Tie, L: Log, R: Wait> Caller<'a, KernelPort<'p, K, L>, R> {
     }
 }
 
-/// Makes the callers of a kernel of two threads, in rising thread number. `Unexpected` if there aren't two ports.
+/// Makes the callers for the two ports of a kernel, in their order: by rising thread number. `Unexpected` if
+/// there aren't two ports.
 pub fn two_callers<'a, 'p, K: Tie, L: Log, R: Wait>(
     mut ports: Vec<Port<K>>,
     shared: &'p Shared<K, L>,
@@ -84,7 +87,8 @@ pub fn two_callers<'a, 'p, K: Tie, L: Log, R: Wait>(
     ))
 }
 
-/// Makes the callers of a kernel of any number of threads, in rising thread number. `NoMemory` is the only error.
+/// Makes the callers for all ports of a kernel, in their order: by rising thread number. `NoMemory` is the
+/// only error.
 pub fn callers<'a, 'p, K: Tie, L: Log, R: Wait>(
     ports: Vec<Port<K>>,
     shared: &'p Shared<K, L>,
@@ -101,8 +105,8 @@ pub fn callers<'a, 'p, K: Tie, L: Log, R: Wait>(
     Ok(callers)
 }
 
-/// Closes a kernel that keeps its past, and returns its past. `Unexpected` if these aren't all its ports, in rising
-/// thread number.
+/// Closes a kernel that keeps its history, and returns the history. `Unexpected` if these aren't all its
+/// ports, by rising thread number.
 pub fn close<K: Tie>(shared: Shared<K, Kept<K>>, ports: Vec<Port<K>>) -> Result<Trace, CallError>
     ensures past { IfOk result (λ trace. IsPast K.names.roster trace) }
     ensures within { IfOk result (λ trace. length trace.events ≤ K.names.limit) }

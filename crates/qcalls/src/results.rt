@@ -1,4 +1,4 @@
-//! The results of calls.
+//! The values that calls return.
 
 ghost use Rattle.std.specs.Prelude.{◌≡◌, take};
 
@@ -9,15 +9,15 @@ use qbase::state::ThreadState;
 use qqueue::item::What;
 use std::ops::DerefSlice;
 
-/// A server's answer to a message (`MsgSend`).
+/// A server's reply to a message (`MsgSend`).
 #[derive(Debug, Drop)]
 pub struct Answer {
     /// The status of the server's reply.
     pub status: i64,
-    /// The number of bytes that the server copied to the front of the buffer.
+    /// The number of bytes that the server copied to the start of the buffer.
     pub copied: usize,
-    /// The reply buffer, of the length that the sender asked for. Behind the reply are zeros and what `msg_write`
-    /// wrote.
+    /// The reply buffer, with the length that the sender asked for. After the reply it has the bytes that
+    /// `msg_write` wrote, and zeros elsewhere.
     pub buffer: Bytes,
 }
 
@@ -30,23 +30,24 @@ impl Answer {
     }
 }
 
-/// The message or pulse that a receive took (`MsgReceive`).
+/// The message or pulse that was received (`MsgReceive`).
 #[derive(Debug, Drop)]
 pub enum Received {
-    /// A message. Its sender waits for the answer.
+    /// A message. Its sender is blocked until the reply.
     Message(Request),
-    /// A pulse. No thread waits for an answer.
+    /// A pulse. No thread waits for a reply.
     Pulse(Pulse),
 }
 
 /// A message that was received.
 #[derive(Debug, Drop)]
 pub struct Request {
-    /// The receive id, by which the message is answered.
+    /// The receive id, by which the server replies to the message.
     pub rcvid: ReceiveId,
-    /// The number of its bytes that were copied to the front of the buffer.
+    /// The number of its bytes that were copied to the start of the buffer.
     pub copied: usize,
-    /// The buffer that it was received into, of the length that the receiver asked for, with zeros behind the message.
+    /// The buffer that it was received into, with the length that the receiver asked for. After the message
+    /// it has zeros.
     pub buffer: Bytes,
 }
 
@@ -82,15 +83,16 @@ fn front(buffer: &Bytes, count: usize) -> &[u8]
 pub struct Pulse {
     /// The priority that it was sent with.
     pub priority: Priority,
-    /// A thread's pulse with its code and value, or one of the kernel: a client is to be unblocked, or has detached.
+    /// A pulse that a thread sent, with its code and value, or a pulse of the kernel: a client is to be
+    /// unblocked, or a process has detached.
     pub what: What,
 }
 
 /// The state and priority of a thread.
 #[derive(Clone, Copy, Debug, PartialEq, Eq)]
 pub struct State {
-    /// Whether it is blocked, in which state and on which channel.
+    /// Whether the thread is blocked, in which state and on which channel.
     pub state: ThreadState,
-    /// Its priority.
+    /// The thread's priority.
     pub priority: Priority,
 }

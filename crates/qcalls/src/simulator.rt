@@ -1,4 +1,4 @@
-//! The calls of many threads to a kernel that one caller holds.
+//! A simulator: one caller makes the calls of all threads to a kernel that it owns.
 
 ghost use Rattle.std.specs.Prelude.{◌≡◌, ◌≤◌, [], Some, is_some, length, option_map, IfOk, IfErr};
 ghost use Rattle.qkernel.specs.Stands.{StandsAt};
@@ -24,28 +24,29 @@ use std::alloc::Global;
 use std::marker::Model;
 use thread::SimulatorThread;
 
-/// The outcome of a call in which its thread may be blocked.
+/// The outcome of a call that may block its thread.
 #[derive(Debug, Drop)]
 pub enum Outcome<T> {
-    /// The call ended in its own event, with this result.
+    /// The call completed in its own event, with this result.
     Done(T),
-    /// The thread is blocked. Once the call ends, `Simulator::take` returns its ending.
+    /// The thread is blocked. Once the call completes, `Simulator::take` returns the completion.
     Blocked,
 }
 
-/// A kernel that one caller holds, who makes the calls of all its threads. Each call is an event, and may end blocked
-/// calls of other threads: their endings are kept until `take` returns them. Contracts see the kernel's content, and
-/// the endings that are kept.
+/// A kernel that one caller owns, who makes the calls of all its threads. Each call is an event, and may
+/// complete blocked calls of other threads. Their completions are kept until `take` or `take_next` returns
+/// them. Contracts see the kernel's content and the kept completions.
 ///
-/// `thread` returns a thread, by which calls are made. A call is refused before it is made, and then changes nothing:
-/// with `NoThread` if the thread isn't in the roster, `Exhausted` at 2^40 calls, and `Busy` if the ending of the
-/// thread's last call isn't taken yet. The kernel refuses a call with `Busy` if its thread is blocked, and with `Down`
-/// after `shutdown`; that is an event, which the kernel counts.
+/// `thread` returns a thread, whose methods make calls. A call can be refused before it is made, and then
+/// changes nothing. Its error is `NoThread` if the thread isn't in the roster, `Exhausted` at 2^40 calls, and
+/// `Busy` if the completion of the thread's last call isn't taken yet. The kernel refuses a call with `Busy`
+/// if its thread is blocked, and with `Down` after `shutdown`. Such a call is an event, which the kernel
+/// counts.
 #[derive(Drop)]
 pub struct Simulator {
     alloc: Global,
     kernel: Kernel,
-    // The kernel puts the endings of one event here. It is empty between calls.
+    // The kernel puts the completions of one event here. It is empty between calls.
     endings: Endings,
     kept: Vec<Completion>,
 }
@@ -61,7 +62,7 @@ impl Model for Simulator {
     ghost invariant = { λ s. s.endings.items ≡ [] };
 }
 
-/// Returns the outcome of a call that ended in its own event with this result.
+/// Returns the outcome of a call that completed in its own event with this result.
 fn done<T>(came: Result<T, CallError>) -> Result<Outcome<T>, CallError>
     ensures { result ≡ done came }
 {
@@ -74,8 +75,8 @@ fn done<T>(came: Result<T, CallError>) -> Result<Outcome<T>, CallError>
 impl Simulator {
     ghost use Rattle.qcalls.specs.Simulating.{Simulates, at_once, unless_blocked, unmade, ending_of, without, ending_after_wait, oldest, later};
 
-    /// Makes a simulator of a kernel without channels, in which all threads of the roster are ready. The room for the
-    /// kernel and for endings is made here; `NoMemory` is the only error.
+    /// Makes a simulator of a kernel without channels, in which all threads of the roster are ready. It
+    /// allocates the kernel and room for completions; `NoMemory` is the only error.
     pub fn new(alloc: Global, roster: &Roster) -> Result<Simulator, CallError>
         ensures stands { IfOk result (λ s. StandsAt roster.now s.kernel []) }
         ensures none { IfOk result (λ s. s.kept ≡ []) }
@@ -102,7 +103,8 @@ impl Simulator {
         self.alloc
     }
 
-    /// Returns a thread, which makes its calls.
+    /// Returns a thread, which makes its calls. The calls of a thread that isn't in the roster are refused
+    /// with `NoThread`.
     pub fn thread(&mut self, thread: ThreadNo) -> SimulatorThread<'_>
         ensures simulator { result.simulator.ghost_name ≡ self.entry.ghost_name }
         ensures now { result.simulator.now ≡ self.old }
@@ -121,16 +123,16 @@ impl Simulator {
         self.kernel.is_blocked(thread)
     }
 
-    /// Returns whether an ending is kept for a thread.
+    /// Returns whether a completion is kept for a thread.
     pub fn has_ended(&self, thread: ThreadNo) -> bool
         ensures { result ≡ is_some (ending_of thread self.now.kept) }
     {
         kept::has(&self.kept, thread)
     }
 
-    /// Takes the ending of a thread's blocked call; `None` if the call hasn't ended or its ending was taken.
-    /// `Ending::answer` returns the result of a `msg_send`, `received` that of a `msg_receive`, and `pulse` that of a
-    /// `msg_receive_pulse`.
+    /// Takes the completion of a thread's blocked call. It is `None` if the call hasn't completed or its
+    /// completion was taken. `Ending::answer` reads the result of a `msg_send` from it, `received` the result
+    /// of a `msg_receive`, and `pulse` the result of a `msg_receive_pulse`.
     pub fn take(&mut self, thread: ThreadNo) -> Option<Ending>
         ensures ending { result ≡ option_map ending_after_wait (ending_of thread self.old.kept) }
         ensures rest { self.new ≡ record self.old { kept = without thread self.old.kept } }
@@ -143,8 +145,8 @@ impl Simulator {
         })
     }
 
-    /// Takes the oldest ending that is kept, and returns it with its thread. Those of one event come in rising thread
-    /// number.
+    /// Takes the oldest completion that is kept, and returns it with its thread. The completions of one event
+    /// come by rising thread number.
     pub fn take_next(&mut self) -> Option<(ThreadNo, Ending)>
         ensures ending { result ≡ oldest self.old.kept }
         ensures rest { self.new ≡ record self.old { kept = later self.old.kept } }
@@ -158,11 +160,11 @@ impl Simulator {
         Some((completion.thread, ending))
     }
 
-    /// Returns the error with which no call of a thread is made; `None` if it may make one.
+    /// Returns the error that refuses a thread's call before it is made, or `None` if the call can be made.
     fn unmade(&self, thread: ThreadNo) -> Option<Errno>
         ensures why { result ≡ unmade self.now thread }
 
-        // The invariant of every kernel.
+        // An invariant of every kernel.
         ensures few { length self.now.kernel.threads ≤ 64 }
     {
         let made = self.kernel.made();
@@ -177,7 +179,7 @@ impl Simulator {
         }
     }
 
-    /// Makes a call in which its thread may be blocked.
+    /// Makes a call that may block its thread.
     fn make(&mut self, thread: ThreadNo, call: Call) -> Result<Outcome<Ending>, CallError>
         ensures { Simulates (unless_blocked ending_in) thread call self.old self.new result }
     {
@@ -198,7 +200,7 @@ impl Simulator {
         })
     }
 
-    /// Makes a call that ends in its own event.
+    /// Makes a call that completes in its own event. If it blocks, the error is `Unexpected`.
     fn complete(&mut self, thread: ThreadNo, call: Call) -> Result<Ending, CallError>
         ensures { Simulates (at_once ending_in) thread call self.old self.new result }
     {

@@ -1,12 +1,12 @@
-//! Memory for the bytes of the next reply.
+//! Memory that the next reply or write reuses.
 
 use qbase::bytes::Bytes;
 use std::marker::Model;
 
-/// The most bytes that are kept.
+/// The greatest number of bytes that is kept.
 const MOST: usize = 4096;
 
-/// The bytes of a reply or write that was made, kept for their memory alone: contracts see nothing of them.
+/// The bytes of a reply or write that was made, kept only for their memory. Contracts don't see them.
 #[derive(Drop)]
 pub(crate) struct Spare {
     bytes: Option<Bytes>,
@@ -23,7 +23,7 @@ impl Spare {
         Spare { bytes: None }
     }
 
-    /// Keeps these bytes, unless they are many.
+    /// Keeps these bytes in place of the kept ones, unless they are more than `MOST`.
     pub(crate) fn keep(&mut self, bytes: Option<Bytes>) {
         if let Some(bytes) = bytes {
             if bytes.len() <= MOST {
@@ -32,7 +32,7 @@ impl Spare {
         }
     }
 
-    /// Returns the bytes that are kept, and keeps none.
+    /// Returns the kept bytes, and keeps none.
     pub(crate) fn take(&mut self) -> Option<Bytes> {
         self.bytes.take()
     }

@@ -10,13 +10,14 @@ use qbase::state::ThreadState;
 use std::sync::Wait;
 use std::time::{Clock, Duration, Instant};
 
-/// The time in milliseconds after which the timekeeper tries again, if a call whose time is over isn't blocked yet, or
-/// no pulse can be sent to its server.
+/// The timekeeper tries again after this time, in milliseconds, if a call whose time is over isn't blocked
+/// yet, or if no pulse can be sent to its server.
 const RETRY_MILLIS: u64 = 1;
 
 impl<'a, E: Endpoint, R: Wait + Clock> Caller<'a, E, R> {
-    /// Ends each call of the process whose time is over, by `unblock`, until the alarms are closed or the kernel is
-    /// shut down. It takes a thread of its own, while the process's other threads make calls with a time limit.
+    /// Makes an `unblock` for each call of the process whose time is over, until the alarms are closed or the
+    /// kernel is shut down. It needs a thread of its own, while the process's other threads make calls with a
+    /// time limit.
     pub fn keep_time(&mut self, alarms: &Alarms) -> Result<(), CallError> {
         let rt = self.rt;
         let mut list = alarms.lock(rt);
@@ -37,8 +38,8 @@ impl<'a, E: Endpoint, R: Wait + Clock> Caller<'a, E, R> {
         unreachable!()
     }
 
-    /// Rings an alarm if its time has come. Returns how long to wait before it is looked at again; `None` if it has
-    /// rung.
+    /// Rings an alarm if its time has come. Returns how long to wait before the next look at it, or `None` if
+    /// it has rung.
     fn ring(&mut self, alarm: &mut Alarm) -> Result<Option<Duration>, CallError> {
         if alarm.rang {
             return Ok(None);
@@ -63,7 +64,7 @@ impl<'a, E: Endpoint, R: Wait + Clock> Caller<'a, E, R> {
     }
 }
 
-/// Returns the shorter of two times, either of which may be missing.
+/// Returns the shorter of two times. A missing one counts as longer.
 fn sooner(one: Option<Duration>, other: Option<Duration>) -> Option<Duration> {
     match (one, other) {
         (Some(one), Some(other)) => Some(one.min(other)),

@@ -1,4 +1,4 @@
-//! The calls with bytes, made of a program's own: those to be copied are copied, and buffers are filled with zeros.
+//! Builds the calls that carry bytes: copies the program's bytes, and fills buffers with zeros.
 
 ghost use Rattle.std.specs.Prelude.{◌≡◌, replicate, MatchResult};
 ghost use Rattle.qcalls.specs.declared.error.CallError.TheVariants as error;
@@ -9,7 +9,7 @@ use qbase::ids::{ChannelId, ConnectionId, ReceiveId};
 use qmodel::call::Call;
 use std::alloc::Global;
 
-/// Returns a send of these bytes, with a reply buffer of `reply_len` bytes.
+/// Returns a `Send` of these bytes, with a reply buffer of `reply_len` bytes.
 pub(crate) fn send(
     alloc: Global,
     coid: ConnectionId,
@@ -25,7 +25,7 @@ pub(crate) fn send(
     })
 }
 
-/// Returns a receive into a buffer of `len` bytes.
+/// Returns a `Receive` into a buffer of `len` bytes.
 pub(crate) fn receive(alloc: Global, chid: ChannelId, len: usize) -> Result<Call, CallError>
     ensures { MatchResult result (λ call. call ≡ Call.Receive chid (replicate len 0)) (λ e. e ≡ error.NoMemory) }
 {
@@ -33,7 +33,7 @@ pub(crate) fn receive(alloc: Global, chid: ChannelId, len: usize) -> Result<Call
     Ok(Call::Receive { chid, buffer })
 }
 
-/// Returns a copy of these bytes, in the memory of others if that is enough.
+/// Returns a copy of these bytes, in the memory of `others` if that is large enough.
 fn copied(others: Bytes, bytes: &[u8]) -> Result<Bytes, CallError>
     ensures { MatchResult result (λ copy. copy ≡ bytes.now) (λ e. e ≡ error.NoMemory) }
 {
@@ -43,7 +43,7 @@ fn copied(others: Bytes, bytes: &[u8]) -> Result<Bytes, CallError>
     Ok(Bytes::from(items))
 }
 
-/// Returns a reply of a status and these bytes, in the memory of others if that is enough.
+/// Returns a `Reply` with a status and these bytes, in the memory of `others` if that is large enough.
 pub(crate) fn reply(
     others: Bytes,
     rcvid: ReceiveId,
@@ -60,7 +60,7 @@ pub(crate) fn reply(
     })
 }
 
-/// Returns a read, from the offset on, into a buffer of `len` bytes.
+/// Returns a `Read` that starts at the offset, into a buffer of `len` bytes.
 pub(crate) fn read(
     alloc: Global,
     rcvid: ReceiveId,
@@ -77,7 +77,8 @@ pub(crate) fn read(
     })
 }
 
-/// Returns a write of these bytes, from the offset on, in the memory of others if that is enough.
+/// Returns a `Write` of these bytes that starts at the offset, in the memory of `others` if that is large
+/// enough.
 pub(crate) fn write(
     others: Bytes,
     rcvid: ReceiveId,

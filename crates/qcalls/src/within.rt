@@ -1,4 +1,4 @@
-//! Calls with a time limit.
+//! Calls with a time limit, which the process's timekeeper ends.
 
 ghost use Rattle.std.specs.Prelude.{replicate};
 ghost use Rattle.qmodel.specs.declared.call.Call.TheVariants as Call;
@@ -17,10 +17,10 @@ use std::sync::Wait;
 use std::time::{Clock, Duration};
 
 impl<'a, E: Endpoint, R: Wait + Clock> Caller<'a, E, R> {
-    /// Sends a message as `msg_send` does, but waits for at most this time (`TimerTimeout`). The alarms are those of
-    /// the process's timekeeper. Returns the answer, any other error of `msg_send`, or `TimedOut`. If the channel has
-    /// the flag `UNBLOCK` and the server holds the message, the server gets a pulse instead, and the call ends when the
-    /// server answers it.
+    /// Sends a message like `msg_send`, but waits for at most this time (`TimerTimeout`). The alarms must be
+    /// the ones that the process's timekeeper rings. Fails like `msg_send`, with `TimedOut`, or with
+    /// `NoClock`. If the channel has the flag `UNBLOCK` and the server holds the message, the server gets a
+    /// pulse when the time is over. Then the call completes when the server replies.
     pub fn msg_send_within(
         &mut self,
         alarms: &Alarms,
@@ -37,8 +37,8 @@ impl<'a, E: Endpoint, R: Wait + Clock> Caller<'a, E, R> {
         self.timed(alarms, answer)
     }
 
-    /// Receives as `msg_receive` does, but waits for at most this time. Returns the message or pulse, any other error
-    /// of `msg_receive`, or `TimedOut`.
+    /// Receives like `msg_receive`, but waits for at most this time. Fails like `msg_receive`, with
+    /// `TimedOut`, or with `NoClock`.
     pub fn msg_receive_within(
         &mut self,
         alarms: &Alarms,
@@ -54,8 +54,8 @@ impl<'a, E: Endpoint, R: Wait + Clock> Caller<'a, E, R> {
         self.timed(alarms, received)
     }
 
-    /// Receives as `msg_receive_pulse` does, but waits for at most this time. Returns the pulse, any other error of
-    /// `msg_receive_pulse`, or `TimedOut`.
+    /// Receives like `msg_receive_pulse`, but waits for at most this time. Fails like `msg_receive_pulse`,
+    /// with `TimedOut`, or with `NoClock`.
     pub fn msg_receive_pulse_within(
         &mut self,
         alarms: &Alarms,
@@ -70,7 +70,8 @@ impl<'a, E: Endpoint, R: Wait + Clock> Caller<'a, E, R> {
         self.timed(alarms, pulse)
     }
 
-    /// Clears the caller's alarm, and returns the result of its call: `TimedOut` if the timekeeper ended it.
+    /// Clears the caller's alarm, and returns the result of its call: `TimedOut` if the call was cancelled
+    /// with `Intr` and the alarm rang.
     fn timed<T>(&self, alarms: &Alarms, done: Result<T, CallError>) -> Result<T, CallError>
         ensures { IsTimed done result }
     {

@@ -1,4 +1,4 @@
--- The threads whose priority a call changed, by their records.
+-- The threads whose priority a call changed, read from the kernel's records of threads.
 use Rattle.qchart.proofs.Common.{AllByRecursion, IsRoster, List, Member, None, Some, StandsAt, State, [], ap, arith, change_since, changed_threads, cond, eqb, facts_in, facts_of, false, filter_map, find, level_of, map, members_of, option_map_or, priority_in, refl, thread_priority, true, ℕ, ◌<◌, ◌∙◌, ◌∷◌, ◌≡◌}
 use Rattle.std.proofs.lemmas.Bool.{eq-eqb, ne_eqb}
 use Rattle.qrules.specs.Facts.{threads_of}
@@ -18,7 +18,7 @@ own_priority : (threads : List Thread) → IsRoster (members_of threads) → All
 own_priority [] r = tt
 own_priority (s ∷ threads) r = (rw (eq-eqb s.member.thread s.member.thread refl) refl, later_own s threads threads r.0 (own_priority threads r.1))
 
--- ---- what differs
+-- ---- the priorities that differ
 
 read_before : (threads : List Thread) (u : ℕ) → priority_in (map level_of threads) u ≡ thread_priority threads u
 read_before [] u = refl

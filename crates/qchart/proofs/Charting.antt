@@ -1,4 +1,4 @@
--- The chart of a run that began on a new kernel.
+-- The chart of a run on a new kernel.
 use Rattle.qchart.proofs.Common.{Call, HasRows, IsRoster, List, Member, Run, StandsAt, State, [], arith, blocked_threads, facts_of, followed_by, headline_of, members_of, refl, roster_with, subst, sym, ℕ, ◌+◌, ◌≡◌}
 use Rattle.std.specs.List.Sorted.{IsPermutation}
 use Rattle.qkernel.proofs.Traces.{stands_made}
@@ -24,7 +24,7 @@ charted roster calls old new chart rises stands has lines =
       drawn = record { threads = has.threads; arrows = has.arrows; changes = has.changes (roster_with [] roster) [] tt stands; blocked = has.blocked (roster_with [] roster) [] tt stands };
     }
 
--- the reason why a script has no chart is one why its text has none
+-- if a script has no chart, its text has no chart for the same reason
 pub uncharted : (view : View) (text : List ℕ) (roster : List Member) (calls : List (ℕ × Call)) (e : ChartFault) → meaning text ≡ Says roster calls → IsUncharted view calls e → IsChartFault view text e
 uncharted view text roster calls (Script fault) meant is = subst (λ f. IsFaultOf f (meaning text)) (sym is) tt
 uncharted view text roster calls (TooManyCalls count) meant is = record { roster = roster; calls = calls; meant = meant; counted = is.0; many = is.1 }

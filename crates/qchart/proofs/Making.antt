@@ -1,4 +1,4 @@
--- Rows that are made one after another.
+-- The rows of a run, made one after another.
 use Rattle.qchart.proofs.Common.{AnswersAtTraces, Call, Event, HasRows, List, Member, State, TellsChanges, Trace, [], ap, append-nil, append_assoc, arrows_from, blocked_from, blocked_threads, changed_threads, changes_from, event_arrows, event_call, event_thread, facts_of, filter_map, followed_by, is_some, map, member_at, members_of, refl, row_arrows, row_blocked, row_changes, row_thread, runs_more, sym, true, ℕ, ◌++◌, ◌∙◌, ◌∷◌, ◌≡◌}
 use Rattle.std.proofs.lemmas.List.{map-append}
 use Rattle.qmodel.specs.declared.call.Completion.{Completion}
@@ -6,7 +6,7 @@ use Rattle.qchart.specs.Arrows.{arrow_of}
 use Rattle.qchart.specs.declared.row.Row.{Row}
 use Rattle.qscript.specs.Running.{AreBlocked}
 
--- the arrows of one event more
+-- the arrows of one more event
 arrows_push : (before : List ℕ) (events : List Event) (e : Event) → arrows_from before (events ++ e ∷ []) ≡ arrows_from before events ++ event_arrows (before ++ map event_thread events) e ∷ []
 arrows_push before [] e = ap (λ callers. event_arrows callers e ∷ []) (sym (append-nil before))
 arrows_push before (x ∷ events) e =
@@ -14,14 +14,14 @@ arrows_push before (x ∷ events) e =
     let callers = append_assoc before (x.thread ∷ []) (map event_thread events) in
     ap (λ rest. event_arrows before x ∷ rest) (after ∙ ap (λ cs. arrows_from (before ++ x.thread ∷ []) events ++ event_arrows cs e ∷ []) callers)
 
--- the priorities that one event more changed
+-- the priorities that one more event changed
 changes_push : (roster : List Member) (past : Trace) (events : List Event) (e : Event)
     → changes_from roster past (events ++ e ∷ [])
     ≡ changes_from roster past events ++ changed_threads (facts_of roster (followed_by past events)) (facts_of roster (followed_by past (events ++ e ∷ []))) ∷ []
 changes_push roster past [] e = refl
 changes_push roster past (x ∷ events) e = ap (λ rest. changed_threads (facts_of roster past) (facts_of roster (x ∷ past)) ∷ rest) (changes_push roster (x ∷ past) events e)
 
--- who is blocked after one event more
+-- the threads that are blocked after one more event
 blocked_push : (roster : List Member) (past : Trace) (events : List Event) (e : Event)
     → blocked_from roster past (events ++ e ∷ []) ≡ blocked_from roster past events ++ blocked_threads (facts_of roster (followed_by past (events ++ e ∷ []))) ∷ []
 blocked_push roster past [] e = refl
@@ -32,7 +32,7 @@ pub record Going (old : State) (calls : List (ℕ × Call)) (now : State) (drawn
   pub rows : HasRows old calls now drawn
   pub callers : threads ≡ map event_thread rows.events
 
--- no rows
+-- before the first call there are no rows
 pub going_none : (old : State) → Going old [] old [] []
 going_none old = record {
   rows = record {
@@ -47,7 +47,8 @@ going_none old = record {
   callers = refl;
 }
 
--- what a row tells of one call by a kernel in this state after these callers' calls, and the state that the kernel is left in
+-- the content of a row: the event of call c of thread t, from the old state to the new one, after calls of
+-- the threads of `before`
 pub record IsRowOf (old : State) (before : List ℕ) (t : ℕ) (c : Call) (row : Row) (new : State) : Type 0 where
   pub endings : List Completion
   pub known : is_some (member_at (members_of old.threads) t) ≡ true
@@ -57,7 +58,7 @@ pub record IsRowOf (old : State) (before : List ℕ) (t : ℕ) (c : Call) (row :
   pub changes : TellsChanges old new row.changes.items
   pub blocked : AreBlocked new row.blocked.items
 
--- one row more
+-- one more row
 pub going_more : (old : State) (calls : List (ℕ × Call)) (mid new : State) (rows : List Row) (callers : List ℕ) (t : ℕ) (c : Call) (row : Row) → Going old calls mid rows callers
     → IsRowOf mid callers t c row new → Going old (calls ++ (t, c) ∷ []) new (rows ++ row ∷ []) (callers ++ t ∷ [])
 going_more old calls mid new rows callers t c row g is =

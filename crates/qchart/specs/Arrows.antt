@@ -8,17 +8,17 @@ use Rattle.qchart.specs.declared.arrow.Arrow.{Arrow}
 use Rattle.qchart.specs.declared.arrow.What.{What}
 use Rattle.qchart.specs.declared.arrow.What.TheVariants as arrows
 
--- the thread that made the call with this number, if these threads made the calls from 1 on
+-- the thread that made the call with this number, if these threads made the calls, starting with call 1
 abbrev pub caller_of : List ℕ → ℕ → Option ℕ
 caller_of callers number = if number == 0 then None else slice_get callers (number - 1)
 
--- the arrow of what a thread made, from it to another thread
+-- an arrow from a thread, if it is known, to the thread `to`
 abbrev pub sent_by : Option ℕ → ℕ → ℕ → What → Option Arrow
 sent_by from number to what =
     option_map (λ t. record { number = number; from = t; to = to; what = what }) from
 
--- the arrow of the ending of the call with this number and thread, in an event whose call `caller` made:
--- something received comes from the thread that sent it, and an answer from the caller
+-- the arrow of the completion of the call with this number and thread, in an event whose call `caller` made.
+-- A received message or pulse comes from the thread that sent it, and a reply from the caller
 unfoldable pub arrow_by : List ℕ → ℕ → ℕ → ℕ → Mark → Option Arrow
 arrow_by callers caller call thread (mark.Message rcvid copied) =
     sent_by (caller_of callers rcvid) rcvid thread arrows.Message
@@ -36,6 +36,6 @@ arrow_by callers caller call thread (mark.Count copied) = None
 arrow_by callers caller call thread (mark.Info info) = None
 arrow_by callers caller call thread (mark.State state priority) = None
 
--- the arrow of an ending
+-- the arrow of a completion
 abbrev pub arrow_of : List ℕ → ℕ → Completion → Option Arrow
 arrow_of callers caller e = arrow_by callers caller e.call e.thread e.mark

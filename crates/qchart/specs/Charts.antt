@@ -1,4 +1,4 @@
--- The chart of a script.
+-- The chart of a script's run, and the reasons why there is none.
 use Rattle.std.specs.Prelude.{◌≡◌, ℕ, ◌<◌, ◌≤◌, List, [], length}
 use Rattle.std.specs.List.Sorted.{IsPermutation}
 use Rattle.qtables.specs.declared.member.Member.{Member}
@@ -16,8 +16,8 @@ use Rattle.qchart.specs.declared.view.View.{View}
 use Rattle.qchart.specs.Rows.{IsDrawn}
 use Rattle.qchart.specs.View.{drawn_count}
 
--- the chart of a run of these calls, which is lawful from the first call on: a line for each thread, and a
--- row for each event, with what happened in it
+-- the chart of a run of these calls, which is valid from the first call on: a lifeline for each thread, and a
+-- row for each event, with its effects
 pub record IsChartOf (roster : List Member) (calls : List (ℕ × Call)) (chart : Chart) : Type 0 where
   pub run : Run
   pub left : List Blocked
@@ -25,7 +25,7 @@ pub record IsChartOf (roster : List Member) (calls : List (ℕ × Call)) (chart 
   pub lines : IsPermutation roster chart.lifelines.items
   pub drawn : IsDrawn (roster_with [] roster) run.events chart.rows.items
 
--- the chart of the script in a text, of which a view draws at most 400 calls
+-- the chart of the script in a text. The view draws at most 400 of the script's calls
 pub record IsCharted (view : View) (text : List ℕ) (chart : Chart) : Type 0 where
   pub roster : List Member
   pub calls : List (ℕ × Call)
@@ -33,7 +33,7 @@ pub record IsCharted (view : View) (text : List ℕ) (chart : Chart) : Type 0 wh
   pub few : drawn_count view (length calls) ≤ 400
   pub charted : IsChartOf roster calls chart
 
--- the script in a text has `count` calls, of which a view draws over 400
+-- the script in a text has `count` calls, and the view draws more than 400 of them
 pub record HasTooMany (view : View) (text : List ℕ) (count : ℕ) : Type 0 where
   pub roster : List Member
   pub calls : List (ℕ × Call)
@@ -41,7 +41,7 @@ pub record HasTooMany (view : View) (text : List ℕ) (count : ℕ) : Type 0 whe
   pub counted : length calls ≡ count
   pub many : 400 < drawn_count view count
 
--- the reason why a text has no chart: its own fault, or memory that ran out, or else too many calls
+-- the reason why a text has no chart: its own fault, no memory, or too many calls in its script
 abbrev pub IsChartFault : View → List ℕ → ChartFault → Type 0
 IsChartFault view text (Script fault) = IsFaultOf fault (meaning text)
 IsChartFault view text (TooManyCalls count) = HasTooMany view text count

@@ -1,4 +1,4 @@
--- The rows of a chart: the content of each, by its event.
+-- The rows of a chart: the content of each row, by its event.
 use Rattle.std.specs.Prelude.{◌≡◌, ℕ, List, [], ◌∷◌, ◌++◌, map}
 use Rattle.std.specs.List.{filter_map}
 use Rattle.qtables.specs.declared.member.Member.{Member}
@@ -20,11 +20,11 @@ use Rattle.qchart.specs.Changes.{changed_threads}
 abbrev pub event_thread : Event → ℕ
 event_thread e = e.thread
 
--- the arrows of an event, after the calls of `before`
+-- the arrows of an event, if the threads of `before` made the calls before it
 abbrev pub event_arrows : List ℕ → Event → List Arrow
 event_arrows before e = filter_map (arrow_of (before ++ e.thread ∷ []) e.thread) e.endings
 
--- the arrows of each event, after the calls of `before`
+-- the arrows of each event, if the threads of `before` made the calls before them
 abbrev pub arrows_from : List ℕ → List Event → List (List Arrow)
 arrows_from before [] = []
 arrows_from before (e ∷ events) = event_arrows before e ∷ arrows_from (before ++ e.thread ∷ []) events
@@ -50,7 +50,7 @@ row_thread row = row.thread
 abbrev pub row_arrows : Row → List Arrow
 row_arrows row = row.arrows.items
 
--- the threads whose priority a row changed
+-- the threads whose priority changed in a row, with the new priority
 abbrev pub row_changes : Row → List Level
 row_changes row = row.changes.items
 
@@ -58,14 +58,15 @@ row_changes row = row.changes.items
 abbrev pub row_blocked : Row → List Blocked
 row_blocked row = row.blocked.items
 
--- these threads have these priorities after each trace that the kernel may have made in the new state, and
--- others after each that it may have made in the old one; no other thread's priority differs
+-- `changes` has the threads whose priorities differ between the two states, with their priorities in the new
+-- one. A state has the priorities that follow from any history that leads to it
 abbrev pub TellsChanges : State → State → List Level → Type 0
 TellsChanges old new changes = (roster : List Member) (past now : Trace) → StandsAt roster old past
     → StandsAt roster new now → changes ≡ changed_threads (facts_of roster past) (facts_of roster now)
 
--- a kernel made these calls and thereby went from the old state to the new one, and the rows are those of
--- their events at every lawful trace that it may have made before
+-- a kernel made these calls, which led from the old state to the new one, and these are the rows of their
+-- events. Their changed priorities and blocked threads follow from every valid history that leads to the old
+-- state
 pub record HasRows (old : State) (calls : List (ℕ × Call)) (new : State) (rows : List Row) : Type 0 where
   pub events : List Event
   pub ran : RunsAtTraces old events new
@@ -77,9 +78,9 @@ pub record HasRows (old : State) (calls : List (ℕ × Call)) (new : State) (row
   pub blocked : (roster : List Member) (past : Trace) → IsLawful roster past → StandsAt roster old past
       → map row_blocked rows ≡ blocked_from roster past events
 
--- the rows are those of these events, the first of a kernel: each with the thread that called, what was
--- received and answered in the order of the endings, the threads whose priority it changed, and the threads
--- that are blocked after it
+-- these are the rows of these events, the first of a kernel. Each has the thread that called, the arrows in
+-- the order of the completions, the threads whose priority changed, and the threads that are blocked after
+-- the event
 pub record IsDrawn (roster : List Member) (events : List Event) (rows : List Row) : Type 0 where
   pub threads : map row_thread rows ≡ map event_thread events
   pub arrows : map row_arrows rows ≡ arrows_from [] events

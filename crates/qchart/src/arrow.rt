@@ -1,4 +1,4 @@
-//! The arrows of a chart: from thread to thread, for what is received and answered.
+//! The arrows of a chart, from thread to thread: messages and pulses that are received, and replies.
 
 ghost use Rattle.std.specs.Prelude.{◌≡◌, IfOk};
 ghost use Rattle.std.specs.List.{filter_map};
@@ -15,23 +15,24 @@ pub enum What {
     Message,
     /// A pulse that is received.
     Pulse,
-    /// An answer with this status.
+    /// A reply with this status.
     Reply(i64),
-    /// An answer with this code.
+    /// An error reply with this code.
     Error(i32),
 }
 
 /// An arrow from one thread to another, or from a thread to itself.
 #[derive(Clone, Copy, PartialEq, Eq)]
 pub struct Arrow {
-    /// The number of the call that sent the message or the pulse. An answer has its message's number.
+    /// The number of the call that sent the message or the pulse. A reply has the number of its message.
     pub number: u64,
     pub from: ThreadNo,
     pub to: ThreadNo,
     pub what: What,
 }
 
-/// Returns the thread that made the call with this number, if there is one; `callers` are those of calls from 1 on.
+/// Returns the thread that made the call with this number, if there is one. `callers` has the threads of the
+/// calls, starting with call 1.
 pub fn caller_of(callers: &[ThreadNo], number: u64) -> Option<ThreadNo>
     ensures { result ≡ caller_of callers.now number }
 {
@@ -41,8 +42,8 @@ pub fn caller_of(callers: &[ThreadNo], number: u64) -> Option<ThreadNo>
     callers.get((number - 1) as usize).copied()
 }
 
-/// Returns the arrow of an ending in the event of the latest call, which `caller` made: from the sender to the thread
-/// that receives, or from the thread that answers to the sender.
+/// Returns the arrow of a completion in the event of the latest call, which `caller` made. It goes from the
+/// sender to the receiver, or from the thread that replies to the sender.
 #[tactic(auto, unfolding(crate::specs::Arrows::arrow_by))]
 pub fn arrow_of(callers: &[ThreadNo], caller: ThreadNo, ending: &Completion) -> Option<Arrow>
     ensures { result ≡ arrow_of callers.now caller ending.now }
@@ -62,7 +63,7 @@ pub fn arrow_of(callers: &[ThreadNo], caller: ThreadNo, ending: &Completion) -> 
     })
 }
 
-/// Returns the arrows of an event whose call `caller` made, in the order of its endings.
+/// Returns the arrows of an event whose call `caller` made, in the order of its completions.
 pub fn arrows_of(
     alloc: Global,
     callers: &[ThreadNo],

@@ -16,7 +16,7 @@ pub struct Level {
     pub priority: Priority,
 }
 
-/// Returns the priorities of a kernel's threads, in rising thread number.
+/// Returns the priorities of a kernel's threads, by rising thread number.
 pub fn levels_of(alloc: Global, kernel: &Kernel) -> Result<Vec<Level>, AllocError>
     ensures { IfOk result (λ levels. levels.items ≡ map level_of kernel.now.threads) }
 {
@@ -30,7 +30,7 @@ pub fn levels_of(alloc: Global, kernel: &Kernel) -> Result<Vec<Level>, AllocErro
     Ok(levels)
 }
 
-/// Returns the priority of a thread; 0 if the thread isn't there.
+/// Returns the priority of a thread, or 0 if the thread isn't in the list.
 fn priority_in(levels: &[Level], thread: ThreadNo) -> u8
     ensures { result ≡ priority_in levels.now thread }
 {
@@ -40,7 +40,7 @@ fn priority_in(levels: &[Level], thread: ThreadNo) -> u8
     }
 }
 
-/// Returns the priority of a thread, if it isn't the one before.
+/// Returns the priority of a thread, if it differs from the thread's priority before.
 fn change_since(before: &[Level], level: Level) -> Option<Level>
     ensures { result ≡ change_since before.now level }
 {
@@ -51,7 +51,7 @@ fn change_since(before: &[Level], level: Level) -> Option<Level>
     }
 }
 
-/// Returns the priorities that aren't the ones before.
+/// Returns the priorities that differ from the threads' priorities before.
 pub fn changes_since(
     alloc: Global,
     before: &[Level],

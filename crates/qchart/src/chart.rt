@@ -8,13 +8,13 @@ use qnames::wording::Context;
 use qtables::member::Member;
 use std::alloc::AllocError;
 
-/// The outcome of adding words or lines to a drawing.
+/// The result of adding words or lines to a drawing.
 pub type Added = Result<(), AllocError>;
 
-/// The chart of a run: a line for each thread, and a row for each call.
+/// The chart of a run: a lifeline for each thread, and a row for each call.
 #[derive(Drop)]
 pub struct Chart {
-    /// The threads from left to right; those of a process are neighbours.
+    /// The threads from left to right. The threads of a process are neighbours.
     pub lifelines: Vec<Member>,
     /// The rows of the calls in order.
     pub rows: Vec<Row>,
@@ -22,21 +22,21 @@ pub struct Chart {
     pub before: u64,
     /// The threads that are blocked before the first row.
     pub blocked: Vec<Blocked>,
-    /// The threads whose messages aren't answered at the end of the run.
+    /// The threads whose messages have no reply at the end of the run.
     pub waits: Vec<Wait>,
-    /// The circles among these threads.
+    /// The deadlocks among these threads.
     pub deadlocks: Vec<Deadlock>,
 }
 
 impl Chart {
-    /// Returns the column of a thread, from 0 at the left; 0 also if it has none.
+    /// Returns the column of a thread, from 0 at the left, or 0 if it has none.
     pub fn column(&self, thread: ThreadNo) -> usize {
         let mut lifelines = self.lifelines.iter();
         let place = lifelines.position(|member| member.thread == thread);
         place.unwrap_or(0)
     }
 
-    /// Returns the bytes of the longest words beside a line.
+    /// Returns the length in bytes of the longest words beside a lifeline.
     pub fn longest_words(&self) -> usize {
         let mut most = 0usize;
         for row in &self.rows {
@@ -48,7 +48,7 @@ impl Chart {
         most
     }
 
-    /// Returns the bytes of the longest head.
+    /// Returns the length in bytes of the longest head of a thread.
     pub fn longest_head(&self, names: Context<'_>) -> Result<usize, AllocError> {
         let mut most = 0usize;
         for member in &self.lifelines {
@@ -58,7 +58,7 @@ impl Chart {
     }
 }
 
-/// Returns `thread THREAD (process PROCESS)`.
+/// Returns the head of a thread, `thread THREAD (process PROCESS)`.
 pub fn head(names: Context<'_>, member: &Member) -> Result<String, AllocError> {
     let thread = names.thread(member.thread);
     let process = names.process(member.process);

@@ -1,4 +1,4 @@
-//! Draws a script.
+//! Draws the run of a script.
 
 ghost use Rattle.std.specs.Prelude.{◌≤◌, length, IfOk, IfErr};
 ghost use Rattle.std.specs.List.Sorted.{IsPermutation};
@@ -23,11 +23,11 @@ use qtables::member::Member;
 use std::alloc::{AllocError, Global};
 use std::mem;
 
-/// The most calls of a chart.
+/// The greatest number of calls that are drawn.
 pub const MOST_CALLS: usize = 400;
 
-/// Runs the script in a text on a new kernel, and returns the drawing of the run. Returns an error if the script is
-/// faulty, or if more than 400 calls would be drawn.
+/// Runs the script in a text on a new kernel, and returns the drawing of the run. Fails if the script is
+/// faulty, if there is no memory, or if more than 400 calls would be drawn.
 #[tactic(auto, using(crate::proofs::Charting::uncharted))]
 pub fn drawing(alloc: Global, text: &[u8], view: &View) -> Result<String, ChartFault>
     ensures { IfErr result (IsChartFault view.now text.now) }
@@ -38,7 +38,8 @@ pub fn drawing(alloc: Global, text: &[u8], view: &View) -> Result<String, ChartF
     Ok(drawn)
 }
 
-/// Runs a script with these names on a new kernel, and returns the run's drawing; an error if it has over 400 calls.
+/// Runs a script with these names on a new kernel, and returns the drawing of the run. Fails if there is no
+/// memory, or if more than 400 calls would be drawn.
 pub fn drawing_of(names: Context<'_>, script: Script, view: &View) -> Result<String, ChartFault>
     ensures { IfErr result (IsUncharted view.now script.calls.items) }
 {
@@ -51,7 +52,8 @@ pub fn drawing_of(names: Context<'_>, script: Script, view: &View) -> Result<Str
     Ok(drawn)
 }
 
-/// Runs the script in a text on a new kernel, and returns the run's chart; an error if more than 400 rows are drawn.
+/// Runs the script in a text on a new kernel, and returns the chart of the run with all its rows. Fails if
+/// the script is faulty, if there is no memory, or if more than 400 rows would be drawn.
 #[tactic(auto, using(crate::proofs::Charting::uncharted))]
 pub fn chart(alloc: Global, text: &[u8], view: &View) -> Result<Chart, ChartFault>
     ensures ok { IfOk result (IsCharted view.now text.now) }
@@ -63,8 +65,8 @@ pub fn chart(alloc: Global, text: &[u8], view: &View) -> Result<Chart, ChartFaul
     Ok(chart)
 }
 
-/// Runs a script with these names on a new kernel, and returns the chart of the run with all its rows; an error if more
-/// than 400 of them would be drawn.
+/// Runs a script with these names on a new kernel, and returns the chart of the run with all its rows. Fails
+/// if there is no memory, or if more than 400 rows would be drawn.
 pub fn chart_of(names: Context<'_>, script: Script, view: &View) -> Result<Chart, ChartFault>
     ensures few { IfOk result (λ _. drawn_count view.now (length script.calls.items) ≤ 400) }
     ensures chart { CanRun script.roster.items script.calls.items → IfOk result (IsChartOf script.roster.items script.calls.items) }
@@ -93,7 +95,7 @@ pub fn chart_of(names: Context<'_>, script: Script, view: &View) -> Result<Chart
     })
 }
 
-/// Returns the part of a chart that is drawn.
+/// Returns the part of a chart that the view draws.
 fn part_of(alloc: Global, mut part: Chart, view: &View) -> Result<Chart, AllocError> {
     let to = view.to as u64;
     part.before = view.before() as u64;
@@ -109,7 +111,7 @@ fn part_of(alloc: Global, mut part: Chart, view: &View) -> Result<Chart, AllocEr
     Ok(part)
 }
 
-/// Sorts the threads by their processes, and those of a process by number.
+/// Sorts the threads by process, and the threads of a process by number.
 fn by_process(members: Vec<Member>) -> Result<Vec<Member>, AllocError>
     ensures { IfOk result (λ sorted. IsPermutation members.items sorted.items) }
 {

@@ -15,7 +15,7 @@ pub enum ChartFault {
     /// The script is faulty, or there is no memory for its run or its chart.
     #[error("{0}")]
     Script(ScriptFault),
-    /// The script has this many calls, over 400.
+    /// The script has this many calls, and more than 400 of them would be drawn.
     #[error("too many calls for a chart: {0}, and 400 at most can be drawn")]
     TooManyCalls(usize),
 }
@@ -45,7 +45,7 @@ impl<T: Drop> From<AllocFailed<T>> for ChartFault {
 }
 
 impl ChartFault {
-    /// Returns the exit status: 1 if the script is at fault or has too many calls, 3 if something else failed.
+    /// Returns the exit status: 1 if the script is faulty or has too many calls, 3 if something else failed.
     pub fn status(&self) -> u8
         ensures { result ≡ status_of self.now }
     {

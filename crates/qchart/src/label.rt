@@ -1,4 +1,4 @@
-//! Words a call briefly.
+//! Describes calls and arrows in a few words.
 
 use crate::arrow::{Arrow, arrow_of};
 use crate::row::Cut;
@@ -13,10 +13,11 @@ use qqueue::item::What;
 use qreading::states::state_name;
 use std::alloc::{AllocError, Global};
 
-/// Words, unless memory runs out.
+/// Words, or an error if there is no memory.
 pub type Words = Result<String, AllocError>;
 
-/// Returns the call of a thread, as it stands beside the thread's line; with the bytes that it sends if `bytes` is set.
+/// Returns the words for a call, as they are drawn beside the caller's lifeline. They have the bytes that the
+/// call sends if `bytes` is set.
 pub fn call_words(names: Context<'_>, number: u64, call: &Call, bytes: bool) -> Words {
     let mut words = plain_words(names, number, call)?;
     match call {
@@ -28,7 +29,8 @@ pub fn call_words(names: Context<'_>, number: u64, call: &Call, bytes: bool) -> 
     Ok(words)
 }
 
-/// Returns a call without its bytes. The message or pulse of a Send or a Pulse has the number of the call, or its name.
+/// Returns the words for a call without its bytes. A Send or a Pulse has its own number, or the name of its
+/// message or pulse.
 fn plain_words(names: Context<'_>, number: u64, call: &Call) -> Words {
     let name = call.kind().word();
     match call {
@@ -72,7 +74,8 @@ pub fn priority_words(alloc: Global, priority: Priority) -> Words {
     format!(in alloc; "priority {}", priority.get())
 }
 
-/// Adds what the latest call's caller got at once; nothing if an arrow shows it, or if there is nothing to say.
+/// Adds the result that the latest call had in its own event. Adds nothing if an arrow shows the result, or
+/// if there is none to show.
 pub fn push_result(
     names: Context<'_>,
     words: &mut String,
@@ -95,10 +98,11 @@ pub fn push_result(
     write!(words, ": {kind} {}", names.id(id))
 }
 
-/// The most bytes of a message or an answer that are shown.
+/// The greatest number of bytes of a message or a reply that are shown.
 const MOST_SHOWN: usize = 8;
 
 /// Adds a space and the first eight bytes in hexadecimal digits, and the number of bytes if there are more.
+/// Adds ` -` if there are none.
 fn push_bytes(words: &mut String, bytes: &[u8]) -> Result<(), AllocError> {
     if bytes.is_empty() {
         return words.push_str(" -");
@@ -113,7 +117,8 @@ fn push_bytes(words: &mut String, bytes: &[u8]) -> Result<(), AllocError> {
     Ok(())
 }
 
-/// Returns the words of an event's arrows, in the order of its endings; with the bytes if `bytes` is set.
+/// Returns the words of an event's arrows, in the order of its completions. They have the bytes if `bytes` is
+/// set.
 pub fn arrow_labels(
     names: Context<'_>,
     callers: &[ThreadNo],
@@ -138,7 +143,8 @@ pub fn arrow_labels(
     Ok(labels)
 }
 
-/// Returns the words of an arrow that an ending with this mark gave. A message has the number of its send, or its name.
+/// Returns the words for the arrow of a completion with this result. A message has the number of its send, or
+/// its name.
 fn arrow_words(names: Context<'_>, arrow: &Arrow, mark: Mark) -> Words {
     let number = arrow.number;
     match mark {
@@ -149,7 +155,7 @@ fn arrow_words(names: Context<'_>, arrow: &Arrow, mark: Mark) -> Words {
     }
 }
 
-/// Returns the words of a pulse: the number of the call that made it, or its name, and its content.
+/// Returns the words for a pulse: the number of the call that made it, or its name, and its content.
 fn pulse_words(names: Context<'_>, number: u64, what: What) -> Words {
     let id = names.id(number);
     match what {
@@ -165,12 +171,12 @@ fn pulse_words(names: Context<'_>, number: u64, what: What) -> Words {
     }
 }
 
-/// Returns the words of a pulse that a thread sent.
+/// Returns the words for a pulse that a thread sent.
 fn user_words(names: Context<'_>, number: u64, code: i8, value: i32) -> Words {
     format!(in names.alloc; "pulse {} code {code} value {value}", names.id(number))
 }
 
-/// Returns the words of a call that was ended by force: its number or its name, and the error.
+/// Returns the words for a cancelled call: its number or its name, and the error.
 pub fn cut_words(names: Context<'_>, cut: &Cut) -> Words {
     format!(in names.alloc; "call {}: fail {}", names.id(cut.number), word(cut.errno))
 }

@@ -1,5 +1,5 @@
-//! Draws a run: a script's calls on a new kernel, as people draw message passing, with a vertical line for each thread
-//! and an arrow for each message, answer and pulse. It draws SVG or columns of text.
+//! Draws a run, the calls of a script on a new kernel, as a sequence diagram. It has a vertical lifeline for
+//! each thread, and an arrow for each message, reply and pulse. It is drawn as SVG or in columns of text.
 #![tactic(auto)]
 
 pub mod arrow;

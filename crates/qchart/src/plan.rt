@@ -1,18 +1,19 @@
-//! Places the words of a row.
+//! Chooses the sides of lifelines on which words and arrows are.
 
 use crate::arrow::Arrow;
 use crate::chart::Chart;
 use crate::row::Row;
 use qbase::ids::ThreadNo;
 
-/// A side of a thread's line.
+/// A side of a lifeline.
 #[derive(Clone, Copy, PartialEq, Eq)]
 pub enum Side {
     Left,
     Right,
 }
 
-/// Returns the side of its sender's line on which an arrow leaves it: the right if it goes back to the same line.
+/// Returns the side on which an arrow leaves its sender's lifeline. An arrow that returns to the same
+/// lifeline leaves it on the right.
 pub fn leaves_at(chart: &Chart, from: ThreadNo, to: ThreadNo) -> Side {
     if chart.column(to) < chart.column(from) {
         Side::Left
@@ -21,8 +22,8 @@ pub fn leaves_at(chart: &Chart, from: ThreadNo, to: ThreadNo) -> Side {
     }
 }
 
-/// Returns the side of the caller's line on which a row's words are: beside the arrow that the call sends, and away
-/// from the one that it receives.
+/// Returns the side of the caller's lifeline on which a row's words are: on the side of the arrow that the
+/// call sends, or opposite the arrow that it receives.
 pub fn words_side(chart: &Chart, row: &Row) -> Side {
     match row.arrows.first() {
         Some(arrow) if is_sent(row, arrow) => leaves_at(chart, arrow.from, arrow.to),
@@ -34,7 +35,8 @@ pub fn words_side(chart: &Chart, row: &Row) -> Side {
     }
 }
 
-/// Returns whether an arrow is what the row's own call sends to another thread; then the row's words are the arrow's.
+/// Returns whether the row's own call sends this arrow to another thread. Then the row's words are also the
+/// arrow's.
 pub fn is_sent(row: &Row, arrow: &Arrow) -> bool {
     arrow.from == row.thread && arrow.to != row.thread
 }

@@ -6,10 +6,10 @@ use qbase::errno::Errno;
 use qbase::ids::ThreadNo;
 use qkernel::open_call::Blocked;
 
-/// A call of another thread that was ended by force.
+/// A cancelled call of another thread.
 #[derive(Clone, Copy, PartialEq, Eq)]
 pub struct Cut {
-    /// The number of the ended call.
+    /// The number of the cancelled call.
     pub number: u64,
     pub thread: ThreadNo,
     pub errno: Errno,
@@ -22,16 +22,16 @@ pub struct Row {
     pub number: u64,
     /// The thread that made the call.
     pub thread: ThreadNo,
-    /// The call briefly, and what its thread got at once.
+    /// The call in a few words, and its result if it completed in its own event.
     pub words: String,
-    /// The arrows of what was received and answered, in the order of the endings.
+    /// The arrows of the messages, pulses and replies that arrived, in the order of the completions.
     pub arrows: Vec<Arrow>,
     /// The words of each of these arrows.
     pub labels: Vec<String>,
-    /// The calls of other threads that ended by force, in rising thread number.
+    /// The cancelled calls of other threads, by rising thread number.
     pub cuts: Vec<Cut>,
-    /// The threads whose priority changed, in rising number, with the new priority.
+    /// The threads whose priority changed, by rising number, with the new priority.
     pub changes: Vec<Level>,
-    /// The threads that are blocked after the call, in rising number.
+    /// The threads that are blocked after the call, by rising number.
     pub blocked: Vec<Blocked>,
 }

@@ -1,4 +1,4 @@
-//! Makes the rows of a run.
+//! Makes the calls of a run, and a row for each.
 
 ghost use Rattle.std.specs.Prelude.{◌≡◌, ◌+◌, ◌∷◌, ◌++◌, [], is_some, map, true, IfOk, OnOk};
 ghost use Rattle.std.specs.List.{filter_map};
@@ -31,7 +31,7 @@ struct Course<'a> {
     bytes: bool,
 }
 
-/// The threads of a kernel at some time: their priorities, and those that are blocked.
+/// The priorities of a kernel's threads at some time, and the threads that are blocked then.
 #[derive(Drop)]
 struct Standing {
     levels: Vec<Level>,
@@ -39,7 +39,7 @@ struct Standing {
 }
 
 impl Standing {
-    /// Returns how the threads of a kernel stand now.
+    /// Returns the present priorities and the blocked threads of a kernel.
     fn of(alloc: Global, kernel: &Kernel) -> Result<Standing, AllocError>
         ensures levels { IfOk result (λ s. s.levels.items ≡ map level_of kernel.now.threads) }
         ensures blocked { IfOk result (λ s. AreBlocked kernel.now s.blocked.items) }
@@ -51,7 +51,8 @@ impl Standing {
     }
 }
 
-/// Makes the calls in order, adds them to the history, and returns a row for each; with the bytes if `bytes` is set.
+/// Makes the calls in order, adds them to the history, and returns a row for each. The words have the bytes
+/// if `bytes` is set.
 pub fn rows_of(
     names: Context<'_>,
     run: &mut Run,
@@ -114,7 +115,7 @@ impl Course<'_> {
     }
 }
 
-/// Returns the calls that an event ended by force, except the latest call, which has this number.
+/// Returns the calls that an event cancelled. The event's own call, which has this number, isn't one of them.
 fn cuts_of(alloc: Global, number: u64, endings: &[Completion]) -> Result<Vec<Cut>, AllocError> {
     endings
         .iter()

@@ -21,7 +21,7 @@ use std::alloc::AllocError;
 /// The coordinates of a place, x and y.
 type Place = (usize, usize);
 
-/// Returns a chart as SVG, which a browser shows alone or within a page.
+/// Returns a chart as SVG, which a browser shows by itself or within a page.
 pub fn svg_of(names: Context<'_>, chart: &Chart) -> Result<String, AllocError> {
     let sheet = Sheet::of(names, chart)?;
     let mut out = String::new(names.alloc);
@@ -30,7 +30,6 @@ pub fn svg_of(names: Context<'_>, chart: &Chart) -> Result<String, AllocError> {
 }
 
 impl Sheet<'_> {
-    /// Adds the whole drawing.
     fn push_all(&self, out: &mut String) -> Added {
         let (width, height) = (self.width(), self.height());
         write!(
@@ -114,7 +113,7 @@ impl Sheet<'_> {
         push_made(out, "first", (x, 45), words)
     }
 
-    /// Adds the bars of a thread, one for each stay in a state, from the one before the first row on.
+    /// Adds the bars of a thread, one for each stay in a state. The first bar begins before the first row.
     fn push_bars(&self, out: &mut String, thread: ThreadNo) -> Added {
         let x = self.x_of(thread).saturating_sub(BAR_HALF);
         let mut state = state_among(self.chart.blocked.as_slice(), thread);
@@ -131,7 +130,7 @@ impl Sheet<'_> {
         push_bar(out, state, (x, top), self.foot().saturating_sub(8))
     }
 
-    /// Adds a call: its words, its arrows, the calls that it ended by force and the priorities that it changed.
+    /// Adds a call: its words, its arrows, the calls that it cancelled and the priorities that it changed.
     fn push_row(&self, out: &mut String, row: &Row) -> Added {
         let y = self.y(row.number);
         let base = y.saturating_add(15);
@@ -151,7 +150,8 @@ impl Sheet<'_> {
         Ok(())
     }
 
-    /// Adds the arrows of a row, with their words, except the one whose words are the row's own.
+    /// Adds the arrows of a row with their words. An arrow that the row's call sends gets no words here: the
+    /// row's words serve for it.
     fn push_arrows(&self, out: &mut String, y: usize, row: &Row) -> Added {
         for (arrow, words) in row.arrows.iter().zip(row.labels.iter()) {
             self.push_arrow(out, y, row, arrow)?;
@@ -165,7 +165,7 @@ impl Sheet<'_> {
         Ok(())
     }
 
-    /// Adds a short arrow for each message that nobody has received, in the row of its send.
+    /// Adds a short arrow for each message that no thread has received, in the row of its send.
     fn push_pending(&self, out: &mut String) -> Added {
         for wait in &self.chart.waits {
             let is_drawn = self.chart.rows.iter().any(|row| row.number == wait.message);
@@ -176,7 +176,7 @@ impl Sheet<'_> {
         Ok(())
     }
 
-    /// Adds an arrow from a thread's line half the distance to the next one, below the words.
+    /// Adds an arrow from a thread's lifeline, half the distance to the next lifeline, below the words.
     fn push_short_arrow(&self, out: &mut String, wait: &Wait) -> Added {
         let x = self.x_of(wait.thread);
         let side = leaves_at(self.chart, wait.thread, wait.on);
@@ -186,7 +186,7 @@ impl Sheet<'_> {
         out.push('\n')
     }
 
-    /// Adds a line for each circle in which threads wait, below the rows.
+    /// Adds a line of words for each deadlock, below the rows.
     fn push_deadlocks(&self, out: &mut String) -> Added {
         let mut y = self.foot().saturating_add(20);
         for deadlock in &self.chart.deadlocks {
@@ -196,7 +196,8 @@ impl Sheet<'_> {
         Ok(())
     }
 
-    /// Adds the caller's dot and words: above the arrow that the call sends, or else level with the dot.
+    /// Adds the caller's dot and words. The words are above the arrow that the call sends, or otherwise level
+    /// with the dot.
     fn push_call(&self, out: &mut String, y: usize, row: &Row) -> Added {
         let x = self.x_of(row.thread);
         push_circle(out, "dot", x, y)?;
@@ -209,7 +210,8 @@ impl Sheet<'_> {
         push_words(out, side, (beside(x, side, 14), base), row.words.as_str())
     }
 
-    /// Adds an arrow between two lines, or back to its own; a ring at its tail if it was sent in an earlier row.
+    /// Adds an arrow between two lifelines, or back to its own lifeline. If it was sent in an earlier row, it
+    /// has a ring at its tail.
     fn push_arrow(&self, out: &mut String, y: usize, row: &Row, arrow: &Arrow) -> Added {
         let class = match arrow.what {
             What::Message => "message",
@@ -233,7 +235,7 @@ impl Sheet<'_> {
     }
 }
 
-/// Returns the x coordinate at this distance from a line, on a side of it.
+/// Returns the x coordinate at this distance from a lifeline, on one side of it.
 fn beside(x: usize, side: Side, room: usize) -> usize {
     match side {
         Side::Right => x.saturating_add(room),
@@ -241,7 +243,7 @@ fn beside(x: usize, side: Side, room: usize) -> usize {
     }
 }
 
-/// Adds words on a side of a line: on the right they begin at the place, on the left they end there.
+/// Adds words on a side of a lifeline: on the right they begin at the place, on the left they end there.
 fn push_words(out: &mut String, side: Side, at: Place, words: &str) -> Added {
     match side {
         Side::Right => push_text(out, "words", at, words),
@@ -249,7 +251,7 @@ fn push_words(out: &mut String, side: Side, at: Place, words: &str) -> Added {
     }
 }
 
-/// Adds words that were made for this place.
+/// Like `push_text`, for a string that is used only here.
 fn push_made(out: &mut String, class: &str, at: Place, words: String) -> Added {
     push_text(out, class, at, words.as_str())
 }

@@ -15,10 +15,10 @@ use qnames::wording::Context;
 use qreading::states::state_among;
 use std::alloc::AllocError;
 
-/// The place of the first thread's line in a line of text.
+/// The place of the first lifeline in a line of text.
 const MARGIN: usize = 6;
 
-/// The least distance between the lines of neighbouring threads, in characters.
+/// The least distance between neighbouring lifelines, in characters.
 const LEAST_GAP: usize = 26;
 
 const LEGEND: &str = "
@@ -28,7 +28,7 @@ R  RECEIVE-blocked  ....>  pulse
 P  REPLY-blocked    o      sent or made before
 ";
 
-/// A chart, and the distance between the lines of its threads.
+/// A chart, and the distance between its lifelines.
 #[derive(Drop)]
 struct Page<'a> {
     names: Context<'a>,
@@ -48,13 +48,12 @@ pub fn text_of(names: Context<'_>, chart: &Chart) -> Result<String, AllocError> 
 }
 
 impl Page<'_> {
-    /// Returns the place of a thread's line.
+    /// Returns the place of a thread's lifeline in a line of text.
     fn place_of(&self, thread: ThreadNo) -> usize {
         let column = self.chart.column(thread);
         MARGIN.saturating_add(self.gap.saturating_mul(column))
     }
 
-    /// Adds the whole chart.
     fn push_all(&self, out: &mut String) -> Added {
         self.push_heads(out)?;
         for row in &self.chart.rows {
@@ -66,7 +65,7 @@ impl Page<'_> {
         out.push_str(LEGEND)
     }
 
-    /// Returns the place of words beside a thread's line.
+    /// Returns the place of words beside a thread's lifeline.
     fn beside(&self, thread: ThreadNo) -> usize {
         self.place_of(thread).saturating_add(2)
     }
@@ -92,7 +91,8 @@ impl Page<'_> {
         Ok(())
     }
 
-    /// Writes the states of the threads after a row, over any arrow that crosses them, and ends the line.
+    /// Writes the states of the threads after a row, over any arrow that crosses their lifelines, and ends
+    /// the line.
     fn end_line(&self, out: &mut String, mut line: Line, row: &Row) -> Added {
         for member in &self.chart.lifelines {
             let state = state_among(row.blocked.as_slice(), member.thread);
@@ -101,7 +101,8 @@ impl Page<'_> {
         line.end(out)
     }
 
-    /// Adds the lines of a row: its call, the arrows that aren't the call's own, and the priorities that changed.
+    /// Adds the lines of a row: its call, the arrows that the call didn't send, and the priorities that
+    /// changed.
     fn push_row(&self, out: &mut String, row: &Row) -> Added {
         let mut first = Line::new(self.names.alloc);
         self.put_row(&mut first, row)?;
@@ -110,7 +111,7 @@ impl Page<'_> {
         self.push_changes(out, row)
     }
 
-    /// Writes the first line of a row: its number, its call, and the calls that it ended by force.
+    /// Writes the first line of a row: its number, its call, and the calls that it cancelled.
     fn put_row(&self, line: &mut Line, row: &Row) -> Added {
         line.put_made(0, format!(in self.names.alloc; "{:>4}", row.number)?)?;
         match row.arrows.first() {
@@ -125,8 +126,8 @@ impl Page<'_> {
         Ok(())
     }
 
-    /// Writes a call that no arrow shows: its words beside the caller's line, or at a short arrow if nobody has
-    /// received what it sent.
+    /// Writes a call that no arrow shows: its words beside the caller's lifeline, or on a short arrow if no
+    /// thread has received its message.
     fn put_call(&self, line: &mut Line, row: &Row) -> Added {
         let mut waits = self.chart.waits.iter();
         match waits.find(|wait| wait.message == row.number && !wait.is_held) {
@@ -137,7 +138,7 @@ impl Page<'_> {
         }
     }
 
-    /// Writes a short arrow that ends behind its words.
+    /// Writes a short arrow that ends after its words.
     fn put_short_arrow(&self, line: &mut Line, wait: &Wait, words: &str) -> Added {
         let from = self.place_of(wait.thread);
         let len = words.len().saturating_add(5);
@@ -178,7 +179,8 @@ impl Page<'_> {
         self.end_line(out, line, row)
     }
 
-    /// Writes an arrow with its words at its tail, and a sign there if what it stands for was sent in an earlier row.
+    /// Writes an arrow with its words at its tail. If `before` is set, the arrow was sent in an earlier row,
+    /// and its tail is `o`.
     fn put_arrow(&self, line: &mut Line, arrow: &Arrow, words: &str, before: bool) -> Added {
         let from = self.place_of(arrow.from);
         let to = self.place_of(arrow.to);
@@ -203,7 +205,7 @@ impl Page<'_> {
     }
 }
 
-/// Returns the sign that draws the line of a thread in this state.
+/// Returns the sign for the lifeline of a thread in this state.
 fn state_sign(state: ThreadState) -> &'static str {
     match state {
         ThreadState::Ready => "|",
@@ -213,7 +215,7 @@ fn state_sign(state: ThreadState) -> &'static str {
     }
 }
 
-/// Returns the sign that draws the shaft of an arrow.
+/// Returns the sign for the shaft of an arrow.
 fn shaft(what: What) -> &'static str {
     match what {
         What::Message => "-",

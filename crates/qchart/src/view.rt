@@ -1,4 +1,4 @@
-//! The part of a run that is drawn, and how.
+//! The part of a run that is drawn, and its style.
 
 ghost use Rattle.std.specs.Prelude.{◌≡◌, ◌-◌, ◌^◌};
 
@@ -11,15 +11,15 @@ pub enum Style {
     Text,
 }
 
-/// The part of a run that is drawn, and how.
+/// The part of a run that is drawn, its style, and whether it has bytes.
 #[derive(Clone, Copy, PartialEq, Eq)]
 pub struct View {
     pub style: Style,
-    /// Whether the words have the bytes of messages and answers.
+    /// Whether the words have the bytes of messages and replies.
     pub bytes: bool,
     /// The number of the first call that is drawn, from 1.
     pub from: usize,
-    /// The number of the last call that is drawn; if there are fewer calls, all are drawn.
+    /// The number of the last call that is drawn. A shorter run is drawn to its end.
     pub to: usize,
 }
 
@@ -39,14 +39,14 @@ impl View {
         }
     }
 
-    /// Returns the number of calls before the first that is drawn.
+    /// Returns the number of calls before the part that is drawn.
     pub fn before(&self) -> usize
         ensures { result ≡ self.now.from - 1 }
     {
         self.from.saturating_sub(1)
     }
 
-    /// Returns the number of calls that are drawn, of a run of this many.
+    /// Returns the number of calls that are drawn of a run with this many calls.
     pub fn span(&self, calls: usize) -> usize
         ensures { result ≡ drawn_count self.now calls }
     {

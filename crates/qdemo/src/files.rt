@@ -6,7 +6,8 @@ use qtool::ending::tell_unread;
 use std::rt::Files;
 use std::{fs, io};
 
-/// Stores a recording in the files NAME.txt and NAME.trace, which it overwrites, and reports which can't be written.
+/// Stores a recording in the files NAME.txt and NAME.trace, which it overwrites. Reports the first file that
+/// can't be written.
 #[derive(Drop)]
 pub struct RecordFiles<'a, R> {
     pub rt: &'a R,

@@ -1,4 +1,5 @@
-//! A kernel of synchronous messages, run from a script, or by a server and its clients on threads.
+//! The program `qdemo`: it runs, checks, plays and draws scripts on the kernel, explores designs, and runs a
+//! server and its clients on threads.
 #![tactic(auto)]
 
 mod files;
@@ -46,7 +47,7 @@ fn main(rt: HostRuntime) -> ExitCode {
     }
 }
 
-/// Returns which outputs are terminals: these have colours, unless `NO_COLOR` is set.
+/// Returns which outputs are terminals. These have colours, unless `NO_COLOR` is set and not empty.
 fn screen(rt: &HostRuntime) -> Screen {
     let (output, errors) = (rt.stdout().is_terminal(), rt.stderr().is_terminal());
     let are_wanted = match env::var(rt, "NO_COLOR") {
@@ -64,8 +65,8 @@ fn screen(rt: &HostRuntime) -> Screen {
     }
 }
 
-/// Ends a program whose arguments ask for no action: prints the help text that they ask for, or what is wrong with
-/// them. A faulty command line has its status even if its text can't be written.
+/// Ends a program whose arguments ask for no action. Prints the help text that they ask for, or their fault.
+/// A faulty command line has its own exit status even if the text can't be written.
 fn end_without_action<R: Print + Eprint>(rt: &R, error: &Error) -> ExitCode {
     if error.kind() == ErrorKind::OutOfMemory {
         return end_failed(rt, "out of memory");

@@ -1,4 +1,4 @@
-//! Runs a server and its clients.
+//! The action `serve`: runs a server and its clients.
 
 ghost use Rattle.qserve.specs.Fit.{Fit};
 
@@ -19,7 +19,8 @@ use std::sync::Wait;
 use std::thread::Threads;
 use std::{io, str};
 
-/// Runs a server and its clients, and records the calls if the recording has a name. Shows progress on a terminal.
+/// Runs a server and its clients, and records the calls if the recording has a name. Shows progress on a
+/// terminal, unless `quiet` is set.
 pub fn run_serve<R: Files + Print + Eprint + AllocGlobal + Threads + Wait + Clock + Sync>(
     rt: &R,
     run: ServeRun,
@@ -37,7 +38,7 @@ pub fn run_serve<R: Files + Print + Eprint + AllocGlobal + Threads + Wait + Cloc
         progress: terminal && !run.quiet,
         record: run.record.is_some(),
     };
-    // The command line allows only settings that fit.
+    // The command line allows only numbers in their ranges.
     if !settings.fit() {
         return end_with(rt, "worker failed", 3);
     }
@@ -50,7 +51,8 @@ pub fn run_serve<R: Files + Print + Eprint + AllocGlobal + Threads + Wait + Cloc
     serve_with(rt, settings, json, &mut files)
 }
 
-/// Runs a server and its clients, stores their recording, and prints the results in the wanted form.
+/// Runs a server and its clients, stores their recording, and prints the results as lines, with units or as
+/// JSON.
 fn serve_with<R: Print + Eprint + AllocGlobal + Threads + Wait + Clock + Sync, S: Store>(
     rt: &R,
     settings: Settings,
@@ -70,7 +72,7 @@ fn serve_with<R: Print + Eprint + AllocGlobal + Threads + Wait + Clock + Sync, S
     }
 }
 
-/// Ends a run that failed. A recording that can't be stored is reported already.
+/// Ends a run that failed. A recording that couldn't be stored was reported before.
 fn end_served(rt: &impl Eprint, fault: ServeFault) -> ExitCode {
     match fault {
         ServeFault::Record => ExitCode::from(fault.status()),

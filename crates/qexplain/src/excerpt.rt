@@ -1,12 +1,12 @@
-//! Unproved: words and layout. Shows a line with a mark below the part that an explanation is about.
+//! Unproved: words and layout. Shows a line with marks below the part that an explanation is about.
 
 use qreading::parts::Place;
 use std::alloc::{AllocError, Global};
 
-/// The most bytes of a line that are shown.
+/// The greatest number of bytes of a line that are shown.
 const MOST_SHOWN: usize = 72;
 
-/// The number of bytes that are shown in front of a part that lies far from the front.
+/// The number of bytes that are shown before a part that is far from the start of the line.
 const SHOWN_BEFORE: usize = 32;
 
 /// Returns the character that shows a byte of a line.
@@ -18,8 +18,9 @@ fn shown_byte(byte: u8) -> char {
     }
 }
 
-/// Returns a line and the marks below it around this place. A long line is cut to what stands around the place, with two
-/// dots where something is left out. A tab is shown as a space, and a byte that isn't printable ASCII as `?`.
+/// Returns a line, and below it marks under this place. Of a long line only the bytes around the place are
+/// shown, with two dots where bytes are left out. A tab is shown as a space, and a byte that isn't printable
+/// ASCII as `?`.
 pub fn excerpt_of(alloc: Global, line: &[u8], place: Place) -> Result<String, AllocError> {
     let mut text = String::new(alloc);
     push_excerpt(&mut text, line, place)?;

@@ -13,7 +13,7 @@ use qscript::script::roster_with_all;
 use qtables::member::Member;
 use std::alloc::{AllocError, Global};
 
-/// A run that goes on call by call, and its past calls.
+/// A run that continues call by call, and the history of its calls.
 #[derive(Drop)]
 pub struct ExplainedRun {
     run: Run,
@@ -33,29 +33,30 @@ impl ExplainedRun {
         })
     }
 
-    /// Makes the next call, as the run does. After `NoMemory` the run must not be used any more.
+    /// Makes the next call in the run. After `NoMemory` the run must not be used again.
     pub fn make(&mut self, thread: ThreadNo, call: Call) -> Result<(), Errno> {
         let past = Past::of(thread, &call);
         self.run.make(thread, call)?;
         Ok(self.history.add(past, self.run.endings())?)
     }
 
-    /// Returns the run.
+    /// Returns the run, for reading.
     pub fn run(&self) -> &Run {
         &self.run
     }
 
-    /// Returns the run, without its past calls.
+    /// Returns the run, without the history of its calls.
     pub fn into_run(self) -> Run {
         self.run
     }
 
-    /// Returns the failures in the event of the latest call, each with the number of its call, with their reasons.
+    /// Returns the failures in the event of the latest call: the number of each call, and the reason in
+    /// words.
     pub fn refusals(&self, names: Context<'_>) -> Result<Vec<(u64, String)>, AllocError> {
         refusals(names, self.run.kernel(), &self.history, self.run.endings())
     }
 
-    /// Returns who waits for whom now, a line for each thread, and then the circles in words.
+    /// Returns in words which thread waits for which now, a line for each, and then the deadlocks.
     pub fn wait_words(&self, names: Context<'_>) -> Result<Vec<String>, AllocError> {
         let kernel = self.run.kernel();
         let waits = waits(names.alloc, kernel, &self.history, &[])?;
@@ -65,7 +66,7 @@ impl ExplainedRun {
     }
 }
 
-/// Adds these waits in words, and then the circles among them.
+/// Adds these waits in words, and then the deadlocks among them.
 fn push_waits(
     words: &mut Vec<String>,
     names: Context<'_>,

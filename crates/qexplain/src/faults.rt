@@ -1,4 +1,4 @@
-//! Unproved: words and layout. Finds all faults of a text, and its oddities.
+//! Unproved: words and layout. Finds all faults of a text, and words that are probably mistakes.
 
 use crate::explanation::{Explanation, explain_line, explanation_of};
 use qnames::hints::{buffer_hint, is_utf_16};
@@ -23,7 +23,7 @@ pub struct Remark {
     pub explanation: Explanation,
 }
 
-/// What the lines so far say that the lines behind them depend on.
+/// The facts from the lines so far on which the next lines depend.
 #[derive(Drop)]
 struct Reader {
     roster: Vec<Member>,
@@ -32,8 +32,9 @@ struct Reader {
     has_calls: bool,
 }
 
-/// Returns the faults of the lines of a text in order, at most `MOST_FAULTS`. The first is the one that a run reports.
-/// Lines below faulty ones are read too; a fault that follows from one above is left out if it is recognized.
+/// Returns the faults of the lines of a text in order, at most `MOST_FAULTS`, or only the first of a text in
+/// UTF-16. The first is the fault that a run reports. Lines after a faulty one are read too. A fault that
+/// follows from an earlier one is left out if it is recognized.
 pub fn faults(alloc: Global, text: &[u8]) -> Result<Vec<Remark>, AllocError> {
     let mut reader = Reader {
         roster: Vec::new(alloc),
@@ -73,8 +74,8 @@ impl Reader {
         Ok(None)
     }
 
-    /// Returns the fault of a line unless it follows from one above. Guesses what the line was meant to be: a call if it
-    /// begins with a number, else the roster line of the thread that it names.
+    /// Returns the fault of a line unless it follows from an earlier one. Guesses what the line was meant to
+    /// be: a call if it begins with a number, otherwise the line of the thread that it names.
     fn untold(&mut self, line: &[u8], fault: LineFault) -> Result<Option<LineFault>, AllocError> {
         let Some((first, rest)) = next_word(line) else {
             return Ok(Some(fault));
@@ -97,8 +98,8 @@ impl Reader {
     }
 }
 
-/// Returns the words of a text without faults that may mean something else than they seem to, at most `MOST_FAULTS`:
-/// buffers that look like lengths. The text is a script, plain or with names, or a design.
+/// Returns the words of a text without faults that are probably mistakes, at most `MOST_FAULTS`: buffers that
+/// look like lengths. The text is a script, plain or with names, or a design.
 pub fn oddities(alloc: Global, text: &[u8]) -> Result<Vec<Remark>, AllocError> {
     let mut remarks = Vec::new(alloc);
     for (at, line) in Lines(text).enumerate() {
@@ -135,7 +136,7 @@ fn oddity(alloc: Global, line: &[u8]) -> Result<Option<Explanation>, AllocError>
     }
 }
 
-/// Returns the buffer of a call's line, with its caller or without, if it is a plain word.
+/// Returns the buffer of a call's line, with or without its caller, if it is a plain word.
 fn buffer_of<'a>(tokens: &[Token<'a>]) -> Option<Token<'a>> {
     let call = match tokens {
         [_, equals, call @ ..] if equals.sort == Sort::Equals => call,

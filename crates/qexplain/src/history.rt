@@ -1,35 +1,35 @@
-//! Unproved: words and layout. Keeps what each past call of a run did.
+//! Unproved: words and layout. Keeps the outcome of each call of a run.
 
 use qbase::ids::ThreadNo;
 use qmodel::call::{Call, Completion, Mark};
 use qmodel::kind::CallKind;
 use std::alloc::{AllocError, Global};
 
-/// The end of a call.
+/// The outcome of a call.
 #[derive(Clone, Copy, PartialEq, Eq)]
 pub enum End {
-    /// None yet: the call's thread is blocked in it.
+    /// It hasn't completed: its thread is blocked in it.
     Open,
-    /// It did what it says.
+    /// It succeeded, with the result `Ok`.
     Accepted,
     /// It was refused: it failed in its own event.
     Refused,
-    /// Another call ended it by force.
+    /// It was cancelled: it failed in the event of another call.
     Cut,
     /// It created a channel.
     Channel,
     /// It attached a connection.
     Connection,
-    /// It received the message of this number.
+    /// It received the message with this number.
     Message(u64),
-    /// It received the pulse of this number.
+    /// It received the pulse with this number.
     Pulse(u64),
-    /// It was answered, or returned what it asked for.
+    /// Its message got a reply, or it returned a count, data or a state.
     Other,
 }
 
 impl End {
-    /// Returns what is kept of a mark. `is_own` says whether the call ended in its own event.
+    /// Returns the outcome that a result shows. `is_own` says whether the call completed in its own event.
     fn of(mark: Mark, is_own: bool) -> End {
         match mark {
             Mark::Ok => End::Accepted,
@@ -44,21 +44,21 @@ impl End {
     }
 }
 
-/// A past call: its thread, what it names, and its end.
+/// A call that was made: its thread, its kind, its first operand, and its outcome.
 #[derive(Clone, Copy)]
 pub struct Past {
     pub thread: ThreadNo,
     pub kind: CallKind,
     /// Its first operand: an id, a thread or flags; 0 for a Shutdown.
     pub operand: u64,
-    /// Its end; `Open` if it hasn't ended.
+    /// Its outcome, or `Open` if it hasn't completed.
     pub end: End,
-    /// The number of the call in whose event it ended; 0 if it hasn't ended.
+    /// The number of the call in whose event it completed, or 0 if it hasn't completed.
     pub ended_by: u64,
 }
 
 impl Past {
-    /// Returns a call as it is made, before its end.
+    /// Returns a call that was just made and hasn't completed.
     pub fn of(thread: ThreadNo, call: &Call) -> Past {
         Past {
             thread,
@@ -77,13 +77,13 @@ pub struct History {
 }
 
 impl History {
-    /// Returns the history before any call.
+    /// Returns a history without calls.
     pub fn new(alloc: Global) -> History {
         let calls = Vec::new(alloc);
         History { calls }
     }
 
-    /// Adds the next call and the endings of its event.
+    /// Adds the next call and the completions of its event.
     pub fn add(&mut self, past: Past, endings: &[Completion]) -> Result<(), AllocError> {
         self.calls.push(past)?;
         let number = self.made();
@@ -96,7 +96,7 @@ impl History {
         Ok(())
     }
 
-    /// Returns the number of calls made, which is also the number of the last.
+    /// Returns the number of calls, which is also the number of the last call.
     pub fn made(&self) -> u64 {
         self.calls.len() as u64
     }
@@ -111,7 +111,7 @@ impl History {
         self.calls.get(number.checked_sub(1)? as usize).copied()
     }
 
-    /// Returns the number of the call of this kind that did what it says to what this operand names.
+    /// Returns the number of the first call of this kind with this first operand whose outcome is `Accepted`.
     pub fn accepted(&self, kind: CallKind, operand: u64) -> Option<u64> {
         let is_it = |past: &Past| past.kind == kind
             && past.operand == operand

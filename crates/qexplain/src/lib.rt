@@ -1,4 +1,5 @@
-//! Unproved: words and layout. Explains the faults of scripts, why calls fail, and who is blocked on whom.
+//! Unproved: words and layout. Explains the faults of scripts, why calls fail, and which threads wait for
+//! which.
 #![tactic(auto)]
 
 pub mod excerpt;

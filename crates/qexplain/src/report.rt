@@ -1,4 +1,4 @@
-//! Unproved: words and layout. Reports what the trace of a run doesn't say.
+//! Unproved: words and layout. Reports why calls of a run failed, and which threads wait at its end.
 
 use crate::explained_run::ExplainedRun;
 use qbase::ids::ThreadNo;
@@ -11,21 +11,21 @@ use qscript::run::Run;
 use qscript::{Script, parse};
 use std::alloc::{AllocError, Global};
 
-/// The most failures that are reported.
+/// The greatest number of failures that are reported.
 pub const MOST_REFUSALS: usize = 100;
 
-/// A report of what the trace of a run doesn't say.
+/// The report of a run: its failures with their reasons, and the threads that wait at its end.
 #[derive(Drop)]
 pub struct Report {
     /// The first failures, at most `MOST_REFUSALS`, each with the number of its line, counted from 1.
     pub refusals: Vec<(usize, String)>,
     /// The number of calls that failed.
     pub failures: usize,
-    /// Who waits for whom at the end, and in which circles.
+    /// Which thread waits for which at the end, and the deadlocks among them.
     pub waits: Vec<String>,
 }
 
-/// Returns what a script prints, and the report of the same run.
+/// Returns the trace that a script prints, and the report of the same run.
 pub fn explained(alloc: Global, text: &[u8]) -> Result<(String, Report), ScriptFault> {
     let script = parse(alloc, text)?;
     let run = ReportedRun::new(alloc, &script, call_lines(alloc, text)?)?;
@@ -33,7 +33,7 @@ pub fn explained(alloc: Global, text: &[u8]) -> Result<(String, Report), ScriptF
     Ok(run.end(Context::plain(alloc, &scope), script)?)
 }
 
-/// A run that goes on call by call, and its report so far.
+/// A run that continues call by call, and its report so far.
 #[derive(Drop)]
 pub struct ReportedRun {
     run: ExplainedRun,
@@ -60,12 +60,12 @@ impl ReportedRun {
         })
     }
 
-    /// Returns the run.
+    /// Returns the run, for reading.
     pub fn run(&self) -> &Run {
         self.run.run()
     }
 
-    /// Makes the next call, counts the failures in its event, and notes them up to `MOST_REFUSALS`.
+    /// Makes the next call, and counts the failures in its event. Notes them, up to `MOST_REFUSALS` in all.
     pub fn make(
         &mut self,
         names: Context<'_>,
@@ -85,7 +85,7 @@ impl ReportedRun {
         Ok(())
     }
 
-    /// Notes a failure of the call of this number, unless there are `MOST_REFUSALS`.
+    /// Notes a failure of the call with this number, unless `MOST_REFUSALS` are noted already.
     fn note(&mut self, number: u64, refusal: String) -> Result<(), AllocError> {
         if self.report.refusals.len() < MOST_REFUSALS {
             let place = number.saturating_sub(1) as usize;
@@ -95,7 +95,7 @@ impl ReportedRun {
         Ok(())
     }
 
-    /// Makes the calls of its script, and returns what `finish` does.
+    /// Makes the calls of its script, and returns the result of `finish`.
     fn end(mut self, names: Context<'_>, script: Script) -> Result<(String, Report), AllocError> {
         for (thread, call) in script.calls {
             self.make(names, thread, call)?;
@@ -103,7 +103,7 @@ impl ReportedRun {
         self.finish(names)
     }
 
-    /// Returns what the run prints, and its report with who is blocked on whom at its end.
+    /// Returns the trace that the run prints, and its report with the waits at its end.
     pub fn finish(mut self, names: Context<'_>) -> Result<(String, Report), AllocError> {
         self.report.waits = self.run.wait_words(names)?;
         Ok((self.run.into_run().finish(names.alloc)?, self.report))

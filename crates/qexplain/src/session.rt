@@ -1,4 +1,5 @@
-//! Unproved: words and layout. Keeps a script that grows line by line, and returns what a line adds to its trace.
+//! Unproved: words and layout. Keeps a script that grows line by line, and returns the part of the trace that
+//! a line adds.
 
 use crate::explained_run::ExplainedRun;
 use crate::states::states_of;
@@ -18,8 +19,8 @@ use qtables::member::Member;
 use std::alloc::{AllocError, Global};
 use std::mem;
 
-/// The lines of a script so far, which have no fault, and its run, which goes on with each line. The run begins at the
-/// first call, since the threads stand before it.
+/// The lines of a script so far, which have no fault, and its run, which continues with each line. The run
+/// begins at the first call, since the lines of all threads come before it.
 #[derive(Drop)]
 pub struct Session {
     alloc: Global,
@@ -52,13 +53,14 @@ impl Session {
         self.run.as_ref()
     }
 
-    /// Adds a thread whose line is read elsewhere, so that the text doesn't have it. It stands before the first call.
+    /// Adds a thread whose line is read elsewhere, so that the text doesn't have it. It must come before the
+    /// first call.
     pub fn add_member(&mut self, member: Member) -> Result<(), AllocError> {
         Ok(self.roster.push(member)?)
     }
 
-    /// Makes a call whose line is read elsewhere, so that the text doesn't have it. `NoThread` if its thread has no
-    /// line. After `NoMemory` the session must not be used any more.
+    /// Makes a call whose line is read elsewhere, so that the text doesn't have it. The error is `NoThread`
+    /// if its thread has no line. After `NoMemory` the session must not be used again.
     pub fn make(&mut self, thread: ThreadNo, call: Call) -> Result<(), Errno> {
         if self.run.is_none() {
             self.run = Some(ExplainedRun::new(self.alloc, self.roster.as_slice(), 0)?);
@@ -69,9 +71,9 @@ impl Session {
         }
     }
 
-    /// Adds lines, and returns what they add to the trace, without the lines of blocked threads. If one is faulty, none
-    /// is added; the line number of the error counts all lines of the session. After `NoMemory` the session must not be
-    /// used any more.
+    /// Adds lines, and returns the part of the trace that they add, without the lines of blocked threads. If
+    /// a line is faulty, no line is added. The line number of the error counts all lines of the session.
+    /// After `NoMemory` the session must not be used again.
     pub fn add(&mut self, lines: &[u8]) -> Result<Vec<u8>, ScriptFault> {
         let (text, members) = (self.text.len(), self.roster.len());
         let count = self.lines;
@@ -121,7 +123,7 @@ impl Session {
         Ok(calls)
     }
 
-    /// Adds the thread of a line to the roster, or its call to these.
+    /// Adds the thread of a line to the roster, or its call to `calls`.
     fn keep(&mut self, said: Line, calls: &mut Vec<(ThreadNo, Call)>) -> Result<(), AllocError> {
         match said {
             Line::Blank => {}
@@ -131,12 +133,12 @@ impl Session {
         Ok(())
     }
 
-    /// Returns the allocator.
+    /// Returns the allocator of the session.
     pub fn alloc(&self) -> Global {
         self.alloc
     }
 
-    /// Returns the lines of all calls that ended so far.
+    /// Returns the trace so far: the lines of all completed calls.
     pub fn trace(&self) -> &str {
         self.run.as_ref().map_or("", |run| run.run().text())
     }
@@ -157,7 +159,7 @@ impl Session {
         Vec::from_slice(self.alloc, lines.as_bytes())
     }
 
-    /// Returns a line for each thread, in the order of their lines, with its state now and its priority.
+    /// Returns a line for each thread, in the order of their lines, with its current state and priority.
     pub fn states(&self, names: Context<'_>) -> Result<String, AllocError> {
         let members = self.roster.as_slice();
         match &self.run {
@@ -169,7 +171,8 @@ impl Session {
         }
     }
 
-    /// Removes the last line that is neither empty nor a comment, and returns it. The lines above are run again.
+    /// Removes the last line that is neither empty nor a comment, and the lines after it. Returns that line,
+    /// or `None` if there is none. The lines before it are run again.
     pub fn undo(&mut self) -> Result<Option<Vec<u8>>, ScriptFault> {
         let Some((start, line)) = last_line(self.text.as_slice()) else {
             return Ok(None);

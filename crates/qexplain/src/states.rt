@@ -9,9 +9,10 @@ use qscript::printing::marks::push_mark;
 use qtables::member::Member;
 use std::alloc::AllocError;
 
-/// Returns a line for each of these threads of a kernel, in their order: `THREAD state STATE CHANNEL PRIORITY` or
-/// `THREAD state ready PRIORITY`, as `state` prints it, where the priority is `-` after a shutdown; or with names
-/// `THREAD is STATE on CHANNEL  # priority PRIORITY`, as a script says it.
+/// Returns a line for each of these threads of a kernel, in their order. Without names it is
+/// `THREAD state STATE CHANNEL PRIORITY` or `THREAD state ready PRIORITY`, as the call `state` prints it.
+/// After a shutdown the priority is `-`. With names it is `THREAD is STATE on CHANNEL  # priority PRIORITY`,
+/// as a script with names has it.
 pub fn states_of(
     names: Context<'_>,
     kernel: &Kernel,

@@ -1,4 +1,4 @@
-//! Unproved: words and layout. Finds who is blocked on whom, and the circles in which threads wait.
+//! Unproved: words and layout. Finds which threads wait for which, and the deadlocks among them.
 
 use crate::history::History;
 use qbase::ids::{ProcessNo, ThreadNo};
@@ -8,15 +8,16 @@ use qkernel::open_call::Blocked;
 use qnames::wording::Context;
 use std::alloc::{AllocError, Global};
 
-/// A thread whose message isn't answered.
+/// A thread whose message has no reply yet.
 #[derive(Clone, Copy, PartialEq, Eq)]
 pub struct Wait {
     pub thread: ThreadNo,
-    /// Its message.
+    /// The number of its message.
     pub message: u64,
-    /// The process of the channel; each of its threads may receive and answer the message.
+    /// The process of the channel. Each of its threads may receive the message and reply to it.
     pub server: ProcessNo,
-    /// The thread that it waits for: the message's receiver, or else the first of the process that may receive it.
+    /// The thread that it waits for: the message's receiver, or the first thread of the process that may
+    /// receive it.
     pub on: ThreadNo,
     /// Whether the message is received.
     pub is_held: bool,
@@ -38,7 +39,8 @@ impl Wait {
     }
 }
 
-/// Threads that wait for one another in a circle, the least first. No other thread can answer any of them.
+/// Threads that wait for one another in a circle, beginning with the least. No other thread can reply to any
+/// of them.
 #[derive(Drop)]
 pub struct Deadlock {
     waits: Vec<Wait>,
@@ -63,8 +65,8 @@ impl Deadlock {
     }
 }
 
-/// Returns the threads whose messages aren't answered, in rising number. The kernel and the history are those after the
-/// same calls; the threads in `ended` make no call any more.
+/// Returns the threads whose messages have no reply, by rising number. The kernel must be as it is after this
+/// history. The threads in `ended` make no more calls.
 pub fn waits(
     alloc: Global,
     kernel: &Kernel,
@@ -110,7 +112,7 @@ fn wait_of(
     })
 }
 
-/// Returns whether each thread of a process has ended or is among these waits.
+/// Returns whether each thread of a process has ended or is in one of these waits.
 fn is_blocked(kernel: &Kernel, waits: &[Wait], process: ProcessNo, ended: &[ThreadNo]) -> bool {
     let threads = kernel.threads().iter();
     let mut of = threads.filter(|thread| thread.member.process == process);
@@ -120,7 +122,8 @@ fn is_blocked(kernel: &Kernel, waits: &[Wait], process: ProcessNo, ended: &[Thre
     })
 }
 
-/// Returns the waits that nobody can end any more: each is for a process whose threads have ended or are in such a wait.
+/// Returns the waits that no thread can end. Each is for a process whose threads have ended or are in such a
+/// wait.
 fn hopeless(
     alloc: Global,
     kernel: &Kernel,
@@ -140,7 +143,7 @@ fn hopeless(
     Ok(left)
 }
 
-/// Returns the circle of a thread's wait, if the thread is the least of a circle.
+/// Returns the deadlock that begins with a thread's wait, if the thread is the least in one.
 fn circle_from(alloc: Global, waits: &[Wait], first: Wait) -> Result<Option<Deadlock>, AllocError> {
     let mut circle = Vec::new(alloc);
     let mut wait = first;
@@ -157,8 +160,8 @@ fn circle_from(alloc: Global, waits: &[Wait], first: Wait) -> Result<Option<Dead
     Ok(None)
 }
 
-/// Returns the circles among these waits, in the order of their least threads. No thread in them can be answered, even
-/// if a process has several threads; the threads in `ended` make no call any more.
+/// Returns the deadlocks among these waits, in the order of their least threads. No thread in them can get a
+/// reply, even if a process has several threads. The threads in `ended` make no more calls.
 pub fn deadlocks(
     alloc: Global,
     kernel: &Kernel,

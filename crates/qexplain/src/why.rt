@@ -14,8 +14,9 @@ use qnames::wording::Context;
 use rules::Refused;
 use std::alloc::AllocError;
 
-/// Returns the failures among the endings of the latest call, in the order of the endings: the number of each call, and
-/// `NUMBER CALL OPERAND: fail ERROR: WHY`. The kernel and the history are those after the call.
+/// Returns the failures among the completions of the latest call's event, in their order. Each is the number
+/// of its call, and the words `NUMBER CALL OPERAND: fail ERROR: WHY`. The kernel must be as it is after this
+/// history.
 pub fn refusals(
     names: Context<'_>,
     kernel: &Kernel,
@@ -36,7 +37,7 @@ pub fn refusals(
     Ok(refusals)
 }
 
-/// Returns why the call of this number failed in the event of the latest call.
+/// Returns why the call with this number failed in the event of the latest call.
 fn why_words(
     names: Context<'_>,
     kernel: &Kernel,
@@ -61,7 +62,7 @@ fn why_words(
     refused.rule(errno)
 }
 
-/// Returns what stands for the first operand of a call of this kind: a thread, an id or flags.
+/// Returns how the first operand of a call of this kind is shown: as a thread, an id or flags.
 pub fn operand_shown(names: Context<'_>, kind: CallKind, operand: u64) -> Shown<'_> {
     match (kind.form().operands.first(), u8::try_from(operand)) {
         (Some(Operand::Flags), _) => Shown::Number(operand),
@@ -70,7 +71,7 @@ pub fn operand_shown(names: Context<'_>, kind: CallKind, operand: u64) -> Shown<
     }
 }
 
-/// `NUMBER CALL OPERAND: fail ERROR`, or `THREAD CALL OPERAND: fail ERROR` with names.
+/// Returns `NUMBER CALL OPERAND: fail ERROR`, or `THREAD CALL OPERAND: fail ERROR` with names.
 fn head_words(
     names: Context<'_>,
     number: u64,
@@ -90,7 +91,7 @@ fn head_words(
     format!(in names.alloc; "{first} {name} {operand}: fail {error}")
 }
 
-/// Returns which call ended another by force, and how.
+/// Returns which call cancelled another, and how.
 fn cut_words(names: Context<'_>, number: u64, past: &Past) -> Result<String, AllocError> {
     let call = names.call(number);
     let operand = operand_shown(names, past.kind, past.operand);

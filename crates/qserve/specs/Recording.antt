@@ -9,19 +9,19 @@ use Rattle.qscript.specs.Printing.Printed.{printed}
 use Rattle.qreading.specs.TextLimit.{most_text}
 use Rattle.qscript.specs.Writing.Text.{script_text}
 
--- the run begins with the first call, is lawful and has the six properties
+-- the run begins with call 1, is a valid history and has the six properties
 abbrev pub IsRun : List Member → Run → Type 0
 IsRun roster run = (run.first ≡ 1) × IsLawful roster (followed_by [] run.events)
     × HasProperties roster (followed_by [] run.events)
 
--- the script is that of the roster and the run's calls, at most as long as a script may be; the trace is the
--- printed run, with nobody blocked after it
+-- the script has the roster and the run's calls, and isn't longer than a script may be. The trace is the
+-- printed run, with no thread blocked after it
 pub record Records (roster : List Member) (run : Run) (script trace : List ℕ) : Type 0 where
   pub script_is : script ≡ script_text roster run.events
   pub short : length script ≤ most_text
   pub trace_is : trace ≡ printed run []
 
--- the script and the trace record some such run of some roster
+-- the script and the trace record a run of some roster that satisfies `IsRun`
 pub record IsRecording (script trace : List ℕ) : Type 0 where
   pub roster : List Member
   pub run : Run

@@ -4,7 +4,7 @@ use Rattle.qserve.specs.declared.fault.ServeFault.{ServeFault}
 use Rattle.qserve.specs.declared.fault.ServeFault.TheVariants.{Hold, NoMemory, Worker, LongRecord, Record}
 use Rattle.qserve.specs.declared.fault.ServeFault.TheVariants.{Write}
 
--- 2 if the settings are at fault, 4 if a worker is, and else 3
+-- 2 if the settings are wrong, 4 if a worker failed, and otherwise 3
 abbrev pub status_of : ServeFault → ℕ
 status_of Hold = 2
 status_of NoMemory = 3

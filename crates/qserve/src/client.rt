@@ -1,4 +1,4 @@
-//! The work of a client: it attaches, sends its messages one after the other, and detaches.
+//! The work of a client: it attaches, sends its messages one after another, and detaches.
 
 use crate::fault::WorkerFault;
 use crate::protocol::{CLIENT_LEVEL, COUNT, MESSAGE_LENGTH, REPLY_LENGTH, priority};
@@ -14,7 +14,7 @@ use std::sync::Wait;
 /// The last byte of each message.
 const LAST_BYTE: u8 = 7;
 
-/// Makes a client's rounds. If it fails, a Shutdown ends the whole demonstration.
+/// Makes a client's rounds. If it fails, it shuts the kernel down, which ends the whole demonstration.
 pub fn client<E: Endpoint, R: Wait>(
     caller: &mut Caller<E, R>,
     chid: ChannelId,
@@ -44,14 +44,15 @@ fn make_rounds<E: Endpoint, R: Wait>(
     Ok(tally)
 }
 
-/// Returns the message of a client's round: for the echo service and for the sum service in turn.
+/// Returns the message of a client's round: by turns for the echo service and for the sum service.
 fn message_of(number: u8, round: u16) -> [u8; MESSAGE_LENGTH] {
     let low = (round % 256) as u8;
     let service = if (number ^ low) & 1 == 0 { ECHO } else { SUM };
     [service, number, low, LAST_BYTE]
 }
 
-/// Returns what an answer adds to the sums, 0 for an echo; an error if the answer isn't that of the message.
+/// Returns the number that a reply adds to the sums: 0 for an echo. The error is `Unexpected` if the reply
+/// doesn't fit the message.
 fn sum_in(message: &[u8; MESSAGE_LENGTH], answer: &Answer) -> Result<u64, WorkerFault> {
     let [service, number, low, last] = *message;
     let (sum, bytes, copied) = if service == SUM {

@@ -11,9 +11,10 @@ use thiserror::Error;
 /// The reason why a worker ended before its work was done.
 #[derive(Clone, Copy, PartialEq, Eq)]
 pub enum WorkerFault {
-    /// One of its calls gave no result, or there was no memory for what it keeps.
+    /// One of its calls failed, or there was no memory for its own data.
     Call(CallError),
-    /// It met an answer or pulse that its work doesn't have, or there was no thread for it, or no clock.
+    /// It got a reply or a pulse that its work doesn't expect. Or its thread couldn't be started, or the
+    /// clock couldn't be read.
     Unexpected,
 }
 
@@ -35,16 +36,16 @@ impl<T: Drop> From<AllocFailed<T>> for WorkerFault {
     }
 }
 
-/// The reason why a demonstration failed; the first of these if several things went wrong.
+/// The reason why a demonstration failed. If several apply, it is the first in this order.
 #[derive(Clone, Copy, Debug, PartialEq, Eq, Error)]
 pub enum ServeFault {
-    /// It had to hold a message, with fewer than two clients or more than one server.
+    /// It was to hold a message, with fewer than two clients or more than one server.
     #[error("hold needs two clients and one server")]
     Hold,
-    /// There was no memory, for the kernel or for a worker.
+    /// There was no memory for the kernel or for a worker.
     #[error("out of memory")]
     NoMemory,
-    /// A worker couldn't be started, or met an answer that it didn't expect.
+    /// A worker couldn't be started, or its work failed.
     #[error("worker failed")]
     Worker,
     /// The script of the kernel's calls would have over 4,194,304 bytes.
@@ -76,8 +77,8 @@ impl From<WorkerFault> for ServeFault {
 }
 
 impl ServeFault {
-    /// Returns the exit status of the program: 2 if the settings are at fault, 4 if a worker is, and 3 if memory,
-    /// storing or writing failed.
+    /// Returns the exit status of the program: 2 if the settings are wrong, 4 if a worker failed, and 3 if
+    /// memory, storing or writing failed.
     pub fn status(&self) -> u8
         ensures { result ≡ status_of self.now }
     {

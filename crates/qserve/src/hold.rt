@@ -1,5 +1,5 @@
-//! The work of a server that keeps the first message until it has received a second. So two clients have to be blocked
-//! at once, which can't be if each runs to its end before the next begins.
+//! The work of a server that holds the first message until it has received a second. So two clients have to
+//! be blocked at the same time. This can't happen if each client runs to its end before the next begins.
 
 use crate::fault::WorkerFault;
 use crate::protocol::{COUNT, REQUEST_LENGTH};
@@ -14,11 +14,12 @@ use qcalls::results::{Received, Request};
 use qqueue::item::What;
 use std::sync::Wait;
 
-/// The number of polls in vain after which a server that keeps a message gives up: about a second.
+/// The number of polls without a message after which a server that holds a message gives up: about a second.
 const MOST_POLLS: u32 = 1_000_000;
 
-/// Serves, but first holds a message. If it fails, a Shutdown ends the whole demonstration. `alarm` is another thread,
-/// for the Shutdown of a server whose own receive is still open.
+/// Serves, but first holds a message. If it fails, it shuts the kernel down, which ends the whole
+/// demonstration. `alarm` is another thread, which makes the Shutdown if the server's own receive is still
+/// open.
 pub fn holding_server<E: Endpoint, R: Wait>(
     caller: &mut Caller<E, R>,
     alarm: &mut Caller<E, R>,
@@ -31,7 +32,7 @@ pub fn holding_server<E: Endpoint, R: Wait>(
     done
 }
 
-/// Holds the first message until there is a second, answers both in order, and goes on like any server.
+/// Holds the first message until there is a second, replies to both in order, and continues like any server.
 fn hold_and_serve<E: Endpoint, R: Wait>(
     caller: &mut Caller<E, R>,
     chid: ChannelId,
@@ -46,7 +47,7 @@ fn hold_and_serve<E: Endpoint, R: Wait>(
     Ok(tally.plus(serve_all(caller, chid)?))
 }
 
-/// Returns the next message; if there is none, it polls for it if `polling` is set, and else waits.
+/// Returns the next message. If there is none, it polls for it if `polling` is set, and otherwise waits.
 fn next_request<E: Endpoint, R: Wait>(
     caller: &mut Caller<E, R>,
     chid: ChannelId,
@@ -67,7 +68,8 @@ fn next_request<E: Endpoint, R: Wait>(
     unreachable!()
 }
 
-/// Returns a received message, or counts a pulse. A stop pulse is an error, since a message is held.
+/// Returns a received message, or counts a pulse and returns `None`. A stop pulse is an error, since a
+/// message is held.
 fn request_in(item: Received, tally: &mut Tally) -> Result<Option<Request>, WorkerFault> {
     match item {
         Received::Message(request) => Ok(Some(request)),
@@ -79,7 +81,8 @@ fn request_in(item: Received, tally: &mut Tally) -> Result<Option<Request>, Work
     }
 }
 
-/// Receives a message or a pulse of a channel, and polls while there is none, at most `polls` times.
+/// Receives a message or a pulse from a channel. If there is none, it polls at most `polls` times in all;
+/// then the error is `Unexpected`.
 fn poll_receive<E: Endpoint, R: Wait>(
     caller: &mut Caller<E, R>,
     chid: ChannelId,

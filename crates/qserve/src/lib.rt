@@ -1,5 +1,5 @@
-//! Runs a server with three services and its clients, each on a thread of its own, over the locked kernel. Begin a
-//! server of your own from `client`, `server` and `services`.
+//! Runs a server with three services and its clients, each on its own thread, with a kernel under a lock. To
+//! write your own server, start from `client`, `server` and `services`.
 #![tactic(auto)]
 
 pub mod client;

@@ -6,10 +6,10 @@ use std::sync::atomic::{AtomicU64, Ordering};
 use std::sync::{Condvar, Mutex, Wait};
 use std::time::{Duration, Instant};
 
-/// The milliseconds between two lines.
+/// The time between two lines, in milliseconds.
 const PERIOD: u64 = 500;
 
-/// The progress of the clients, who raise it; the main thread reads it.
+/// The progress of the clients, which raise it. The main thread reads it.
 #[derive(Drop)]
 pub struct Progress {
     rounds: AtomicU64,
@@ -40,12 +40,12 @@ impl Progress {
         self.changed.notify_one();
     }
 
-    /// Returns the number of rounds that are done.
+    /// Returns the number of finished rounds.
     pub fn rounds(&self) -> u64 {
         self.rounds.load(Ordering::SeqCst)
     }
 
-    /// Waits until a client ends, at most this long, and returns whether `clients` clients have ended.
+    /// Waits until a client ends, at most for this time, and returns whether `clients` clients have ended.
     pub fn wait<R: Wait + Clock>(&self, rt: &R, clients: u64, most: Duration) -> bool {
         let ended = self.ended.lock(rt);
         if *ended >= clients {
@@ -56,8 +56,8 @@ impl Progress {
     }
 }
 
-/// Shows on standard error the progress of a run of `rounds` rounds, until `clients` clients have ended. A write that
-/// fails is ignored, and the line is removed at the end.
+/// Shows the progress of a run of `rounds` rounds on standard error, until `clients` clients have ended.
+/// Ignores failed writes, and removes the line at the end.
 pub fn show<R: Wait + Clock + Eprint>(
     rt: &R,
     alloc: Global,
@@ -89,7 +89,7 @@ pub fn show<R: Wait + Clock + Eprint>(
     }
 }
 
-/// Returns the line of a run of `rounds` rounds of which `done` are done.
+/// Returns the line for a run in which `done` of `rounds` rounds are finished.
 pub fn line_of(
     alloc: Global,
     done: u64,

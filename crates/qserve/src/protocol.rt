@@ -25,16 +25,16 @@ pub const COUNT: i8 = 1;
 /// The code of the pulse that stops a server.
 pub const STOP: i8 = 127;
 
-/// The bytes of a client's message.
+/// The length of a client's message, in bytes.
 pub const MESSAGE_LENGTH: usize = 4;
 
-/// The bytes of a client's reply buffer: those of a sum.
+/// The length of a client's reply buffer, in bytes: a sum fits into it.
 pub const REPLY_LENGTH: usize = 8;
 
-/// The bytes of a server's buffer.
+/// The length of a server's buffer, in bytes.
 pub const REQUEST_LENGTH: usize = 16;
 
-/// Returns the priority of a level.
+/// Returns the priority with this number.
 pub fn priority(level: u8) -> Priority
     requires { 1 ≤ level }
 {

@@ -1,4 +1,4 @@
-//! Records the kernel's calls as a script that anyone can run again.
+//! Records the kernel's calls as a script that can be run again.
 
 ghost use Rattle.std.specs.Prelude.{◌≡◌, ◌<◌, ◌⊎◌, length, IfOk, IfErr, string_bytes};
 ghost use Rattle.qreading.specs.TextLimit.{most_text};
@@ -18,7 +18,7 @@ use std::alloc::Global;
 pub struct Recording {
     /// The script: the roster and the calls, in the order in which the kernel made them.
     pub script: String,
-    /// The printed run: how each call ended.
+    /// The printed run: how each call completed.
     pub trace: String,
 }
 
@@ -38,7 +38,7 @@ impl Store for Forget {
     }
 }
 
-/// Returns the recording of a run of these threads, after which nobody is blocked.
+/// Returns the recording of a run of these threads, after which no thread is blocked.
 pub fn recording_of(alloc: Global, roster: &[Member], run: &Trace) -> Result<Recording, ServeFault>
     requires { run.now.first ≡ 1 }
     ensures ok { IfOk result (λ r. Records roster.now run.now (string_bytes r.script) (string_bytes r.trace)) }

@@ -1,4 +1,4 @@
-//! The main thread: it starts the workers, waits for them and stops the servers.
+//! The main thread: starts the workers, waits for them and stops the servers.
 
 ghost use Rattle.std.specs.Prelude.{IfOk, IfSome};
 ghost use Rattle.qshared.specs.Naming.{AreParts};
@@ -31,17 +31,17 @@ use std::sync::Wait;
 use std::thread;
 use std::thread::{Threads, available_parallelism};
 
-/// The ports of a kernel except that of the main thread, by the work of their threads.
+/// The ports of a kernel except the main thread's port, by the work of their threads.
 #[derive(Drop)]
 struct Crew<K: Tie> {
     servers: Vec<Port<K>>,
     clients: Vec<Port<K>>,
-    /// The port of the alarm alone.
+    /// Only the port of the alarm.
     alarm: Vec<Port<K>>,
 }
 
-/// The results of all workers, the nanoseconds of each of the clients' round trips, and their ports with that of the
-/// alarm, in rising thread number.
+/// The results of all workers, the nanoseconds of each round trip of a client, and all their ports and the
+/// alarm's port, by rising thread number.
 #[derive(Drop)]
 struct Gathered<K: Tie> {
     tally: Tally,
@@ -89,7 +89,7 @@ pub fn run<K: Tie + Send + Sync, R: Threads + Wait + Clock + Eprint + Sync>(
     Ok(Finished { totals, trace })
 }
 
-/// Sorts the ports, which come in rising thread number: servers, clients, the alarm, the main thread.
+/// Sorts the ports, which come by rising thread number: servers, clients, the alarm, the main thread.
 fn crew_of<K: Tie>(
     mut ports: Vec<Port<K>>,
     servers: u8,
@@ -110,8 +110,9 @@ fn crew_of<K: Tie>(
     Ok((main, crew))
 }
 
-/// Starts the workers on threads of their own, and waits until all have ended. If the main thread's work fails, a
-/// Shutdown ends the workers. Returns their results together, the times if they are taken, and all ports.
+/// Starts the workers, each on its own thread, and waits until all have ended. If the main thread's work
+/// fails, it shuts the kernel down, which ends the workers. Returns the sum of their results, the times if
+/// they are taken, and all ports.
 fn gather<K: Tie + Send + Sync, L: Log + Send, R: Threads + Wait + Clock + Eprint + Sync>(
     rt: &R,
     alloc: Global,
@@ -144,7 +145,8 @@ fn gather<K: Tie + Send + Sync, L: Log + Send, R: Threads + Wait + Clock + Eprin
     Ok((gathered.tally, timing, gathered.ports))
 }
 
-/// Creates the channel, starts all workers, waits for the clients, stops the servers, waits for them, and shuts down.
+/// Creates the channel, starts all workers, waits for the clients, stops the servers, waits for them, and
+/// shuts down.
 fn conduct<
     's,
     X,
@@ -181,7 +183,8 @@ fn conduct<
     Ok(gathered)
 }
 
-/// Sends one pulse for each server, which stops it. If that fails, a Shutdown does.
+/// Sends one pulse for each server, which stops it. If that fails, it shuts the kernel down, which also stops
+/// them.
 fn stop_servers<E: Endpoint, R: Wait>(
     main: &mut Caller<E, R>,
     coid: ConnectionId,
@@ -194,7 +197,8 @@ fn stop_servers<E: Endpoint, R: Wait>(
     Ok(Tally::default())
 }
 
-/// Returns the results of all workers and their ports with that of the alarm, or an error if a worker or `rest` failed.
+/// Returns the results of all workers, and their ports and the alarm's port. Returns an error if a worker or
+/// `rest` failed.
 fn gathered_of<K: Tie>(
     mut servers: Joined<K>,
     mut clients: Joined<K>,

@@ -1,4 +1,4 @@
-//! Runs a demonstration.
+//! Runs a demonstration, and writes its results.
 
 ghost use Rattle.std.specs.Prelude.{IfOk, IfSome, string_bytes};
 ghost use Rattle.qserve.specs.Fit.{Fit};
@@ -31,13 +31,13 @@ const SERVERS: ProcessNo = ProcessNo(1);
 /// The process of the clients.
 const CLIENTS: ProcessNo = ProcessNo(2);
 
-/// The thread that shuts down on behalf of a server whose own receive is open.
+/// The thread that shuts the kernel down for a server whose own receive is still open.
 const ALARM: ThreadNo = ThreadNo(63);
 
 /// The thread that starts and stops the others.
 const MAIN: ThreadNo = ThreadNo(64);
 
-/// The most events of the kernel's trace.
+/// The greatest number of events in the kernel's history.
 const TRACE_LIMIT: u32 = 1_048_576;
 
 /// Returns the roster: the servers, the clients, the alarm and the main thread.
@@ -66,9 +66,10 @@ pub struct Outcome {
     pub recording: Option<Recording>,
 }
 
-/// Starts clients and servers on threads of their own, has each client send its messages and check their answers, stops
-/// the servers, stores the recording if one is made, and writes five lines of results, and five more of times if they
-/// were taken. It stores and writes only after all threads have ended. A worker that fails ends them all.
+/// Starts clients and servers, each on its own thread. Each client sends its messages and checks the replies.
+/// Then it stops the servers, stores the recording if one is made, and writes five lines of results, and five
+/// more of times if they were taken. It stores and writes only after all threads have ended. A worker that
+/// fails ends all of them.
 pub fn serve<R: Threads + Wait + Clock + Eprint + Sync, S: Store, W: Write>(
     rt: &R,
     alloc: Global,
@@ -85,7 +86,7 @@ pub fn serve<R: Threads + Wait + Clock + Eprint + Sync, S: Store, W: Write>(
     tell(alloc, &outcome.totals, writer)
 }
 
-/// Writes the five lines, and five more of the times if they were taken.
+/// Writes the five lines of results, and five more of times if they were taken.
 fn tell<W: Write>(
     alloc: Global,
     totals: &Totals,
@@ -100,7 +101,8 @@ fn tell<W: Write>(
     write_all(writer, text.as_bytes())
 }
 
-/// Runs a demonstration whose threads have stacks of these sizes. A thread whose stack is too large can't be started.
+/// Runs a demonstration whose threads have stacks of these sizes. A thread whose stack is too large can't be
+/// started, and the error is `Worker`.
 pub fn outcome_of<R: Threads + Wait + Clock + Eprint + Sync>(
     rt: &R,
     alloc: Global,

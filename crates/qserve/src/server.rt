@@ -1,4 +1,5 @@
-//! The work of a server: it receives and replies until a pulse stops it. Several may receive on the main channel.
+//! The work of a server: it receives and replies until a pulse stops it. Several servers may receive on the
+//! main channel.
 
 use crate::fault::WorkerFault;
 use crate::protocol::{COUNT, REQUEST_LENGTH, STOP};
@@ -13,7 +14,8 @@ use qcalls::results::{Received, Request};
 use qqueue::item::What;
 use std::sync::Wait;
 
-/// Serves until the stop pulse comes. If it fails, a Shutdown ends the whole demonstration.
+/// Serves until the stop pulse comes. If it fails, it shuts the kernel down, which ends the whole
+/// demonstration.
 pub fn server<E: Endpoint, R: Wait>(
     caller: &mut Caller<E, R>,
     chid: ChannelId,
@@ -22,7 +24,8 @@ pub fn server<E: Endpoint, R: Wait>(
     caller.or_shutdown(work)
 }
 
-/// Receives and replies until the stop pulse comes.
+/// Receives and replies until the stop pulse comes. A pulse that is neither counted nor the stop pulse is the
+/// error `Unexpected`.
 pub fn serve_all<E: Endpoint, R: Wait>(
     caller: &mut Caller<E, R>,
     chid: ChannelId,
@@ -46,7 +49,7 @@ pub fn serve_all<E: Endpoint, R: Wait>(
     unreachable!()
 }
 
-/// Answers a message as its service does.
+/// Replies to a message as its service does.
 pub fn answer<E: Endpoint, R: Wait>(
     caller: &mut Caller<E, R>,
     request: &Request,

@@ -1,15 +1,15 @@
 //! The services of the server. The first byte of a message names its service.
 
-/// Answers with the message itself.
+/// The service that replies with the message itself.
 pub const ECHO: u8 = 1;
 
-/// Answers with the sum of the bytes after the first, as 8 bytes in big endian order.
+/// The service that replies with the sum of the bytes after the first, as 8 bytes in big endian order.
 pub const SUM: u8 = 2;
 
 /// The error code of a message that names no service.
 pub const NO_SERVICE: i32 = 1;
 
-/// The answer of a service.
+/// The reply of a service.
 #[derive(Clone, Copy)]
 pub enum Outcome {
     /// The message itself.
@@ -20,7 +20,8 @@ pub enum Outcome {
     Error(i32),
 }
 
-/// Returns the answer of the service that a message names; the error `NO_SERVICE` if it names none or is empty.
+/// Returns the reply of the service that a message names. It is the error `NO_SERVICE` if the message names
+/// no service or is empty.
 pub fn serve_one(message: &[u8]) -> Outcome {
     match message.split_first() {
         Some((&ECHO, _)) => Outcome::Same,
@@ -29,7 +30,7 @@ pub fn serve_one(message: &[u8]) -> Outcome {
     }
 }
 
-/// Returns the sum of the bytes.
+/// Returns the sum of the bytes, or 2^64 - 1 if it is greater.
 pub fn sum_of(bytes: &[u8]) -> u64 {
     let mut sum: u64 = 0;
     for byte in bytes {

@@ -1,15 +1,15 @@
 //! The settings of a demonstration.
 
-/// The most clients.
+/// The greatest number of clients.
 pub const MOST_CLIENTS: u8 = 32;
 
-/// The most servers.
+/// The greatest number of servers.
 pub const MOST_SERVERS: u8 = 16;
 
-/// The most rounds of a client.
+/// The greatest number of rounds of a client.
 pub const MOST_ROUNDS: u16 = 1000;
 
-/// The stack of a worker, in bytes, with room to spare.
+/// The stack size of a worker in bytes, more than it needs.
 const AMPLE_STACK: usize = 1 << 20;
 
 /// The settings of a demonstration.
@@ -21,7 +21,8 @@ pub struct Settings {
     pub servers: u8,
     /// The number of rounds of each client, 1 to 1,000. A round is a pulse and then a message.
     pub rounds: u16,
-    /// Whether the server keeps the first message until it has a second. This needs two clients and just one server.
+    /// Whether the server holds the first message until it has a second. This needs at least two clients and
+    /// exactly one server.
     pub hold: bool,
     /// Whether the run and its round trips are timed.
     pub time: bool,
@@ -56,14 +57,14 @@ impl Settings {
 /// The sizes of the threads' stacks, in bytes, each rounded up to a multiple of 128 KiB.
 #[derive(Clone, Copy, PartialEq, Eq)]
 pub struct Stacks {
-    /// The stack of a server.
+    /// The stack size of a server's thread.
     pub server: usize,
-    /// The stack of a client.
+    /// The stack size of a client's thread.
     pub client: usize,
 }
 
 impl Stacks {
-    /// Returns stacks with room to spare for a worker.
+    /// Returns stack sizes that are more than a worker needs.
     pub fn ample() -> Stacks {
         Stacks {
             server: AMPLE_STACK,

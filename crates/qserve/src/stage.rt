@@ -1,4 +1,4 @@
-//! Runs workers on threads of their own.
+//! Runs workers, each on its own thread.
 
 use crate::client::client;
 use crate::fault::WorkerFault;
@@ -22,7 +22,7 @@ use std::rt::Clock;
 use std::sync::Wait;
 use std::thread::{Builder, JoinHandle, Scope, Threads};
 
-/// The end of a worker, with the ports that it gives back.
+/// The end of a worker, with the ports that it returns.
 #[derive(Drop)]
 pub struct Ended<K: Tie> {
     /// Its result, or its error.
@@ -40,14 +40,14 @@ pub struct Ended<K: Tie> {
 pub struct Started<K: Tie> {
     /// The threads that were started.
     pub threads: Vec<JoinHandle<Ended<K>>>,
-    /// An error if not all were started.
+    /// An error if a thread couldn't be started.
     pub all: Result<Tally, WorkerFault>,
 }
 
-/// The ends of all workers of a kind.
+/// The ends of all workers of a kind, put together.
 #[derive(Drop)]
 pub struct Joined<K: Tie> {
-    /// Their results together, or an error.
+    /// The sum of their results, or an error.
     pub done: Result<Tally, WorkerFault>,
     /// Their ports, in the order in which their threads were started.
     pub ports: Vec<Port<K>>,
@@ -55,7 +55,7 @@ pub struct Joined<K: Tie> {
     pub trips: Vec<u64>,
 }
 
-/// The place where workers are started, and the kernel that they call.
+/// The scope in which workers are started, and the kernel that they call.
 #[derive(Drop)]
 pub struct Stage<'s, X, K: Tie, L: Log, R> {
     pub rt: &'s R,
@@ -73,9 +73,9 @@ impl<'s, X, K: Tie + Send + Sync, L: Log + Send, R: Threads + Wait + Clock + Epr
     L,
     R,
 > {
-    /// Starts a worker for each of these ports: a client with these settings, or a server if there are none. If there
-    /// is an alarm, the first server takes it and holds a message. If there is no memory for a list of threads, it
-    /// returns an error before it starts the first.
+    /// Starts a worker for each of these ports: a client if there are settings, otherwise a server. If there
+    /// is an alarm, the first server takes it and holds a message. If there is no memory for a list of
+    /// threads, it returns an error before it starts the first.
     pub fn start(
         &self,
         ports: Vec<Port<K>>,
@@ -108,8 +108,8 @@ impl<'s, X, K: Tie + Send + Sync, L: Log + Send, R: Threads + Wait + Clock + Epr
         show(self.rt, self.alloc, self.progress, clients, rounds);
     }
 
-    /// Waits for all these threads to end, and adds the port of the alarm to `alarm` if one of them had it. If there is
-    /// no memory for their ports, it returns an error, and some may still run.
+    /// Waits for all these threads to end, and adds the port of the alarm to `alarm` if one of them had it.
+    /// If there is no memory for their ports, it returns an error, and some threads may still run.
     pub fn join_all(
         &self,
         threads: Vec<JoinHandle<Ended<K>>>,
@@ -141,7 +141,7 @@ impl<K: Tie> Joined<K> {
     }
 }
 
-/// Does the work of a client's thread.
+/// The work of a client's thread.
 fn client_thread<K: Tie, L: Log, R: Wait + Clock>(
     rt: &R,
     alloc: Global,
@@ -168,7 +168,7 @@ fn client_thread<K: Tie, L: Log, R: Wait + Clock>(
     }
 }
 
-/// Does the work of a server's thread, which holds a message if it has an alarm.
+/// The work of a server's thread, which holds a message if it has an alarm.
 fn server_thread<K: Tie, L: Log, R: Wait>(
     rt: &R,
     alloc: Global,

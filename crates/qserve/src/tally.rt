@@ -3,16 +3,16 @@
 use crate::fault::WorkerFault;
 use qcalls::error::CallError;
 
-/// The work of one worker, or of several together.
+/// The work of one worker, or of several workers together.
 #[derive(Clone, Copy, Default, PartialEq, Eq)]
 pub struct Tally {
-    /// Messages that a client sent and had answered.
+    /// Messages that a client sent and got a reply for.
     pub sent: u64,
-    /// Messages that a server answered.
+    /// Messages that a server replied to.
     pub answered: u64,
     /// Pulses that a server counted.
     pub pulses: u64,
-    /// The sum of the sum service's answers, added up by the clients.
+    /// The sum of all replies of the sum service, as the clients added them up.
     pub sum: u64,
 }
 
@@ -27,13 +27,13 @@ impl Tally {
         }
     }
 
-    /// Counts one message that was sent and answered, and adds this to the sum of the answers.
+    /// Counts one message that was sent and got a reply, and adds this number to the sum of the replies.
     pub fn count_sent(&mut self, sum: u64) {
         self.sent = self.sent.saturating_add(1);
         self.sum = self.sum.saturating_add(sum);
     }
 
-    /// Counts one message that was answered.
+    /// Counts one message that was replied to.
     pub fn count_answered(&mut self) {
         self.answered = self.answered.saturating_add(1);
     }
@@ -44,7 +44,8 @@ impl Tally {
     }
 }
 
-/// Returns the results of two workers together, or an error: no memory if either had none, else the first one's.
+/// Returns the results of two workers together, or an error: `NoMemory` if either has it, otherwise the first
+/// one's error if it has one.
 pub fn both(
     first: Result<Tally, WorkerFault>,
     second: Result<Tally, WorkerFault>,

@@ -7,7 +7,7 @@ use qscript::watched::Watched;
 use std::alloc::{AllocError, Global};
 use std::io::Write;
 
-/// The work of all workers, the number of events of the kernel's trace, and the times, if they were taken.
+/// The work of all workers, the number of events of the kernel's history, and the times, if they were taken.
 #[derive(Clone, Copy, PartialEq, Eq)]
 pub struct Totals {
     pub tally: Tally,
@@ -15,7 +15,7 @@ pub struct Totals {
     pub timing: Option<Timing>,
 }
 
-/// Returns the five lines.
+/// Returns the five lines of results.
 pub fn text_of(alloc: Global, totals: &Totals) -> Result<String, AllocError> {
     let Tally {
         sent,
@@ -29,7 +29,7 @@ pub fn text_of(alloc: Global, totals: &Totals) -> Result<String, AllocError> {
     )
 }
 
-/// Writes all the bytes. A write that takes none of them is an error, since it would be tried for ever.
+/// Writes all the bytes. A write of no bytes is an error, since repeating it would never end.
 pub fn write_all<W: Write>(writer: &mut Watched<W>, bytes: &[u8]) -> Result<(), ServeFault> {
     let mut at = 0;
     'writing: while at < bytes.len() {

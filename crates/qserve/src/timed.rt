@@ -14,7 +14,7 @@ use std::rt::Clock;
 use std::sync::Wait;
 use std::time::{Duration, Instant};
 
-/// What a stopwatch keeps of a call.
+/// The data of a call that a stopwatch keeps.
 #[derive(Clone, Copy, Debug, Default, PartialEq, Eq, Drop)]
 struct Made {
     /// Whether the call is a Send.
@@ -23,24 +23,24 @@ struct Made {
     start: Option<Instant>,
 }
 
-/// The times of a thread's round trips, by a clock, and their count. A round trip begins with the call of a Send and
-/// ends when its ending is collected.
+/// The times of a thread's round trips, by a clock, and their count. A round trip begins when a Send is
+/// called, and ends when its completion is collected.
 #[derive(Drop)]
 pub struct Stopwatch<'c, C> {
     clock: &'c C,
-    /// Whether anything is timed.
+    /// Whether round trips are timed.
     on: bool,
     progress: &'c Progress,
     /// The latest call that was made.
     latest: Made,
     /// The nanoseconds of each round trip.
     trips: Vec<u64>,
-    /// An error if there was no memory for one, or the clock couldn't be read.
+    /// An error if there was no memory for a round trip, or the clock couldn't be read.
     all: Result<Tally, WorkerFault>,
 }
 
 impl<'c, C: Clock> Stopwatch<'c, C> {
-    /// Returns a stopwatch without times so far; it takes times only if it is on, and counts rounds in any case.
+    /// Returns a stopwatch without times. It takes times only if it is `on`, and counts rounds in any case.
     pub fn new(clock: &'c C, alloc: Global, on: bool, progress: &'c Progress) -> Stopwatch<'c, C> {
         Stopwatch {
             clock,
@@ -52,7 +52,7 @@ impl<'c, C: Clock> Stopwatch<'c, C> {
         }
     }
 
-    /// Returns what is kept of a call that is about to be made.
+    /// Returns the data of the next call. If it is a timed Send, its time begins here.
     fn begin(&mut self, call: &Call) -> Made {
         let sends = matches!(call, Call::Send { .. });
         if !self.on || !sends {
@@ -70,7 +70,7 @@ impl<'c, C: Clock> Stopwatch<'c, C> {
         }
     }
 
-    /// Notes the outcome of a call. A call that was refused isn't made: the one before it is still the latest.
+    /// Notes the outcome of a call. A refused call isn't made, so the call before it stays the latest.
     fn note_outcome(&mut self, made: Made, called: &Called) {
         match called {
             Called::Refused(_, _) => {}
@@ -82,7 +82,7 @@ impl<'c, C: Clock> Stopwatch<'c, C> {
         }
     }
 
-    /// Notes that an ending was collected.
+    /// Notes that a completion was collected.
     fn note_ending(&mut self) {
         if let Some(start) = self.latest.start.take() {
             match start.elapsed(self.clock) {
@@ -116,8 +116,9 @@ pub fn nanoseconds_of(duration: Duration) -> u64 {
     u64::try_from(duration.as_nanos()).unwrap_or(u64::MAX)
 }
 
-/// Passes calls on, times each Send, and counts a round for each whose ending was collected. If a call is made before
-/// the ending of the one before it is collected, only the second is timed.
+/// An endpoint that forwards calls, times each Send, and counts a round for each Send whose completion was
+/// collected. If a call is made before the completion of the one before it is collected, only the later one
+/// is timed.
 #[derive(Drop)]
 pub struct Timed<'c, E, C> {
     pub inner: E,

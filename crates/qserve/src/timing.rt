@@ -15,9 +15,9 @@ pub struct Timing {
     pub trips: u64,
     /// The shortest round trip.
     pub least: u64,
-    /// The time that half of them took at most.
+    /// The median: at least half of the round trips took at most this time.
     pub median: u64,
-    /// The time that 99 % of them took at most.
+    /// The 99th percentile: at least 99 % of the round trips took at most this time.
     pub ninety_ninth: u64,
 }
 
@@ -43,7 +43,8 @@ impl Timing {
     }
 }
 
-/// Returns the time that this share, in %, of the round trips took at most, 0 if there is none. The times must rise.
+/// Returns the time that this share of the round trips, in %, took at most, or 0 if there is none. The times
+/// must rise.
 fn share(trips: &[u64], hundredths: usize) -> u64 {
     let many = trips.len().saturating_mul(hundredths).div_ceil(100);
     trips.get(many.saturating_sub(1)).copied().unwrap_or(0)

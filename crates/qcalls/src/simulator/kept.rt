@@ -1,4 +1,4 @@
-//! Endings that are kept for their threads.
+//! The completions that are kept until they are taken.
 
 ghost use Rattle.std.specs.Prelude.{◌≡◌, ◌+◌, ◌≤◌, ◌++◌, [], length, is_some, position, slice_get, vec_len, vec_capacity};
 ghost use Rattle.arrayvec.specs.ArrayVec.{array_vec_len};
@@ -8,7 +8,7 @@ use qbase::ids::ThreadNo;
 use qmodel::call::Completion;
 use qstate::endings::Endings;
 
-/// Moves the endings of one event to the end of those that are kept, for which there is room.
+/// Moves the completions of one event to the end of the kept ones, for which there is room.
 pub(super) fn append(kept: &mut Vec<Completion>, endings: &mut Endings)
     requires { vec_len kept.old + array_vec_len endings.old ≤ vec_capacity kept.old }
     ensures items { kept.new.items ≡ kept.old.items ++ endings.old.items }
@@ -20,21 +20,21 @@ pub(super) fn append(kept: &mut Vec<Completion>, endings: &mut Endings)
     }
 }
 
-/// Returns the index of the first ending of a thread.
+/// Returns the index of the first completion of a thread.
 fn place_of(kept: &[Completion], thread: ThreadNo) -> Option<usize>
     ensures { result ≡ position (is_of thread) kept.now }
 {
     kept.iter().position(|ending| ending.thread == thread)
 }
 
-/// Returns whether there is an ending of a thread.
+/// Returns whether there is a completion of a thread.
 pub(super) fn has(kept: &[Completion], thread: ThreadNo) -> bool
     ensures { result ≡ is_some (ending_of thread kept.now) }
 {
     place_of(kept, thread).is_some()
 }
 
-/// Takes a thread's ending out of those of one event, if there is one.
+/// Takes a thread's completion from the completions of one event, if there is one.
 pub(super) fn take_own(endings: &mut Endings, thread: ThreadNo) -> Option<Completion>
     ensures ending { result ≡ ending_of thread endings.old.items }
     ensures rest { endings.new.items ≡ without thread endings.old.items }
@@ -44,7 +44,7 @@ pub(super) fn take_own(endings: &mut Endings, thread: ThreadNo) -> Option<Comple
     Some(endings.remove(place))
 }
 
-/// Takes the first ending of a thread, if there is one.
+/// Takes the first completion of a thread, if there is one.
 pub(super) fn take_of(kept: &mut Vec<Completion>, thread: ThreadNo) -> Option<Completion>
     ensures ending { result ≡ ending_of thread kept.old.items }
     ensures rest { kept.new.items ≡ without thread kept.old.items }
@@ -53,7 +53,7 @@ pub(super) fn take_of(kept: &mut Vec<Completion>, thread: ThreadNo) -> Option<Co
     Some(kept.remove(place))
 }
 
-/// Takes the first ending, if there is one.
+/// Takes the first completion, if there is one.
 pub(super) fn take_oldest(kept: &mut Vec<Completion>) -> Option<Completion>
     ensures ending { result ≡ slice_get kept.old.items 0 }
     ensures rest { kept.new.items ≡ later kept.old.items }

@@ -15,7 +15,7 @@ use qbase::ids::{ChannelId, ConnectionId, ThreadNo};
 use qmodel::call::Call;
 use std::alloc::Global;
 
-/// A thread of a simulator, which makes calls: here those in which it may be blocked, and by `Calls` all others.
+/// A thread of a simulator. Its methods are the calls that may block it; the trait `Calls` has the others.
 #[derive(Drop)]
 pub struct SimulatorThread<'s> {
     pub(super) simulator: &'s mut Simulator,
@@ -23,9 +23,9 @@ pub struct SimulatorThread<'s> {
 }
 
 impl<'s> SimulatorThread<'s> {
-    /// Sends a message over a connection, to be answered in a reply buffer of `reply_len` bytes (`MsgSend`). The thread
-    /// is blocked until the answer, which `Ending::answer` returns. Refused with `Badf` if the connection isn't live,
-    /// is another process's, or its channel isn't open.
+    /// Sends a message over a connection, with a reply buffer of `reply_len` bytes (`MsgSend`). The thread is
+    /// blocked until the reply, and then `Ending::answer` reads the reply from the completion. Refused with
+    /// `Badf` if the connection isn't live, is another process's, or its channel isn't open.
     pub fn msg_send(
         &mut self,
         coid: ConnectionId,
@@ -42,9 +42,9 @@ impl<'s> SimulatorThread<'s> {
         }
     }
 
-    /// Takes a message, into a buffer of `len` bytes, or a pulse of a channel (`MsgReceive`). If there is none, the
-    /// thread is blocked until one arrives, which `Ending::received` returns. Refused with `Srch` if the channel isn't
-    /// open or is another process's.
+    /// Receives a message, into a buffer of `len` bytes, or a pulse from a channel (`MsgReceive`). If there
+    /// is none, the thread is blocked until one arrives, and then `Ending::received` reads it from the
+    /// completion. Refused with `Srch` if the channel isn't open or is another process's.
     pub fn msg_receive(
         &mut self,
         chid: ChannelId,
@@ -60,9 +60,9 @@ impl<'s> SimulatorThread<'s> {
         }
     }
 
-    /// Takes a pulse of a channel; messages stay queued (`MsgReceivePulse`). If there is none, the thread is blocked
-    /// until one arrives, which `Ending::pulse` returns. Refused with `Srch` if the channel isn't open or is another
-    /// process's.
+    /// Receives a pulse from a channel; messages stay queued (`MsgReceivePulse`). If there is none, the
+    /// thread is blocked until one arrives, and then `Ending::pulse` reads it from the completion. Refused
+    /// with `Srch` if the channel isn't open or is another process's.
     pub fn msg_receive_pulse(&mut self, chid: ChannelId) -> Result<Outcome<Pulse>, CallError>
         ensures made { Simulates (unless_blocked pulse_in) self.old.thread (Call.ReceivePulse chid) self.old.simulator.now self.new.simulator.now result }
         ensures same { (self.new.thread ≡ self.old.thread) × (self.new.simulator.ghost_name ≡ self.old.simulator.ghost_name) }

@@ -9,7 +9,7 @@ use std::alloc::AllocError;
 /// Half the width of a thread's head, if its numbers have one digit each.
 const HEAD_HALF: usize = 68;
 
-/// The letters of such a head.
+/// The number of letters in such a head.
 const HEAD_LETTERS: usize = 20;
 
 /// The distance between lines of words below the rows.
@@ -24,13 +24,13 @@ const ROW: usize = 38;
 /// The y coordinate at which the bars begin.
 const BARS: usize = 52;
 
-/// The least distance between the lines of neighbouring threads.
+/// The least distance between neighbouring lifelines.
 const LEAST_GAP: usize = 170;
 
 /// The width for the numbers of the calls.
 const NUMBERS: usize = 40;
 
-/// The least width, in which the legend fits.
+/// The least width of a drawing: the legend fits into it.
 const LEAST_WIDTH: usize = 620;
 
 /// A chart and the measures of its drawing.
@@ -40,7 +40,7 @@ pub struct Sheet<'a> {
     pub chart: &'a Chart,
     /// Half the width of a thread's head.
     pub head_half: usize,
-    /// The distance between the lines of neighbouring columns.
+    /// The distance between neighbouring lifelines.
     pub gap: usize,
     left: usize,
     right: usize,
@@ -63,29 +63,30 @@ impl Sheet<'_> {
         })
     }
 
-    /// Returns the x coordinate of a column's line.
+    /// Returns the x coordinate of a column's lifeline.
     pub fn x(&self, column: usize) -> usize {
         self.left.saturating_add(self.gap.saturating_mul(column))
     }
 
-    /// Returns the x coordinate of a thread's line.
+    /// Returns the x coordinate of a thread's lifeline.
     pub fn x_of(&self, thread: ThreadNo) -> usize {
         self.x(self.chart.column(thread))
     }
 
-    /// Returns the y coordinate of the call with this number; bars begin at that of the call before the first row.
+    /// Returns the y coordinate of the call with this number. The bars begin at the y coordinate of the call
+    /// before the first row.
     pub fn y(&self, number: u64) -> usize {
         let place = number.saturating_sub(self.chart.before) as usize;
         BARS.saturating_add(ROW.saturating_mul(place))
     }
 
-    /// Returns the y coordinate at which the threads' lines end.
+    /// Returns the y coordinate at which the lifelines end.
     pub fn foot(&self) -> usize {
         let rows = self.chart.rows.len().saturating_add(1);
         BARS.saturating_add(ROW.saturating_mul(rows))
     }
 
-    /// Returns the width of the drawing.
+    /// Returns the width of the drawing: enough for all lifelines and for the legend.
     pub fn width(&self) -> usize {
         let last = self.chart.lifelines.len().saturating_sub(1);
         self.x(last).saturating_add(self.right).max(LEAST_WIDTH)
@@ -103,12 +104,13 @@ impl Sheet<'_> {
     }
 }
 
-/// Returns the width of this many letters, at seven pixels a letter.
+/// Returns the width for this many letters, at seven pixels a letter, with a margin.
 fn room_for(letters: usize) -> usize {
     letters.saturating_mul(7).saturating_add(34)
 }
 
-/// Returns the width on one side of a column's line: at least half a head, and enough for the words of its calls there.
+/// Returns the width on one side of a column's lifeline: at least half a head, and enough for the words of
+/// its calls there.
 fn room_beside(chart: &Chart, head_half: usize, column: usize, side: Side) -> usize {
     let mut most = head_half.saturating_add(14);
     for row in &chart.rows {

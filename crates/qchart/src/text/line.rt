@@ -1,4 +1,4 @@
-//! A line of text that is written at places in any order.
+//! A line of text, whose characters are written in any order.
 
 use std::alloc::{AllocError, Global};
 
@@ -15,7 +15,7 @@ impl Line {
         Line { places }
     }
 
-    /// Writes words at a place, counted from 0; spaces fill the line up to it.
+    /// Writes words at a place, counted from 0. Spaces fill the line up to the place.
     pub fn put(&mut self, place: usize, words: &str) -> Result<(), AllocError> {
         for (at, byte) in words.bytes().enumerate() {
             let at = place.saturating_add(at);
@@ -29,12 +29,12 @@ impl Line {
         Ok(())
     }
 
-    /// Writes words that were made for this line.
+    /// Like `put`, for a string that is used only here.
     pub fn put_made(&mut self, place: usize, words: String) -> Result<(), AllocError> {
         self.put(place, words.as_str())
     }
 
-    /// Writes words with a space on each side; the words begin at the place.
+    /// Writes words with a space on each side. The words begin at the place.
     pub fn put_spaced(&mut self, place: usize, words: &str) -> Result<(), AllocError> {
         self.put(place.saturating_sub(1), " ")?;
         self.put(place, words)?;

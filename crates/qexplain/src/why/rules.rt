@@ -1,5 +1,5 @@
-//! Unproved: words and layout. Finds the rule that refused a call, of those in the table of
-//! `docs/MODEL.md`, and says it in words.
+//! Unproved: words and layout. Finds the rule that refused a call, in the table of `docs/MODEL.md`, and says
+//! it in words.
 
 use crate::history::{End, History, Past};
 use crate::why::operand_shown;
@@ -14,7 +14,8 @@ use qnames::shown::Shown;
 use qnames::wording::Context;
 use std::alloc::AllocError;
 
-/// A call that was refused: the past calls, of which it is the last, and the kernel, which it left as it was.
+/// A refused call, with the kernel and the history. The call is the last of the history, and left the kernel
+/// as it was.
 #[derive(Drop)]
 pub struct Refused<'a> {
     pub names: Context<'a>,
@@ -26,7 +27,7 @@ pub struct Refused<'a> {
 }
 
 impl Refused<'_> {
-    /// Returns the rule that refuses it with this error, with what it may have meant.
+    /// Returns the rule that refuses the call with this error, and a guess at the operand that was meant.
     pub fn rule(&self, errno: Errno) -> Result<String, AllocError> {
         let kind = self.call.kind;
         match errno {
@@ -47,7 +48,7 @@ impl Refused<'_> {
         }
     }
 
-    /// Returns what is wrong with what it names.
+    /// Returns why the thing that the call names is wrong.
     fn badly_named(&self) -> Result<String, AllocError> {
         match self.call.kind.form().operands.first() {
             Some(Operand::Flags) => self.bad_flags(),
@@ -59,12 +60,12 @@ impl Refused<'_> {
         }
     }
 
-    /// Returns words as they are.
+    /// Returns these words.
     fn plain(&self, words: &str) -> Result<String, AllocError> {
         String::from_str(self.names.alloc, words)
     }
 
-    /// Returns the words for a call that nothing of what is known here refuses.
+    /// Returns the words for a call that no rule known here refuses.
     fn unknown(&self) -> Result<String, AllocError> {
         self.plain("no rule is known for it")
     }
@@ -76,7 +77,7 @@ impl Refused<'_> {
         format!(in self.names.alloc; "{by} shut the kernel down")
     }
 
-    /// Returns what its thread is blocked in.
+    /// Returns the call in which its thread is blocked.
     fn busy(&self) -> Result<String, AllocError> {
         let mut all = self.blocked.iter();
         let Some(blocked) = all.find(|blocked| blocked.thread == self.call.thread) else {
@@ -99,7 +100,7 @@ impl Refused<'_> {
         )
     }
 
-    /// Returns what is wrong with its flags.
+    /// Returns why its flags are wrong.
     fn bad_flags(&self) -> Result<String, AllocError> {
         let flags = self.call.operand;
         format!(in self.names.alloc;
@@ -107,13 +108,14 @@ impl Refused<'_> {
         )
     }
 
-    /// Returns the call of this kind that ended what has this number, and what stands for that.
+    /// Returns the call of this kind that ended the channel or connection with this number, and that channel
+    /// or connection.
     fn ended(&self, kind: CallKind, number: u64) -> Option<(Shown<'_>, Shown<'_>)> {
         let by = self.history.accepted(kind, number)?;
         Some((self.names.call(by), self.names.id(number)))
     }
 
-    /// Returns what is wrong with the channel that it names.
+    /// Returns why the channel that the call names is wrong.
     fn bad_channel(&self) -> Result<String, AllocError> {
         let channel = self.call.operand;
         if let Some(open) = self.kernel.channels().get(ChannelId(channel)) {
@@ -125,7 +127,7 @@ impl Refused<'_> {
         }
     }
 
-    /// Returns what is wrong with the connection that it names, or with the channel that this leads to.
+    /// Returns why the connection that the call names is wrong, or the channel to which the connection leads.
     fn bad_connection(&self) -> Result<String, AllocError> {
         let number = self.call.operand;
         let Some(live) = self.kernel.connections().get(ConnectionId(number)) else {
@@ -147,7 +149,7 @@ impl Refused<'_> {
         }
     }
 
-    /// Returns what is wrong with the thread that it names.
+    /// Returns why the thread that the call names is wrong.
     fn bad_thread(&self) -> Result<String, AllocError> {
         let thread = self.call.operand;
         match self.process_of(thread) {
@@ -156,7 +158,7 @@ impl Refused<'_> {
         }
     }
 
-    /// Returns what is wrong with the message that it names.
+    /// Returns why the message that the call names is wrong.
     fn bad_message(&self) -> Result<String, AllocError> {
         let message = self.call.operand;
         if let Some(owner) = self.holder_of(message) {
@@ -174,7 +176,8 @@ impl Refused<'_> {
         }
     }
 
-    /// Returns the words for a call that names a thing of this process, another than that of its thread.
+    /// Returns the words for a call that names a thing of this process, which isn't the process of its
+    /// thread.
     fn of_others(&self, thing: &str, owner: ProcessNo) -> Result<String, AllocError> {
         let named = operand_shown(self.names, self.call.kind, self.call.operand);
         let owner = self.names.process(owner);
@@ -185,7 +188,8 @@ impl Refused<'_> {
         )
     }
 
-    /// Returns the words for a number that never named such a thing, with the one that may have been meant.
+    /// Returns the words for a number that never named such a thing. `other` is a guess at the number that
+    /// was meant.
     fn missing(&self, thing: &str, other: String) -> Result<String, AllocError> {
         let named = self.names.id(self.call.operand);
         let found = self.call_words(self.call.operand)?;
@@ -220,7 +224,8 @@ impl Refused<'_> {
         format!(in alloc; "{call} {did} {item}")
     }
 
-    /// Returns the channel that may be meant: that to which this connection leads, or else the last open one.
+    /// Returns the channel that may be meant: the channel to which this connection leads, or the last open
+    /// channel.
     fn likely_channel(&self) -> Result<String, AllocError> {
         let channels = self.kernel.channels();
         if let Some(past) = self.history.call(self.call.operand)
@@ -239,7 +244,8 @@ impl Refused<'_> {
         format!(in self.names.alloc; "{call} made channel {channel}")
     }
 
-    /// Returns the connection that may be meant: its process's first to the channel of this number, or else its last.
+    /// Returns the connection that may be meant. It is the first of the call's process to the channel with
+    /// this number, or the last of that process.
     fn likely_connection(&self) -> Result<String, AllocError> {
         let process = self.process();
         let connections = self.kernel.connections();
@@ -263,7 +269,7 @@ impl Refused<'_> {
         }
     }
 
-    /// Returns the message that may have been meant: the last one received of those that its process holds.
+    /// Returns the message that may be meant: of the messages that its process holds, the last received.
     fn likely_message(&self) -> Result<String, AllocError> {
         let process = self.process();
         let mut likely = None;
@@ -287,7 +293,8 @@ impl Refused<'_> {
         }
     }
 
-    /// Returns the process that holds a message: that of its channel, if it is received and not answered.
+    /// Returns the process that holds a message. It owns the message's channel, and the message is received
+    /// and has no reply.
     fn holder_of(&self, message: u64) -> Option<ProcessNo> {
         let mut all = self.blocked.iter();
         match all.find(|blocked| blocked.number == message)?.state {
@@ -296,14 +303,14 @@ impl Refused<'_> {
         }
     }
 
-    /// Returns the process of a thread, or `None` if the roster has no thread of this number.
+    /// Returns the process of a thread, or `None` if the roster has no thread with this number.
     fn process_of(&self, thread: u64) -> Option<ProcessNo> {
         let mut threads = self.kernel.threads().iter();
         let found = threads.find(|found| u64::from(found.member.thread.0) == thread)?;
         Some(found.member.process)
     }
 
-    /// Returns the process of its thread.
+    /// Returns the process of the call's thread.
     fn process(&self) -> ProcessNo {
         let thread = u64::from(self.call.thread.0);
         self.process_of(thread).unwrap_or(ProcessNo(0))

@@ -9,7 +9,8 @@ pub returns-clause-event : goal.returns-clause-event
 returns-clause-event c =
     let made = c.in_ok-make.ensures.made in let s = c.make.new.self in let X = s.endings.items in let ob = c.args.bytes.now in let t = c.args.request.now.thread in
     let told : IsTold s.kernel X c.args.rows.now c.tell.new.rows ob c.tell.new.bytes c.tell.result = rw (← c.as_slice.ensures.value) c.tell.ensures in
-    -- the rows say what `Info` would of the messages that the event received, and restore all buffers
+    -- the rows have the data that `Info` would return for the messages that the event received, and restore
+    -- all buffers
     let written : OfEachRow (λ roster past e row. Informs roster past e row × Restores c.tell.new.bytes past e row) c.args.session.now.kernel t made.call X c.tell.new.rows = λ roster past lawful stands place e row so at.
     let a = made.answers roster past lawful stands in let same = stands_roster roster c.args.session.now.kernel past stands in
     let rises : IsRoster roster = subst IsRoster same made.sound.roster in

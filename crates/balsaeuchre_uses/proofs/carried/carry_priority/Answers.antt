@@ -1,4 +1,3 @@
--- proofs/carried/carried/Answers.antt
 use Rattle.balsaeuchre_uses.proofs.Common.{[], ap, event_call, flags_of, map, refl, ◌∙◌, ◌≡◌}
 use Rattle.balsaeuchre_uses.specs.Carried.{roster, events}
 use Rattle.balsaeuchre_uses.proofs.Lawful.{carried_lawful, carried_memory}

@@ -1,4 +1,4 @@
--- `get_mut` lends the kernel, and the handle follows it.
+-- `get_mut` lends the session, and the handle gets the session that was written last.
 use Rattle.balsaeuchre_c.proofs.Common.{ !, B, Calls, D, Env, Fml, Fun, GName, Goes-spent_ref, Lft, List, Logic, Loops, Memory, R, Routine, SProp, Share, Stays, Tables, Ura, Val, WpFn, WpFn-mono, [], addr, alloc_all, at_ret, await, bare, block_ptr, blocks, box_in, box_out, by, done, emp, ends_at, ent, enter, entered, env, exec, first, fjoin, fld, flft, fpack, frame, free_all, fsep, fsplit, fsplit3, fst∗, ftrue, full_share, get, group, handle, id⊢, join, keep, later, load, look_at, look_in, move, mut_ref_to, named, no, nothing, of_opd, opens, owns, pass_all, pick, plain, qed, raw, refl, returns, rewrite, says, sem, sep, sets, sets_last, some, split, stay_dropped, stop, sub, suffices, sym, tables, tables_of, through, token, triple_of, use1, via, vptr, walk_Meets, walk_of, walked, whole, word, τ, ‵, ℕ, ◌$◌, ◌∵◌, ◌∷◌, ◌≡◌, ◌⊛◌}
 use Rattle.balsaeuchre_c.proofs.AsBox.{E}
 use Rattle.balsaeuchre_c.specs.Lending.{with_session}
@@ -36,7 +36,7 @@ module _ {M : Type 1} {𝓤 : Ura M} (𝓛 : Logic 𝓤) (at_mem : Memory → SP
   Post = (walk_of 𝓛 F.ended stayed (F.clauses 𝓛 at_mem run)).post bound
 
   module _ (b o : ℕ) (hv : Val) where
-    -- all of the handle but its kernel
+    -- the handle's memory without its session
     abbrev Rest : Fml
     Rest = fsep (fsep (token E.al h.alloc (bare (τ E)) (block_ptr b o)) (handle E h.alloc hv)) (cell_at full_share Hd.mir (word E hv b o ∷ []) rb ro)
 

@@ -1,4 +1,4 @@
--- `into_box` hands what the handle owns to `from_raw`.
+-- `into_box` passes the memory that the handle owns to `from_raw`.
 use Rattle.balsaeuchre_c.proofs.Common.{ !, B, Contract, D, Fun, Goes-dropped, List, Logic, Memory, P, R, Routine, SProp, Stays, T, Tables, Triple, Ura, Val, WT, WpFn, WpFn-mono, [], alloc_all, and_then, ap, args, assign, at_ret, await, block_ptr, blocks, box_in, box_out, box_owns, box_ty, box_typed, by, calls_at_last, copy, done, emp, ends_at, ent, enter, entered, env, exec, fact, fact_i, feq_i, first, fjoin, fld, flft, fm_of, free_all, fsep, fsplit, ftrue, full_share, get, get_in, has_ty, heard, id⊢, join, keep, lands_last, later, look_at, move, no_more, nothing, of_opd, only, pass_all, pick, place, plain, qed, raw, refl, return, returns, rewrite, rv_opd, says, seq, sets, some, split, split3, stay_dropped, stop, sub, subst, suffices, sym, tables, tables_of, token, triple_of, use1, vptr, walk_Meets, walk_of, whole, word, yes, ‵, ⊑_static, ◌$◌, ◌++◌, ◌∵◌, ◌∷◌, ◌≡◌, ◌⊑◌, ◌⊛◌}
 use Rattle.balsaeuchre_c.proofs.AsBox.{E}
 use Rattle.balsaeuchre_c.proofs.Destruct++none.drop.Code.{code as no_drop}
@@ -43,7 +43,7 @@ module _ {M : Type 1} {𝓤 : Ura M} (𝓛 : Logic 𝓤) (at_mem : Memory → SP
       nothing ! $ move ! (2 ∷ 0 ∷ []) $ join ! $ move ! (1 ∷ 0 ∷ []) $ join ! $
       use0 𝓛 (raw (fact 𝓤 ((α ∷ []) ⊑ E.al.row.lives))) (fact_i 𝓤 ((α ∷ []) ⊑ E.al.row.lives) (emp 𝓤) (⊑_static (α ∷ []))) $ move ! (0 ∷ 2 ∷ []) $ join ! $
       use0 𝓛 (raw (fact 𝓤 ((β ∷ []) ⊑ E.row.lives))) (fact_i 𝓤 ((β ∷ []) ⊑ E.row.lives) (emp 𝓤) (⊑_static (β ∷ []))) $ join ! $
-      -- [what it requires; the tokens; the handle; true]
+      -- [the precondition; the tokens; the handle; true]
       move ! (3 ∷ []) $ feq_i ! (List Val) (vptr b o ∷ []) (vptr b o ∷ []) refl $ fjoin ! $ move ! (3 ∷ 0 ∷ []) $ fjoin ! $ move ! (2 ∷ 0 ∷ []) $ join ! $ join ! $ use1 𝓛 (raw (Shuts.pre y)) (id⊢ 𝓤 _) $
       calls_at_last ! (fm_of 𝓤 H 𝓛.laws 𝓣) Shuts kn y (and_then ! (get ! refl) (and_then ! (get ! refl) (no_more !))) (λ u.
       use1 𝓛 (later (some (λ (r : D E). (ts ⊛ ‵ ((B E).own_val r (u ∷ []))) ⊛ some (λ (_ : Unit {0} × (Unit {0} × Unit {0})). ‵ (fsep ftrue (fsep ftrue ftrue)) ⊛ (raw (fact 𝓤 (r.value ≡ x)) ⊛ raw (fact 𝓤 (r.alloc ≡ a))))))) (id⊢ 𝓤 _) $

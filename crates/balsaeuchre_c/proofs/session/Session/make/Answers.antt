@@ -3,7 +3,7 @@ use Rattle.balsaeuchre_c.specs.Requests.{call_as}
 use Rattle.qkernel.specs.LentCall.{call_lent}
 use Rattle.balsaeuchre_c.proofs.session.Session.make.Goals as goal
 
--- what three facts of an Ok come to
+-- from three facts about the value of an Ok follows a fourth
 if_ok : {T E A B C D : Type 0} (r : Result T E) → (A → B → C → D) → IfOk r (λ _. A) → IfOk r (λ _. B) → IfOk r (λ _. C) → IfOk r (λ _. D)
 if_ok r f a b c = grind arith
 
