@@ -70,8 +70,8 @@ pub fn quoted_bytes(alloc: Global, text: &[u8]) -> Result<Result<Bytes, usize>, 
     Ok(Ok(Bytes::from(bytes)))
 }
 
-/// Returns bytes in the notation of a script with names. It is a text in quotes if each byte is printable, or
-/// else hexadecimal digits. It is `-` if there are no bytes.
+/// Returns bytes in the notation of a script with names: `-` for no bytes, a text in quotes if each byte is
+/// printable, and hexadecimal digits otherwise.
 pub fn shown_bytes(alloc: Global, bytes: &[u8]) -> Result<String, AllocError> {
     if bytes.is_empty() {
         return String::from_str(alloc, "-");

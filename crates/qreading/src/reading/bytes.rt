@@ -13,7 +13,7 @@ use std::alloc::Global;
 /// The most equal bytes that one word writes: the limit of N in `NxHH`, and of a size in brackets.
 pub const MOST_REPEATS: u128 = 4096;
 
-/// Returns no bytes for `-`, or else the bytes of hexadecimal digits, two digits for each byte.
+/// Returns no bytes for `-`. Any other word is hexadecimal digits, two for each byte.
 #[tactic(auto, unfolding(crate::specs::Reading::Operand::plain_of))]
 fn plain(alloc: Global, word: &[u8]) -> Result<Bytes, ParseError>
     ensures { Gives result (plain_of word.now) }

@@ -1,4 +1,4 @@
-//! Prints how a call ended.
+//! Prints the result of a call.
 
 ghost use Rattle.std.specs.Prelude.{◌≡◌, [], ◌∷◌, ◌++◌, OnOk, codes, string_bytes};
 ghost use Rattle.qbase.specs.Errno.{word_of};
@@ -13,7 +13,7 @@ use qkernel::call::{Info, Mark};
 use qqueue::item::What;
 use std::alloc::AllocError;
 
-/// Adds the words of a mark, each behind a space.
+/// Adds the words of a result, each after a space.
 #[tactic(auto, unfolding(crate::specs::Printing::Marks::mark_words))]
 pub fn push_mark(out: &mut String, mark: Mark) -> Result<(), AllocError>
     ensures { OnOk result (string_bytes out.new ≡ string_bytes out.old ++ words_with_spaces (mark_words mark)) }
