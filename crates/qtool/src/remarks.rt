@@ -1,5 +1,5 @@
-//! Unproved: words and layout. Writes remarks on a script to standard error: all its faults, its
-//! oddities, why its calls failed, and who is blocked on whom.
+//! Unproved: words and layout. Writes remarks on a script to standard error: all its faults, its oddities,
+//! why its calls failed, and who is blocked on whom.
 
 use crate::colours::{Mood, marks};
 use crate::ending::tell_fault;
@@ -31,7 +31,7 @@ impl<'a> Source<'a> {
         }
     }
 
-    /// Prints faults, a line for each, and below it the faulty line with a mark, if it is to be shown.
+    /// Prints a line for each fault, and below it the faulty line with a mark, if `shows` is set.
     pub fn tell_faults<R: Eprint + AllocGlobal>(self, rt: &R, faults: &[Fault]) {
         for fault in faults {
             let Fault { place, what } = fault;
@@ -103,8 +103,8 @@ impl<'a> Source<'a> {
     }
 }
 
-/// Prints the faults of a plain script: explains them, at most twenty, if they are shown, or else prints the first alone.
-/// Returns whether there was memory for that.
+/// Prints the faults of a plain script. If `shows` is set, they are explained, at most twenty; otherwise only
+/// the first is printed. Returns false if memory ran out or no fault was found.
 pub fn tell_faults<R: Eprint + AllocGlobal>(rt: &R, source: Source<'_>) -> bool {
     let Ok(remarks) = faults(rt.alloc(), source.text) else {
         return false;
