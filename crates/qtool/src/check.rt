@@ -34,8 +34,8 @@ struct Check<'a, R> {
     tally: Tally,
 }
 
-/// Checks the scripts of these files and folders, and prints the counts. The status is 0 if each printed its trace, 1
-/// if one differs, is faulty or has no trace, and 3 if a file can't be read or written.
+/// Checks the scripts of these files and folders, and prints the counts. The status is 0 if each printed its
+/// trace, 1 if one differs, is faulty or has no trace, and 3 if a file can't be read or written.
 pub fn run_check<R: Files + Print + Eprint + AllocGlobal + Clone + Drop>(
     rt: &R,
     run: &CheckRun,

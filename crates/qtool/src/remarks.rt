@@ -11,7 +11,8 @@ use qreading::place::Fault;
 use std::io;
 use std::process::ExitCode;
 
-/// The source of faults: its file's name, its text, whether faulty lines are shown, and whether errors have colours.
+/// The source of faults: its file's name, its text, whether faulty lines are shown, and whether errors have
+/// colours.
 #[derive(Clone, Copy)]
 pub struct Source<'a> {
     pub file: Option<&'a str>,

@@ -71,8 +71,8 @@ fn push_pulse(out: &mut String, item: u64, priority: Priority, what: What) -> Re
     push_brought(out, what)
 }
 
-/// Adds `user CODE VALUE`, `unblock RECEIVE_ID` or `disconnect PROCESS`. `What::Message` is never the content of a
-/// pulse.
+/// Adds `user CODE VALUE`, `unblock RECEIVE_ID` or `disconnect PROCESS`. `What::Message` is never the content
+/// of a pulse.
 fn push_brought(out: &mut String, what: What) -> Result<(), AllocError>
     ensures { OnOk result (string_bytes out.new ≡ string_bytes out.old ++ words_with_spaces (brought_words what)) }
 {
@@ -84,7 +84,8 @@ fn push_brought(out: &mut String, what: What) -> Result<(), AllocError>
     }
 }
 
-/// Adds `state ready PRIORITY`, or `state STATE CHANNEL PRIORITY` with `send`, `receive` or `reply` for STATE.
+/// Adds `state ready PRIORITY`, or `state STATE CHANNEL PRIORITY` with `send`, `receive` or `reply` for
+/// STATE.
 fn push_told(out: &mut String, state: ThreadState, priority: Priority) -> Result<(), AllocError>
     ensures { OnOk result (string_bytes out.new ≡ string_bytes out.old ++ words_with_spaces (told_words state priority)) }
 {

@@ -49,7 +49,8 @@ pub struct Sheet {
     no_names: Scope,
 }
 
-/// Returns whether a line has a sign that plain lines have only in comments: `=`, `->`, `;`, quotes or brackets.
+/// Returns whether a line has a sign that plain lines have only in comments: `=`, `->`, `;`, quotes or
+/// brackets.
 fn has_signs(line: &[u8]) -> bool {
     let mut before = b' ';
     for byte in line {
@@ -254,7 +255,8 @@ impl Sheet {
         self.added(shown, faults)
     }
 
-    /// Removes the last line that is neither empty nor a comment, and returns it. The lines above it are run again.
+    /// Removes the last line that is neither empty nor a comment, and returns it. The lines above it are run
+    /// again.
     pub fn undo(&mut self) -> Result<Option<Vec<u8>>, AllocError> {
         if self.names.is_none() {
             return self.session.undo().map_err(|_| AllocError);
