@@ -20,7 +20,7 @@ place_none p xs e =
 
 -- ---- words
 
--- a blank at the front is no word
+-- a blank at the front isn't a word
 pub words_blank : (x : ℕ) (xs : List ℕ) → is_blank x ≡ true → words_of (x ∷ xs) ≡ words_of xs
 unfolding words_of
 words_blank x xs e = rw e
@@ -33,7 +33,7 @@ after_blank x xs e =
 no_blank : (x : ℕ) (xs : List ℕ) → is_blank x ≡ false → drop (position_or_len (λ b. not (is_blank b)) (x ∷ xs)) (x ∷ xs) ≡ x ∷ xs
 no_blank x xs e = rw e
 
--- blanks at the front are no words
+-- blanks at the front aren't words
 pub words_skip : (text : List ℕ) → words_of (drop (position_or_len (λ b. not (is_blank b)) text) text) ≡ words_of text
 words_skip [] = refl
 words_skip (x ∷ xs) = elim (is_blank x) as (λ b. is_blank x ≡ b → words_of (drop (position_or_len (λ b. not (is_blank b)) (x ∷ xs)) (x ∷ xs)) ≡ words_of (x ∷ xs)) [
