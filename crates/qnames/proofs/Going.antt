@@ -1,4 +1,4 @@
--- One line more.
+-- One more line.
 use Rattle.qnames.proofs.Common.{◌≡◌, ℕ, ◌+◌, ◌<◌, ◌≤◌, Bool, true, false, List, [], ◌∷◌, ◌++◌, length, get_or, drop, ap, ◌∙◌, arith, length-append, if◌then◌else◌, common_steps, append_assoc, at_drop_more, list_any, bytes_eq, Names, with_line, with_process}
 use Rattle.qnames.specs.declared.line.Process.{Process}
 use Rattle.qnames.specs.declared.line.Process.TheVariants as processes
@@ -7,21 +7,21 @@ use Rattle.qnames.specs.declared.line.Line.TheVariants as lines
 use Rattle.qnames.specs.declared.label.NameFault.{NameFault}
 use Rattle.qnames.specs.Plain.{line_text, plain_lines, plain_text, line_fault, listed, name_faults}
 
--- the text of the lines that are left is that of the next one and of those after it
+-- the text of the remaining lines is the text of the next line and of the lines after it
 text_left : (names : Names) (all : List Line) (i : ℕ) (line : Line) → i < length all → get_or all i line ≡ line
     → plain_text names (drop i all) ≡ line_text names line ++ 10 ∷ [] ++ plain_text (with_line names line) (drop (i + 1) all)
 unfolding plain_lines
 text_left names all i line lt is =
     at_drop_more (plain_text names) all i line lt ∙ ap (λ l. plain_text names (l ∷ drop (i + 1) all)) is
 
--- their faults are that of the next one and those of the lines after it
+-- the faults of the remaining lines are the faults of the next line and of the lines after it
 faults_left : (names : Names) (all : List Line) (i : ℕ) (line : Line) → i < length all → get_or all i line ≡ line
     → name_faults names (drop i all) ≡ listed (line_fault names.labels line) ++ name_faults (with_line names line) (drop (i + 1) all)
 unfolding name_faults
 faults_left names all i line lt is =
     at_drop_more (name_faults names) all i line lt ∙ ap (λ l. name_faults names (l ∷ drop (i + 1) all)) is
 
--- what is written with the next line, and what is left after it, are the same whole
+-- the text with the next line, and the text of the lines after it, make the same whole
 pub text_next : (names after : Names) (all : List Line) (i : ℕ) (line : Line) (out more whole : List ℕ) → i < length all → get_or all i line ≡ line
     → more ≡ out ++ line_text names line ++ 10 ∷ [] → after ≡ with_line names line
     → out ++ plain_text names (drop i all) ≡ whole → more ++ plain_text after (drop (i + 1) all) ≡ whole
@@ -29,7 +29,7 @@ text_next names after all i line out more whole lt is written known so_far =
     let left = text_left names all i line lt is in
     grind (arith, common_steps, append_assoc, left, written, known, so_far)
 
--- the same of the faults
+-- the faults with the next line, and the faults of the lines after it, make the same whole
 pub faults_next : (names after : Names) (all : List Line) (i : ℕ) (line : Line) (out more whole : List NameFault) → i < length all → get_or all i line ≡ line
     → more ≡ out ++ listed (line_fault names.labels line) → after ≡ with_line names line
     → out ++ name_faults names (drop i all) ≡ whole → more ++ name_faults after (drop (i + 1) all) ≡ whole

@@ -6,15 +6,15 @@ use Rattle.std.proofs.lemmas.List.Folds.{find-append}
 use Rattle.qnames.specs.Names.{latest}
 use Rattle.qnames.specs.Scope.{last_place}
 
--- ---- one label more
+-- ---- one more label
 
--- the place of a name among one label more
+-- the place of a name, with one more label
 more_of : (b : Bool) (n : ℕ) (c : Bool) (o : Option ℕ) → option_or (option_map (λ p. suc p) (if b then Some n else o)) (if c then Some 0 else None)
     ≡ (if b then Some (suc n) else option_or (option_map (λ p. suc p) o) (if c then Some 0 else None))
 more_of true n c o = refl
 more_of false n c o = refl
 
--- the last place with one label more
+-- the last place, with one more label
 pub last_more : (name : List ℕ) (labels : List Label) (l : Label) → last_place name (labels ++ l ∷ []) ≡ (if bytes_eq l.name name then Some (length labels) else last_place name labels)
 unfolding last_place
 last_more name [] l = refl
@@ -22,7 +22,7 @@ last_more name (x ∷ labels) l = rw (last_more name labels l) (more_of (bytes_e
 
 -- ---- the label at the place
 
--- no label has the name, or the last one that has it stands at the place
+-- no label has the name, or the last label with the name is at the place
 abbrev pub IsLast : List Label → Option ℕ → Option Label → Type 0
 IsLast labels place found = ((place ≡ None) × (found ≡ None)) ⊎ ((p : ℕ) × (l : Label) × (place ≡ Some p) × (slice_get labels p ≡ Some l) × (found ≡ Some l))
 
@@ -38,7 +38,7 @@ is_last name [] = inl (refl, refl)
 is_last name (x ∷ labels) =
     rw (reverse_onto labels x [], find-append (λ (l : Label). bytes_eq l.name name) (reverse labels) (x ∷ [])) (one_before x labels (bytes_eq x.name name) (last_place name labels) (find (λ (l : Label). bytes_eq l.name name) (reverse labels)) (is_last name labels))
 
--- the latest label with a name is that at the last place
+-- the latest label with a name is the label at the last place
 pub latest_is : (name : List ℕ) (labels : List Label) → IsLast labels (last_place name labels) (latest name labels)
 unfolding latest
 latest_is name labels = is_last name labels

@@ -1,4 +1,4 @@
--- The lines of the plain script, read again.
+-- The lines of the plain script are read back.
 use Rattle.qnames.proofs.Common.{◌≡◌, ℕ, ◌<◌, List, [], ◌∷◌, ◌++◌, length, map, Option, Some, None, refl, sym, ap, ◌∙◌, nat_lt, Bool, true, false, if◌then◌else◌, AllByRecursion, flat_map, append_assoc, lines_of, without_return}
 use Rattle.qtables.specs.declared.member.Member.{Member}
 use Rattle.qmodel.specs.declared.call.Call.{Call}
@@ -8,7 +8,7 @@ use Rattle.qreading.specs.Reading.Laws.{IsOneLine}
 use Rattle.qreading.specs.Reading.Meaning.{Meaning, TooLong, Faulty, Says, meaning, of_lines, fault_or, first_fault, roster_of, calls_of}
 use Rattle.qreading.proofs.Texts.Lines.{lines_at, lines_none}
 
--- the lines of lines that were ended are these
+-- lines with line ends are read back as these lines
 pub ended_lines : (all : List (List ℕ)) → AllByRecursion IsOneLine all → lines_of (flat_map (λ line. line ++ 10 ∷ []) all) ≡ map without_return all
 ended_lines [] h = lines_none [] refl
 ended_lines (line ∷ rest) h =
@@ -16,7 +16,7 @@ ended_lines (line ∷ rest) h =
     ∙ lines_at line 10 (flat_map (λ l. l ++ 10 ∷ []) rest) h.0 refl
     ∙ ap (λ ls. without_return line ∷ ls) (ended_lines rest h.1)
 
--- the roster and the calls of what says them
+-- the roster and the calls of a meaning that has them
 abbrev roster_in : Meaning → List Member → List Member
 roster_in (Says roster calls) other = roster
 roster_in TooLong other = other
@@ -39,7 +39,7 @@ from_length : (b : Bool) (lines : List (List ℕ)) (s : List Member) (d : List (
 from_length true lines s d e = cc
 from_length false lines s d e = from_fault (first_fault lines (length lines)) (roster_of lines) s (calls_of lines) d e
 
--- the roster and the calls of a text are those of its lines
+-- the roster and the calls of a text are the roster and the calls of its lines
 pub said : (text : List ℕ) (lines : List (List ℕ)) (s : List Member) (d : List (ℕ × Call)) → lines_of text ≡ lines → meaning text ≡ Says s d
     → (s ≡ roster_of lines) × (d ≡ calls_of lines)
 unfolding meaning

@@ -10,8 +10,8 @@ use Rattle.qnames.specs.declared.line.Line.{Line}
 use Rattle.qnames.specs.Names.{none}
 use Rattle.qnames.specs.Plain.{plain_lines, plain_text}
 
--- each line of the plain script says what the line of the script says with its names replaced: the threads
--- and the calls are those of the plain lines, one by one
+-- the threads and the calls of the plain script are the threads and the calls of its lines, one by one. Each
+-- of its lines is a line of the script with the names replaced
 abbrev pub CallsAreReplaced : Type 0
 CallsAreReplaced = (all : List Line) (roster : List Member) (calls : List (ℕ × Call))
     → AllByRecursion IsOneLine (plain_lines none all)

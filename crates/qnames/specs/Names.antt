@@ -14,15 +14,15 @@ use Rattle.qnames.specs.declared.line.Line.{Line}
 use Rattle.qnames.specs.declared.line.Line.TheVariants as lines
 use Rattle.qnames.specs.declared.label.Label.{Label}
 
--- what some lines define: how many threads and calls they have, the names of their processes, and what their
--- names stand for
+-- the definitions of some lines: how many threads and calls they have, the names of their processes, and the
+-- labels of their names
 pub record Names : Type 0 where
   pub threads : ℕ
   pub calls : ℕ
   pub processes : List (List ℕ)
   pub labels : List Label
 
--- what is defined above the first line
+-- the definitions above the first line
 abbrev pub none : Names
 none = record { threads = 0; calls = 0; processes = []; labels = [] }
 
@@ -30,36 +30,36 @@ none = record { threads = 0; calls = 0; processes = []; labels = [] }
 unfoldable pub latest : List ℕ → List Label → Option Label
 latest name labels = find (λ l. bytes_eq l.name name) (reverse labels)
 
--- the number that a name stands for, or 0 for a name that stands for nothing, which is a fault
+-- the number of a name, or 0 for an undefined name, which is a fault
 abbrev pub number_of : List ℕ → List Label → ℕ
 number_of name labels = option_map_or (λ l. l.number) (latest name labels) 0
 
--- the labels above, with that of a line's definition, which has this number
+-- the labels above, and the label of a line's definition, which has this number
 abbrev pub with_label : Option Definition → ℕ → List Label → List Label
 with_label None number labels = labels
 with_label (Some d) number labels =
     labels ++ record { name = d.name; kind = d.kind; number = number; line = d.place.line } ∷ []
 
--- the number of a thread: the one that its line gives, or else its place among the threads, counted from 1
+-- the number of a thread: the number that its line gives, or its place among the threads, counted from 1
 abbrev pub thread_number : Names → ThreadLine → ℕ
 thread_number names t = unwrap_or t.thread (names.threads + 1)
 
--- the number of a process: the one that its line gives, or else the place of its name among those of the
+-- the number of a process: the number that its line gives, or the place of its name among the names of the
 -- processes, counted from 1
 abbrev pub process_number : List (List ℕ) → Process → ℕ
 process_number names (processes.Number n) = n
 process_number names (processes.Name name) = position_or_len (λ p. bytes_eq p name) names + 1
 
--- the names of the processes with one more, each once
+-- the names of the processes with one more name, each once
 abbrev pub with_name : List (List ℕ) → List ℕ → List (List ℕ)
 with_name names name = if list_any (λ p. bytes_eq p name) names then names else names ++ name ∷ []
 
--- the names of the processes with that of a line's process
+-- the names of the processes with the name of a line's process
 abbrev pub with_process : List (List ℕ) → Process → List (List ℕ)
 with_process names (processes.Number n) = names
 with_process names (processes.Name name) = with_name names name
 
--- what is defined after one more line: the nth thread line is thread n, unless it gives another number, and
+-- the definitions after one more line: the nth thread line is thread n, unless it gives another number, and
 -- the nth call line is call n
 abbrev pub with_line : Names → Line → Names
 with_line names (lines.Aside text) = names

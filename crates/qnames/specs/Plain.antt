@@ -1,4 +1,4 @@
--- The plain script of one with names.
+-- The plain script of a script with names.
 use Rattle.std.specs.Prelude.{ℕ, ◌==◌, List, [], ◌∷◌, ◌++◌, length, Option, Some, None, if◌then◌else◌, codes}
 use Rattle.std.specs.Prelude.{decimal}
 use Rattle.std.specs.List.{flat_map}
@@ -27,7 +27,7 @@ bytes_word bytes = if length bytes == 0 then codes "-" else encode_lower bytes
 abbrev pub zeros_word : ℕ → List ℕ
 zeros_word n = if n == 0 then codes "-" else decimal n ++ codes "x00"
 
--- the word of an operand, in which a name is replaced by the number that it stands for
+-- the word of an operand, in which a name is replaced by its number
 abbrev pub word_of : List Label → Operand → List ℕ
 word_of labels (operands.Name m) = decimal (number_of m.name labels)
 word_of labels (operands.Number n) = decimal n
@@ -35,7 +35,7 @@ word_of labels (operands.Plain word) = word
 word_of labels (operands.Text bytes) = bytes_word bytes
 word_of labels (operands.Zeros n) = zeros_word n
 
--- the words of these operands, each behind a space
+-- the words of these operands, each after a space
 abbrev pub words_of : List Label → List Operand → List ℕ
 words_of labels all = flat_map (λ o. 32 ∷ word_of labels o) all
 
@@ -48,18 +48,18 @@ line_text names (lines.Thread t) =
 line_text names (lines.Call c) =
     word_of names.labels c.caller ++ 32 ∷ c.verb ++ words_of names.labels c.operands.items
 
--- the plain lines of these lines, behind those that defined `names`: each with its names replaced
+-- the plain lines of these lines, which come after the lines that defined `names`; their names are replaced
 unfoldable pub plain_lines : Names → List Line → List (List ℕ)
 plain_lines names [] = []
 plain_lines names (line ∷ rest) = line_text names line ∷ plain_lines (with_line names line) rest
 
--- the plain script: the plain lines, each with its end
+-- the plain script: the plain lines, each with its line end
 abbrev pub plain_text : Names → List Line → List ℕ
 plain_text names all = flat_map (λ line. line ++ 10 ∷ []) (plain_lines names all)
 
 -- ---- the faults
 
--- what is wrong with a name that has this label, where a name of the wanted kind has to stand
+-- the error of a name with this label, where a name of the kind `wanted` is needed
 abbrev pub error_of : Kind → Option Label → Option NameError
 error_of wanted None = Some Undefined
 error_of wanted (Some l) = if same_kind l.kind wanted then None else Some (OtherKind l.kind)
@@ -69,7 +69,7 @@ abbrev pub fault_at : Place → Option NameError → Option NameFault
 fault_at place None = None
 fault_at place (Some e) = Some (record { place = place; error = e })
 
--- the fault of an operand: no line above defines its name, or the name stands for something of another kind
+-- the fault of an operand: no line above defines its name, or the name has another kind
 abbrev pub operand_fault : List Label → Operand → Option NameFault
 operand_fault labels (operands.Name m) = fault_at m.place (error_of m.wanted (latest m.name labels))
 operand_fault labels (operands.Number n) = None
@@ -82,7 +82,7 @@ abbrev pub operands_fault : List Label → List Operand → Option NameFault
 operands_fault labels [] = None
 operands_fault labels (o ∷ rest) = option_or (operand_fault labels o) (operands_fault labels rest)
 
--- what is wrong with a definition of a name that has this label already
+-- the error of a definition of a name that has this label already
 abbrev pub twice_of : Option Label → Option NameError
 twice_of None = None
 twice_of (Some l) = Some (Twice l.line)
@@ -105,7 +105,7 @@ abbrev pub listed : Option NameFault → List NameFault
 listed None = []
 listed (Some f) = f ∷ []
 
--- the faults of these lines, behind those that defined `names`: the first fault of each line
+-- the faults of these lines, which come after the lines that defined `names`: the first fault of each line
 unfoldable pub name_faults : Names → List Line → List NameFault
 name_faults names [] = []
 name_faults names (line ∷ rest) =

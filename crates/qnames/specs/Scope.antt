@@ -1,4 +1,4 @@
--- The index by name of the definitions that a scope keeps.
+-- The index by name of a scope's labels.
 use Rattle.std.specs.Prelude.{◌≡◌, ℕ, suc, List, [], ◌∷◌, Option, Some, None, if◌then◌else◌}
 use Rattle.std.specs.Str.{bytes_eq}
 use Rattle.std.specs.Option.{option_or, option_map}

@@ -8,14 +8,14 @@ use Rattle.qnames.specs.declared.translation.Refusal.TheVariants as refusals
 use Rattle.qnames.specs.Names.{none}
 use Rattle.qnames.specs.Plain.{plain_text, name_faults}
 
--- the text has each line with its names replaced by their numbers, no name is at fault, and the script is the
+-- the text has each line with its names replaced by their numbers, no name is faulty, and the script is the
 -- meaning of the text
 pub record IsTranslation (lines : List Line) (t : Translation) : Type 0 where
   pub text : string_bytes t.text ≡ plain_text none lines
   pub names : name_faults none lines ≡ []
   pub meant : meaning (plain_text none lines) ≡ Says t.script.roster.items t.script.calls.items
 
--- the refusal has the faults of the names if there are any, and else the fault of the plain script
+-- the refusal has the faults of the names if there are any, and the fault of the plain script otherwise
 abbrev pub IsRefusal : List Line → Refusal → Type 0
 IsRefusal lines refusals.Memory = Unit {0}
 IsRefusal lines (refusals.Names faults) = (faults.items ≡ name_faults none lines) × (faults.items ≢ [])

@@ -1,4 +1,4 @@
-//! What a script with names expects of its run.
+//! The expectations of a script with names.
 
 use crate::line::{Mention, Operand};
 use qbase::bytes::Bytes;
@@ -11,18 +11,18 @@ use qreading::word::Word;
 pub enum Extent {
     /// All lines.
     Whole,
-    /// The lines so far. More will follow, and they may end calls that are open now.
+    /// The lines so far. More will follow, and they may complete calls that are open now.
     Front,
 }
 
-/// A pattern of a part of a completion, in the order in which a trace prints the parts.
+/// A pattern for one part of a completion. A trace prints the parts in the same order.
 #[derive(Drop)]
 pub enum Pattern {
     /// This word.
     Word(&'static str),
     /// This number.
     Number(i128),
-    /// The number that a name stands for.
+    /// The number of this name.
     Named(Mention),
     /// The number of the process with this name.
     Process(Word),
@@ -32,28 +32,28 @@ pub enum Pattern {
     Any,
 }
 
-/// The expected end of a call.
+/// The expected result of a call.
 #[derive(Drop)]
 pub enum Ending {
-    /// It doesn't end in its own event.
+    /// The call doesn't complete in its own event.
     Blocked,
-    /// A completion whose first parts are these.
+    /// The first parts of the completion match these patterns.
     Parts(Vec<Pattern>),
 }
 
-/// The expected end of a call, as a line says it.
+/// The expected result of a call, with its text and its place.
 #[derive(Drop)]
 pub struct Expectation {
     pub ending: Ending,
-    /// The ending as it is written.
+    /// The result as written.
     pub text: Word,
     pub place: Place,
 }
 
-/// The expected end of a call that another call ends.
+/// The expected result of another call, which the call of the line completes.
 #[derive(Drop)]
 pub struct Follower {
-    /// The name of the ended call, which its own line defines.
+    /// The name of the completed call, which that call's own line defines.
     pub name: Word,
     pub place: Place,
     pub expectation: Expectation,
@@ -65,23 +65,23 @@ pub struct CallCheck {
     pub kind: CallKind,
     /// The place of the word that names the call.
     pub place: Place,
-    /// The expected end of this call, if the line says it.
+    /// The expected result of this call, if the line has one.
     pub own: Option<Expectation>,
-    /// The expected ends of other calls that this call ends.
+    /// The expected results of other calls, which this call completes.
     pub followers: Vec<Follower>,
 }
 
-/// A line that says the state of a thread.
+/// A line with the expected state of a thread.
 #[derive(Drop)]
 pub struct StateCheck {
     /// The number of calls above it.
     pub calls: u64,
     pub thread: Operand,
-    /// The name of the state, or `blocked` for any of the three blocked ones.
+    /// The name of the state, or `blocked` for any of the three blocked states.
     pub state: &'static str,
-    /// The channel that the thread is blocked on, if the line says so.
+    /// The channel on which the thread is blocked, if the line names it.
     pub channel: Option<Operand>,
-    /// The line from its second word on, as it is written.
+    /// The text of the line after `is`, as written.
     pub text: Word,
     pub place: Place,
 }

@@ -1,4 +1,4 @@
-//! Compares a run with what its script expects.
+//! Compares a run with the expectations of its script.
 
 pub mod check;
 pub mod completion;

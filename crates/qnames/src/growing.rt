@@ -1,4 +1,4 @@
-//! A script with names that grows line by line, beside its run.
+//! A script with names that grows line by line while it runs.
 
 use crate::expectation::{Extent, StateCheck};
 use crate::expecting::check::Check;
@@ -26,19 +26,20 @@ pub struct Growing {
     alloc: Global,
     pub check: Check,
     roster: Vec<Member>,
-    /// The numbers that lines of threads give for their processes, and their places.
+    /// The numbers that lines of threads have for their processes, with their places.
     processes: Vec<(Place, u64)>,
     /// The number of lines.
     lines: u64,
-    /// The calls whose expectations have names that stand for nothing yet.
+    /// The calls whose expectations have names that aren't defined yet.
     open: Vec<u64>,
 }
 
-/// What a line adds to the run; a blank one adds nothing, or a compared state. Or the faults of a line not added.
+/// The content that a line added to the run, or the faults of a line that wasn't added. A blank line adds
+/// nothing, or a state that is compared.
 pub type Step = Result<Plain, Vec<Fault>>;
 
 impl Growing {
-    /// Returns the lines of a script that was read, and its calls, which are still to be made.
+    /// Returns the lines of a script that was read, and its calls, which haven't been made yet.
     pub fn of(alloc: Global, named: Named) -> Result<(Growing, Vec<(ThreadNo, Call)>), AllocError> {
         let Script { roster, calls } = named.script;
         let mut growing = Growing {
@@ -53,7 +54,7 @@ impl Growing {
         Ok((growing, calls))
     }
 
-    /// Finds the calls whose expectations have names that stand for nothing yet.
+    /// Finds the calls whose expectations have names that aren't defined yet.
     fn find_open(&mut self) -> Result<(), AllocError> {
         for call in 1..=self.check.calls.len() as u64 {
             self.open.push(call)?;
@@ -68,8 +69,8 @@ impl Growing {
         self.roster.as_slice()
     }
 
-    /// Returns the faults of the names in the expectations that had names without a meaning, and in a line that says a
-    /// state; and the numbers of the calls that still have such names.
+    /// Returns the faults of the names in a line with a state and in the expectations of the calls in `open`.
+    /// Also returns the numbers of those calls in `open` that still have undefined names.
     fn expectation_faults(
         &self,
         extent: Extent,
@@ -105,7 +106,7 @@ impl Growing {
         }
     }
 
-    /// Adds a line with its expectations, and takes it back if its names or its plain line are faulty.
+    /// Adds a line with its expectations, and removes it again if its names or its plain line are faulty.
     fn add_said(&mut self, said: &Line, lined: &mut Lined) -> Result<Step, AllocError> {
         let calls = self.check.calls.len();
         let states = self.check.states.len();
@@ -128,7 +129,8 @@ impl Growing {
         Ok(step)
     }
 
-    /// Returns what a line adds to the run, given its plain line or its names' fault; `calls` calls stand above it.
+    /// Returns the content that a line adds to the run, or its faults. `plain` is its plain line or the fault
+    /// of its names, and `calls` is the number of calls above it.
     fn step(
         &mut self,
         said: &Line,
@@ -153,7 +155,8 @@ impl Growing {
         }
     }
 
-    /// Adds what a line says of processes, calls and threads, or returns the faults of its process or of expectations.
+    /// Adds the process, the call or the thread of a line, or returns the faults of its process or of
+    /// expectations.
     fn expected(&mut self, said: &Line, plain: &Plain) -> Result<Vec<Fault>, AllocError> {
         let numbers = self.processes.len();
         push_process_number(&mut self.processes, said)?;
@@ -166,7 +169,7 @@ impl Growing {
         Ok(faults)
     }
 
-    /// Adds what a line says of calls and threads, or returns the faults of the names in expectations.
+    /// Adds the call or the thread of a line, or returns the faults of the names in expectations.
     fn open_faults(&mut self, said: &Line, plain: &Plain) -> Result<Vec<Fault>, AllocError> {
         let waiting = self.open.len();
         if let Plain::Call(..) = plain {
@@ -188,8 +191,9 @@ impl Growing {
         Ok(faults)
     }
 
-    /// Returns what differs from the expectations at the end of the lines, and wasn't returned before: the names that
-    /// still stand for nothing, or else the calls that haven't ended.
+    /// Returns the differences from the expectations at the end of the lines that weren't returned before.
+    /// These are the names that still aren't defined. If there are none, they are the calls that should have
+    /// completed.
     pub fn finish(&mut self, kernel: Option<&Kernel>) -> Result<Vec<Fault>, AllocError> {
         let (faults, _) = self.expectation_faults(Extent::Whole, None)?;
         if !faults.is_empty() {

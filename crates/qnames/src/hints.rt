@@ -1,4 +1,4 @@
-//! Unproved: words and layout. Recognizes frequent mistakes in a script, and says what to write in their place.
+//! Unproved: words and layout. Recognizes frequent mistakes in a script, and suggests corrections.
 
 use qbase::errno;
 use qbase::errno::Errno;
@@ -16,7 +16,8 @@ fn lowercase(alloc: Global, word: &[u8]) -> Result<Vec<u8>, AllocError> {
     letters.map(|byte| byte.to_ascii_lowercase()).collect(alloc)
 }
 
-/// Returns the form of the call of this name, up to a parenthesis, here or in QNX, there in any case and `_` left out.
+/// Returns the form of the call with this name, here or in QNX. The name ends before a parenthesis. Case and
+/// `_` don't matter in QNX's names.
 pub fn form_meant(alloc: Global, word: &[u8]) -> Result<Option<Form>, AllocError> {
     let word = word.split(|byte| *byte == b'(').next().unwrap_or(word);
     let plain = lowercase(alloc, word)?;
@@ -30,7 +31,8 @@ pub fn form_meant(alloc: Global, word: &[u8]) -> Result<Option<Form>, AllocError
     Ok(None)
 }
 
-/// Returns the words for a word that names no call: the call that it names in QNX, or that it is near to.
+/// Returns the message about a word that names no call. It suggests the call that `form_meant` finds. If
+/// there is none, the message is made by `unknown_call`.
 pub fn unknown_word(alloc: Global, bytes: &[u8]) -> Result<String, AllocError> {
     let word = quotation(bytes);
     match form_meant(alloc, bytes)? {
@@ -42,7 +44,7 @@ pub fn unknown_word(alloc: Global, bytes: &[u8]) -> Result<String, AllocError> {
     }
 }
 
-/// Returns an error if a line begins as a comment does in other languages.
+/// Returns an error if a line begins like a comment of another language.
 pub fn refuse_comment(alloc: Global, tokens: &[Token<'_>]) -> Result<(), ReadError> {
     match tokens {
         [first, ..] if first.sort == Sort::Semicolon || is_comment(first.bytes) => Err(
@@ -52,7 +54,7 @@ pub fn refuse_comment(alloc: Global, tokens: &[Token<'_>]) -> Result<(), ReadErr
     }
 }
 
-/// Returns a fault of a line, with the hint for the byte at its place if that may stand in no line.
+/// Returns a fault of a line, with a hint about the byte at its place if no line may contain this byte.
 pub fn with_byte_hint(line: &[u8], mut fault: Fault) -> Result<Fault, AllocError> {
     let at = fault.place.column.saturating_sub(1) as usize;
     let byte = line.get(at).copied().unwrap_or(b' ');
@@ -62,7 +64,8 @@ pub fn with_byte_hint(line: &[u8], mut fault: Fault) -> Result<Fault, AllocError
     Ok(fault)
 }
 
-/// Returns the hint for a word in place of bytes, where a text may stand in quotes; empty if there is none.
+/// Returns the hint about a word that isn't valid bytes, where a text in quotes is valid too. It is empty if
+/// there is no hint.
 pub fn text_hint(word: &[u8]) -> &'static str {
     match word {
         [b'0', b'x' | b'X', ..] => "; they have no 0x before them",
@@ -73,7 +76,7 @@ pub fn text_hint(word: &[u8]) -> &'static str {
     }
 }
 
-/// Returns whether a word begins a comment in other languages.
+/// Returns whether a word begins a comment in another language.
 pub fn is_comment(word: &[u8]) -> bool {
     word.starts_with(b"//")
         || word.starts_with(b"/*")
@@ -89,7 +92,7 @@ pub fn is_names_sign(word: &[u8]) -> bool {
     is(word, "=") || is(word, "->") || is(word, "=>")
 }
 
-/// Returns the hint for a word of a plain script that is too many; empty if there is none.
+/// Returns the hint about a superfluous word of a plain script. It is empty if there is no hint.
 pub fn extra_hint(word: &[u8]) -> &'static str {
     if word.starts_with(b"#") {
         "; a comment has a line of its own"
@@ -102,7 +105,7 @@ pub fn extra_hint(word: &[u8]) -> &'static str {
     }
 }
 
-/// Returns the hint for a byte of a line; all bytes in front of it are tabs or printable.
+/// Returns the hint about the byte at index `at` of a line. All bytes before it are tabs or printable.
 pub fn byte_hint(line: &[u8], at: usize) -> &'static str {
     if line.starts_with(b"\xef\xbb\xbf") {
         "; this is a byte order mark: save the text without it"
@@ -122,7 +125,7 @@ pub fn is_utf_16(text: &[u8]) -> bool {
     text.starts_with(b"\xff\xfe") || text.starts_with(b"\xfe\xff") || text.get(1) == Some(&0)
 }
 
-/// Adds what to write in place of a word that can't be read as this operand, if that is known.
+/// Adds a correction for a word that can't be read as this operand, if one is known.
 pub fn push_operand_hint(out: &mut String, slot: Operand, word: &[u8]) -> Result<(), AllocError> {
     match slot {
         Operand::Flags => push_flag_hint(out, word),
@@ -134,7 +137,8 @@ pub fn push_operand_hint(out: &mut String, slot: Operand, word: &[u8]) -> Result
     }
 }
 
-/// QNX's errors with the names and the numbers that servers answer with: the front of its `errno.h`, and the timeout.
+/// QNX's errors with their names and numbers, as servers use them in replies. They are from the front of its
+/// `errno.h`, and the timeout.
 static ERROR_CODES: [(&str, i32); 24] = [
     ("EPERM", 1),
     ("ENOENT", 2),
@@ -162,7 +166,7 @@ static ERROR_CODES: [(&str, i32); 24] = [
     ("ETIMEDOUT", 260),
 ];
 
-/// Adds the number of an error that is given by its name in QNX, if it is known.
+/// Adds the number of the error with this name in QNX, if the table has it.
 fn push_code_hint(wanted: &mut String, word: &[u8]) -> Result<(), AllocError> {
     let mut codes = ERROR_CODES.iter();
     match codes.find(|(name, _)| is(word, name)) {
@@ -171,14 +175,16 @@ fn push_code_hint(wanted: &mut String, word: &[u8]) -> Result<(), AllocError> {
     }
 }
 
-/// Returns the words for one that isn't a number of an ending, with its number if it names an error in QNX.
+/// Returns the message about a word that isn't a number of a result. If the word names an error in QNX, the
+/// message has the number of the error.
 pub fn number_words(alloc: Global, word: &[u8]) -> Result<String, AllocError> {
     let mut text = String::from_str(alloc, "a number is wanted, or * for any")?;
     push_code_hint(&mut text, word)?;
     Ok(text)
 }
 
-/// Returns the word of the error that has this name in QNX, in any case; that of a timeout is that of an `unblock`.
+/// Returns the word of the error that has this name in QNX. Case and `_` don't matter. A timeout has the
+/// error of a call that an `unblock` cancelled.
 fn error_meant(alloc: Global, word: &[u8]) -> Result<Option<&'static str>, AllocError> {
     let plain = lowercase(alloc, word)?;
     let meant = match plain.as_slice() {
@@ -190,7 +196,8 @@ fn error_meant(alloc: Global, word: &[u8]) -> Result<Option<&'static str>, Alloc
     Ok(meant.map(errno::word))
 }
 
-/// Returns which words name errors, and what to write in place of this one, if it is the name of one in QNX.
+/// Returns the message with the words for errors. If this word names an error in QNX, the message also has
+/// the right word for it.
 pub fn error_words(alloc: Global, word: &[u8]) -> Result<String, AllocError> {
     let mut text = String::from_str(alloc, ERROR_WORDS)?;
     if let Some(meant) = error_meant(alloc, word)? {
@@ -199,7 +206,7 @@ pub fn error_words(alloc: Global, word: &[u8]) -> Result<String, AllocError> {
     Ok(text)
 }
 
-/// Returns the number of a flag, given by its name in any of QNX's spellings or by its number.
+/// Returns the number of a flag, given by its number or by its name in any of QNX's spellings.
 fn flag_number(word: &[u8]) -> Option<u8> {
     let mut flags = FLAGS.iter();
     let is_it = |(name, flag): &&(&str, u8)| word.ends_with(name.as_bytes())
@@ -207,7 +214,7 @@ fn flag_number(word: &[u8]) -> Option<u8> {
     flags.find(is_it).map(|(_, flag)| *flag)
 }
 
-/// Adds the sum of flags that are given by their names, with `|`, `+` or `,` between, if each of them is known.
+/// Adds the sum of flags that are joined by `|`, `+` or `,`, if each of them is known.
 fn push_flag_hint(wanted: &mut String, word: &[u8]) -> Result<(), AllocError> {
     let mut sum = 0u8;
     for part in word.split(|byte| matches!(byte, b'|' | b'+' | b',')) {
@@ -224,7 +231,7 @@ fn is_decimal(word: &[u8]) -> bool {
     !word.is_empty() && word.iter().all(|byte| byte.is_ascii_digit())
 }
 
-/// Adds the right form of bytes.
+/// Adds a correction for a word that isn't valid bytes.
 fn push_bytes_hint(wanted: &mut String, word: &[u8]) -> Result<(), AllocError> {
     match word {
         [b'0', b'x' | b'X', ..] => wanted.push_str("; they have no 0x before them"),
@@ -236,7 +243,7 @@ fn push_bytes_hint(wanted: &mut String, word: &[u8]) -> Result<(), AllocError> {
     }
 }
 
-/// Adds the form of `count` bytes of zero, if a buffer may have that many.
+/// Adds the form of `count` bytes of zero, if `count` has at most four digits.
 fn push_count_hint(wanted: &mut String, count: &[u8]) -> Result<(), AllocError> {
     if !is_decimal(count) || count.len() > 4 {
         return Ok(());
@@ -245,7 +252,7 @@ fn push_count_hint(wanted: &mut String, count: &[u8]) -> Result<(), AllocError> 
     write!(wanted, "; for {shown} bytes of zero write {shown}x00")
 }
 
-/// Adds what is wrong with equal bytes: the byte hasn't two digits, or they are too many.
+/// Adds the fault of equal bytes: the byte doesn't have two digits, or there are too many bytes.
 fn push_equal_hint(wanted: &mut String, word: &[u8]) -> Result<(), AllocError> {
     let digits = word.iter().position(|byte| *byte == b'x').unwrap_or(0);
     if !is_decimal(word.get(..digits).unwrap_or(&[])) {
@@ -261,7 +268,7 @@ fn push_equal_hint(wanted: &mut String, word: &[u8]) -> Result<(), AllocError> {
 /// The most letters of a word that are rewritten as bytes.
 const MOST_LETTERS: usize = 16;
 
-/// Adds the bytes of a word of letters, at least one of which isn't a hexadecimal digit, in the form that a script has.
+/// Adds a word of letters as the bytes of a script. At least one of the letters isn't a hexadecimal digit.
 fn push_text_hint(wanted: &mut String, word: &[u8]) -> Result<(), AllocError> {
     let is_text = word.len() <= MOST_LETTERS && word.iter().all(|byte| byte.is_ascii_alphabetic());
     if !is_text || word.iter().all(|byte| byte.is_ascii_hexdigit()) {
@@ -274,7 +281,7 @@ fn push_text_hint(wanted: &mut String, word: &[u8]) -> Result<(), AllocError> {
     Ok(())
 }
 
-/// Returns the hint for a buffer that may be meant as a length, or `None` if it can't be.
+/// Returns the hint about a buffer that may be meant as a length, or `None` if it can't be meant so.
 pub fn buffer_hint(alloc: Global, word: &[u8]) -> Result<Option<String>, AllocError> {
     if !is_decimal(word) || word.first() == Some(&b'0') || word.len() > 4 {
         return Ok(None);

@@ -1,10 +1,10 @@
-//! What a name stands for once its line is read, and the faults of names.
+//! Defined names, and the faults of names.
 
 use crate::line::Kind;
 use qreading::place::Place;
 use qreading::word::Word;
 
-/// A name and what it stands for.
+/// A name, and the thing that it refers to.
 #[derive(Drop)]
 pub struct Label {
     pub name: Word,
@@ -20,7 +20,7 @@ pub struct Label {
 pub enum NameError {
     /// No line above defines it.
     Undefined,
-    /// It stands for something of this kind, and a name of another kind has to stand here.
+    /// It refers to a thing of this kind, and a name of another kind is needed here.
     OtherKind(Kind),
     /// This line defines it already.
     Twice(u64),

@@ -1,8 +1,8 @@
-//! A law of the plain script; it is the contract of a function that does nothing.
+//! A law about plain scripts. It is the contract of a function with an empty body.
 
 ghost use Rattle.qnames.specs.Laws.{CallsAreReplaced};
 
-/// The calls of the plain script are those of the lines, with each name replaced.
+/// The calls of the plain script are the calls of the lines, with each name replaced by its number.
 pub fn calls_are_replaced()
     ensures { CallsAreReplaced }
 {}

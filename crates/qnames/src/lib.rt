@@ -1,4 +1,4 @@
-//! Reads scripts with names, translates them into plain scripts, and compares runs with what they expect.
+//! Reads scripts with names, translates them into plain scripts, and compares runs with their expectations.
 #![tactic(auto)]
 
 pub mod expectation;

@@ -26,9 +26,9 @@ pub struct Named {
     pub text: String,
     /// The meaning of the plain script.
     pub script: Script,
-    /// What is expected of its run.
+    /// The expectations of its run.
     pub check: Check,
-    /// The numbers that lines of threads give for their processes, and their places.
+    /// The numbers that lines of threads have for their processes, with their places.
     pub processes: Vec<(Place, u64)>,
     /// The number of its lines.
     pub lines: u64,
@@ -46,10 +46,10 @@ pub enum Reading {
 /// The most faults of a text that are reported.
 pub const MOST_FAULTS: usize = 20;
 
-/// The first byte of the first line of a text.
+/// The place of the first byte of a text.
 const START: Place = Place { line: 1, column: 1 };
 
-/// Faults in words, or the error of memory if there is none for them.
+/// Faults with their messages, or an error if there is no memory for them.
 type Faults = Result<Vec<Fault>, AllocError>;
 
 /// Returns a list of one fault.
@@ -57,10 +57,10 @@ fn single(alloc: Global, place: Place, what: Result<String, AllocError>) -> Faul
     Ok(vec![in alloc; Fault { place, what: what? }]?)
 }
 
-/// A name, the way in which a line uses it, and the kind that it has to be of.
+/// A name, the way in which a line uses it, and the kind that it must have.
 type Use<'a> = (&'a Word, Usage<'a>, Kind);
 
-/// Returns the use of a name by an operand, if the name stands at this place.
+/// Returns the use of a name by an operand, if the name is at this place.
 fn use_by<'a>(operand: &'a Operand, usage: Usage<'a>, place: Place) -> Option<Use<'a>> {
     match operand {
         Operand::Name(mention) if mention.place == place => {
@@ -100,7 +100,7 @@ fn use_at<'a>(lines: &'a [Line], place: Place) -> Option<Use<'a>> {
     None
 }
 
-/// Returns the first faults of the names of the lines, in words.
+/// Returns the first faults of the names of the lines, with their messages.
 pub fn name_faults(lines: &[Line], context: Context<'_>, faults: &[NameFault]) -> Faults {
     let mut told = Vec::new(context.alloc);
     for fault in faults.iter().take(MOST_FAULTS) {
@@ -113,7 +113,7 @@ pub fn name_faults(lines: &[Line], context: Context<'_>, faults: &[NameFault]) -
     Ok(told)
 }
 
-/// Returns the faults of the names in the expectations, in words.
+/// Returns the faults of the names in the expectations, with their messages.
 fn expectation_faults(context: Context<'_>, states: &[StateCheck], extent: Extent) -> Faults {
     let mut names = NameCheck::new(context, extent);
     for call in context.calls {
@@ -125,7 +125,7 @@ fn expectation_faults(context: Context<'_>, states: &[StateCheck], extent: Exten
     Ok(names.faults)
 }
 
-/// Adds the number that the line of a thread gives for its process, and its place.
+/// Adds the number that the line of a thread has for its process, with its place.
 pub fn push_process_number(numbers: &mut Vec<(Place, u64)>, line: &Line) -> Result<(), AllocError> {
     if let Line::Thread(thread) = line
         && let Process::Number(number) = &thread.process
@@ -135,7 +135,7 @@ pub fn push_process_number(numbers: &mut Vec<(Place, u64)>, line: &Line) -> Resu
     Ok(())
 }
 
-/// Returns the faults of the numbers of processes: a line gives a number that a named process has.
+/// Returns the faults of process numbers: a line has the number of a process that has a name.
 pub fn process_faults(alloc: Global, numbers: &[(Place, u64)], scope: &Scope) -> Faults {
     let mut faults = Vec::new(alloc);
     for (place, number) in numbers {
@@ -149,7 +149,7 @@ pub fn process_faults(alloc: Global, numbers: &[(Place, u64)], scope: &Scope) ->
     Ok(faults)
 }
 
-/// Returns the fault of a line of the plain script, in words.
+/// Returns the fault of a line of the plain script, with its message.
 pub fn line_fault(alloc: Global, line: u64, fault: LineFault) -> Faults {
     let place = Place { line, column: 1 };
     let words = match fault {
@@ -162,7 +162,8 @@ pub fn line_fault(alloc: Global, line: u64, fault: LineFault) -> Faults {
     single(alloc, place, String::from_str(alloc, words))
 }
 
-/// Returns the faults of lines that can't be translated, in words. Lines of the plain script have the same numbers.
+/// Returns the faults of lines that can't be translated, with their messages. A line has the same number in
+/// the plain script.
 fn refusal_faults(alloc: Global, lined: &Lined, refusal: &Refusal) -> Faults {
     match refusal {
         Refusal::Memory | Refusal::Script(ScriptFault::NoMemory) => Err(AllocError),
@@ -176,7 +177,8 @@ fn refusal_faults(alloc: Global, lined: &Lined, refusal: &Refusal) -> Faults {
     }
 }
 
-/// Returns whether a fault is about a name that no line defines, and that one of these lines has.
+/// Returns whether a fault is about an undefined name that occurs in one of these faulty lines. Such a fault
+/// may only be a consequence of theirs. It is recognized by the words of its message.
 fn follows(fault: &Fault, faulty: &[&[u8]]) -> bool {
     let mut words = fault.what.as_str().split(' ');
     let name = match (words.next(), words.next(), words.last()) {
@@ -189,7 +191,7 @@ fn follows(fault: &Fault, faulty: &[&[u8]]) -> bool {
     lines.any(|line| line.split(is_end).any(|word| word == name.as_bytes()))
 }
 
-/// Returns the faults of the names of lines, and then those of the names in their expectations.
+/// Returns the faults of the names of lines, and then the faults of the names in their expectations.
 fn lined_faults(alloc: Global, lined: &Lined, extent: Extent) -> Faults {
     let plain = plain_of(alloc, lined.lines.as_slice())?;
     let context = lined.context(&plain.scope);
@@ -199,7 +201,7 @@ fn lined_faults(alloc: Global, lined: &Lined, extent: Extent) -> Faults {
     Ok(faults)
 }
 
-/// Returns the faults of lines, and those of the other lines' names that don't follow from them.
+/// Returns the faults of lines, and the faults of names in the other lines that aren't consequences of them.
 fn all_faults(alloc: Global, text: &[u8], lined: &mut Lined, extent: Extent) -> Faults {
     let most = if is_utf_16(text) { 1 } else { MOST_FAULTS };
     lined.faults.truncate(most);
@@ -223,7 +225,7 @@ pub fn read(alloc: Global, text: &[u8]) -> Result<Reading, AllocError> {
     read_lines(alloc, text, Extent::Whole)
 }
 
-/// Reads the first lines of a script with names; a name in an ending may stand for something that a later line makes.
+/// Reads the first lines of a script with names. A name in an expected result may be defined by a later line.
 pub fn read_so_far(alloc: Global, text: &[u8]) -> Result<Reading, AllocError> {
     read_lines(alloc, text, Extent::Front)
 }
@@ -263,7 +265,8 @@ fn read_lined(alloc: Global, lined: &mut Lined, extent: Extent) -> Result<Readin
     }
 }
 
-/// Adds the numbers that these lines give for processes, and returns their faults, or else those in the expectations.
+/// Adds the process numbers of these lines, and returns their faults. If there are none, returns the faults
+/// of the names in the expectations.
 fn add_processes(alloc: Global, named: &mut Named, lines: &[Line], extent: Extent) -> Faults {
     for line in lines {
         push_process_number(&mut named.processes, line)?;

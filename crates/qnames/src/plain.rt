@@ -1,4 +1,4 @@
-//! Writes the plain script of one with names.
+//! Writes the plain script of a script with names.
 
 ghost use Rattle.std.specs.Prelude.{◌≡◌, ℕ, ◌+◌, ◌<◌, ◌≤◌, ◌^◌, [], ◌∷◌, ◌++◌, length, OnOk, IfOk, string_bytes};
 ghost use Rattle.qnames.specs.Names.{none, latest, with_line};
@@ -9,7 +9,8 @@ use crate::line::{CallLine, Definition, Line, Mention, Operand, ThreadLine};
 use crate::scope::{Scope, is_same_kind};
 use std::alloc::{AllocError, Global};
 
-/// The plain script, and the faults of its names. With faults it is of no use: a name that stands for nothing is 0.
+/// The plain script, and the faults of its names. With faults the text can't be used, since an undefined name
+/// has the number 0 in it.
 #[derive(Drop)]
 pub struct Plain {
     pub text: String,
@@ -17,7 +18,7 @@ pub struct Plain {
     pub scope: Scope,
 }
 
-/// Adds the word of these bytes.
+/// Adds the word for these bytes.
 fn push_bytes(alloc: Global, out: &mut String, bytes: &[u8]) -> Result<(), AllocError>
     ensures { OnOk result (string_bytes out.new ≡ string_bytes out.old ++ bytes_word bytes.now) }
 {
@@ -27,7 +28,7 @@ fn push_bytes(alloc: Global, out: &mut String, bytes: &[u8]) -> Result<(), Alloc
     out.push_str(hex::encode(alloc, bytes)?.as_str())
 }
 
-/// Adds the word of `count` bytes of zero.
+/// Adds the word for `count` bytes of zero.
 fn push_zeros(out: &mut String, count: u64) -> Result<(), AllocError>
     ensures { OnOk result (string_bytes out.new ≡ string_bytes out.old ++ zeros_word count) }
 {
@@ -61,7 +62,7 @@ fn push_operand(
     }
 }
 
-/// Adds the words of these operands, each behind a space.
+/// Adds the words of these operands, each after a space.
 pub fn push_operands(
     alloc: Global,
     out: &mut String,
@@ -224,7 +225,7 @@ impl Plain {
     }
 }
 
-/// Returns the plain line of a line below those of a scope, or the first fault of its names.
+/// Returns the plain line of a line that comes after the lines of a scope, or the first fault of its names.
 pub fn plain_line(
     alloc: Global,
     scope: &Scope,

@@ -1,4 +1,4 @@
-//! What the lines above a line define.
+//! The definitions in the lines above a line.
 
 ghost use Rattle.std.specs.Prelude.{◌≡◌, ℕ, ◌+◌, ◌<◌, ◌≤◌, ◌^◌, length, position, find, slice_get, true, OnOk, IfOk, IfSome};
 ghost use Rattle.std.specs.List.{position_or_len, list_any};
@@ -15,14 +15,15 @@ use std::alloc::{AllocError, Global};
 use std::collections::HashMap;
 use std::marker::Model;
 
-/// What some lines define: the numbers of threads, calls and processes, and what names stand for.
+/// The definitions of some lines: how many threads and calls they have, the names of their processes, and the
+/// labels of their names.
 #[derive(Drop)]
 pub struct Scope {
     threads: u64,
     calls: u64,
     processes: Vec<Word>,
     labels: Vec<Label>,
-    /// The place of the last label with each name.
+    /// The index of the last label with each name.
     places: HashMap<String, usize>,
 }
 
@@ -61,7 +62,7 @@ fn is(word: &Word, name: &str) -> bool
     word.as_str() == name
 }
 
-/// Returns the place of the last label with each name.
+/// Returns the index of the last label with each name.
 fn places_of(alloc: Global, labels: &[Label]) -> Result<HashMap<String, usize>, AllocError>
     ensures { IfOk result (λ places. HasPlaces (get_by_text places) labels.now) }
 {
@@ -78,7 +79,7 @@ fn label_at(labels: &[Label], place: usize) -> Option<&Label>
     labels.get(place)
 }
 
-/// Returns the first index of a name among those of the processes.
+/// Returns the first index of a name among the names of the processes.
 fn found_process(processes: &[Word], name: &Word) -> Option<usize>
     ensures place { result ≡ position (λ p. bytes_eq p name.now) processes.now }
     ensures within { IfSome result (λ at. at < length processes.now) }
@@ -92,7 +93,7 @@ fn has_process(processes: &[Word], name: &Word) -> bool
     processes.iter().any(|p| is(p, name.as_str()))
 }
 
-/// Returns the index of a name among those of the processes, or their number if it isn't one of them.
+/// Returns the index of a name among the names of the processes, or their number if it isn't one of them.
 #[tactic(auto, using(crate::proofs::Places::place_some, crate::proofs::Places::place_none))]
 fn process_place(processes: &[Word], name: &Word) -> usize
     ensures place { result ≡ position_or_len (λ p. bytes_eq p name.now) processes.now }
@@ -114,7 +115,7 @@ fn number_of_process(processes: &[Word], process: &Process) -> u64
     }
 }
 
-/// Adds a name to those of the processes, unless it is one of them.
+/// Adds a name to the names of the processes, unless it is one of them.
 fn add_name(alloc: Global, processes: &mut Vec<Word>, name: &Word) -> Result<(), AllocError>
     ensures { OnOk result (processes.new.items ≡ with_name processes.old.items name.now) }
 {
@@ -125,7 +126,7 @@ fn add_name(alloc: Global, processes: &mut Vec<Word>, name: &Word) -> Result<(),
     Ok(())
 }
 
-/// Adds the name of a process, if it has one that is new.
+/// Adds the name of a process, if it has a name and the name is new.
 fn add_process(
     alloc: Global,
     processes: &mut Vec<Word>,
@@ -140,7 +141,7 @@ fn add_process(
 }
 
 impl Scope {
-    /// Returns the scope above the first line.
+    /// Returns the scope above the first line, which has no definitions.
     pub fn new(alloc: Global) -> Scope
         ensures { result ≡ none }
     {
@@ -153,7 +154,7 @@ impl Scope {
         }
     }
 
-    /// Returns whether it can count one more line; it always can, since a text has fewer lines.
+    /// Returns whether the scope can count one more line. It always can, since a text has fewer lines.
     pub fn has_room(&self) -> bool
         ensures threads { result ≡ true → self.now.threads < 2 ^ 63 }
         ensures calls { result ≡ true → self.now.calls < 2 ^ 63 }
@@ -163,13 +164,13 @@ impl Scope {
         self.threads < most && self.calls < most && (self.processes.len() as u64) < most
     }
 
-    /// Returns how much it has, to which `go_back` may go back.
+    /// Returns the size of the scope, to which `go_back` can return.
     pub fn extent(&self) -> (u64, u64, usize, usize) {
         let processes = self.processes.len();
         (self.threads, self.calls, processes, self.labels.len())
     }
 
-    /// Forgets the lines that were added since it had this much.
+    /// Removes the lines that were added since the scope had this size.
     pub fn go_back(
         &mut self,
         alloc: Global,
@@ -186,7 +187,7 @@ impl Scope {
         Ok(())
     }
 
-    /// Returns the scope below these lines. A text has far fewer lines than a number of 64 bits can count.
+    /// Returns the scope after these lines. A text has far fewer lines than a number of 64 bits can count.
     pub fn after(alloc: Global, lines: &[Line]) -> Result<Scope, AllocError> {
         let mut scope = Scope::new(alloc);
         'lines: for line in lines {
@@ -202,7 +203,7 @@ impl Scope {
         self.labels.as_slice()
     }
 
-    /// Returns the names of the processes; the first is that of process 1.
+    /// Returns the names of the processes. The first is the name of process 1.
     pub fn process_names(&self) -> &[Word]
         ensures { result.now ≡ self.now.processes }
     {
@@ -215,7 +216,8 @@ impl Scope {
         found.map_or(0, |at| (at as u64).saturating_add(1))
     }
 
-    /// Returns the name that stands for the call with this number, or for the thread if `of_thread` is set.
+    /// Returns the name of the call with this number, or of the thread with this number if `of_thread` is
+    /// set.
     pub fn name_of(&self, of_thread: bool, number: u64) -> Option<&Word> {
         let mut labels = self.labels.iter();
         let is_of = |label: &&Label| (label.kind == Kind::Thread) == of_thread;
@@ -233,7 +235,7 @@ impl Scope {
         }
     }
 
-    /// Returns the number that a name stands for, or 0 if it stands for nothing.
+    /// Returns the number of a name, or 0 if it isn't defined.
     pub fn number(&self, name: &Word) -> u64
         ensures { result ≡ number_of name.now self.now.labels }
     {
@@ -243,7 +245,7 @@ impl Scope {
         }
     }
 
-    /// Returns the number of the thread of the next line.
+    /// Returns the number of a thread whose line is the next line.
     pub fn thread(&self, line: &ThreadLine) -> u64
         requires { self.now.threads < 2 ^ 63 }
         ensures { result ≡ thread_number self.now line.now }

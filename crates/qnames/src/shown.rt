@@ -1,4 +1,4 @@
-//! Unproved: words and layout. What is printed in place of numbers: names, and the lines of calls.
+//! Unproved: words and layout. Names and line numbers, which are printed in place of numbers.
 
 use crate::scope::Scope;
 use crate::wording::Context;
@@ -10,7 +10,7 @@ use qreading::word::Word;
 use std::alloc::{AllocError, Global};
 use std::fmt;
 
-/// A thread, a process, a call or what a call made, as it is printed.
+/// The printed form of a thread, of a process, of a call, or of a thing that a call made.
 #[derive(Clone, Copy)]
 pub enum Shown<'a> {
     /// By its name.
@@ -35,7 +35,7 @@ impl fmt::Display for Shown<'_> {
 }
 
 impl<'a> Context<'a> {
-    /// Returns the context of a plain script, which has no names; the scope is an empty one.
+    /// Returns the context of a plain script, which has no names. `scope` is empty.
     pub fn plain(alloc: Global, scope: &'a Scope) -> Context<'a> {
         Context {
             alloc,
@@ -49,27 +49,27 @@ impl<'a> Context<'a> {
         self.calls.is_empty() && self.scope.labels().is_empty()
     }
 
-    /// Returns what stands for the channel, the connection, the message or the pulse with this number.
+    /// Returns the printed form of the channel, the connection, the message or the pulse with this number.
     pub fn id(self, number: u64) -> Shown<'a> {
         let name = self.scope.name_of(false, number);
         name.map_or(Shown::Number(number), Shown::Name)
     }
 
-    /// Returns what stands for a thread.
+    /// Returns the printed form of a thread.
     pub fn thread(self, thread: ThreadNo) -> Shown<'a> {
         let number = u64::from(thread.0);
         let name = self.scope.name_of(true, number);
         name.map_or(Shown::Number(number), Shown::Name)
     }
 
-    /// Returns what stands for a process.
+    /// Returns the printed form of a process.
     pub fn process(self, process: ProcessNo) -> Shown<'a> {
         let at = usize::from(process.0).wrapping_sub(1);
         let name = self.scope.process_names().get(at);
         name.map_or(Shown::Number(u64::from(process.0)), Shown::Name)
     }
 
-    /// Returns what stands for a call: its line, or `call` and its number in a plain script.
+    /// Returns the printed form of a call: its line, or `call` and its number in a plain script.
     pub fn call(self, number: u64) -> Shown<'a> {
         let call = self.calls.get(number.wrapping_sub(1) as usize);
         call.map_or(Shown::Call(number), |call| Shown::Line(call.place.line))
@@ -87,7 +87,8 @@ impl<'a> Context<'a> {
         }
     }
 
-    /// Adds a line for each of these threads: its state, as a script says it, and the line of its call.
+    /// Adds a line for each of these threads: its state, in the notation of a script, and the line of its
+    /// call.
     pub fn push_blocked(self, out: &mut String, blocked: &[Blocked]) -> Result<(), AllocError> {
         for blocked in blocked {
             let thread = self.thread(blocked.thread);

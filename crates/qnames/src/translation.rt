@@ -1,4 +1,4 @@
-//! Translates a script with names into a plain one, and reads that.
+//! Translates a script with names into a plain script, and reads the plain script.
 
 ghost use Rattle.std.specs.Prelude.{IfOk, IfErr};
 ghost use Rattle.qnames.specs.Translation.{IsTranslation, IsRefusal};
@@ -16,14 +16,14 @@ use std::alloc::Global;
 pub struct Translation {
     pub text: String,
     pub script: Script,
-    /// What the lines define.
+    /// The definitions of the lines.
     pub scope: Scope,
 }
 
 /// The reason why lines have no plain script that can run.
 #[derive(Drop)]
 pub enum Refusal {
-    /// There is no memory for it.
+    /// There is no memory for the plain script.
     Memory,
     /// The faults of the names.
     Names(Vec<NameFault>),

@@ -1,4 +1,4 @@
-//! Words the faults of names.
+//! Makes the messages about faulty names.
 
 use crate::expectation::CallCheck;
 use crate::label::NameError;
@@ -8,7 +8,7 @@ use qreading::near::push_near;
 use qreading::word::Word;
 use std::alloc::{AllocError, Global};
 
-/// What the words of a fault need: what the names stand for after the last line, and the calls.
+/// The data for a message: the definitions of all lines so far, and the calls.
 #[derive(Clone, Copy)]
 pub struct Context<'a> {
     pub alloc: Global,
@@ -19,7 +19,7 @@ pub struct Context<'a> {
 /// The way in which a line uses a name.
 #[derive(Clone, Copy)]
 pub enum Usage<'a> {
-    /// As the caller, in front of a call.
+    /// As the caller, before a call.
     Caller,
     /// As an operand of this call.
     Operand(&'a str),
@@ -34,14 +34,14 @@ impl Context<'_> {
         call.map_or("", |call| call.kind.word())
     }
 
-    /// Returns the words for a name that no line above defines.
+    /// Returns the message about a name that no line above defines.
     fn undefined(&self, name: &Word) -> Result<String, AllocError> {
         let mut text = format!(in self.alloc; "{name} isn't defined before this line")?;
         self.push_meant(&mut text, name)?;
         Ok(text)
     }
 
-    /// Adds the line below that defines a name, or else a name that is near to it.
+    /// Adds the later line that defines a name. If no line does, adds a defined name that is near to it.
     fn push_meant(&self, text: &mut String, name: &Word) -> Result<(), AllocError> {
         if let Some(label) = self.scope.latest(name) {
             let line = label.line;
@@ -53,7 +53,7 @@ impl Context<'_> {
         Ok(())
     }
 
-    /// Returns the words for a name that stands for something of another kind than this.
+    /// Returns the message about a name of another kind than this, which is needed.
     fn other_kind(&self, name: &Word, usage: Usage<'_>, kind: Kind) -> Result<String, AllocError> {
         let Some(label) = self.scope.latest(name) else {
             return self.undefined(name);
@@ -77,7 +77,7 @@ impl Context<'_> {
         format!(in self.alloc; "{name} is {is}{of}{call}, and {front}{wants}{wanted}{hint}")
     }
 
-    /// Returns the fault of a name that has to be of this kind, in words.
+    /// Returns the message about a fault of a name that must have this kind.
     pub fn words(
         &self,
         name: &Word,

@@ -1,4 +1,4 @@
--- Texts, their lines, words and digits, and how far a text is read.
+-- Texts, their lines, words and digits, and how many lines of a text have been read.
 pub mod Digits
 pub mod Words
 pub mod Lines

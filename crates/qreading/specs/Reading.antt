@@ -1,4 +1,4 @@
--- What the bytes of a script mean.
+-- The meaning of a script's bytes.
 pub mod Steps
 pub mod Words
 pub mod Lines

@@ -17,10 +17,10 @@ pub enum LineFault {
     /// It has a byte that is neither a tab nor printable ASCII (32 to 126).
     #[error("bad byte")]
     BadByte,
-    /// A roster line stands after a call line.
+    /// It is a roster line after a call line.
     #[error("late thread")]
     LateThread,
-    /// A word isn't a number of the range that its operand has.
+    /// A word isn't a number in the range of its operand.
     #[error("bad number")]
     BadNumber,
     /// It has too few or too many words.
@@ -32,7 +32,7 @@ pub enum LineFault {
     /// A number below 256 isn't a priority.
     #[error("bad priority")]
     BadPriority,
-    /// A word isn't bytes in any of their three forms.
+    /// A word isn't bytes in one of the three forms: `-`, hexadecimal digits, or `NxHH`.
     #[error("bad bytes")]
     BadBytes,
     /// A roster line repeats a thread.
@@ -49,9 +49,9 @@ pub enum LineFault {
 /// The reason why a line can't be read.
 #[derive(Debug, Drop)]
 pub enum ParseError {
-    /// There is no memory for what it says.
+    /// There is no memory for the content of the line.
     Memory,
-    /// It is faulty.
+    /// The line has this fault.
     Fault(LineFault),
 }
 
@@ -71,7 +71,7 @@ impl From<LineFault> for ParseError {
     }
 }
 
-/// The reason why a script has no run.
+/// The error that ends the reading, running or printing of a script.
 #[derive(Debug, Drop, Error)]
 pub enum ScriptFault {
     /// Reading its text failed.

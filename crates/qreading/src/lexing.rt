@@ -1,4 +1,4 @@
-//! Cuts a line into words, texts in quotes, sizes in brackets and signs, up to a comment.
+//! Splits a line into words, texts in quotes, sizes in brackets and signs, up to a comment.
 
 pub mod name;
 pub mod quoted;

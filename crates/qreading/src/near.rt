@@ -1,4 +1,4 @@
-//! Finds the name that a misspelt word was meant to be.
+//! Finds the name that a misspelt word was probably meant to be.
 
 use crate::grammar::ROSTER;
 use qmodel::kind::LISTED;
@@ -6,15 +6,16 @@ use std::alloc::{AllocError, Global};
 use std::str;
 use strsim::osa_distance;
 
-/// The most letters that may be wrong, missing, too many or swapped in a word that counts as near.
+/// The most edits by which a word may differ from a name and still count as near. An edit replaces, inserts
+/// or removes a letter, or swaps two neighbours.
 const MOST_EDITS: usize = 2;
 
 /// The most bytes of a word that are quoted.
 const MOST_QUOTED: usize = 24;
 
-/// Returns the name that is nearest to a word, the first if several are, or `None` if none is near. The word may differ
-/// in at most two letters, and in fewer than half of the name's letters, less `slack`. Without slack no name is near to
-/// itself.
+/// Returns the name that is nearest to a word, or `None` if none is near. Among equally near names the first
+/// is taken. A near word differs by at most two edits, and by at most half of the name's bytes, rounded down,
+/// less `slack`. With a `slack` of 0, a name isn't near to itself.
 fn nearest_within<'a>(
     alloc: Global,
     word: &str,
@@ -38,8 +39,8 @@ fn nearest_within<'a>(
     Ok(found)
 }
 
-/// Adds `; did you mean 'NAME'?` with the name that is nearest to a word, the first if several are, and returns whether
-/// one is near.
+/// Appends `; did you mean 'NAME'?` with the name that is nearest to a word, and returns whether a name is
+/// near. Among equally near names the first is taken.
 pub fn push_near(
     alloc: Global,
     text: &mut String,
@@ -55,7 +56,8 @@ pub fn push_near(
     }
 }
 
-/// Returns the words for a word that is none of these: the one that it is near to, or else what all of them are.
+/// Returns the message `'WORD' WHAT; did you mean 'NEAR'?` about a word that isn't one of `words`. If none of
+/// them is near, the message is `'WORD' WHAT; ALL`.
 pub fn no_such(
     alloc: Global,
     word: &str,
@@ -70,8 +72,8 @@ pub fn no_such(
     Ok(text)
 }
 
-/// Returns the keyword that is nearest to a word in any case, or `None` if none is near. A keyword is short, so it has
-/// to be nearer than a name.
+/// Returns the keyword that is nearest to a word, or `None` if none is near. The word may have capital
+/// letters. Keywords are short, so they are compared with a slack of 1.
 fn nearest_keyword(
     alloc: Global,
     word: &[u8],
@@ -84,7 +86,8 @@ fn nearest_keyword(
     nearest_within(alloc, word.as_str(), keywords, 1)
 }
 
-/// Returns the name of the call that is nearest to a word, the first of the table if several are.
+/// Returns the name of the call that is nearest to a word. Among equally near names the first of the table is
+/// taken.
 fn near_call(alloc: Global, word: &[u8]) -> Result<Option<&'static str>, AllocError> {
     let mut words = Vec::new(alloc);
     for kind in &LISTED {
@@ -93,7 +96,8 @@ fn near_call(alloc: Global, word: &[u8]) -> Result<Option<&'static str>, AllocEr
     nearest_keyword(alloc, word, words.as_slice())
 }
 
-/// Returns the words for a word that names no call: the name that it is near to, or else the names of all calls.
+/// Returns the message about a word that names no call. It suggests the nearest name, or lists the names of
+/// all calls if none is near.
 pub fn unknown_call(alloc: Global, word: &str) -> Result<String, AllocError> {
     let mut text = format!(in alloc; "'{word}' names no call; ")?;
     if let Some(near) = near_call(alloc, word.as_bytes())? {
@@ -108,13 +112,13 @@ pub fn unknown_call(alloc: Global, word: &str) -> Result<String, AllocError> {
     Ok(text)
 }
 
-/// Returns the front of a word, as text.
+/// Returns the first 24 bytes of a word as text, or `?` if they aren't text.
 pub fn quotation(bytes: &[u8]) -> &str {
     let front = bytes.get(..MOST_QUOTED).unwrap_or(bytes);
     str::from_utf8(front).unwrap_or("?")
 }
 
-/// Returns whether a word is near to `thread`, with which a roster line begins.
+/// Returns whether a word is near to `thread`, the first word of a roster line.
 pub fn is_near_roster(alloc: Global, word: &[u8]) -> Result<bool, AllocError> {
     Ok(nearest_keyword(alloc, word, &[ROSTER.word])?.is_some())
 }

@@ -1,4 +1,4 @@
-//! Cuts a text into lines, and a line into words with their places.
+//! Splits a text into lines, and a line into words with their places.
 
 ghost use Rattle.std.specs.Prelude.{length};
 ghost use Rattle.std.specs.Iterator.{at_most};
@@ -10,7 +10,7 @@ use crate::reading::number::small;
 use crate::reading::words::next_word;
 use std::alloc::{AllocError, Global};
 
-/// The lines of the rest of a text, without their ends.
+/// An iterator over the lines of the rest of a text, without their line ends.
 #[derive(Drop)]
 pub struct Lines<'a>(pub &'a [u8]);
 
@@ -43,7 +43,7 @@ pub struct Word<'a> {
 }
 
 impl Word<'_> {
-    /// Returns the place behind it, where the next word is missing.
+    /// Returns the place at which a missing next word would begin: one byte, after one blank.
     pub fn behind(&self) -> Place {
         let end = self.place.at.saturating_add(self.place.len);
         Place {
@@ -72,7 +72,7 @@ pub fn words<'a>(alloc: Global, line: &'a [u8]) -> Result<Vec<Word<'a>>, AllocEr
     Ok(words)
 }
 
-/// Returns the number, counted from 1, of the line at an index, or 0 if there is none.
+/// Returns the number, counted from 1, of the line at an index, or 0 for no index.
 fn number_of(line: Option<usize>) -> usize {
     line.map_or(0, |at| at.saturating_add(1))
 }
@@ -82,7 +82,7 @@ fn begins_with_thread(line: &[u8]) -> bool {
     next_word(line).is_some_and(|(word, _)| small(word).is_ok())
 }
 
-/// Returns the number, counted from 1, of the first line that is a call.
+/// Returns the number, counted from 1, of the first line that is a call, or 0 if there is none.
 pub fn first_call(text: &[u8]) -> usize {
     number_of(Lines(text).position(|line| begins_with_thread(line)))
 }
@@ -98,12 +98,12 @@ fn enrolls(line: &[u8], thread: u8) -> bool {
     }
 }
 
-/// Returns the number, counted from 1, of the first roster line of this thread.
+/// Returns the number, counted from 1, of the first roster line of this thread, or 0 if there is none.
 pub fn first_enrolled(text: &[u8], thread: u8) -> usize {
     number_of(Lines(text).position(|line| enrolls(line, thread)))
 }
 
-/// Returns whether a line of a script is a call.
+/// Returns whether a line of a script is a call, that is, not blank, not a comment and not a roster line.
 fn is_call(line: &[u8]) -> bool {
     match next_word(line) {
         Some((word, _)) => word.first() != Some(&b'#') && !is(word, ROSTER.word),

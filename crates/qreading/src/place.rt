@@ -24,7 +24,7 @@ impl fmt::Display for Place {
     }
 }
 
-/// A fault at a place, in words.
+/// A fault with its place. `what` is the message about it.
 #[derive(Debug, Drop, Error)]
 #[error("{place}: {what}")]
 pub struct Fault {
@@ -35,9 +35,9 @@ pub struct Fault {
 /// The reason why a line can't be read.
 #[derive(Drop)]
 pub enum ReadError {
-    /// There is no memory for what it says.
+    /// There is no memory for the content of the line.
     Memory,
-    /// It is faulty.
+    /// The line has this fault.
     Fault(Fault),
 }
 
@@ -57,12 +57,12 @@ impl<T: Drop> From<AllocFailed<T>> for ReadError {
     }
 }
 
-/// Returns the fault of these words at a place.
+/// Returns the fault with this message at a place, or `Memory` if there is no memory for the message.
 pub fn fault_in_words(alloc: Global, place: Place, what: &str) -> ReadError {
     fault_at(place, String::from_str(alloc, what))
 }
 
-/// Returns the fault of these words at a place, or the error of memory if there is none for the words.
+/// Returns the fault with this message at a place, or `Memory` if the message couldn't be allocated.
 pub fn fault_at(place: Place, what: Result<String, AllocError>) -> ReadError {
     match what {
         Ok(what) => ReadError::Fault(Fault { place, what }),

@@ -1,4 +1,4 @@
-//! Reads the bytes of a script: its lines, their words, the roster and the calls.
+//! Reads the bytes of a plain script: its lines, their words, the roster and the calls.
 
 pub mod bytes;
 pub mod call;

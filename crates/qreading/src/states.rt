@@ -14,7 +14,7 @@ pub fn state_name(state: ThreadState) -> &'static str {
     }
 }
 
-/// Returns the word of a state, as a trace prints it.
+/// Returns the word that a trace prints for a state.
 pub fn state_word(state: ThreadState) -> &'static str {
     match state {
         ThreadState::Ready => "ready",
@@ -24,7 +24,7 @@ pub fn state_word(state: ThreadState) -> &'static str {
     }
 }
 
-/// Returns the state of a thread if these threads are blocked.
+/// Returns the state of a thread, given all blocked threads. A thread that isn't among them is ready.
 pub fn state_among(blocked: &[Blocked], thread: ThreadNo) -> ThreadState {
     match blocked.iter().find(|blocked| blocked.thread == thread) {
         Some(blocked) => blocked.state,
@@ -32,7 +32,7 @@ pub fn state_among(blocked: &[Blocked], thread: ThreadNo) -> ThreadState {
     }
 }
 
-/// Returns the channel that a thread in this state is blocked on.
+/// Returns the channel on which a thread in this state is blocked, or `None` for a ready thread.
 pub fn state_channel(state: ThreadState) -> Option<ChannelId> {
     match state {
         ThreadState::Ready => None,

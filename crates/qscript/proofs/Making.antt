@@ -2,7 +2,7 @@
 use Rattle.qscript.proofs.Common.{AnswersAtTraces, Call, Event, Events, HasMade, HasPrinted, List, State, [], ap, arith, event_call, length, length-append, length-map, map-append, member_at, members_of, refl, runs_more, shows_buffer, sym, true, with_more, ℕ, ◌++◌, ◌+◌, ◌∙◌, ◌∷◌, ◌≡◌, is_some}
 use Rattle.qscript.specs.declared.run.Run.{Run}
 
--- one call more
+-- one more call
 pub made_more : (old : State) (calls : List (ℕ × Call)) (run next : Run) (t : ℕ) (c : Call) → HasMade old calls run
     → is_some (member_at (members_of run.kernel.threads) t) ≡ true → AnswersAtTraces run.kernel t c next.endings.items next.kernel
     → members_of next.kernel.threads ≡ members_of run.kernel.threads → next.kernel.made ≡ run.kernel.made + 1

@@ -1,4 +1,4 @@
--- What a text says can run: its threads join one roster, and its calls are of these threads.
+-- The content of a text can run: its threads join one roster, and its calls are made by these threads.
 use Rattle.qscript.proofs.Common.{AllJoin, AllKnown, Bool, Call, CanRun, Err, List, Member, None, Ok, Option, Result, [], add-one, ap, append-nil, arith, calls_more, cond, cons_option, count_by-le-length, false, get_or, is_some, join_refusal, length, length-map, length-slice_split, length-take, ltb-false, member_at, nat_lt, option_or, refl, roster_more, roster_with, slice_split, suc, sym, take, take_all, true, with_member, zero, ℕ, ◌++◌, ◌+◌, ◌-◌, ◌==◌, ◌||◌, ◌∙◌, ◌∷◌, ◌≡◌, ◌≤◌, line_of}
 use Rattle.std.proofs.Math.Bool.{or-false}
 use Rattle.std.proofs.lemmas.Bool.Decides.{nat_tests}
@@ -11,7 +11,7 @@ use Rattle.qreading.specs.Reading.Meaning.{TooLong, Says, meaning, is_in, line_a
 use Rattle.qreading.proofs.Texts.Early.{bind_ok, placed_keeps, alone}
 use Rattle.qscript.proofs.Joining.{enrolled_more}
 
--- ---- who is in a roster
+-- ---- the threads in a roster
 
 known : (r : List Member) (t : ℕ) → is_some (member_at r t) ≡ is_in t r
 known [] t = refl
@@ -35,9 +35,9 @@ joins_more : (r ms : List Member) (m : Member) → AllJoin r ms → join_refusal
 joins_more r [] m all new = (new, tt)
 joins_more r (x ∷ ms) m all new = (all.0, joins_more (with_member x r) ms m all.1 new)
 
--- ---- one line more
+-- ---- one more line
 
--- a line that may stand after a roster isn't one of a thread that is there, nor a 65th
+-- the thread of a valid roster line isn't in the roster before it, and isn't the 65th
 joins_next : (ms : List Member) (m : Member) (l : Line) → line_after_roster ms (lines.Roster m) ≡ Ok l → join_refusal (roster_with [] ms) m.thread ≡ None
 joins_next ms m l h = grind (arith, nat_tests, known (roster_with [] ms) m.thread, enrolled m.thread [] ms)
 
@@ -65,7 +65,7 @@ fine_with ms cs line l f h =
     let b = bind_ok (line_of (nat_lt 0 (length cs)) line) (line_after_roster ms) l h in
     fine_more ms cs l f (ap (line_after_roster ms) (sym (placed_keeps ms b.0 l b.2)) ∙ b.2)
 
--- no fault at a line
+-- a line without a fault has a content
 no_fault_in : (n : ℕ) (r : Result Line LineFault) → fault_in n r ≡ None → (l : Line) × (r ≡ Ok l)
 no_fault_in n (Ok l) h = (l, refl)
 no_fault_in n (Err f) h = cc
@@ -83,7 +83,7 @@ fine_to ls (suc n) h none =
     let alone_too = alone (roster_of (take n ls)) (calls_of (take n ls)) (get_or ls n []) said.0 said.1 in
     rw (sym (add-one n)) (rw (roster_more ls n said.0 (omega arith) alone_too, calls_more ls n said.0 (omega arith) alone_too) more)
 
--- ---- how many
+-- ---- the number of calls
 
 few_lines : (text : List ℕ) → length (lines_of text) ≤ length text + 1
 unfolding lines_of

@@ -5,7 +5,7 @@ use Rattle.qreading.specs.declared.fault.ScriptFault.{ScriptFault}
 use Rattle.qreading.specs.declared.fault.ScriptFault.TheVariants as faults
 use Rattle.qreading.specs.TextLimit.{most_text}
 
--- a reader gave these bytes, and then its end
+-- a reader gave these bytes, at most as many as a script may have, and then its end
 pub record IsReading (before after : Option (List ℕ)) (bytes : List ℕ) : Type 0 where
   pub given : Consumes before after bytes
   pub ended : IsAtEnd after
@@ -31,7 +31,7 @@ IsReadFault faults.NoMemory before after faulted = Unit {0}
 IsReadFault (faults.Line n f) before after faulted = ⊥
 IsReadFault faults.Write before after faulted = ⊥
 
--- a writer took a front of the bytes, and then failed
+-- a writer took some bytes from the front, perhaps none or all of them, and then failed
 pub record StopsWithin (before after : Option (List ℕ)) (faulted : Bool) (bytes : List ℕ) : Type 0 where
   pub count : ℕ
   pub within : count ≤ length bytes

@@ -1,5 +1,5 @@
-//! Scripts of kernel calls: runs one on a new kernel and prints the run, and writes the script of a run that was made
-//! elsewhere.
+//! Scripts of kernel calls: runs a script on a new kernel and prints the run. Also writes the script of a run
+//! that was made elsewhere.
 #![tactic(auto)]
 
 pub mod printing;

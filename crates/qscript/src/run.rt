@@ -1,4 +1,4 @@
-//! A run that goes on call by call, and is printed as it goes.
+//! A run that is made and printed call by call.
 
 ghost use Rattle.std.specs.Prelude.{◌≡◌, ℕ, ◌+◌, ◌⊎◌, ◌++◌, ◌∷◌, [], List, IfErr, IfOk, OnOk, is_some, string_bytes, true};
 ghost use Rattle.qtables.specs.Members.{member_at};
@@ -18,7 +18,7 @@ use qkernel::kernel::Kernel;
 use qtables::roster::Roster;
 use std::alloc::{AllocError, Global};
 
-/// A kernel, the lines of all calls that ended on it, and the endings of its latest call.
+/// A kernel, the printed lines of all its completions, and the completions of its latest call.
 #[derive(Drop)]
 pub struct Run {
     kernel: Kernel,
@@ -27,7 +27,7 @@ pub struct Run {
 }
 
 impl Run {
-    /// Begins a run on a new kernel, with room for the lines of `calls` calls.
+    /// Begins a run on a new kernel, and reserves memory for the lines of `calls` calls.
     pub fn new(alloc: Global, roster: &Roster, calls: usize) -> Result<Run, AllocError>
         ensures stands { IfOk result (λ run. StandsAt roster.now run.kernel []) }
         ensures sound { IfOk result (λ run. IsSound run.kernel) }
@@ -44,9 +44,9 @@ impl Run {
         })
     }
 
-    /// Makes the next call, and prints what ends by it. `NoThread` if the thread isn't in the roster, and `Exhausted`
-    /// after 2^40 calls: then nothing changes. `NoMemory` if there is no memory for the text: then the call is made,
-    /// and the text must not be used any more.
+    /// Makes the next call, and prints its completions. The error is `NoThread` if the thread isn't in the
+    /// roster, and `Exhausted` after 2^40 calls. Then no call is made. It is `NoMemory` if there is no memory
+    /// for the text. Then the call is made, and the text must not be used afterwards.
     pub fn make(&mut self, thread: ThreadNo, call: Call) -> Result<(), Errno>
         ensures text { OnOk result ((old : State) (calls : List (ℕ × Call)) → HasMade old calls self.old → HasMade old (calls ++ (thread, call) ∷ []) self.new) }
         ensures event { OnOk result (AnswersAtTraces self.old.kernel thread call self.new.endings.items self.new.kernel) }
@@ -76,21 +76,22 @@ impl Run {
         &self.kernel
     }
 
-    /// Returns the endings of the latest call, in rising thread number.
+    /// Returns the completions of the latest call, in rising thread number.
     pub fn endings(&self) -> &[Completion]
         ensures { result.now ≡ self.now.endings.items }
     {
         self.endings.as_slice()
     }
 
-    /// Returns the lines of all calls that ended so far.
+    /// Returns the lines of all completions so far.
     pub fn text(&self) -> &str
         ensures { result.now ≡ string_bytes self.now.printer.text }
     {
         self.printer.text()
     }
 
-    /// Returns the text of the whole run: the lines of its calls, and one for each thread that is blocked now.
+    /// Returns the text of the whole run: a line for each completion, and a line for each thread that is
+    /// blocked now.
     pub fn finish(self, alloc: Global) -> Result<String, AllocError>
         ensures { IfOk result (λ text. IsEnded self (string_bytes text)) }
     {

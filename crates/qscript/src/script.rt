@@ -21,7 +21,7 @@ use qtables::roster::Roster;
 use std::alloc::{AllocError, Global};
 use std::io::{Read, Write};
 
-/// Returns the roster of these threads. One that comes twice, and those behind the 64th, are left out.
+/// Returns the roster of these threads. A repeated thread is left out, and so are the threads after the 64th.
 #[tactic(auto, using(crate::proofs::Joining::joins_at, crate::proofs::Joining::enrolled_next))]
 pub fn roster_with_all(alloc: Global, members: &[Member]) -> Roster
     ensures { AllJoin [] members.now → result ≡ roster_with [] members.now }
@@ -33,7 +33,7 @@ pub fn roster_with_all(alloc: Global, members: &[Member]) -> Roster
     roster
 }
 
-/// Makes the calls in order, and prints the endings of each at once.
+/// Makes the calls in order, and prints the completions of each call at once.
 fn make_calls(run: &mut Run, calls: Vec<(ThreadNo, Call)>) -> Result<(), AllocError>
     requires known { AllKnown (members_of run.old.kernel.threads) calls.items }
     requires limit { run.old.kernel.made + length calls.items ≤ 2 ^ 40 }
@@ -61,9 +61,9 @@ fn run_text(alloc: Global, script: Script) -> Result<String, ScriptFault>
     Ok(text)
 }
 
-/// Reads a script to its end, makes its calls on a new kernel, and writes how each of them ended and who is blocked at
-/// the end. It writes nothing before the whole text is made. If the reader fails and the text is too long, the error is
-/// the one that came first.
+/// Reads a script to its end, makes its calls on a new kernel, and writes their completions and the threads
+/// that are blocked at the end. Nothing is written before the whole text is complete. If the reader fails and
+/// the text is too long, the error that occurred first is returned.
 pub fn script<R: Read, W: Write>(
     alloc: Global,
     reader: &mut Watched<R>,

@@ -8,9 +8,9 @@ ghost use Rattle.qscript.specs.Watched.{inner_of, has_faulted, fails_to_write};
 use std::io;
 use std::io::{Read, Write};
 
-/// A reader or a writer that remembers whether one of its reads or writes failed. A write that takes none of some bytes
-/// counts as failed. All reads, writes and flushes are passed on as they are; a flush that fails returns its error,
-/// which isn't remembered.
+/// A reader or a writer that remembers whether one of its reads or writes failed. A write that takes none of
+/// some bytes counts as failed. Each read, write and flush is passed on unchanged. A flush that fails returns
+/// its error, but isn't remembered.
 #[derive(Drop)]
 pub struct Watched<T> {
     inner: T,
@@ -29,14 +29,14 @@ impl<T> Watched<T> {
         }
     }
 
-    /// Returns whether one of its reads or writes failed so far. A later success doesn't clear that.
+    /// Returns whether one of its reads or writes has failed so far. A later success doesn't clear this.
     pub fn faulted(&self) -> bool
         ensures { result ≡ has_faulted self.now }
     {
         self.faulted
     }
 
-    /// Returns the reader or writer.
+    /// Returns the inner reader or writer.
     pub fn into_inner(self) -> T
         ensures { result ≡ inner_of self }
     {

@@ -1,4 +1,4 @@
-//! Writes the script of a run: its threads and its calls, in lines that mean just them.
+//! Writes the script of a run: its threads and its calls, in lines that mean exactly these.
 
 ghost use Rattle.std.specs.Prelude.{◌≡◌, ◌<◌, ◌++◌, length, IfOk, OnOk, Some, slice_get, string_bytes};
 ghost use Rattle.std.specs.List.{flat_map};
@@ -13,11 +13,11 @@ use qkernel::trace::Trace;
 use qtables::member::Member;
 use std::alloc::{AllocError, Global};
 
-/// The number of bytes that are reserved for a line: a typical line without bytes, and some more.
+/// The bytes that are reserved for a line. A typical line without message bytes needs fewer.
 const LINE: usize = 32;
 
-/// Returns the script whose roster has these threads, and whose calls are those of the run's events, each by the thread
-/// that made it. It may be longer than a script that is read may be.
+/// Returns the script with these threads in its roster and with the calls of the run's events. Each call has
+/// the thread that made it. The script may be longer than the limit for scripts that are read, `MOST_TEXT`.
 #[tactic(auto, unfolding(crate::specs::Writing::Text::script_text))]
 pub fn script_of(alloc: Global, roster: &[Member], run: &Trace) -> Result<String, AllocError>
     ensures { IfOk result (λ text. string_bytes text ≡ script_text roster.now run.now.events) }

@@ -1,8 +1,8 @@
--- A run from bytes that are known into an empty list.
+-- A run from known bytes into an empty list.
 use Rattle.std.proofs.Common.{◌≡◌, ℕ, List, [], ◌++◌, Option, Some, None, sym, ap, ◌∙◌, append-nil}
 use Rattle.qscript.specs.Script.{IsRun, Runs}
 
--- what stands in the list is the text of a run of these bytes
+-- the list has the text of a run of these bytes
 pub told : (input : List ℕ) (after : Option (List ℕ)) (before out : List ℕ) → before ≡ [] → IsRun (Some input) after (Some before) (Some out) → Runs input out
 told input None before out empty run = absurd run.read.given
 told input (Some rest) before out empty run =

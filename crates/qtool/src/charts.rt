@@ -44,7 +44,7 @@ pub fn run_chart<R: Files + Input + Print + Eprint + AllocGlobal>(rt: &R, run: &
     Ok(ExitCode::SUCCESS)
 }
 
-/// Returns whether two paths lead to one existing file.
+/// Returns whether two paths lead to the same existing file.
 fn is_same<R: Files + AllocGlobal>(rt: &R, one: &str, other: &str) -> bool {
     match (fs::canonicalize(rt, one), fs::canonicalize(rt, other)) {
         (Ok(one), Ok(other)) => one.as_path().as_str() == other.as_path().as_str(),
@@ -52,7 +52,7 @@ fn is_same<R: Files + AllocGlobal>(rt: &R, one: &str, other: &str) -> bool {
     }
 }
 
-/// Returns the view to draw: as text if that is asked for, or if standard output is a terminal.
+/// Returns the view to draw. It is text if text is requested, or if the drawing is printed on a terminal.
 fn view_of(run: &ChartRun) -> View {
     let is_text = run.text || (run.screen.output && run.output.is_none());
     View {

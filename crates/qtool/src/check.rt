@@ -1,4 +1,4 @@
-//! Unproved: words and layout. Compares what scripts print with the traces beside them.
+//! Unproved: words and layout. Compares the output of scripts with their traces.
 
 mod places;
 mod tally;
@@ -26,7 +26,7 @@ use tally::Tally;
 /// The most bytes of a line of a script that are shown.
 const MOST_SHOWN: usize = 72;
 
-/// A check: what is asked for, and the counts so far.
+/// A check: its options, and the counts so far.
 #[derive(Drop)]
 struct Check<'a, R> {
     rt: &'a R,
@@ -34,8 +34,8 @@ struct Check<'a, R> {
     tally: Tally,
 }
 
-/// Checks the scripts of these files and folders, and prints the counts. The status is 0 if each printed its trace, 1
-/// if one differs, is faulty or has no trace, and 3 if a file can't be read or written.
+/// Checks the scripts of these files and folders, and prints the counts. The status is 0 if each printed its
+/// trace, 1 if one differs, is faulty or has no trace, and 3 if a file can't be read or written.
 pub fn run_check<R: Files + Print + Eprint + AllocGlobal + Clone + Drop>(
     rt: &R,
     run: &CheckRun,
@@ -47,7 +47,7 @@ pub fn run_check<R: Files + Print + Eprint + AllocGlobal + Clone + Drop>(
     Ok(ExitCode::from(check.tally.status()))
 }
 
-/// The error of its methods is that of standard output, or of memory.
+/// The methods fail if standard output can't be written, or if memory runs out.
 impl<R: Files + Print + Eprint + AllocGlobal + Clone + Drop> Check<'_, R> {
     /// Checks each script, and prints the counts.
     fn check_all(&mut self) -> io::Result<()> {
@@ -77,7 +77,7 @@ impl<R: Files + Print + Eprint + AllocGlobal + Clone + Drop> Check<'_, R> {
         }
     }
 
-    /// Runs a script with names, and prints what differs from its expectations.
+    /// Runs a script with names, and prints the differences from its expectations.
     fn check_named(&mut self, example: &Example, text: &[u8]) -> io::Result<()> {
         let faults = faults_of(self.rt.alloc(), text)?;
         let name = example.name.as_str();
@@ -88,7 +88,7 @@ impl<R: Files + Print + Eprint + AllocGlobal + Clone + Drop> Check<'_, R> {
         self.tell_places(example, faults.as_slice())
     }
 
-    /// Prints faults of an example, each by its place.
+    /// Prints faults of an example, each with its place.
     fn tell_places(&self, example: &Example, faults: &[Fault]) -> io::Result<()> {
         let script = &example.script;
         for fault in faults {
@@ -97,10 +97,10 @@ impl<R: Files + Print + Eprint + AllocGlobal + Clone + Drop> Check<'_, R> {
         Ok(())
     }
 
-    /// Explores a design, and compares the words of the search with its verdict.
+    /// Explores a design, and compares the output of the search with its verdict.
     fn check_design(&mut self, example: &Example, text: &[u8]) -> io::Result<()> {
         let name = example.name.as_str();
-        // A verdict names the file alone, so it holds wherever the folder is.
+        // A verdict has only the file's name, so it doesn't depend on the folder.
         let file = Path::new(name).file_name().unwrap_or(name);
         let words = match words_of(self.rt.alloc(), file, text)? {
             Ok(words) => words,
@@ -117,7 +117,7 @@ impl<R: Files + Print + Eprint + AllocGlobal + Clone + Drop> Check<'_, R> {
         }
     }
 
-    /// Runs a script, and compares what it prints with its trace.
+    /// Runs a script, and compares its output with its trace.
     fn check_plain(&mut self, example: &Example, text: &[u8]) -> io::Result<()> {
         let alloc = self.rt.alloc();
         let trace = match self.wanted(example) {
@@ -141,7 +141,7 @@ impl<R: Files + Print + Eprint + AllocGlobal + Clone + Drop> Check<'_, R> {
         }
     }
 
-    /// Returns what an example has to print, or `None` if nothing says it.
+    /// Returns the expected output of an example, or `None` if its file is missing.
     fn wanted(&self, example: &Example) -> io::Result<Option<Vec<u8>>> {
         match fs::read(self.rt, example.trace.as_str()) {
             Ok(text) => Ok(Some(without_returns(self.rt.alloc(), text.as_slice())?)),
@@ -150,13 +150,14 @@ impl<R: Files + Print + Eprint + AllocGlobal + Clone + Drop> Check<'_, R> {
         }
     }
 
-    /// Tells that an example printed what it has to.
+    /// Reports that an example printed its expected output.
     fn tell_same(&mut self, example: &Example) -> io::Result<()> {
         let Example { name, what, .. } = example;
         self.tell(name.as_str(), "same", format_args!("as its {what} says"))
     }
 
-    /// Counts the outcome of an example, and prints it: in words, or as an object of JSON with a word for it.
+    /// Counts the outcome of an example, and prints it: in words, or as an object of JSON that also has the
+    /// outcome.
     fn tell<D: Display + Drop>(&mut self, name: &str, outcome: &str, words: D) -> io::Result<()> {
         self.tally.add(outcome);
         if !self.run.json {
@@ -175,7 +176,7 @@ impl<R: Files + Print + Eprint + AllocGlobal + Clone + Drop> Check<'_, R> {
         println!(self.rt; "{{\"name\": {name}, \"outcome\": \"{outcome}\", \"words\": {words}}}")
     }
 
-    /// Prints lines about the outcome of an example; with JSON one object with them.
+    /// Prints lines about the outcome of an example. With JSON they are one object.
     fn tell_more<D: Display + Drop>(&self, words: D) -> io::Result<()> {
         if !self.run.json {
             return println!(self.rt; "{words}");
@@ -185,8 +186,8 @@ impl<R: Files + Print + Eprint + AllocGlobal + Clone + Drop> Check<'_, R> {
         println!(self.rt; "{{\"more\": {words}}}")
     }
 
-    /// Writes what an example printed in place of what was wanted, if that is asked for; else tells and returns the
-    /// difference, or tells that nothing was wanted.
+    /// Writes the output of an example over its expected output, if an update is requested. Otherwise reports
+    /// and returns the difference, or reports that there is no expected output.
     fn settle(
         &mut self,
         example: &Example,
@@ -233,7 +234,8 @@ impl<R: Files + Print + Eprint + AllocGlobal + Clone + Drop> Check<'_, R> {
         self.tell_more(format_args!("  script: line {number}: {shown}{dots}"))
     }
 
-    /// Prints why a script has no run: each faulty line by its place, explained if explanations are asked for.
+    /// Prints why a script has no run: each faulty line with its place, and explained if explanations are
+    /// requested.
     fn tell_fault(&mut self, example: &Example, text: &[u8], fault: ScriptFault) -> io::Result<()> {
         if fault.status() == 3 {
             return Err(io::Error::from(io::ErrorKind::OutOfMemory));

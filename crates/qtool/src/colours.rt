@@ -17,7 +17,7 @@ pub struct Screen {
     pub colours: Colours,
 }
 
-/// What a colour says.
+/// The meaning of a colour.
 #[derive(Clone, Copy)]
 pub enum Mood {
     Good,
@@ -25,7 +25,8 @@ pub enum Mood {
     Unsure,
 }
 
-/// Returns what stands before and behind a text in its colour; nothing, if its output has none.
+/// Returns the escape sequences before and after a text in its colour. They are empty if the output has no
+/// colours.
 pub fn marks(mood: Mood, has_colours: bool) -> (&'static str, &'static str) {
     match mood {
         _ if !has_colours => ("", ""),

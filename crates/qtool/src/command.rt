@@ -20,7 +20,7 @@ pub struct ScriptRun {
     pub json: bool,
     /// Whether the script has names, whatever its file is called.
     pub names_in: bool,
-    /// Whether the plain script of one with names is printed instead of run.
+    /// Whether the plain script of a script with names is printed instead of run.
     pub plain: bool,
     /// Whether a call that fails makes the exit status 1.
     pub strict: bool,
@@ -47,7 +47,7 @@ pub struct CheckRun {
 pub struct PlayRun {
     /// The file of the script to begin with, if there is one.
     pub file: Option<String>,
-    /// Whether answers have names in place of numbers, once the lines have names.
+    /// Whether names are printed in place of numbers, once the lines have names.
     pub names: bool,
     pub screen: Screen,
 }
@@ -61,13 +61,13 @@ pub struct ChartRun {
     pub output: Option<String>,
     /// Whether the drawing is text.
     pub text: bool,
-    /// Whether the words have the bytes of messages and answers.
+    /// Whether the bytes of messages and replies are drawn.
     pub bytes: bool,
     /// Whether the script has names, whatever its file is called.
     pub names_in: bool,
     /// The number of the first call that is drawn, at least 1.
     pub from: u32,
-    /// The number of the last call that is drawn; `None` for the last of the script.
+    /// The number of the last call that is drawn. With `None` the drawing ends with the script.
     pub to: Option<u32>,
     /// The outputs; if standard output is a terminal, a drawing on it is always text.
     pub screen: Screen,
@@ -86,9 +86,10 @@ pub struct ExploreRun {
     pub names: bool,
     /// Whether the output is an object of JSON.
     pub json: bool,
-    /// Whether moments that differ in which of equal copies did what count as two.
+    /// Whether the symmetry reduction is off: two states count as two even if they differ only in which of
+    /// equal copies did what.
     pub no_symmetry: bool,
-    /// The most moments of the search, at least 1.
+    /// The most states of the search, at least 1.
     pub most: u32,
     /// The number of random interleavings; `None` to make all interleavings.
     pub random: Option<u32>,
@@ -115,7 +116,7 @@ pub struct ServeRun {
     pub json: bool,
     /// Whether no progress is shown.
     pub quiet: bool,
-    /// The name of the recording's files; `None` for no recording.
+    /// The name of the recording's files, or `None` if there is no recording.
     pub record: Option<String>,
 }
 
@@ -136,7 +137,7 @@ pub enum Action {
     Serve(ServeRun),
 }
 
-/// What is asked for, if there is memory for it.
+/// A part of the command line, or an error if there is no memory for it.
 type Run<T> = Result<T, AllocError>;
 
 /// Returns the value of an argument, or `None` if it is missing.
@@ -222,7 +223,7 @@ fn serve_of(alloc: Global, matches: &ArgMatches<'_>) -> Run<ServeRun> {
     })
 }
 
-/// Returns the action that the arguments ask for, as it is done with these outputs.
+/// Returns the action that the arguments ask for, with these outputs.
 fn action_in(alloc: Global, matches: &ArgMatches<'_>, screen: Screen) -> Run<Action> {
     Ok(match matches.subcommand() {
         Some(("serve", serve)) => Action::Serve(serve_of(alloc, serve)?),
@@ -239,8 +240,8 @@ fn action_in(alloc: Global, matches: &ArgMatches<'_>, screen: Screen) -> Run<Act
     })
 }
 
-/// Returns the action that a command line asks for, as it is done with these outputs; the first word is the program's
-/// name. The error may be a help text that was asked for.
+/// Returns the action that a command line asks for, with these outputs. The first word is the program's name.
+/// The error may be a help text that was requested.
 pub fn action_of(alloc: Global, words: &[String], screen: Screen) -> Result<Action, Error> {
     let matches = command(alloc)?.try_get_matches_from(words)?;
     Ok(action_in(alloc, &matches, screen)?)

@@ -18,13 +18,13 @@ use std::alloc::{AllocError, Global};
 use std::process::ExitCode;
 use std::rt::Files;
 
-/// The most moments of a search, if the command line doesn't say it.
+/// The most states of a search, unless the command line has another limit.
 pub const MOST_MOMENTS: u32 = 1_000_000;
 
-/// The exit status if not every interleaving was made.
+/// The exit status of a search that didn't make every interleaving.
 const NOT_ALL: u8 = 4;
 
-/// The number of steps of a search between two lines of its progress.
+/// The number of steps of a search between two updates of its progress line.
 const STEPS: u32 = 250;
 
 /// An observer that ignores the progress of a search.
@@ -35,10 +35,11 @@ impl Watch for Nobody {
     fn see(&mut self, _count: usize) {}
 }
 
-/// The words of a search, or the faults of a design that can't be read.
+/// The output of a search, or the faults of a design that can't be read.
 pub type Told = Result<String, Vec<Fault>>;
 
-/// Explores all interleavings of the design in a text, and returns the words of the search; `file` is its name in them.
+/// Explores all interleavings of the design in a text, and returns the output of the search. `file` is the
+/// name of the design in the output.
 pub fn words_of(alloc: Global, file: &str, text: &[u8]) -> Result<Told, AllocError> {
     let design = match read(alloc, text)? {
         Reading::Good(design) => design,
@@ -58,7 +59,7 @@ pub fn words_of(alloc: Global, file: &str, text: &[u8]) -> Result<Told, AllocErr
     Ok(Ok(words))
 }
 
-/// Returns whether a file has a design, by its name.
+/// Returns whether a file has a design, judged by its name.
 pub fn is_design(file: &str) -> bool {
     file.ends_with(".design")
 }
@@ -96,7 +97,7 @@ fn print_listing<R: Print + Eprint + AllocGlobal>(
     Ok(ExitCode::SUCCESS)
 }
 
-/// Explores a design, from a file or from standard input, and prints the words of the search.
+/// Explores a design, from a file or from standard input, and prints the output of the search.
 pub fn run_explore<R: Files + Input + Print + Eprint + AllocGlobal>(
     rt: &R,
     run: &ExploreRun,
@@ -122,7 +123,7 @@ pub fn run_explore<R: Files + Input + Print + Eprint + AllocGlobal>(
     explore_source(rt, run, source)
 }
 
-/// Prints a design's listing, or explores the design and prints the words of the search.
+/// Prints a design's listing, or explores the design and prints the output of the search.
 fn explore_source<R: Print + Eprint + AllocGlobal>(
     rt: &R,
     run: &ExploreRun,
@@ -141,7 +142,8 @@ fn explore_source<R: Print + Eprint + AllocGlobal>(
     print_told(rt, run, file, words.as_str(), status)
 }
 
-/// Prints the words of a search, and returns its exit status. Without a run for `--script` they go to standard error.
+/// Prints the output of a search, and returns its exit status. If `--script` has no run to print, the output
+/// goes to standard error.
 fn print_told<R: Print + Eprint + AllocGlobal>(
     rt: &R,
     run: &ExploreRun,
@@ -163,7 +165,7 @@ fn print_told<R: Print + Eprint + AllocGlobal>(
     Ok(ExitCode::from(status))
 }
 
-/// Returns the words of a search, the first line of them in the colour of its outcome.
+/// Returns the output of a search. Its first line has the colour of the outcome.
 fn painted(alloc: Global, run: &ExploreRun, words: &str, status: u8) -> Result<String, AllocError> {
     let mood = match status {
         0 => Mood::Good,
@@ -175,7 +177,8 @@ fn painted(alloc: Global, run: &ExploreRun, words: &str, status: u8) -> Result<S
     format!(in alloc; "{begin}{first}{end}\n{rest}")
 }
 
-/// Returns the outcome of a search as an object of JSON: the design's file, the outcome in a word, the output's lines.
+/// Returns the outcome of a search as an object of JSON: the design's file, the outcome in short, and the
+/// lines of the output.
 fn object_of(alloc: Global, file: &str, output: &str, status: u8) -> Result<String, AllocError> {
     let outcome = match status {
         0 => "nothing",
@@ -198,7 +201,7 @@ fn object_of(alloc: Global, file: &str, output: &str, status: u8) -> Result<Stri
     Ok(out)
 }
 
-/// Makes the search that is asked for and shows its progress, and returns the output and the exit status.
+/// Makes the requested search and shows its progress. Returns the output and the exit status.
 fn search_shown<R: Eprint + AllocGlobal>(
     rt: &R,
     run: &ExploreRun,
@@ -217,7 +220,7 @@ fn search_shown<R: Eprint + AllocGlobal>(
     told
 }
 
-/// Explores all interleavings or makes random ones, and returns the output and the exit status.
+/// Explores all interleavings or makes random ones. Returns the output and the exit status.
 fn search<W: Watch>(
     run: &ExploreRun,
     source: Source<'_>,
@@ -241,7 +244,7 @@ fn search<W: Watch>(
     )
 }
 
-/// Returns the output for a fault; `which` says what kind of run shows it.
+/// Returns the output for a fault. `which` describes the run that shows it, such as `a shortest run`.
 fn fault_of(
     run: &ExploreRun,
     source: Source<'_>,

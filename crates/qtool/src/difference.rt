@@ -3,7 +3,7 @@
 use std::alloc::{AllocError, Global};
 use std::fmt;
 
-/// The first line in which two texts differ, as it is in each.
+/// The first line in which two texts differ, as both texts have it.
 #[derive(Drop)]
 pub struct Difference {
     /// Its number, counted from 1.
@@ -13,13 +13,14 @@ pub struct Difference {
 }
 
 impl Difference {
-    /// Returns the number of the call that the line is about, in the text that was found, or else in the wanted one.
+    /// Returns the number of the call that the found line is about. If that line has no number, returns the
+    /// number in the expected line.
     pub fn call(&self) -> Option<u64> {
         call_of(self.found.as_str()).or(call_of(self.wanted.as_str()))
     }
 }
 
-/// Returns the number at the front of a line of a trace, or behind `open`.
+/// Returns the number at the front of a line of a trace, or after `open`.
 fn call_of(line: &str) -> Option<u64> {
     let rest = line.strip_prefix("open ").unwrap_or(line);
     rest.split(' ').next()?.parse::<u64>().ok()
@@ -45,7 +46,8 @@ pub fn difference_of(alloc: Global, found: &[u8], wanted: &[u8]) -> Result<Diffe
     })
 }
 
-/// Returns the line with this number as it is shown: `?` for a byte that isn't printable, words for the text's end.
+/// Returns the line with this number for display. A byte that isn't printable is `?`. If the text ends in or
+/// before this line, `(end of text)` is at the end.
 fn shown_line(alloc: Global, text: &[u8], number: usize) -> Result<String, AllocError> {
     let mut shown = String::new(alloc);
     let mut line = 1usize;
@@ -62,7 +64,7 @@ fn shown_line(alloc: Global, text: &[u8], number: usize) -> Result<String, Alloc
     Ok(shown)
 }
 
-/// Returns a text without the carriage return in front of each line feed, as a script is read.
+/// Returns a text without the carriage return before each line feed. A script is read in the same way.
 pub fn without_returns(alloc: Global, text: &[u8]) -> Result<Vec<u8>, AllocError> {
     let mut plain = Vec::with_capacity(alloc, text.len())?;
     for (at, byte) in text.iter().enumerate() {

@@ -1,4 +1,4 @@
-//! Unproved: words and layout. Ends the program: with its statuses, and a line on standard error.
+//! Unproved: words and layout. Ends the program, with a status and a line on standard error.
 
 use crate::colours::{Mood, marks};
 use std::fmt::Display;
@@ -7,10 +7,10 @@ use std::process::ExitCode;
 use std::rt::Files;
 use std::{fs, io};
 
-/// The exit code of an action; the error is that of one that failed.
+/// The exit code of an action. An action that failed returns its exit code as an error.
 pub type End = Result<ExitCode, ExitCode>;
 
-/// Ends the program without a message, since nobody reads the output. The status is that of SIGPIPE, 141.
+/// Ends the program without a message, since nobody reads the output. The status is 141, as after SIGPIPE.
 pub fn end_quietly() -> ExitCode {
     ExitCode::from(141)
 }
@@ -20,7 +20,7 @@ pub fn tell_failed<D: Display + Drop>(rt: &impl Eprint, why: D) {
     tell_fault(rt, false, why);
 }
 
-/// The same with a colour, if standard error has colours.
+/// Prints a line with the reason on standard error, in colour if `has_colours` is set.
 pub fn tell_fault<D: Display + Drop>(rt: &impl Eprint, has_colours: bool, why: D) {
     let (begin, end) = marks(Mood::Bad, has_colours);
     let _ = eprintln!(rt; "{begin}qdemo:{end} {why}");

@@ -1,4 +1,4 @@
-//! One example: a script, and the trace that it has to print.
+//! One example: a script, and the trace that it should print.
 
 ghost use Rattle.std.specs.Prelude.{◌≡◌, IfOk};
 ghost use Rattle.qscript.specs.Script.{Runs};
@@ -11,15 +11,15 @@ use std::alloc::Global;
 /// The outcome of an example.
 #[derive(Drop)]
 pub enum Outcome {
-    /// It printed its trace.
+    /// The script printed its trace.
     Same,
-    /// It printed this.
+    /// The script printed these bytes.
     Differs(Vec<u8>),
-    /// It has no run, because of this fault.
+    /// The script has no run, because of this fault.
     Fault(ScriptFault),
 }
 
-/// Returns what a script prints: the text of a lawful run of it.
+/// Returns the output of a script: the text of a valid run of it.
 pub fn printed(alloc: Global, input: &[u8]) -> Result<Vec<u8>, ScriptFault>
     ensures { IfOk result (λ text. Runs input.now text.items) }
 {
@@ -29,8 +29,8 @@ pub fn printed(alloc: Global, input: &[u8]) -> Result<Vec<u8>, ScriptFault>
     Ok(writer.into_inner())
 }
 
-/// Runs a script, and compares what it prints with its trace. If they are the same, the trace is the text of a lawful
-/// run of the script.
+/// Runs a script, and compares its output with its trace. If they are the same, the trace is the text of a
+/// valid run of the script.
 pub fn outcome_of(alloc: Global, input: &[u8], trace: &[u8]) -> Outcome
     ensures same { result ≡ Outcome.Same → Runs input.now trace.now }
 {

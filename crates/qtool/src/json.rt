@@ -16,7 +16,7 @@ pub fn quoted(alloc: Global, text: &str) -> Result<String, AllocError> {
     Ok(out)
 }
 
-/// Adds the object of a line, of a call that ended or is open: its first three words, and what follows them.
+/// Adds the object of a line about a completed or open call: its first three words, and the words after them.
 fn push_object(alloc: Global, out: &mut String, line: &str) -> Result<(), AllocError> {
     let (first, rest) = line.split_once(' ').unwrap_or((line, ""));
     let (call, rest) = rest.split_once(' ').unwrap_or((rest, ""));

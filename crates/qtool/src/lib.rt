@@ -1,4 +1,5 @@
-//! Unproved: words and layout. The program except the server on threads: its command line, scripts and designs.
+//! Unproved: words and layout. The program without the server on threads: its command line, scripts and
+//! designs.
 #![tactic(auto)]
 
 pub mod charts;

@@ -12,7 +12,7 @@ use std::mem;
 use std::process::ExitCode;
 use std::rt::Files;
 
-/// Returns whether a file has a script with names, by its name.
+/// Returns whether a file has a script with names, judged by its name.
 pub fn is_named(file: &str) -> bool {
     file.ends_with(".names")
 }
@@ -26,8 +26,8 @@ pub fn named_of<R: Eprint + AllocGlobal>(rt: &R, source: Source<'_>) -> Result<N
     }
 }
 
-/// Runs the script with names in a file or in standard input, or prints its plain script: prints its trace, and reports
-/// what differs from the expectations.
+/// Runs the script with names in a file or in standard input. Prints its trace, and reports the differences
+/// from its expectations. With `--plain` it prints the plain script and runs nothing.
 pub fn run_named<R: Files + Input + Print + Eprint + AllocGlobal>(rt: &R, run: &ScriptRun) -> End {
     let file = run.file.as_deref();
     let text = text_of(rt, file)?;
@@ -43,7 +43,7 @@ pub fn run_named<R: Files + Input + Print + Eprint + AllocGlobal>(rt: &R, run: &
     }
 }
 
-/// Prints the trace of a script with names, and reports what differs from the expectations.
+/// Prints the trace of a script with names, and reports the differences from its expectations.
 fn print_outcome<R: Print + Eprint + AllocGlobal>(
     rt: &R,
     run: &ScriptRun,
@@ -60,10 +60,11 @@ fn print_outcome<R: Print + Eprint + AllocGlobal>(
     Err(source.end_faulty(rt, faults.as_slice()))
 }
 
-/// The outcome of a script with names: its trace, what the trace doesn't say, and what differs from its expectations.
+/// The outcome of a script with names: its trace, the report on its run, and the differences from its
+/// expectations.
 type Outcome = (String, Report, Vec<Fault>);
 
-/// Runs a script with names once, and returns its outcome; the trace has the names if `in_names` is set.
+/// Runs a script with names once, and returns its outcome. The trace has the names if `in_names` is set.
 fn outcome_of(alloc: Global, named: &mut Named, in_names: bool) -> Result<Outcome, AllocError> {
     let calls = named.check.calls.iter();
     let lines = calls.map(|call| call.place.line as usize).collect(alloc)?;
@@ -74,7 +75,8 @@ fn outcome_of(alloc: Global, named: &mut Named, in_names: bool) -> Result<Outcom
     Ok((if in_names { told } else { plain }, report, faults))
 }
 
-/// Makes the calls of a script with names, adds the trace if `in_names` is set, and returns what isn't as expected.
+/// Makes the calls of a script with names, and returns the differences from its expectations. Adds the trace
+/// if `in_names` is set.
 fn make_all(
     run: &mut ReportedRun,
     named: &mut Named,
@@ -97,7 +99,8 @@ fn make_all(
     check.take_faults()
 }
 
-/// Returns the faults of a script with names, or else what differs from its expectations in its run.
+/// Returns the faults of a script with names. If there are none, returns the differences of its run from its
+/// expectations.
 pub fn faults_of(alloc: Global, text: &[u8]) -> Result<Vec<Fault>, AllocError> {
     match read(alloc, text)? {
         Reading::Good(mut named) => {

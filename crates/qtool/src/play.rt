@@ -1,5 +1,5 @@
-//! Unproved: words and layout. Plays with a kernel: each line of the input is a line of a script or
-//! a command, and is answered at once.
+//! Unproved: words and layout. Plays with a kernel: each line of the input is a line of a script or a
+//! command, and is answered at once.
 
 mod order;
 pub mod sheet;
@@ -48,8 +48,9 @@ struct Play<'a, R> {
     colours: bool,
 }
 
-/// Plays with the script of a file, or without one. Lines come from standard input. If that isn't a terminal, the
-/// blocked threads are printed at its end, as at the end of a script, and the status is 1 if a line was faulty.
+/// Plays with the script of a file, or without a script. Lines come from standard input. If standard input
+/// isn't a terminal, the blocked threads are printed at its end, as at the end of a script. Then the status
+/// is 1 if a line was faulty.
 pub fn run_play<R: Files + Input + Print + Eprint + AllocGlobal>(
     rt: &R,
     run: &PlayRun,
@@ -66,9 +67,9 @@ pub fn run_play<R: Files + Input + Print + Eprint + AllocGlobal>(
     play.run(run.file.as_deref())
 }
 
-/// The error of its methods is that of standard output, or of memory.
+/// The methods fail if standard output can't be written, or if memory runs out.
 impl<R: Files + Input + Print + Eprint + AllocGlobal> Play<'_, R> {
-    /// Plays with the script of this file, or without one.
+    /// Plays with the script of this file, or without a script.
     fn run(&mut self, file: Option<&str>) -> Result<ExitCode, ExitCode> {
         let rt = self.rt;
         if let Some(name) = file {
@@ -81,12 +82,13 @@ impl<R: Files + Input + Print + Eprint + AllocGlobal> Play<'_, R> {
         self.go_on().map_err(|error| end_unwritten(rt, error))
     }
 
-    /// Prints bytes as they are.
+    /// Prints bytes unchanged.
     fn print(&self, bytes: &[u8]) -> io::Result<()> {
         io::writer(self.rt).write_all(bytes)
     }
 
-    /// Begins with the script of a file, and returns whether it has no fault. Faults are reported as by `script`.
+    /// Begins with the script of a file, and returns whether it has no fault. Faults are reported as `script`
+    /// reports them.
     fn take_file(&mut self, text: &[u8], name: &str) -> io::Result<bool> {
         let file = Some(name);
         let taken = if is_named(name) {
@@ -111,14 +113,15 @@ impl<R: Files + Input + Print + Eprint + AllocGlobal> Play<'_, R> {
         Ok(false)
     }
 
-    /// Reports faults of a script with names by their places in its text, which is that of a file or the lines read.
+    /// Reports faults of a script with names. Their places are in `text`, the text of a file or the lines
+    /// read so far.
     fn tell_faults(&mut self, faults: &[Fault], file: Option<&str>, text: &[u8]) {
         self.faulty = self.faulty || !faults.is_empty();
         let source = Source::new(file, text, self.terminal, self.colours);
         source.tell_faults(self.rt, faults);
     }
 
-    /// Reads lines and answers them, up to the end of the input or to `quit`, and returns the exit code.
+    /// Reads lines and answers them, up to the end of the input or to `quit`. Returns the exit code.
     fn go_on(&mut self) -> io::Result<ExitCode> {
         let mut input = BufReader::new(self.rt.alloc(), self.rt.reader())?;
         for _ in 0..u64::MAX {
@@ -140,7 +143,7 @@ impl<R: Files + Input + Print + Eprint + AllocGlobal> Play<'_, R> {
         Ok(ExitCode::from(u8::from(self.faulty && !self.terminal)))
     }
 
-    /// Carries out the order of a line, and returns whether the play goes on.
+    /// Does the action of a line, and returns whether the play continues.
     fn answer(&mut self, line: &[u8]) -> io::Result<bool> {
         self.lines = self.lines.saturating_add(1);
         match order_of(without_end(line)) {
@@ -169,7 +172,7 @@ impl<R: Files + Input + Print + Eprint + AllocGlobal> Play<'_, R> {
         self.print(b"\n")
     }
 
-    /// Reports that a line can't be carried out.
+    /// Reports that the action of a line can't be done.
     fn refuse(&mut self, why: &str) {
         self.faulty = true;
         if self.terminal {
@@ -195,7 +198,7 @@ impl<R: Files + Input + Print + Eprint + AllocGlobal> Play<'_, R> {
         }
     }
 
-    /// Adds a line to the script, and prints what it adds to the trace.
+    /// Adds a line to the script, and prints its part of the trace.
     fn take(&mut self, line: &[u8]) -> io::Result<()> {
         match self.sheet.add(line) {
             Ok(Taken::Added(printed, faults)) => {
@@ -216,14 +219,14 @@ impl<R: Files + Input + Print + Eprint + AllocGlobal> Play<'_, R> {
         Ok(())
     }
 
-    /// Returns the lines so far with this one behind them, without adding it.
+    /// Returns the lines so far and this line after them. The line isn't added.
     fn text_with(&self, line: &[u8]) -> Result<Vec<u8>, AllocError> {
         let mut text = Vec::from_slice(self.rt.alloc(), self.sheet.text())?;
         text.extend_from_slice(line)?;
         Ok(text)
     }
 
-    /// Reports faults of the lines so far with this one behind them.
+    /// Reports faults of the lines so far and of this line after them.
     fn tell_typed(&mut self, faults: &[Fault], line: &[u8]) -> io::Result<()> {
         if !faults.is_empty() {
             let text = self.text_with(line)?;
@@ -246,7 +249,7 @@ impl<R: Files + Input + Print + Eprint + AllocGlobal> Play<'_, R> {
         Ok(())
     }
 
-    /// Prints why calls failed, who is blocked now, and which threads wait in a circle.
+    /// Prints why calls failed, which threads are blocked now, and which threads wait in a circle.
     fn tell_more(&self) -> io::Result<()> {
         let names = self.sheet.shown();
         if let Some(run) = self.sheet.session().run() {
@@ -260,7 +263,8 @@ impl<R: Files + Input + Print + Eprint + AllocGlobal> Play<'_, R> {
         Ok(())
     }
 
-    /// Prints the blocked threads at the end, unless the input is a terminal, and what isn't as expected then.
+    /// Prints the blocked threads at the end, unless the input is a terminal, and the differences from the
+    /// expectations.
     fn finish(&mut self) -> io::Result<()> {
         if !self.terminal {
             let blocked = self.sheet.session().blocked(self.sheet.shown())?;

@@ -1,5 +1,5 @@
-//! Unproved: words and layout. Writes remarks on a script to standard error: all its faults, its
-//! oddities, why its calls failed, and who is blocked on whom.
+//! Unproved: words and layout. Writes remarks on a script to standard error: all its faults, its oddities,
+//! why its calls failed, and who is blocked on whom.
 
 use crate::colours::{Mood, marks};
 use crate::ending::tell_fault;
@@ -11,7 +11,8 @@ use qreading::place::Fault;
 use std::io;
 use std::process::ExitCode;
 
-/// The source of faults: its file's name, its text, whether faulty lines are shown, and whether errors have colours.
+/// The source of faults: its file's name, its text, whether faulty lines are shown, and whether errors have
+/// colours.
 #[derive(Clone, Copy)]
 pub struct Source<'a> {
     pub file: Option<&'a str>,
@@ -31,7 +32,7 @@ impl<'a> Source<'a> {
         }
     }
 
-    /// Prints faults, a line for each, and below it the faulty line with a mark, if it is to be shown.
+    /// Prints a line for each fault, and below it the faulty line with a mark, if `shows` is set.
     pub fn tell_faults<R: Eprint + AllocGlobal>(self, rt: &R, faults: &[Fault]) {
         for fault in faults {
             let Fault { place, what } = fault;
@@ -103,8 +104,8 @@ impl<'a> Source<'a> {
     }
 }
 
-/// Prints the faults of a plain script: explains them, at most twenty, if they are shown, or else prints the first alone.
-/// Returns whether there was memory for that.
+/// Prints the faults of a plain script. If `shows` is set, they are explained, at most twenty; otherwise only
+/// the first is printed. Returns false if memory ran out or no fault was found.
 pub fn tell_faults<R: Eprint + AllocGlobal>(rt: &R, source: Source<'_>) -> bool {
     let Ok(remarks) = faults(rt.alloc(), source.text) else {
         return false;

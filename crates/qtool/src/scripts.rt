@@ -17,8 +17,9 @@ use std::process::ExitCode;
 use std::rt::Files;
 use std::{fs, io};
 
-/// Runs a script, from a file or from standard input. It has names if its file is called so, or `names_in` says it, and
-/// is plain otherwise. A faulty line is explained on a terminal, or if explanations are asked for.
+/// Runs a script, from a file or from standard input. It is a script with names if its file is called
+/// `NAME.names` or `names_in` is set, and a plain script otherwise. A faulty line is explained on a terminal,
+/// or if explanations are requested.
 pub fn run_script<R: Files + Input + Print + Eprint + AllocGlobal>(rt: &R, run: &ScriptRun) -> End {
     let file = run.file.as_deref();
     match file {
@@ -35,7 +36,7 @@ pub fn run_script<R: Files + Input + Print + Eprint + AllocGlobal>(rt: &R, run: 
     }
 }
 
-/// Runs the plain script that this reader gives.
+/// Runs the plain script from this reader.
 fn run_plain<R: Print + Eprint + AllocGlobal, S: Read + Drop>(
     rt: &R,
     run: &ScriptRun,
@@ -54,7 +55,8 @@ fn run_plain<R: Print + Eprint + AllocGlobal, S: Read + Drop>(
     }
 }
 
-/// Runs the script that this reader gives, and reports on the same run. The status of a failed strict run is 1.
+/// Runs the script from this reader, and reports on the same run. With `--strict` the status is 1 if a call
+/// failed.
 fn explain_from<R: Print + Eprint + AllocGlobal, S: Read + Drop>(
     rt: &R,
     run: &ScriptRun,
@@ -76,7 +78,7 @@ fn explain_from<R: Print + Eprint + AllocGlobal, S: Read + Drop>(
     Ok(ExitCode::from(u8::from(is_refused)))
 }
 
-/// Prints a trace, or its objects of JSON if these are asked for.
+/// Prints a trace, or its objects of JSON if they are requested.
 pub fn print_trace<R: Print + Eprint + AllocGlobal>(
     rt: &R,
     run: &ScriptRun,
@@ -89,8 +91,9 @@ pub fn print_trace<R: Print + Eprint + AllocGlobal>(
     print_text(rt, objects.as_str())
 }
 
-/// Ends the program for a script that has no run, and prints why: its faults with explanations if these are asked for,
-/// else the first, with its place if the script has a file.
+/// Ends the program for a script that has no run, and prints why. If explanations are requested, or on a
+/// terminal, its faults are explained. Otherwise only the first fault is printed, with its place if the
+/// script has a file.
 fn end_faulty<R: Eprint + AllocGlobal, S>(
     rt: &R,
     run: &ScriptRun,

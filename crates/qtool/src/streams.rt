@@ -4,8 +4,8 @@ use std::alloc::Global;
 use std::io;
 use std::io::{Read, Write};
 
-/// A reader that remembers why a read failed, and also keeps the bytes if `keeps` is set. If memory runs out, it keeps
-/// nothing.
+/// A reader that remembers the error of the last failed read. If `keeps` is set, it also keeps the bytes. If
+/// memory for them runs out, it keeps nothing.
 #[derive(Drop)]
 pub struct Source<R> {
     inner: R,
@@ -14,7 +14,7 @@ pub struct Source<R> {
 }
 
 impl<R> Source<R> {
-    /// Returns a reader over this one, which keeps the bytes if `keeps` is set.
+    /// Returns a reader that wraps this reader, and keeps the bytes if `keeps` is set.
     pub fn new(alloc: Global, inner: R, keeps: bool) -> Self {
         Source {
             inner,
@@ -23,7 +23,7 @@ impl<R> Source<R> {
         }
     }
 
-    /// Returns why the last failed read failed.
+    /// Returns the error of the last failed read.
     pub fn error(&self) -> Option<io::Error> {
         self.error
     }
@@ -33,7 +33,7 @@ impl<R> Source<R> {
         self.kept.as_ref().map(|kept| kept.as_slice())
     }
 
-    /// Appends bytes to those that are kept.
+    /// Appends bytes to the kept bytes.
     fn keep(&mut self, bytes: &[u8]) {
         if let Some(kept) = &mut self.kept
             && kept.extend_from_slice(bytes).is_err()
@@ -54,7 +54,7 @@ impl<R: Read> Read for Source<R> {
     }
 }
 
-/// A writer that remembers whether a write failed because nobody reads the output any more.
+/// A writer that remembers whether a write failed because nobody reads the output.
 #[derive(Drop)]
 pub struct Outlet<W> {
     inner: W,
@@ -62,7 +62,7 @@ pub struct Outlet<W> {
 }
 
 impl<W> Outlet<W> {
-    /// Returns a writer over this one.
+    /// Returns a writer that wraps this writer.
     pub fn new(inner: W) -> Self {
         Outlet {
             inner,

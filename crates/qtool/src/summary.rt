@@ -17,7 +17,7 @@ fn key_and_unit(name: &str) -> (&str, &'static str) {
     time.map_or((name, ""), |time| (time.1, time.2))
 }
 
-/// Returns the lines, each `NAME NUMBER`, with the units of the times behind.
+/// Returns the lines, each `NAME NUMBER`, with the units after the times.
 pub fn with_units(alloc: Global, lines: &str) -> Result<String, AllocError> {
     let mut text = String::new(alloc);
     for line in lines.lines() {

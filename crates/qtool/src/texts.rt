@@ -27,13 +27,13 @@ set.";
 pub struct Texts {
     /// Its work, in a line.
     pub about: &'static str,
-    /// Its work.
+    /// Its work, in full.
     pub long: &'static str,
     /// The text below its help.
     pub example: &'static str,
 }
 
-/// The texts with this work in a line, which also begins the longer text.
+/// Makes the texts of a subcommand. The line about its work also begins the longer text.
 macro_rules! texts {
     ($about:literal, $more:literal, $example:literal) => {
         Texts {

@@ -21,22 +21,22 @@ use std::mem;
 #[derive(Drop)]
 pub struct Check {
     alloc: Global,
-    /// What the names stand for: those of all lines, or of the lines so far.
+    /// The definitions of all lines, or of the lines so far.
     pub scope: Scope,
-    /// The expectations at each call.
+    /// The expectations of each call.
     pub calls: Vec<CallCheck>,
-    /// The lines that say a state, and how many of them are compared.
+    /// The lines with a state. The first `compared` of them have been compared.
     pub states: Vec<StateCheck>,
     compared: usize,
-    /// How the calls so far ended.
+    /// The completions of the calls so far. The entry of an open call is `None`.
     ends: Vec<Option<End>>,
-    /// The expected ends of other calls that hadn't ended then: the number of the call whose line says it, and its
-    /// place among the followers there.
+    /// The expected results of other calls that weren't complete at that time. An entry is the number of the
+    /// call whose line has the expectation, and its index among the followers of that line.
     waiting: Vec<(u64, usize)>,
     faults: Vec<Fault>,
 }
 
-/// Returns the number that an operand stands for, or 0 if it isn't a number.
+/// Returns the number that an operand means, or 0 if it isn't a number.
 fn operand_number(scope: &Scope, operand: &Operand) -> u64 {
     match operand {
         Operand::Name(mention) => scope.number(&mention.name),
@@ -46,12 +46,13 @@ fn operand_number(scope: &Scope, operand: &Operand) -> u64 {
     }
 }
 
-/// Returns whether this name of a state is the wanted one; `blocked` is any but `ready`.
+/// Returns whether a state with this name matches the expected name. `blocked` matches each state but
+/// `ready`.
 fn is_state(name: &str, wanted: &str) -> bool {
     name == wanted || wanted == "blocked" && name != "ready"
 }
 
-/// The difference of what came from what was expected, if there is one.
+/// The difference between a result and the expected result, if there is one.
 type Difference = Result<Option<Fault>, AllocError>;
 
 fn difference_at(place: Place, what: Result<String, AllocError>) -> Difference {
@@ -59,7 +60,8 @@ fn difference_at(place: Place, what: Result<String, AllocError>) -> Difference {
 }
 
 impl Check {
-    /// Returns the check of a script before its first call; these are the expectations of its calls, and between them.
+    /// Returns the comparison before the first call. `calls` has the expectations of each call, and `states`
+    /// the lines with a state.
     pub fn new(
         alloc: Global,
         scope: Scope,
@@ -78,14 +80,15 @@ impl Check {
         }
     }
 
-    /// Returns the differences that were found since they were asked for last, in the order of their places.
+    /// Returns the differences that were found since the last call of this function, in the order of their
+    /// places.
     pub fn take_faults(&mut self) -> Result<Vec<Fault>, AllocError> {
         let mut faults = mem::replace(&mut self.faults, Vec::new(self.alloc));
         faults.sort_by_key(|fault| (fault.place.line, fault.place.column))?;
         Ok(faults)
     }
 
-    /// Returns what the words of the fault of a name need.
+    /// Returns the context for messages about names.
     pub fn context(&self) -> Context<'_> {
         Context {
             alloc: self.alloc,
@@ -101,7 +104,7 @@ impl Check {
         Ok(())
     }
 
-    /// Returns the expectations at the call with this number.
+    /// Returns the expectations of the call with this number.
     pub fn at(&self, call: u64) -> Option<&CallCheck> {
         self.calls.get(call.checked_sub(1)? as usize)
     }
@@ -111,12 +114,13 @@ impl Check {
         self.at(call).map_or(0, |check| check.place.line)
     }
 
-    /// Returns how the call with this number ended.
+    /// Returns the completion of the call with this number.
     fn end_of(&self, call: u64) -> Option<&End> {
         self.ends.get(call.checked_sub(1)? as usize)?.as_ref()
     }
 
-    /// Compares how calls ended in the event of the next call, which this kernel made, and the states after it.
+    /// Compares the completions in the event of the next call, which this kernel made, and the states after
+    /// it.
     pub fn follow(&mut self, kernel: &Kernel, endings: &[Completion]) -> Result<(), AllocError> {
         self.ends.push(None)?;
         let event = self.ends.len() as u64;
@@ -131,7 +135,8 @@ impl Check {
         self.compare_states(Some(kernel))
     }
 
-    /// Compares the states that lines say behind the calls so far. Each thread is ready if there is no kernel yet.
+    /// Compares the states in the lines after the calls so far. Each thread is ready if there is no kernel
+    /// yet.
     pub fn compare_states(&mut self, kernel: Option<&Kernel>) -> Result<(), AllocError> {
         for _ in 0..self.states.len() {
             let Some(check) = self.next_state() else {
@@ -144,13 +149,13 @@ impl Check {
         Ok(())
     }
 
-    /// Returns the next line that says a state, if it stands behind the calls so far.
+    /// Returns the next line with a state, if all calls above it have been made.
     fn next_state(&self) -> Option<&StateCheck> {
         let check = self.states.get(self.compared)?;
         (check.calls <= self.ends.len() as u64).then_some(check)
     }
 
-    /// Keeps how a call ended.
+    /// Keeps the completion of a call.
     fn note(&mut self, event: u64, ending: &Completion) -> Result<(), AllocError> {
         let Some(check) = self.at(ending.call) else {
             return Ok(());
@@ -171,7 +176,7 @@ impl Check {
         Ok(())
     }
 
-    /// Returns how the end of a call differs from what its own line expects.
+    /// Returns the difference between the completion of a call and the expectation of its own line.
     fn own_difference(&self, call: u64) -> Difference {
         let (Some(check), Some(end)) = (self.at(call), self.end_of(call)) else {
             return Ok(None);
@@ -184,7 +189,7 @@ impl Check {
         }
     }
 
-    /// Returns how the end of a call differs from the expected one.
+    /// Returns the difference between a completion and the expected result.
     fn difference(&self, end: &End, expected: &Expectation) -> Difference {
         if let Ending::Parts(patterns) = &expected.ending
             && end.fits(self.context(), patterns.as_slice())?
@@ -197,7 +202,7 @@ impl Check {
         difference_at(expected.place, what)
     }
 
-    /// Returns `COMPLETION came`, and the line of the call that brought it, if that isn't this line.
+    /// Returns `RESULT came`, and the line of the call that completed it, if that isn't this line.
     fn came(&self, end: &End, here: u64) -> Result<String, AllocError> {
         let came = end.told(self.context())?;
         let line = self.line_of(end.event);
@@ -207,7 +212,7 @@ impl Check {
         format!(in self.alloc; "{came} came (line {line})")
     }
 
-    /// Returns the failure of a call that no line expects.
+    /// Returns the failure of a call, if no line expects it.
     fn silent_difference(&self, call: u64, check: &CallCheck, end: &End) -> Difference {
         if !matches!(end.mark, Mark::Failed(_)) || self.is_followed(call, end.event) {
             return Ok(None);
@@ -218,7 +223,7 @@ impl Check {
         difference_at(check.place, what)
     }
 
-    /// Returns whether the line of the call that ended this one says how it ends.
+    /// Returns whether the line of the call that completed this call has an expectation for it.
     fn is_followed(&self, call: u64, event: u64) -> bool {
         let Some(check) = self.at(event) else {
             return false;
@@ -227,8 +232,8 @@ impl Check {
         followers.any(|follower| self.scope.number(&follower.name) == call)
     }
 
-    /// Compares the ends of other calls that this call's line expects, and those that an earlier line expected to end
-    /// there, and that ended in this event.
+    /// Compares the results that the line of this call, or an earlier line, expects of other calls. If the
+    /// other call is still open, its expected result is kept for later events.
     fn compare_followers(&mut self, event: u64) -> Result<(), AllocError> {
         let mut expected = mem::replace(&mut self.waiting, Vec::new(self.alloc));
         let count = self.at(event).map_or(0, |check| check.followers.len());
@@ -249,13 +254,15 @@ impl Check {
         Ok(())
     }
 
-    /// Returns an expectation of the line of a call about another call, and how that ended if it has.
+    /// Returns an expectation of a line about another call, and the completion of that call, if it is
+    /// complete.
     fn follower(&self, event: u64, place: usize) -> Option<(&Follower, Option<&End>)> {
         let follower = self.at(event)?.followers.get(place)?;
         Some((follower, self.end_of(self.scope.number(&follower.name))))
     }
 
-    /// Returns how the end of a call differs from what the line of the call numbered `event` expects.
+    /// Returns the difference between the completion of a call and the expectation in the line of call
+    /// `event`.
     fn follower_difference(&self, event: u64, follower: &Follower, end: &End) -> Difference {
         if end.event == event || matches!(follower.expectation.ending, Ending::Blocked) {
             return self.difference(end, &follower.expectation);
@@ -269,7 +276,7 @@ impl Check {
         difference_at(follower.place, what)
     }
 
-    /// Returns how the state of a thread now differs from what a line says.
+    /// Returns the difference between the present state of a thread and the state in a line.
     fn state_difference(&self, kernel: Option<&Kernel>, check: &StateCheck) -> Difference {
         let thread = operand_number(&self.scope, &check.thread);
         let now = match (kernel, u8::try_from(thread)) {
@@ -292,8 +299,8 @@ impl Check {
         difference_at(check.place, what)
     }
 
-    /// Adds a line for each of these endings, which came in the latest call: the line of that call, the call that ended,
-    /// and how, with names in place of numbers.
+    /// Adds a line for each of these completions of the latest call. The line has the line number of that
+    /// call, the completed call and its result, with names in place of numbers.
     pub fn push_trace(&self, out: &mut String, endings: &[Completion]) -> Result<(), AllocError> {
         let line = self.line_of(self.ends.len() as u64);
         for ending in endings {
@@ -312,7 +319,7 @@ impl Check {
         Ok(())
     }
 
-    /// Compares what is left at the end of the run: calls that are expected to end, and haven't.
+    /// Compares what remains at the end of the run: calls that are expected to complete, and haven't.
     pub fn finish(&mut self, kernel: &Kernel) -> Result<(), AllocError> {
         for call in 1..=self.ends.len() as u64 {
             let own = self.at(call).and_then(|check| check.own.as_ref());
@@ -331,7 +338,7 @@ impl Check {
         Ok(())
     }
 
-    /// Returns the difference of a call that has to end and hasn't.
+    /// Returns the difference for a call that is expected to complete, and hasn't.
     fn open_difference(&self, kernel: &Kernel, call: u64, expected: &Expectation) -> Difference {
         if matches!(expected.ending, Ending::Blocked) {
             return Ok(None);

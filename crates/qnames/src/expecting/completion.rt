@@ -1,4 +1,5 @@
-//! A completion, as expectations see it: its parts, and its words with names in place of numbers.
+//! The parts of a completion, which expectations are compared with, and its words, with names in place of
+//! numbers.
 
 use crate::expectation::Pattern;
 use crate::scope::Scope;
@@ -14,17 +15,17 @@ use qreading::lexing::quoted::shown_bytes;
 use qreading::states::{state_channel, state_word};
 use std::alloc::{AllocError, Global};
 
-/// The end of a call.
+/// The completion of a call.
 #[derive(Drop)]
 pub struct End {
-    /// The number of the call that ended it, which may be its own.
+    /// The number of the call that completed it, which may be its own number.
     pub event: u64,
     pub mark: Mark,
     /// The bytes of its buffer, if the call has one.
     pub buffer: Option<Bytes>,
 }
 
-/// A part of a completion, in the order in which a trace prints the parts.
+/// A part of a completion. A trace prints the parts in the same order.
 #[derive(Clone, Copy)]
 enum Part<'a> {
     Word(&'static str),
@@ -35,7 +36,7 @@ enum Part<'a> {
     Process(u8),
     /// The number of bytes that were copied into the buffer.
     Copied(usize),
-    /// The number of bytes that a call counts.
+    /// The number of bytes that a Read or a Write copied.
     Counted(usize),
     Buffer(&'a [u8]),
 }
@@ -44,7 +45,7 @@ enum Part<'a> {
 type Parts<'a> = Vec<Part<'a>>;
 
 impl Part<'_> {
-    /// Returns its number, if it is one.
+    /// Returns the number of the part, if it has one.
     fn number(self) -> Option<i128> {
         match self {
             Part::Number(number) => Some(number),
@@ -55,7 +56,7 @@ impl Part<'_> {
         }
     }
 
-    /// Returns whether it fits a pattern.
+    /// Returns whether the part matches a pattern.
     fn fits(self, scope: &Scope, pattern: &Pattern) -> bool {
         match (pattern, self) {
             (Pattern::Any, _) => true,
@@ -74,7 +75,7 @@ impl Part<'_> {
     }
 }
 
-/// Adds the parts of an Info.
+/// Adds the parts of the result of an Info.
 fn push_info(parts: &mut Parts<'_>, info: Info) -> Result<(), AllocError> {
     parts.extend_from_slice(&[
         Part::Word("info"),
@@ -118,7 +119,7 @@ fn push_state(parts: &mut Parts<'_>, state: &ThreadState, priority: u8) -> Resul
     Ok(())
 }
 
-/// Adds the parts of a mark.
+/// Adds the parts of a result.
 fn push_mark(parts: &mut Parts<'_>, mark: Mark) -> Result<(), AllocError> {
     match mark {
         Mark::Ok => parts.extend_from_slice(&[Part::Word("ok")]),
@@ -152,7 +153,7 @@ fn push_mark(parts: &mut Parts<'_>, mark: Mark) -> Result<(), AllocError> {
 }
 
 impl End {
-    /// Returns its parts.
+    /// Returns the parts of the completion.
     fn parts(&self, alloc: Global) -> Result<Parts<'_>, AllocError> {
         let mut parts = Vec::with_capacity(alloc, 9)?;
         push_mark(&mut parts, self.mark)?;
@@ -162,7 +163,7 @@ impl End {
         Ok(parts)
     }
 
-    /// Returns whether its first parts fit these patterns.
+    /// Returns whether the first parts match these patterns.
     pub fn fits(&self, names: Context<'_>, patterns: &[Pattern]) -> Result<bool, AllocError> {
         let parts = self.parts(names.alloc)?;
         if parts.len() < patterns.len() {
@@ -172,7 +173,8 @@ impl End {
         Ok(pairs.all(|(pattern, part)| part.fits(names.scope, pattern)))
     }
 
-    /// Returns its words, with names in place of numbers, and of its buffer only the bytes that were copied.
+    /// Returns the words of the completion, with names in place of numbers. Only the copied bytes of its
+    /// buffer are shown.
     pub fn told(&self, names: Context<'_>) -> Result<String, AllocError> {
         let mut out = String::new(names.alloc);
         for part in &self.parts(names.alloc)? {

@@ -14,11 +14,12 @@ pub struct NameCheck<'a> {
     context: Context<'a>,
     extent: Extent,
     pub faults: Vec<Fault>,
-    /// Whether a name in an ending stands for nothing yet.
+    /// Whether a name in an expected result isn't defined yet.
     pub is_open: bool,
 }
 
-/// Returns whether a name of a kind may stand where another kind is wanted. Each call that ends has a name.
+/// Returns whether a name of this kind is valid where the kind `wanted` is needed. Each name but a thread's
+/// name is the name of a call.
 fn may_stand(kind: Kind, wanted: Kind) -> bool {
     match wanted {
         Kind::Call => kind != Kind::Thread,
@@ -37,7 +38,7 @@ impl<'a> NameCheck<'a> {
         }
     }
 
-    /// Checks a name that has to stand for something of a kind.
+    /// Checks a name that must have this kind.
     fn name(&mut self, place: Place, name: &Word, wanted: Kind) -> Result<(), AllocError> {
         let error = match self.context.scope.latest(name) {
             None => NameError::Undefined,
@@ -58,7 +59,7 @@ impl<'a> NameCheck<'a> {
         Ok(())
     }
 
-    /// Checks a name in an ending. It may stand for something that a later line makes.
+    /// Checks a name in an expected result. A later line may define it.
     fn ending(&mut self, mention: &Mention) -> Result<(), AllocError> {
         if self.extent == Extent::Front && self.context.scope.latest(&mention.name).is_none() {
             self.is_open = true;
@@ -67,7 +68,7 @@ impl<'a> NameCheck<'a> {
         self.name(mention.place, &mention.name, mention.wanted)
     }
 
-    /// Checks the names in the expected end of a call.
+    /// Checks the names in an expected result.
     fn expectation(&mut self, expectation: &Expectation) -> Result<(), AllocError> {
         let Ending::Parts(patterns) = &expectation.ending else {
             return Ok(());
@@ -94,7 +95,7 @@ impl<'a> NameCheck<'a> {
         Ok(())
     }
 
-    /// Checks the names in a line that says the state of a thread.
+    /// Checks the names in a line with a state.
     pub fn state(&mut self, check: &StateCheck) -> Result<(), AllocError> {
         if let Operand::Name(mention) = &check.thread {
             self.name(mention.place, &mention.name, mention.wanted)?;

@@ -1,4 +1,5 @@
-//! Reads the expectations of a line: how its own call ends, and the calls that it ends.
+//! Reads the expectations of a line: the result of its own call, and the results of other calls that it
+//! completes.
 
 ghost use Rattle.std.specs.Prelude.{◌≤◌, length};
 
@@ -12,7 +13,7 @@ use qreading::place::{Place, ReadError, fault_in_words};
 use qreading::word::Word;
 use std::alloc::{AllocError, Global};
 
-/// Returns the part of a line that these tokens take.
+/// Returns the text of a line from the first of these tokens to the last.
 pub fn text_of(alloc: Global, line: &[u8], tokens: &[Token<'_>]) -> Result<Word, AllocError> {
     let (Some(from), Some(to)) = (tokens.first(), tokens.last()) else {
         return Word::of(alloc, "");
@@ -23,7 +24,7 @@ pub fn text_of(alloc: Global, line: &[u8], tokens: &[Token<'_>]) -> Result<Word,
     word_of(alloc, text.unwrap_or(&[]))
 }
 
-/// Reads an expected end: the words behind an arrow.
+/// Reads an expected result: the words after an arrow.
 fn expectation(
     alloc: Global,
     arrow: &Token<'_>,
@@ -41,7 +42,7 @@ fn expectation(
     })
 }
 
-/// Reads the expected end of a call that another call ends: `NAME -> ENDING`.
+/// Reads the expected result of another call, which the call of this line completes: `NAME -> RESULT`.
 fn follower(
     alloc: Global,
     semicolon: &Token<'_>,
@@ -75,7 +76,8 @@ fn semicolon_at(tokens: &[Token<'_>]) -> usize
     }
 }
 
-/// Reads the expectations behind a call: nothing, or `-> ENDING`, and then any number of `; NAME -> ENDING`.
+/// Reads the expectations after a call: `-> RESULT`, which may be left out, and any number of
+/// `; NAME -> RESULT`.
 pub fn endings_in(
     alloc: Global,
     kind: CallKind,

@@ -1,4 +1,4 @@
-//! Reads the expected end of a call: its first word, and what may follow each.
+//! Reads the expected result of a call: its first word, and the parts that may follow this word.
 
 ghost use Rattle.std.specs.Prelude.{◌≤◌, length};
 
@@ -20,7 +20,7 @@ use qreading::reading::bytes::bytes_said;
 use qreading::reading::number::signed_number;
 use std::alloc::{AllocError, Global};
 
-/// The sort of a place behind the first word of an ending.
+/// The sort of a part after the first word of a result.
 #[derive(Clone, Copy)]
 enum Part {
     /// The word of an error.
@@ -37,7 +37,8 @@ enum Part {
     Buffer,
 }
 
-/// The endings: the first word of each, and what may follow it. A pulse and a state have tables of their own.
+/// The results: the first word of each, and the parts that may follow it. The content of a pulse and the
+/// state of a thread have their own tables.
 static FORMS: [(&str, &[Part]); 12] = [
     ("ok", &[]),
     ("fail", &[Part::Errno]),
@@ -64,14 +65,14 @@ static FORMS: [(&str, &[Part]); 12] = [
     ),
 ];
 
-/// The contents of a pulse, by word.
+/// The contents of a pulse, by their first word.
 static PULSES: [(&str, &[Part]); 3] = [
     ("user", &[Part::Number, Part::Number]),
     ("unblock", &[Part::Id(Kind::Message)]),
     ("disconnect", &[Part::Process]),
 ];
 
-/// The states of a thread, by word.
+/// The states of a thread, by their first word.
 static STATES: [(&str, &[Part]); 4] = [
     ("ready", &[Part::Number]),
     ("send", &[Part::Id(Kind::Channel), Part::Number]),
@@ -79,10 +80,10 @@ static STATES: [(&str, &[Part]); 4] = [
     ("reply", &[Part::Id(Kind::Channel), Part::Number]),
 ];
 
-/// Words, and what may follow each.
+/// First words, and the parts that may follow each of them.
 type Table = &'static [(&'static str, &'static [Part])];
 
-/// Returns the word of a table that stands here, and what may follow it.
+/// Returns the row of a table that begins with this word: the word, and the parts that may follow it.
 fn form_of(table: Table, token: &Token<'_>) -> Option<(&'static str, &'static [Part])> {
     let mut rows = table.iter().copied();
     rows.find(|(word, _)| token.is_word(word))
@@ -113,7 +114,7 @@ fn errno(alloc: Global, token: &Token<'_>) -> Result<&'static str, ReadError> {
     Err(fault_at(token.place, what))
 }
 
-/// Reads a name, for the number that it stands for, or a number.
+/// Reads a name, which matches its number, or reads a number.
 fn named(alloc: Global, kind: Kind, token: &Token<'_>) -> Result<Pattern, ReadError> {
     if token.bytes.first().is_some_and(|b| b.is_ascii_digit()) {
         return Ok(Pattern::Number(number(alloc, token)?));
@@ -142,7 +143,7 @@ fn bytes(alloc: Global, token: &Token<'_>) -> Result<Bytes, ReadError> {
     said.map_err(|_| wanted(alloc, token, "bytes are wanted, or * for any"))
 }
 
-/// The patterns of an ending.
+/// The patterns of a result.
 #[derive(Drop)]
 struct Patterns {
     alloc: Global,
@@ -150,7 +151,7 @@ struct Patterns {
 }
 
 impl Patterns {
-    /// Adds the patterns of a part of a line, which stands for one or two printed words.
+    /// Adds the patterns of a part of a line. `Content` has two patterns: the printed count, and the bytes.
     fn add(&mut self, part: Part, token: &Token<'_>) -> Result<(), ReadError> {
         let alloc = self.alloc;
         let pattern = match part {
@@ -170,7 +171,8 @@ impl Patterns {
         Ok(())
     }
 
-    /// Adds the pattern of a word that stands as it is, and those of what follows it; the last ones may be left out.
+    /// Adds the pattern of this word, and the patterns of the parts that follow it. The last parts may be
+    /// left out.
     fn add_word(
         &mut self,
         word: &'static str,
@@ -187,7 +189,8 @@ impl Patterns {
         Ok(())
     }
 
-    /// Adds the patterns of a word of a table, which may be left out, and of what follows it.
+    /// Adds the patterns of a word of a table and of the parts after it, or nothing if there are no tokens.
+    /// `words` is the message about a word that isn't in the table.
     fn add_of(&mut self, table: Table, tokens: &[Token<'_>], words: &str) -> Result<(), ReadError> {
         let [word, rest @ ..] = tokens else {
             return Ok(());
@@ -198,7 +201,7 @@ impl Patterns {
         }
     }
 
-    /// Adds the patterns of a state, whose content may be left out.
+    /// Adds the patterns of the result `state`. The state of the thread may be left out.
     fn add_state(&mut self, word: &'static str, content: &[Token<'_>]) -> Result<(), ReadError> {
         self.add_word(word, &[], &[])?;
         self.add_of(&STATES, content, "a state is ready, send, receive or reply")
@@ -215,7 +218,7 @@ impl Patterns {
     }
 }
 
-/// Returns the number of parts in front of the content of a pulse, at most two.
+/// Returns the number of parts before the content of a pulse, at most two.
 fn pulse_len(tokens: &[Token<'_>]) -> usize
     ensures { result ≤ length tokens.now }
 {
@@ -228,7 +231,7 @@ fn pulse_len(tokens: &[Token<'_>]) -> usize
     }
 }
 
-/// Returns the words for a first word that no ending has.
+/// Returns the message about a first word that no result has.
 fn unknown_ending(alloc: Global, token: &Token<'_>) -> Result<String, AllocError> {
     let words: Vec<&str> = FORMS.iter().map(|(word, _)| *word).collect(alloc)?;
     let word = quotation(token.bytes);
@@ -237,7 +240,7 @@ fn unknown_ending(alloc: Global, token: &Token<'_>) -> Result<String, AllocError
     no_such(alloc, word, words.as_slice(), "ends no call", all)
 }
 
-/// Reads the expected end of a call.
+/// Reads the expected result of a call.
 pub fn ending(alloc: Global, first: &Token<'_>, rest: &[Token<'_>]) -> Result<Ending, ReadError> {
     let Some((word, parts)) = form_of(&FORMS, first) else {
         return Err(fault_at(first.place, unknown_ending(alloc, first)));

@@ -11,7 +11,7 @@ use qreading::place::{ReadError, fault_at};
 use qreading::word::Word;
 use std::alloc::Global;
 
-/// Reads a word as plain scripts have it.
+/// Reads a word in the notation of plain scripts.
 pub fn plain_word(alloc: Global, slot: Slot, token: &Token<'_>) -> Result<Word, ReadError> {
     if token.sort != Sort::Word || fault_of(alloc, slot, token.bytes)?.is_some() {
         let mut what = String::from_str(alloc, wanted_words(slot))?;
@@ -21,7 +21,7 @@ pub fn plain_word(alloc: Global, slot: Slot, token: &Token<'_>) -> Result<Word, 
     Ok(word_of(alloc, token.bytes)?)
 }
 
-/// Reads bytes: a text, a number of zeros, or a word as plain scripts have it.
+/// Reads bytes: a text, a number of zeros, or a word in the notation of plain scripts.
 fn bytes(alloc: Global, slot: Slot, token: &Token<'_>) -> Result<Operand, ReadError> {
     match token.sort {
         Sort::Text => Ok(Operand::Text(text_bytes(alloc, token)?)),
@@ -39,7 +39,7 @@ fn bytes(alloc: Global, slot: Slot, token: &Token<'_>) -> Result<Operand, ReadEr
     }
 }
 
-/// Returns the bit of a flag, by name.
+/// Returns the bit of the flag with this name.
 fn flag(alloc: Global, token: &Token<'_>, name: &[u8]) -> Result<u8, ReadError> {
     if let Some((_, bit)) = FLAGS.iter().find(|(flag, _)| name == flag.as_bytes()) {
         return Ok(*bit);
@@ -69,7 +69,7 @@ pub fn is_numeric(token: &Token<'_>) -> bool {
     token.sort == Sort::Word && token.bytes.first().is_some_and(|b| b.is_ascii_digit())
 }
 
-/// Reads a name, or a number as plain scripts have it.
+/// Reads a name, or a number in the notation of plain scripts.
 pub fn id(alloc: Global, kind: Kind, slot: Slot, token: &Token<'_>) -> Result<Operand, ReadError> {
     if is_numeric(token) {
         return Ok(Operand::Plain(plain_word(alloc, slot, token)?));
@@ -86,7 +86,7 @@ pub fn id(alloc: Global, kind: Kind, slot: Slot, token: &Token<'_>) -> Result<Op
     }))
 }
 
-/// Reads the operand at a place of a call.
+/// Reads a part of a line as an operand of this sort.
 pub fn operand(alloc: Global, slot: Slot, token: &Token<'_>) -> Result<Operand, ReadError> {
     match slot {
         Slot::Thread => id(alloc, Kind::Thread, slot, token),

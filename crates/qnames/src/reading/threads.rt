@@ -1,4 +1,4 @@
-//! Reads the line of a thread, and one that says the state of a thread.
+//! Reads the line of a thread, and a line with the state of a thread.
 
 use crate::expectation::StateCheck;
 use crate::line::{Definition, Operand, Process, ThreadLine};
@@ -42,7 +42,8 @@ fn word_count(alloc: Global, place: Place, found: usize) -> ReadError {
     fault_at(place, what)
 }
 
-/// Reads the line of a thread; `place` is that of the word `thread`, and the tokens are those behind it.
+/// Reads the line of a thread. The tokens come after the word `thread`, and `place` is the place at which the
+/// first of them would begin.
 pub fn thread_line(
     alloc: Global,
     definition: Option<Definition>,
@@ -68,7 +69,7 @@ pub fn thread_line(
     })
 }
 
-/// The states of a thread, by name; `blocked` is any but the first.
+/// The names of the states of a thread. `blocked` matches each state but the first.
 static STATES: [&str; 5] = [
     "ready",
     "SEND-blocked",
@@ -85,7 +86,7 @@ fn state(alloc: Global, token: &Token<'_>) -> Result<&'static str, ReadError> {
     said.ok_or_else(|| wanted(alloc, token, all))
 }
 
-/// Reads the channel behind `on`, if there is one.
+/// Reads the channel after `on`, if there is one.
 fn channel(alloc: Global, tokens: &[Token<'_>]) -> Result<Option<Operand>, ReadError> {
     let what = "behind a state stands nothing, or 'on' and a channel";
     match tokens {
@@ -95,8 +96,8 @@ fn channel(alloc: Global, tokens: &[Token<'_>]) -> Result<Option<Operand>, ReadE
     }
 }
 
-/// Reads the state of a thread: the thread, the word `is` and what follows. `calls` is the number of calls above;
-/// `text` is the line from `is` on.
+/// Reads the state of a thread: the thread, the word `is` and the words after it. `calls` is the number of
+/// calls above, and `text` is the text of the line after `is`.
 pub fn state_line(
     alloc: Global,
     calls: u64,

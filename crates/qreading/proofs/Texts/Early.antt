@@ -1,4 +1,4 @@
--- What a line says after others, it says alone.
+-- A line that has a content after other lines has the same content without them.
 use Rattle.qreading.proofs.Common.{◌≡◌, ℕ, List, [], ◌∷◌, Bool, true, false, cond, length, refl, ◌∙◌, Result, Ok, Err, not, ◌==◌, nat_lt, nat_le, slice_index, codes, list_all, bytes_eq, Member, Call, Line, LineFault, LongLine, BadByte, DoubleThread, TooManyThreads, UnknownThread, ◌>>=◌, words_of}
 use Rattle.qreading.specs.declared.reading.line.Line.TheVariants as lines
 use Rattle.qreading.specs.Reading.Line.{line_of, said_of, is_text, roster_line_of, call_line_of}
@@ -20,7 +20,7 @@ past_other : (b : Bool) (z x y : Result Line LineFault) (l : Line) → (x ≡ Ok
 past_other true z x y l f h = h
 past_other false z x y l f h = f h
 
--- a roster line that may stand after call lines may stand before them
+-- a roster line that is valid after call lines is valid before them
 roster_line_early : (is_late : Bool) (operands : List (List ℕ)) (l : Line) → roster_line_of is_late operands ≡ Ok l → roster_line_of false operands ≡ Ok l
 unfolding roster_line_of
 roster_line_early false operands l h = h
@@ -34,7 +34,7 @@ said_early is_late line (first ∷ rest) l h =
     (past_guard (not (list_all is_text line)) BadByte _ _ l
     (past_choice (bytes_eq first (codes "thread")) _ _ (call_line_of first rest) l (roster_line_early is_late rest l))) h
 
--- a line that says something after call lines says it before them too
+-- a line that is valid after call lines has the same content before them
 line_early : (is_late : Bool) (line : List ℕ) (l : Line) → line_of is_late line ≡ Ok l → line_of false line ≡ Ok l
 unfolding line_of
 line_early is_late line l h = past_guard (nat_lt 4096 (length line)) LongLine (said_of is_late line (words_of line)) (said_of false line (words_of line)) l (said_early is_late line (words_of line) l) h
@@ -56,7 +56,7 @@ placed_keeps roster (lines.Call thread call) l h = one_guard (is_in thread roste
 line_value : {x y : Line} → x ≡ y → (let r : Result Line LineFault = Ok x in r) ≡ Ok y
 line_value e = cc
 
--- what a line says after others, it says alone
+-- a line that is valid after other lines has the same content without them
 pub alone : (roster : List Member) (calls : List (ℕ × Call)) (line : List ℕ) (l : Line) → line_with roster calls line ≡ Ok l → line_of false line ≡ Ok l
 unfolding line_with line_behind
 alone roster calls line l h =

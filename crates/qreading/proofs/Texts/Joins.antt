@@ -1,4 +1,4 @@
--- The lines of texts that stand one behind the other.
+-- The lines of joined texts.
 use Rattle.qreading.proofs.Common.{◌≡◌, ℕ, ◌+◌, ◌-◌, ◌<◌, Bool, true, false, cond, List, [], ◌∷◌, ◌++◌, length, take, map, slice_index, refl, sym, ap, ◌∙◌, arith, inl, inr, length-append, append-nil, append_assoc, slice_split, onto_first, take_more, take_all, map-append, slice_split_none, length-slice_split, lines_of, is_newline, without_return, without_last_end, IsWhole, IsOneLine}
 use Rattle.qreading.proofs.Texts.Lines.{lines_none, lines_some, end_behind, end_behind_one, end_alone}
 
@@ -15,7 +15,7 @@ split_join_at false x ps qs h = onto_join x ps qs h
 some_parts : (xs : List ℕ) → 0 < length (slice_split is_newline xs)
 some_parts xs = omega (arith, length-slice_split is_newline xs)
 
--- the parts before a line end, and those behind it
+-- the parts before a line end, and the parts after it
 pub split_join : (xs : List ℕ) (y : ℕ) (ys : List ℕ) → is_newline y ≡ true → slice_split is_newline (xs ++ y ∷ ys) ≡ slice_split is_newline xs ++ slice_split is_newline ys
 split_join [] y ys e = rw e
 split_join (x ∷ xs) y ys e =
@@ -24,7 +24,7 @@ split_join (x ∷ xs) y ys e =
 
 -- ---- lines
 
--- the lines before a line end, and those behind it
+-- the lines before a line end, and the lines after it
 pub lines_join : (xs ys : List ℕ) → lines_of (xs ++ 10 ∷ ys) ≡ map without_return (slice_split is_newline xs) ++ lines_of ys
 lines_join xs [] =
     let some : 0 < length (xs ++ 10 ∷ []) = simp length-append (omega arith) in
@@ -39,14 +39,14 @@ lines_join xs (z ∷ zs) =
     ∙ map-append without_return (slice_split is_newline xs) (slice_split is_newline (without_last_end (z ∷ zs)))
     ∙ ap (λ ls. map without_return (slice_split is_newline xs) ++ ls) (sym (lines_some (z ∷ zs) (omega arith)))
 
--- a text that ends in a byte
+-- a text ends in its last byte
 ends_in : (t : List ℕ) → 0 < length t → t ≡ take (length t - 1) t ++ slice_index t (length t - 1) ∷ []
 ends_in t h =
     let lt : length t - 1 < length t = omega arith in
     let full : length t - 1 + 1 ≡ length t = omega arith in
     sym (take_all (length t) t (omega arith)) ∙ ap (λ n. take n t) (sym full) ∙ take_more t (length t - 1) 0 lt
 
--- the parts of a text behind whole lines
+-- the parts of a text after whole lines
 whole_parts_at : (pre xs : List ℕ) → map without_return (slice_split is_newline ((pre ++ 10 ∷ []) ++ xs)) ≡ lines_of (pre ++ 10 ∷ []) ++ map without_return (slice_split is_newline xs)
 whole_parts_at pre xs =
     let parts = map without_return (slice_split is_newline pre) in

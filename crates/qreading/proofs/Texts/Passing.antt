@@ -1,4 +1,4 @@
--- A line that is passed over, between others.
+-- A line that is skipped, between other lines.
 use Rattle.qreading.proofs.Common.{◌≡◌, ℕ, zero, suc, ◌+◌, ◌<◌, ◌≤◌, List, [], ◌∷◌, ◌++◌, Bool, true, false, cond, length, take, get_or, refl, sym, ap, ◌∙◌, arith, Option, Some, None, Result, Ok, Err, nat_lt, nat_le, length-append, cons_option, filter_map, le-ltb, common_steps, take-append-le, get_or_append_left, get_or-append-add, filter_map-append, take-append_seam, take-append-add, get_or-append_seam, Member, Call, Line, LineFault, words_of, is_passed_over, IsPassedOver, meaning_one_line_later}
 use Rattle.std.specs.Option.{option_or}
 use Rattle.qbase.proofs.Lists.{or_none}
@@ -6,7 +6,7 @@ use Rattle.qreading.specs.declared.reading.line.Line.TheVariants as lines
 use Rattle.qreading.specs.Reading.Line.{line_of, said_of}
 use Rattle.qreading.specs.Reading.Meaning.{Faulty, Says, member_in, call_in, roster_of, calls_of, line_behind, line_with, line_after, fault_in, fault_at, first_fault, fault_or, of_lines}
 
--- ---- what it says
+-- ---- its content
 
 passed_said : (is_late : Bool) (line : List ℕ) (words : List (List ℕ)) → is_passed_over words ≡ true → said_of is_late line words ≡ Ok lines.Blank
 unfolding said_of
@@ -25,7 +25,7 @@ passed_after : (before : List (List ℕ)) (line : List ℕ) → IsPassedOver lin
 unfolding line_after
 passed_after before line h = passed_with (roster_of before) (calls_of before) line h
 
--- ---- what others say behind it
+-- ---- the content of the lines after it
 
 roster_past : (front back : List (List ℕ)) (line : List ℕ) → IsPassedOver line → roster_of (front ++ line ∷ back) ≡ roster_of (front ++ back)
 unfolding roster_of
@@ -49,7 +49,7 @@ after_past front back line other h =
 
 -- ---- the numbers of faults
 
--- a fault among lines of which one more stands behind the first k
+-- a fault, once one more line is inserted after the first k lines
 shifted : ℕ → Option (ℕ × LineFault) → Option (ℕ × LineFault)
 shifted k None = None
 shifted k (Some x) = Some (cond (nat_lt x.0 k) x.0 (x.0 + 1), x.1)
@@ -69,7 +69,7 @@ unfolding shifted
 fault_behind k n m (Ok l) le e = refl
 fault_behind k n m (Err f) le e = rw (le-ltb n k le, e)
 
--- the first fault among the lines in front
+-- the fault of a line before it, whichever lines follow
 fault_front : (front g h : List (List ℕ)) (n : ℕ) → n < length front → fault_at (front ++ g) n ≡ fault_at (front ++ h) n
 fault_front front g h n lt =
     let le : n ≤ length front = omega arith in
@@ -99,7 +99,7 @@ fault_here front back line h =
     ∙ ap (λ l. fault_in (length front) (line_after front l)) (get_or-append_seam front line back [])
     ∙ ap (λ r. fault_in (length front) r) (passed_after front line h)
 
--- a line behind it
+-- a line after it
 fault_past : (front back : List (List ℕ)) (line : List ℕ) (j : ℕ) → IsPassedOver line
     → fault_at (front ++ line ∷ back) (length front + suc j) ≡ shifted (length front) (fault_at (front ++ back) (length front + j))
 fault_past front back line j h =
@@ -134,7 +134,7 @@ first_past front back line (suc j) h =
     ∙ sym (shifted_else k (first_fault (front ++ back) (k + j)) (fault_at (front ++ back) (k + j)))
     ∙ ap (λ n. shifted k (first_fault (front ++ back) n)) (sym same)
 
--- ---- what lines mean
+-- ---- the meaning of lines
 
 one_more : (k m : ℕ) → cond (nat_lt m k) m (m + 1) + 1 ≡ cond (nat_le (m + 1) k) (m + 1) (m + 1 + 1)
 one_more k m = grind (arith, common_steps)

@@ -1,4 +1,4 @@
--- How far a text is read.
+-- How many lines of a text have been read.
 use Rattle.qreading.proofs.Common.{◌≡◌, ℕ, zero, suc, ◌+◌, ◌-◌, ◌<◌, ◌≤◌, List, [], ◌∷◌, ◌++◌, false, length, take, drop, get_or, refl, sym, ap, ◌∙◌, arith, Option, Some, None, Result, Ok, Err, add-one, add-zero, add-suc, cons_option, le-ltb, take_more, take_all, drop_more, length-drop, filter_map-append, Member, Call, Line, LineFault, Fails, lines_of}
 use Rattle.qreading.specs.declared.fault.ParseError.{ParseError}
 use Rattle.qreading.specs.declared.fault.ParseError.TheVariants as errors
@@ -10,7 +10,7 @@ use Rattle.qreading.proofs.Texts.Early.{alone}
 
 -- ---- the first lines of a list
 
--- the first n lines are read, and have no fault
+-- the first n lines have been read, and have no fault
 pub record Reads (ls : List (List ℕ)) (n : ℕ) (ms : List Member) (cs : List (ℕ × Call)) : Type 0 where
   pub roster : ms ≡ roster_of (take n ls)
   pub calls : cs ≡ calls_of (take n ls)
@@ -53,7 +53,7 @@ reads_more ls n ms cs h lt l e =
       clean = no_fault ls n ms cs h l e;
     }
 
--- the first fault stays the first
+-- the first fault among n lines is the first fault among more lines
 stays : (ls : List (List ℕ)) (n k : ℕ) (x : ℕ × LineFault) → first_fault ls n ≡ Some x → first_fault ls (n + k) ≡ Some x
 unfolding first_fault
 stays ls n zero x h = rw add-zero h
@@ -78,9 +78,9 @@ reads_err : (ls : List (List ℕ)) (n : ℕ) (ms : List Member) (cs : List (ℕ 
 reads_err ls n ms cs h lt errors.Memory k = tt
 reads_err ls n ms cs h lt (errors.Fault f) k = reads_fault ls n ms cs h lt f k
 
--- ---- a text of which a rest is left
+-- ---- a text and its unread rest
 
--- the first n lines of a text are read, and a rest of it is left
+-- the first n lines of a text have been read, and this rest of it hasn't
 pub record Stands (text rest : List ℕ) (n : ℕ) (ms : List Member) (cs : List (ℕ × Call)) : Type 0 where
   pub reads : Reads (lines_of text) n ms cs
   pub left : lines_of rest ≡ drop n (lines_of text)
@@ -90,7 +90,7 @@ pub record Stands (text rest : List ℕ) (n : ℕ) (ms : List Member) (cs : List
 pub stands_first : (text : List ℕ) → Stands text text 0 [] []
 stands_first text = record { reads = reads_none (lines_of text); left = refl; few = omega arith; room = omega arith }
 
--- the next line of the text is the first of the rest
+-- the next line of the text is the first line of the rest
 at_front : (ls : List (List ℕ)) (n : ℕ) (line : List ℕ) (behind : List (List ℕ)) → drop n ls ≡ line ∷ behind
     → (n < length ls) × (get_or ls n [] ≡ line) × (drop (n + 1) ls ≡ behind)
 at_front ls n line behind e =

@@ -35,7 +35,7 @@ one_with_return : (w : List ℕ) → IsOneLine w → IsOneLine (w ++ 13 ∷ [])
 one_with_return [] one = one_more_byte 13 [] refl one
 one_with_return (x ∷ xs) one = one_more_byte x (xs ++ 13 ∷ []) (one 0 0 (omega arith)) (one_with_return xs (λ k d lt. one (suc k) d (omega arith)))
 
--- the last byte of a text that doesn't end a line is that of its last line
+-- the last byte of a text that doesn't end a line is the last byte of its last line
 last_byte : (pre w : List ℕ) → slice_index (pre ++ 10 ∷ w) (length (pre ++ 10 ∷ w) - 1) ≢ 13 → slice_index w (length w - 1) ≢ 13
 last_byte pre [] h e = absurd (cc)
 last_byte pre (z ∷ zs) h e =
@@ -80,7 +80,7 @@ lines_return front back h =
     ap lines_of (sym (append_assoc front (13 ∷ []) (10 ∷ back))) ∙ lines_join (front ++ 13 ∷ []) back
     ∙ ap (λ ls. ls ++ lines_of back) (return_parts front h) ∙ sym (lines_join front back)
 
--- the lines of a text with an end of its last line
+-- the lines of a text whose last line gets a line end
 pub lines_end : (t : List ℕ) → 0 < length t → slice_index t (length t - 1) ≢ 10 → lines_of (t ++ 10 ∷ []) ≡ lines_of t
 lines_end t some h =
     let uncut : without_last_end t ≡ t = rw (ne_eqb (slice_index t (length t - 1)) 10 h) in

@@ -1,4 +1,4 @@
--- The words of a text, the first and those after it.
+-- The words of a text: the first word and the words after it.
 use Rattle.qreading.proofs.Common.{◌≡◌, ℕ, ◌+◌, ◌<◌, Bool, true, false, not, cond, List, [], ◌∷◌, length, take, drop, get_or, length-take, position, filter, suc, Some, None, nat_lt, refl, sym, ap, ◌∙◌, arith, inl, inr, All, slice_split, position_or_len, common_steps, slice_split_none, slice_split_first, fails_before_first, passes_at_first, prefix_len-le-length, take_all, drop_all, drop_more, cases_lt}
 use Rattle.qreading.specs.Reading.Words.{words_of, is_blank, is_empty}
 
@@ -8,11 +8,11 @@ chosen : (n l : ℕ) (b : Bool) → (i : ℕ) → cond b (Some n) None ≡ Some 
 chosen n l true i e = cc
 chosen n l false i e = cc
 
--- the first place that passes
+-- the first place that passes the test
 pub place_some : (p : ℕ → Bool) (xs : List ℕ) (i : ℕ) → position p xs ≡ Some i → position_or_len p xs ≡ i
 place_some p xs i e = chosen (position_or_len p xs) (length xs) (nat_lt (position_or_len p xs) (length xs)) i e
 
--- no place passes
+-- no place passes the test
 pub place_none : (p : ℕ → Bool) (xs : List ℕ) → position p xs ≡ None → position_or_len p xs ≡ length xs
 place_none p xs e =
     let le = prefix_len-le-length (λ x. not (p x)) xs in
@@ -20,7 +20,7 @@ place_none p xs e =
 
 -- ---- words
 
--- a blank in front is no word
+-- a blank at the front isn't a word
 pub words_blank : (x : ℕ) (xs : List ℕ) → is_blank x ≡ true → words_of (x ∷ xs) ≡ words_of xs
 unfolding words_of
 words_blank x xs e = rw e
@@ -33,7 +33,7 @@ after_blank x xs e =
 no_blank : (x : ℕ) (xs : List ℕ) → is_blank x ≡ false → drop (position_or_len (λ b. not (is_blank b)) (x ∷ xs)) (x ∷ xs) ≡ x ∷ xs
 no_blank x xs e = rw e
 
--- blanks in front are no words
+-- blanks at the front aren't words
 pub words_skip : (text : List ℕ) → words_of (drop (position_or_len (λ b. not (is_blank b)) text) text) ≡ words_of text
 words_skip [] = refl
 words_skip (x ∷ xs) = elim (is_blank x) as (λ b. is_blank x ≡ b → words_of (drop (position_or_len (λ b. not (is_blank b)) (x ∷ xs)) (x ∷ xs)) ≡ words_of (x ∷ xs)) [
@@ -41,7 +41,7 @@ words_skip (x ∷ xs) = elim (is_blank x) as (λ b. is_blank x ≡ b → words_o
   | false ↦ λ e. ap words_of (no_blank x xs e)
 ] refl
 
--- behind them the text is at its end or at a word
+-- after them the text ends or a word begins
 pub word_first : (text : List ℕ) → 0 < length (drop (position_or_len (λ b. not (is_blank b)) text) text) → 0 < position_or_len is_blank (drop (position_or_len (λ b. not (is_blank b)) text) text)
 word_first [] = λ h. absurd (omega arith)
 word_first (x ∷ xs) = elim (is_blank x) as (λ b. is_blank x ≡ b → 0 < length (drop (position_or_len (λ b. not (is_blank b)) (x ∷ xs)) (x ∷ xs)) → 0 < position_or_len is_blank (drop (position_or_len (λ b. not (is_blank b)) (x ∷ xs)) (x ∷ xs))) [
@@ -82,7 +82,7 @@ word_last text h at =
     let back : drop (position_or_len is_blank text) text ≡ [] = drop_all (position_or_len is_blank text) text (omega arith) in
     rw (front, back, slice_split_none is_blank text all) (word_kept text [] h)
 
--- the first word, and those of what stands after it
+-- the first word, and the words of the text after it
 pub words_first : (text : List ℕ) → 0 < position_or_len is_blank text
     → words_of text ≡ take (position_or_len is_blank text) text ∷ words_of (drop (position_or_len is_blank text) text)
 words_first text h =
@@ -92,7 +92,7 @@ words_first text h =
       | inr ge ↦ word_last text (omega arith) (omega arith)
     ]
 
--- the first word behind the blanks in front
+-- the first word after the blanks at the front
 pub words_next : (text w a b : List ℕ) (n : ℕ) → w ≡ drop (position_or_len (λ b. not (is_blank b)) text) text → 0 < length w
     → n ≡ position_or_len is_blank w → a ≡ take n w → b ≡ drop n w → words_of text ≡ a ∷ words_of b
 words_next text w a b n e some at front back =

@@ -1,4 +1,4 @@
--- The operands of a line, by their sorts. Ids and offsets are numbers of 64 bits; threads, processes and
+-- The operands of a line, by their sorts. Ids and offsets are numbers of 64 bits. Threads, processes and
 -- flags are numbers of a byte.
 use Rattle.std.specs.Prelude.{ℕ, ◌^◌, List, [], ◌∷◌, Result, Ok, Err}
 use Rattle.qtables.specs.declared.member.Member.{Member}
@@ -17,20 +17,20 @@ use Rattle.qreading.specs.Reading.Operand.{bytes_of}
 abbrev pub no_values : Values
 no_values = record { numbers = no_operands; bytes = []; buffer = [] }
 
--- an id
+-- the values with this id
 abbrev pub id_in : List ℕ → Values → Result Values LineFault
 id_in word v = number_of (2 ^ 64) word >>= (λ n. Ok (record v { numbers = record v.numbers { id = n } }))
 
--- a message or data
+-- the values with this message or data
 abbrev pub bytes_in : List ℕ → Values → Result Values LineFault
 bytes_in word v = bytes_of word >>= (λ bytes. Ok (record v { bytes = bytes }))
 
--- a buffer
+-- the values with this buffer
 abbrev pub buffer_in : List ℕ → Values → Result Values LineFault
 buffer_in word v = bytes_of word >>= (λ buffer. Ok (record v { buffer = buffer }))
 
--- the values with the word of an operand of this sort; a status is a signed number of 64 bits, a code or a
--- value one of 32, but the code of a pulse one of 8
+-- the values with the word of an operand of this sort. A status is a signed number of 64 bits, a code or a
+-- value one of 32 bits, and the code of a pulse one of 8 bits
 abbrev pub value_of : Operand → List ℕ → Values → Result Values LineFault
 value_of sort.Thread word v =
     number_of 256 word >>= (λ n. Ok (record v { numbers = record v.numbers { thread = n } }))
@@ -58,11 +58,12 @@ value_of sort.Data word v = bytes_in word v
 value_of sort.ReplyBuffer word v = buffer_in word v
 value_of sort.Buffer word v = buffer_in word v
 
--- the values with one more word, unless there was a fault before it
+-- the values with one more word, unless an earlier word was faulty
 abbrev pub value_behind : Result Values LineFault → Operand → List ℕ → Result Values LineFault
 value_behind read s word = read >>= value_of s word
 
--- the values with the words of operands of these sorts, or the first fault; the count is wrong before all
+-- the values with the words of operands of these sorts, or the first fault. A wrong number of words comes
+-- before all other faults
 abbrev pub values_of : List Operand → List (List ℕ) → Result Values LineFault → Result Values LineFault
 values_of [] [] read = read
 values_of (s ∷ sorts) (word ∷ words) read = values_of sorts words (value_behind read s word)
@@ -72,7 +73,7 @@ values_of sorts words read = Err WordCount
 abbrev pub member_with : Operands → Member
 member_with o = record { thread = o.thread; process = o.process; priority = o.priority }
 
--- a thread, its process and its base priority
+-- the member of a roster line: a thread, its process and its base priority
 unfoldable pub member_of : List (List ℕ) → Result Member LineFault
 member_of operands = do
   v ← values_of (sort.Thread ∷ sort.Process ∷ sort.Priority ∷ []) operands (Ok no_values)

@@ -1,4 +1,4 @@
--- The changes of a text that keep its meaning.
+-- Changes of a text that keep its meaning.
 use Rattle.std.specs.Prelude.{◌≡◌, ◌≢◌, ℕ, ◌+◌, ◌-◌, ◌<◌, ◌≤◌, ◌==◌, ◌⊎◌, Bool, true, false, List, [], ◌∷◌}
 use Rattle.std.specs.Prelude.{◌++◌, length, nat_le, if◌then◌else◌, slice_index}
 use Rattle.std.specs.List.{All}
@@ -24,13 +24,13 @@ IsOneLine line = All (λ b. is_newline b ≡ false) line
 abbrev pub IsWhole : List ℕ → Type 0
 IsWhole text = (length text ≡ 0) ⊎ (slice_index text (length text - 1) ≡ 10)
 
--- the meaning of a text after one more line is put behind its first k lines
+-- the meaning of a text, once one more line is inserted after its first k lines
 abbrev pub meaning_one_line_later : ℕ → Meaning → Meaning
 meaning_one_line_later k TooLong = TooLong
 meaning_one_line_later k (Faulty n f) = Faulty (if nat_le n k then n else n + 1) f
 meaning_one_line_later k (Says roster calls) = Says roster calls
 
--- a blank line or a comment between two lines changes only the numbers of the lines behind it
+-- a blank line or a comment between two lines changes only the numbers of the lines after it
 abbrev pub PassesOver : Type 0
 PassesOver = (front line back : List ℕ) → IsWhole front → IsOneLine line → IsPassedOver (without_return line)
     → length (front ++ line ++ 10 ∷ back) ≤ most_text
@@ -43,7 +43,7 @@ DropsReturn = (front back : List ℕ) → slice_index front (length front - 1) �
     → length (front ++ 13 ∷ 10 ∷ back) ≤ most_text
     → meaning (front ++ 13 ∷ 10 ∷ back) ≡ meaning (front ++ 10 ∷ back)
 
--- the end of the last line changes nothing
+-- a line end at the end of the last line changes nothing
 abbrev pub DropsLastEnd : Type 0
 DropsLastEnd = (text : List ℕ) → 0 < length text → slice_index text (length text - 1) ≢ 10
     → length (text ++ 10 ∷ []) ≤ most_text

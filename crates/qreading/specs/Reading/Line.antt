@@ -1,4 +1,4 @@
--- What one line says, or the first fault of it.
+-- The content of one line, or its first fault.
 use Rattle.std.specs.Prelude.{ℕ, ◌==◌, ◌&&◌, ◌||◌, not, Bool, List, [], ◌∷◌, length, Result, Ok, Err, nat_lt}
 use Rattle.std.specs.Prelude.{nat_le, if◌then◌else◌, slice_index, codes}
 use Rattle.std.specs.Str.{bytes_eq}
@@ -22,7 +22,7 @@ call_line_of caller rest = do
   call ← call_of words.0 words.1
   Ok (lines.Call thread call)
 
--- a roster line, which is refused behind a call line
+-- a roster line, which is refused after a call line
 unfoldable pub roster_line_of : Bool → List (List ℕ) → Result Line LineFault
 roster_line_of is_late operands =
     if is_late then Err LateThread
@@ -34,7 +34,7 @@ roster_line_of is_late operands =
 abbrev pub is_text : ℕ → Bool
 is_text b = (b == 9) || (nat_le 32 b && nat_le b 126)
 
--- what a line of these words says: without words, or with a first word that begins with `#`, it says nothing
+-- the content of a line of these words; without words, or if the first word begins with `#`, it is blank
 unfoldable pub said_of : Bool → List ℕ → List (List ℕ) → Result Line LineFault
 said_of is_late line [] = Ok lines.Blank
 said_of is_late line (first ∷ rest) =
@@ -43,7 +43,7 @@ said_of is_late line (first ∷ rest) =
     else if bytes_eq first (codes "thread") then roster_line_of is_late rest
     else call_line_of first rest
 
--- what a line says; `is_late` says whether call lines are above it
+-- the content of a line; `is_late` says whether call lines are above it
 unfoldable pub line_of : Bool → List ℕ → Result Line LineFault
 line_of is_late line = if nat_lt 4096 (length line) then Err LongLine
     else said_of is_late line (words_of line)

@@ -1,4 +1,4 @@
--- What a text means, read off the list of its lines.
+-- The meaning of a text, by the list of its lines.
 use Rattle.std.specs.Prelude.{◌≡◌, ℕ, zero, suc, ◌+◌, ◌==◌, Bool, false, List, [], length, take, Option, Some}
 use Rattle.std.specs.Prelude.{None, Result, Ok, Err, nat_lt, nat_le, if◌then◌else◌, slice_index_or}
 use Rattle.std.specs.List.{list_any, filter_map}
@@ -19,7 +19,7 @@ use Rattle.qreading.specs.Reading.Steps.{◌>>=◌}
 use Rattle.qreading.specs.Reading.Line.{line_of}
 use Rattle.qreading.specs.Reading.Lines.{lines_of}
 
--- ---- what some lines say
+-- ---- the content of lines
 
 -- the member that a line adds
 abbrev pub member_in : Result Line LineFault → Option Member
@@ -35,7 +35,7 @@ call_in (Ok lines.Blank) = None
 call_in (Ok (lines.Roster m)) = None
 call_in (Err f) = None
 
--- the roster that these lines give
+-- the roster of these lines: the members that they add, in order
 unfoldable pub roster_of : List (List ℕ) → List Member
 roster_of lines = filter_map (λ line. member_in (line_of false line)) lines
 
@@ -45,11 +45,12 @@ calls_of lines = filter_map (λ line. call_in (line_of false line)) lines
 
 -- ---- a line after others
 
--- whether a thread stands in a roster
+-- whether a thread is in a roster
 abbrev pub is_in : ℕ → List Member → Bool
 is_in thread roster = list_any (λ m. m.thread == thread) roster
 
--- a line behind a roster: no thread comes twice, there are at most 64, and each caller is in the roster
+-- a line after a roster, or its fault: no thread is listed twice, there are at most 64 threads, and each
+-- caller is in the roster
 abbrev pub line_after_roster : List Member → Line → Result Line LineFault
 line_after_roster roster lines.Blank = Ok lines.Blank
 line_after_roster roster (lines.Roster m) =
@@ -59,15 +60,15 @@ line_after_roster roster (lines.Roster m) =
 line_after_roster roster (lines.Call thread call) =
     if is_in thread roster then Ok (lines.Call thread call) else Err UnknownThread
 
--- what a line says behind this roster; `is_late` says whether calls are above it
+-- the content of a line after this roster; `is_late` says whether calls are above it
 unfoldable pub line_behind : List Member → Bool → List ℕ → Result Line LineFault
 line_behind roster is_late line = line_of is_late line >>= line_after_roster roster
 
--- what a line says behind this roster and these calls
+-- the content of a line after this roster and these calls
 unfoldable pub line_with : List Member → List (ℕ × Call) → List ℕ → Result Line LineFault
 line_with roster calls line = line_behind roster (nat_lt 0 (length calls)) line
 
--- what a line says behind these lines
+-- the content of a line after these lines
 unfoldable pub line_after : List (List ℕ) → List ℕ → Result Line LineFault
 line_after before line = line_with (roster_of before) (calls_of before) line
 
@@ -78,7 +79,7 @@ abbrev pub fault_in : ℕ → Result Line LineFault → Option (ℕ × LineFault
 fault_in n (Ok line) = None
 fault_in n (Err fault) = Some (n, fault)
 
--- the fault of line n, counted from 0, behind the lines above it
+-- the fault of line n, counted from 0, after the lines above it
 abbrev pub fault_at : List (List ℕ) → ℕ → Option (ℕ × LineFault)
 fault_at lines n = fault_in n (line_after (take n lines) (slice_index_or lines n []))
 
@@ -87,33 +88,33 @@ unfoldable pub first_fault : List (List ℕ) → ℕ → Option (ℕ × LineFaul
 first_fault lines zero = None
 first_fault lines (suc n) = option_or (first_fault lines n) (fault_at lines n)
 
--- what a text means: it is too long, has a first faulty line, or says a roster and calls
+-- the meaning of a text: it is too long, it has a first faulty line, or it has a roster and calls
 pub data Meaning : Type 0 where
   TooLong : Meaning
   Faulty : ℕ → LineFault → Meaning
   Says : List Member → List (ℕ × Call) → Meaning
 
--- the fault if there is one, its line counted from 1; else this meaning
+-- the fault if there is one, with its line counted from 1; this meaning if there is none
 abbrev pub fault_or : Option (ℕ × LineFault) → Meaning → Meaning
 fault_or None m = m
 fault_or (Some f) m = Faulty (f.0 + 1) f.1
 
--- what these lines mean
+-- the meaning of these lines
 abbrev pub of_lines : List (List ℕ) → Meaning
 of_lines lines = fault_or (first_fault lines (length lines)) (Says (roster_of lines) (calls_of lines))
 
--- what a text means
+-- the meaning of a text
 unfoldable pub meaning : List ℕ → Meaning
 meaning text = if nat_lt most_text (length text) then TooLong else of_lines (lines_of text)
 
--- ---- what reading answers
+-- ---- the result of reading
 
--- the fault of the line of this number
+-- the error of a script, given the error of the line of this number
 abbrev pub of_line : ℕ → ParseError → ScriptFault
 of_line n errors.Memory = faults.NoMemory
 of_line n (errors.Fault f) = faults.Line n f
 
--- the fault is that of the text, or memory ran out
+-- the error is the fault of the text, or memory ran out
 abbrev pub IsFaultOf : ScriptFault → Meaning → Type 0
 IsFaultOf faults.TooLong m = m ≡ TooLong
 IsFaultOf (faults.Line n f) m = m ≡ Faulty n f
@@ -121,7 +122,7 @@ IsFaultOf faults.NoMemory m = Unit {0}
 IsFaultOf faults.Read m = ⊥
 IsFaultOf faults.Write m = ⊥
 
--- the result is what the text means, or memory ran out
+-- the result is the meaning of the text, or memory ran out
 abbrev pub Means : Result Script ScriptFault → Meaning → Type 0
 Means (Ok s) m = m ≡ Says s.roster.items s.calls.items
 Means (Err e) m = IsFaultOf e m

@@ -1,4 +1,4 @@
--- The bytes that a word of a script says.
+-- Words of a script as bytes.
 use Rattle.std.specs.Prelude.{ℕ, Bool, ◌+◌, ◌==◌, ◌&&◌, List, [], length, take, drop, replicate, position}
 use Rattle.std.specs.Prelude.{Option, Some, None, Result, Ok, Err, nat_le, if◌then◌else◌, slice_index}
 use Rattle.hex.specs.declared.error.FromHexError.{FromHexError}
@@ -36,6 +36,7 @@ abbrev pub bytes_of_parts : List ℕ → Option ℕ → Result (List ℕ) LineFa
 bytes_of_parts word None = plain_of word
 bytes_of_parts word (Some at) = repeated_of (take at word) (drop (at + 1) word)
 
--- the bytes of a word: with an `x` it is a count and a byte, without one it is `-` or the digits of all bytes
+-- the bytes of a word: with an `x` it is a count and a byte, without an `x` it is `-` or the digits of all
+-- bytes
 unfoldable pub bytes_of : List ℕ → Result (List ℕ) LineFault
 bytes_of word = bytes_of_parts word (position is_cross word)

@@ -1,4 +1,4 @@
--- Steps of reading, each of which may find a fault.
+-- Steps of reading. Each step may find a fault.
 use Rattle.std.specs.Prelude.{◌≡◌, Result, Ok, Err}
 use Rattle.qreading.specs.declared.fault.LineFault.{LineFault}
 use Rattle.qreading.specs.declared.fault.ParseError.{ParseError}
@@ -10,12 +10,12 @@ abbrev pub ◌>>=◌ : {A B : Type 0} → Result A LineFault → (A → Result B
 (Ok x) >>= f = f x
 (Err e) >>= f = Err e
 
--- the error is the fault that reading gives, or memory ran out
+-- the error is the fault of this step of reading, or memory ran out
 abbrev pub Fails : {Y : Type 0} → ParseError → Result Y LineFault → Type 0
 Fails errors.Memory read = Unit {0}
 Fails (errors.Fault f) read = read ≡ Err f
 
--- what a function returned is what reading gives, unless memory ran out
+-- the function returned the result of this step of reading, or memory ran out
 abbrev pub Gives : {Y : Type 0} → Result Y ParseError → Result Y LineFault → Type 0
 Gives (Ok x) read = read ≡ Ok x
 Gives (Err e) read = Fails e read

@@ -1,6 +1,6 @@
 //! Recognizes names.
 
-/// Returns whether a byte may stand in a name behind the first.
+/// Returns whether a byte may occur in a name after its first byte.
 fn goes_on(byte: u8) -> bool {
     byte.is_ascii_alphanumeric() || matches!(byte, b'_' | b'-' | b'.')
 }

@@ -3,8 +3,8 @@
 use qbase::bytes::Bytes;
 use std::alloc::{AllocError, Global};
 
-/// Returns the number of bytes in front of the closing quote; `rest` begins behind the opening one. `None` if there is
-/// no closing quote.
+/// Returns the number of bytes before the closing quote, or `None` if there is no closing quote. `rest`
+/// begins after the opening quote.
 pub fn quoted_len(rest: &[u8]) -> Option<usize> {
     let mut escaped = false;
     for (at, byte) in rest.iter().enumerate() {
@@ -19,7 +19,7 @@ pub fn quoted_len(rest: &[u8]) -> Option<usize> {
     None
 }
 
-/// Returns the byte of an escape, given the byte behind the backslash.
+/// Returns the byte that an escape means, given the byte after the backslash. `\x` isn't among these escapes.
 fn escaped_byte(sign: u8) -> Option<u8> {
     match sign {
         b'n' => Some(b'\n'),
@@ -31,7 +31,7 @@ fn escaped_byte(sign: u8) -> Option<u8> {
     }
 }
 
-/// Returns the byte of two hexadecimal digits.
+/// Returns the byte that two hexadecimal digits mean.
 fn byte_of(digits: &[u8]) -> Option<u8> {
     let mut byte = [0u8; 1];
     match hex::decode_to_slice(digits, &mut byte) {
@@ -40,8 +40,8 @@ fn byte_of(digits: &[u8]) -> Option<u8> {
     }
 }
 
-/// Returns the first byte that a text stands for, and the number of bytes that write it; `None` for a backslash that
-/// begins no escape.
+/// Returns the first byte that a quoted text means, and the number of bytes of the text that write it. `None`
+/// if the text is empty, or if it begins with a backslash that begins no escape.
 fn first_byte(text: &[u8]) -> Option<(u8, usize)> {
     match text {
         [b'\\', b'x', rest @ ..] => byte_of(rest.get(..2)?).map(|byte| (byte, 4)),
@@ -51,8 +51,9 @@ fn first_byte(text: &[u8]) -> Option<(u8, usize)> {
     }
 }
 
-/// Returns the bytes that a text in quotes stands for. The escapes `\n`, `\t`, `\r`, `\0`, `\"`, `\\` and `\x` with two
-/// hexadecimal digits are one byte each. The inner `Err` is the index of a backslash that begins no escape.
+/// Returns the bytes that a quoted text means. The escapes `\n`, `\t`, `\r`, `\0`, `\"`, `\\` and `\x` with
+/// two hexadecimal digits mean one byte each. The inner `Err` is the index of a backslash that begins no
+/// escape.
 pub fn quoted_bytes(alloc: Global, text: &[u8]) -> Result<Result<Bytes, usize>, AllocError> {
     let mut bytes = Vec::new(alloc);
     let mut rest = text;
@@ -69,8 +70,8 @@ pub fn quoted_bytes(alloc: Global, text: &[u8]) -> Result<Result<Bytes, usize>, 
     Ok(Ok(Bytes::from(bytes)))
 }
 
-/// Returns bytes as a script with names writes them: a text in quotes if each is printable, else hexadecimal digits, or
-/// `-` if there are none.
+/// Returns bytes in the notation of a script with names: `-` for no bytes, a text in quotes if each byte is
+/// printable, and hexadecimal digits otherwise.
 pub fn shown_bytes(alloc: Global, bytes: &[u8]) -> Result<String, AllocError> {
     if bytes.is_empty() {
         return String::from_str(alloc, "-");

@@ -1,4 +1,4 @@
-//! Cuts a line into its parts.
+//! Splits a line into its parts.
 
 use crate::lexing::quoted::quoted_len;
 use crate::place::{Place, ReadError, fault_at, fault_in_words};
@@ -9,7 +9,7 @@ use std::alloc::Global;
 pub enum Sort {
     /// A name, a number, hexadecimal bytes, flags: anything without quotes and brackets.
     Word,
-    /// A text in quotes, as it is written, without the quotes.
+    /// A text in quotes, without the quotes. Its escapes are unchanged.
     Text,
     /// A size in brackets, without the brackets.
     Size,
@@ -26,14 +26,14 @@ pub enum Sort {
 pub struct Token<'a> {
     pub sort: Sort,
     pub bytes: &'a [u8],
-    /// Its first byte.
+    /// The place of its first byte.
     pub place: Place,
-    /// The number of bytes of the line that it takes.
+    /// The number of bytes that it takes in the line, with its quotes or brackets.
     pub len: u64,
 }
 
 impl Token<'_> {
-    /// Returns the place behind it, where something is missing.
+    /// Returns the place at which a missing next part would begin, after one blank.
     pub fn behind(&self) -> Place {
         Place {
             line: self.place.line,
@@ -47,7 +47,7 @@ impl Token<'_> {
     }
 }
 
-/// Returns whether a part of a line ends in front of this byte.
+/// Returns whether a word ends before this byte.
 fn ends_word(byte: u8) -> bool {
     matches!(byte, b'#' | b';' | b'=' | b'"' | b'[') || !is_printing(byte)
 }
@@ -57,7 +57,7 @@ fn is_printing(byte: u8) -> bool {
     byte > 0x20 && byte <= 0x7e
 }
 
-/// Returns the length of the word that begins here, at least one byte.
+/// Returns the length of the word that begins here, or 0 if none does. A word also ends before `->`.
 fn word_len(rest: &[u8]) -> usize {
     let mut len = 0usize;
     let mut before = b' ';
@@ -74,7 +74,7 @@ fn word_len(rest: &[u8]) -> usize {
     len
 }
 
-/// A part without its place: its sort, its bytes, and the number of bytes of the line that it takes.
+/// A part without its place: its sort, its bytes, and the number of bytes that it takes in the line.
 #[derive(Clone, Copy)]
 struct Part<'a> {
     sort: Sort,
@@ -82,7 +82,7 @@ struct Part<'a> {
     len: usize,
 }
 
-/// Returns a sign of `len` bytes.
+/// Returns a part of the first `len` bytes.
 fn sign<'a>(sort: Sort, rest: &'a [u8], len: usize) -> Part<'a> {
     Part {
         sort,
@@ -91,8 +91,8 @@ fn sign<'a>(sort: Sort, rest: &'a [u8], len: usize) -> Part<'a> {
     }
 }
 
-/// Returns the part in quotes or brackets; `rest` begins behind the opening sign, and `len` is the number of bytes in
-/// front of the closing one.
+/// Returns a part in quotes or brackets. `rest` begins after the opening sign, and `len` is the number of
+/// bytes before the closing sign.
 fn enclosed<'a>(sort: Sort, rest: &'a [u8], len: usize) -> Part<'a> {
     Part {
         len: len.saturating_add(2),
@@ -100,7 +100,7 @@ fn enclosed<'a>(sort: Sort, rest: &'a [u8], len: usize) -> Part<'a> {
     }
 }
 
-/// Returns the word that begins here.
+/// Returns the word that begins here. A byte with which no word can begin is a fault.
 fn word_part(alloc: Global, rest: &[u8], place: Place) -> Result<Part<'_>, ReadError> {
     let len = word_len(rest);
     if len == 0 {
@@ -131,7 +131,7 @@ fn next_part(alloc: Global, rest: &[u8], place: Place) -> Result<Part<'_>, ReadE
     }
 }
 
-/// Returns the rest of a line without the blanks at its front.
+/// Returns the rest of a line after the blanks at its front.
 fn skip_blanks(rest: &[u8]) -> &[u8] {
     match rest.iter().position(|b| *b != b' ' && *b != b'\t') {
         Some(at) => rest.get(at..).unwrap_or(&[]),

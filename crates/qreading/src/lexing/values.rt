@@ -10,12 +10,13 @@ use crate::word::Word;
 use qbase::bytes::Bytes;
 use std::alloc::{AllocError, Global};
 
-/// Returns the bytes of a script as a word. Bytes that aren't text are refused later, by what reads the word.
+/// Returns bytes of a script as a word. Bytes that aren't text become `?`, which is refused when the word is
+/// read.
 pub fn word_of(alloc: Global, bytes: &[u8]) -> Result<Word, AllocError> {
     Word::of(alloc, std::str::from_utf8(bytes).unwrap_or("?"))
 }
 
-/// Returns the fault of a part of another sort in place of a word.
+/// Returns the fault of a part that isn't valid in its place. `what` says what is valid there.
 pub fn wanted(alloc: Global, token: &Token<'_>, what: &str) -> ReadError {
     let text = match token.sort {
         Sort::Word => {
@@ -31,7 +32,7 @@ pub fn wanted(alloc: Global, token: &Token<'_>, what: &str) -> ReadError {
     fault_at(token.place, text)
 }
 
-/// Returns the bytes that a text in quotes stands for.
+/// Returns the bytes that a text in quotes means. A backslash that begins no escape is a fault.
 pub fn text_bytes(alloc: Global, token: &Token<'_>) -> Result<Bytes, ReadError> {
     match quoted_bytes(alloc, token.bytes)? {
         Ok(bytes) => Ok(bytes),
@@ -51,7 +52,7 @@ pub fn text_bytes(alloc: Global, token: &Token<'_>) -> Result<Bytes, ReadError> 
     }
 }
 
-/// Returns the number of zeros that a size stands for.
+/// Returns the number of zeros that a size in brackets means, 0 to 4,096.
 pub fn size_of(alloc: Global, token: &Token<'_>) -> Result<u64, ReadError> {
     match digits(token.bytes) {
         Some(count) if count <= MOST_REPEATS => Ok(count as u64),

@@ -1,4 +1,4 @@
-//! Reads the bytes that a word of a script says.
+//! Reads words of a script as bytes.
 
 ghost use Rattle.std.specs.Prelude.{◌≡◌, ◌<◌, length, position, IfSome};
 ghost use Rattle.qreading.specs.Reading.Operand.{plain_of, repeated_of, bytes_of, is_cross};
@@ -10,10 +10,10 @@ use hex::FromHexError;
 use qbase::bytes::Bytes;
 use std::alloc::Global;
 
-/// The most bytes that are written as equal ones.
+/// The most equal bytes that one word writes: the limit of N in `NxHH`, and of a size in brackets.
 pub const MOST_REPEATS: u128 = 4096;
 
-/// Returns no bytes for `-`, else the bytes of hexadecimal digits, two for each.
+/// Returns no bytes for `-`. Any other word is hexadecimal digits, two for each byte.
 #[tactic(auto, unfolding(crate::specs::Reading::Operand::plain_of))]
 fn plain(alloc: Global, word: &[u8]) -> Result<Bytes, ParseError>
     ensures { Gives result (plain_of word.now) }
@@ -53,7 +53,8 @@ fn cross(word: &[u8]) -> Option<usize>
     word.iter().position(|b| *b == b'x')
 }
 
-/// Returns the bytes of a word: none for `-`, those of hexadecimal digits, or N bytes HH for `NxHH`.
+/// Returns the bytes of a word: none for `-`, a byte for each two hexadecimal digits, or N bytes HH for
+/// `NxHH`.
 #[tactic(auto, unfolding(crate::specs::Reading::Operand::bytes_of))]
 pub fn bytes_said(alloc: Global, word: &[u8]) -> Result<Bytes, ParseError>
     ensures { Gives result (bytes_of word.now) }

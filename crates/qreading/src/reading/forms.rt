@@ -26,7 +26,7 @@ pub struct Values {
 }
 
 impl Values {
-    /// Returns those of a line without operands.
+    /// Returns the values of a line without operands.
     pub fn none(alloc: Global) -> Values
         ensures { result ≡ no_values }
     {
@@ -37,7 +37,7 @@ impl Values {
         }
     }
 
-    /// Returns them with the word of an operand of this sort.
+    /// Returns the values with one more operand, which is read from a word as this sort.
     pub fn with(self, alloc: Global, sort: Operand, word: &[u8]) -> Result<Values, ParseError>
         ensures { Gives result (value_of sort word.now self) }
     {
@@ -61,8 +61,8 @@ impl Values {
         Ok(values)
     }
 
-    /// Reads the words of operands of these sorts. A fault is the first one from the left, unless the words are too few
-    /// or too many.
+    /// Reads words as operands of these sorts. If the number of words is wrong, the fault is `WordCount`.
+    /// Otherwise it is the fault of the first faulty word.
     pub fn read(alloc: Global, sorts: &[Operand], words: &[u8]) -> Result<Values, ParseError>
         ensures { Gives result (values_of sorts.now (words_of words.now) (Ok no_values)) }
     {
@@ -82,7 +82,7 @@ impl Values {
     }
 }
 
-/// Reads one more word, unless an earlier one was faulty.
+/// Reads one more word, unless an earlier word was faulty. Then the earlier fault is kept.
 fn with_next(
     alloc: Global,
     read: Result<Values, LineFault>,
@@ -102,7 +102,7 @@ fn with_next(
     }
 }
 
-/// Reads a thread, its process and its base priority.
+/// Reads the operands of a roster line: a thread, its process and its base priority.
 #[tactic(auto, unfolding(crate::specs::Reading::Forms::member_of))]
 pub fn member(alloc: Global, operands: &[u8]) -> Result<Member, ParseError>
     ensures { Gives result (member_of (words_of operands.now)) }

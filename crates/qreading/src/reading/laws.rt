@@ -1,8 +1,9 @@
-//! Laws about the changes of a text that keep its meaning; each is the contract of a function that does nothing.
+//! Laws about changes of a text that keep its meaning. Each law is the contract of a function with an empty
+//! body.
 
 ghost use Rattle.qreading.specs.Reading.Laws.{PassesOver, DropsReturn, DropsLastEnd};
 
-/// A blank line or a comment changes only the numbers of the lines behind it.
+/// A blank line or a comment changes only the numbers of the lines after it.
 pub fn passes_over()
     ensures { PassesOver }
 {}

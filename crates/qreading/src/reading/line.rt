@@ -41,7 +41,7 @@ fn call_line(alloc: Global, caller: &[u8], rest: &[u8]) -> Result<Line, ParseErr
     Ok(Line::Call(ThreadNo(thread), call))
 }
 
-/// Reads a roster line, which is refused if `is_late`, that is, behind call lines.
+/// Reads a roster line. It is refused if `is_late`, that is, if call lines are above it.
 #[tactic(auto, unfolding(crate::specs::Reading::Line::roster_line_of))]
 fn roster_line(alloc: Global, is_late: bool, operands: &[u8]) -> Result<Line, ParseError>
     ensures { Gives result (roster_line_of is_late (words_of operands.now)) }

@@ -1,10 +1,10 @@
-//! Takes the lines of a text, one after another, from the front of the rest.
+//! Takes one line after another from the front of a text.
 
 ghost use Rattle.std.specs.Prelude.{◌≡◌, ◌+◌, ◌<◌, ◌≤◌, [], ◌∷◌, drop, length, position, MatchOption, IfSome};
 ghost use Rattle.std.specs.List.{position_or_len};
 ghost use Rattle.qreading.specs.Reading.Lines.{lines_of, is_newline, without_return};
 
-/// Returns the line without one carriage return at its end.
+/// Returns a line without the carriage return at its end. Only one carriage return is removed.
 fn trim_return(line: &[u8]) -> &[u8]
     ensures { result.now ≡ without_return line.now }
 {
@@ -22,7 +22,7 @@ fn newline(text: &[u8]) -> Option<usize>
     text.iter().position(|b| *b == b'\n')
 }
 
-/// Returns the number of bytes in front of the first line end.
+/// Returns the number of bytes before the first line end, or of all bytes if there is none.
 #[tactic(auto, using(crate::proofs::Texts::Words::place_some, crate::proofs::Texts::Words::place_none))]
 fn line_len(text: &[u8]) -> usize
     ensures place { result ≡ position_or_len is_newline text.now }
@@ -34,7 +34,7 @@ fn line_len(text: &[u8]) -> usize
     }
 }
 
-/// Returns the text behind the byte at this index, or nothing if the text is shorter.
+/// Returns the text after the byte at this index, or nothing if the text is shorter.
 fn after(text: &[u8], at: usize) -> &[u8]
     ensures value { result.now ≡ drop (at + 1) text.now }
     ensures shorter { 0 < length text.now → length result.now < length text.now }
@@ -46,7 +46,8 @@ fn after(text: &[u8], at: usize) -> &[u8]
     }
 }
 
-/// Returns the first line of a text and the text behind its end, or `None` if the text is empty.
+/// Returns the first line of a text, without its line end, and the text after it. `None` if the text is
+/// empty.
 pub fn next_line(text: &[u8]) -> Option<(&[u8], &[u8])>
     ensures lines { MatchOption result (lines_of text.now ≡ []) (λ next. lines_of text.now ≡ next.0.now ∷ lines_of next.1.now) }
     ensures shorter { IfSome result (λ next. length next.1.now < length text.now) }

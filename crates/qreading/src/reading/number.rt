@@ -49,7 +49,7 @@ pub fn number(word: &[u8]) -> Result<u64, LineFault>
     }
 }
 
-/// Reads a priority.
+/// Reads a priority, 1 to 255. A word that isn't a number below 256 is `BadNumber`, and 0 is `BadPriority`.
 #[tactic(auto, unfolding(crate::specs::Reading::Number::priority_of))]
 pub fn priority(word: &[u8]) -> Result<Priority, LineFault>
     ensures { result ≡ priority_of word.now }

@@ -39,7 +39,7 @@ impl Script {
     }
 }
 
-/// Returns the error of the line of this number; memory that ran out has no line.
+/// Returns the error of the line with this number. An error of memory has no line.
 fn at_line(number: u64, error: ParseError) -> ScriptFault
     ensures { result ≡ of_line number error }
 {
@@ -55,8 +55,8 @@ fn has_thread(roster: &[Member], thread: ThreadNo) -> bool
     roster.iter().any(|m| m.thread == thread)
 }
 
-/// Checks a line against the roster above it: no thread comes twice, there are at most 64, and each caller is in the
-/// roster.
+/// Checks a line against the roster above it: no thread is listed twice, there are at most 64 threads, and
+/// each caller is in the roster.
 pub fn place(roster: &[Member], said: Line) -> Result<Line, LineFault>
     ensures { result ≡ line_after_roster roster.now said }
 {
@@ -80,7 +80,7 @@ pub fn place(roster: &[Member], said: Line) -> Result<Line, LineFault>
     }
 }
 
-/// Reads a line behind those of this roster; `is_late` says whether call lines are above it.
+/// Reads a line after the lines of this roster. `is_late` says whether call lines are above it.
 #[tactic(auto, unfolding(crate::specs::Reading::Meaning::line_behind))]
 pub fn line_behind(
     alloc: Global,
@@ -95,7 +95,7 @@ pub fn line_behind(
     Ok(placed)
 }
 
-/// Reads a line that follows those of the script.
+/// Reads a line after the lines of this script.
 #[tactic(auto, unfolding(crate::specs::Reading::Meaning::line_with))]
 fn line_after(alloc: Global, script: &Script, line: &[u8]) -> Result<Line, ParseError>
     ensures { Gives result (line_with script.now.roster.items script.now.calls.items line.now) }
@@ -108,7 +108,8 @@ fn line_after(alloc: Global, script: &Script, line: &[u8]) -> Result<Line, Parse
     )
 }
 
-/// Reads the text of a script: returns its roster and its calls, or its first faulty line with its first fault.
+/// Reads the text of a script: returns its roster and its calls, or its first faulty line with its first
+/// fault.
 pub fn parse(alloc: Global, text: &[u8]) -> Result<Script, ScriptFault>
     ensures { Means result (meaning text.now) }
 {

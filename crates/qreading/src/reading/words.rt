@@ -1,4 +1,4 @@
-//! Takes the words of a line, one after another, from the front of the rest.
+//! Takes one word after another from the front of a line.
 
 ghost use Rattle.std.specs.Prelude.{◌≡◌, ◌<◌, ◌≤◌, [], ◌∷◌, drop, length, not, position, IfSome, MatchOption, MatchResult};
 ghost use Rattle.std.specs.List.{position_or_len};
@@ -41,7 +41,7 @@ fn skip_blanks(text: &[u8]) -> &[u8]
     }
 }
 
-/// Returns the number of bytes in front of the first blank.
+/// Returns the number of bytes before the first blank, or of all bytes if there is none.
 #[tactic(auto, using(crate::proofs::Texts::Words::place_some, crate::proofs::Texts::Words::place_none))]
 fn word_len(text: &[u8]) -> usize
     ensures place { result ≡ position_or_len is_blank text.now }
@@ -53,7 +53,7 @@ fn word_len(text: &[u8]) -> usize
     }
 }
 
-/// Returns the first word of a text and the text behind it, or `None` if there is no word.
+/// Returns the first word of a text and the text after it, or `None` if there is no word.
 pub fn next_word(text: &[u8]) -> Option<(&[u8], &[u8])>
     ensures { MatchOption result (words_of text.now ≡ []) (λ next. words_of text.now ≡ next.0.now ∷ words_of next.1.now) }
 {
@@ -64,7 +64,7 @@ pub fn next_word(text: &[u8]) -> Option<(&[u8], &[u8])>
     Some(from_word.split_at(word_len(from_word)))
 }
 
-/// Returns the first word and the text behind it.
+/// Returns the first word and the text after it. Without a word the fault is `WordCount`.
 pub fn first(text: &[u8]) -> Result<(&[u8], &[u8]), LineFault>
     ensures { MatchResult result (λ w. first_of (words_of text.now) ≡ Ok (w.0.now, words_of w.1.now)) (λ e. first_of (words_of text.now) ≡ Err e) }
 {

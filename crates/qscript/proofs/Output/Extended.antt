@@ -1,4 +1,4 @@
--- A run that goes on.
+-- A run that continues.
 use Rattle.qscript.proofs.Common.{Completion, Event, GoesOn, List, Run, [], ap, append_assoc, arith, flat_map, length, open_text, refl, slice_get, suc, sym, with_more, zero, ℕ, ◌++◌, ◌+◌, ◌-◌, ◌<◌, ◌∷◌, ◌≡◌, ◌≤◌}
 use Rattle.std.proofs.lemmas.Bool.Decides.{nat_tests}
 use Rattle.qscript.specs.Printing.Printed.{call_by, event_text, texts_from, printed}
@@ -8,7 +8,7 @@ get_front [] ys k h = absurd (omega arith)
 get_front (x ∷ xs) ys zero h = refl
 get_front (x ∷ xs) ys (suc k) h = get_front xs ys k (omega arith)
 
--- a call up to an event of the run is the same
+-- a longer run has the same call up to an event of the shorter run
 same_call : (run : Run) (more : List Event) (event number : ℕ) → event < run.first + length run.events → call_by (with_more run more) event number ≡ call_by run event number
 same_call run more event number h = grind (arith, nat_tests, get_front run.events more (number - run.first))
 

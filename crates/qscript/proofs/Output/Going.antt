@@ -1,4 +1,4 @@
--- The lines of one event more.
+-- The lines of one more event.
 use Rattle.qscript.proofs.Common.{Bool, Call, Completion, Event, HasPrinted, List, Printer, Run, Some, [], append-nil, arith, call_by, ended_text, event_text, false, flat_map, get_or, get_or_past, inl, inr, is_shown, length, length-append, length-map, map, map-append, option_map, refl, shows_at, shows_buffer, shows_own, slice_get, string_bytes, suc, sym, take, take_more, texts_from, with_more, zero, ℕ, ◌++◌, ◌+◌, ◌-◌, ◌∙◌, ◌∷◌, ◌≡◌}
 use Rattle.std.proofs.lemmas.Bool.Decides.{nat_tests}
 use Rattle.std.proofs.lemmas.Option.{slice_get_cases}
@@ -11,18 +11,18 @@ shown_same [] k = refl
 shown_same (e ∷ es) zero = refl
 shown_same (e ∷ es) (suc k) = shown_same es k
 
--- up to the newest event it is the list that tells it
+-- for calls up to the newest event, the list says whether the buffer is printed
 shows_same : (run : Run) (event number : ℕ) → event + 1 ≡ run.first + length run.events → is_shown (call_by run event number) ≡ shows_at run.first (map shows_own run.events) number
 shows_same run event number h = grind (arith, nat_tests, shown_same run.events (number - run.first), get_or_past (map shows_own run.events) (number - run.first) false, length-map run.events shows_own)
 
--- ---- one event more
+-- ---- one more event
 
 event_same : (run : Run) (event : ℕ) (xs : List Completion) → event + 1 ≡ run.first + length run.events
     → event_text run event xs ≡ flat_map (λ x. ended_text event x (shows_at run.first (map shows_own run.events) x.call)) xs
 event_same run event [] h = refl
 event_same run event (x ∷ xs) h = rw (shows_same run event x.call h, event_same run event xs h) refl
 
--- a run's lines with those of one event more
+-- the lines of a run with one more event
 texts_next : (run : Run) (e : Event)
     → texts_from (with_more run (e ∷ [])) run.first (run.events ++ e ∷ []) ≡ texts_from run run.first run.events ++ event_text (with_more run (e ∷ [])) (run.first + length run.events) e.endings
 texts_next run e =
@@ -46,7 +46,7 @@ printed_more run e p q shows endings event told h number own ended first shown a
 
 -- ---- the events of a trace
 
--- the event at a place, with its call and its endings
+-- the event at a place, with its call and its completions
 pub next_taken : (es : List Event) (k : ℕ) (call : Call) (endings : List Completion) → option_map (λ (e : Event). e.call) (slice_get es k) ≡ Some call → option_map (λ (e : Event). e.endings) (slice_get es k) ≡ Some endings
     → (e : Event) × (take (k + 1) es ≡ take k es ++ e ∷ []) × (e.call ≡ call) × (e.endings ≡ endings)
 next_taken es k call endings h i = elim (slice_get_cases es k).1 [

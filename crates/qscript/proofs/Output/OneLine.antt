@@ -1,4 +1,4 @@
--- Printed lines have no newline in them.
+-- Printed lines have no newline inside.
 use Rattle.qscript.proofs.Common.{Blocked, Bool, Completion, Event, HasLines, IsLines, IsOneLine, List, Run, [], ap, arith, call_by, codes, decimal, endings_in, false, flat_map, get_or, is_shown, length, length-append, list_all, negsuc, not, pos, refl, suc, sym, texts_from, true, with_newline, words_with_spaces, zero, ℕ, ℤ, ◌%◌, ◌++◌, ◌+◌, ◌/◌, ◌==◌, ◌∷◌, ◌≡◌}
 use Rattle.std.specs.Fmt.{digit_glyph, digits_onto, digits, signed_decimal}
 use Rattle.std.proofs.lemmas.Bool.Decides.{nat_tests}
@@ -11,7 +11,7 @@ use Rattle.qscript.specs.Printing.Marks.{mark_words}
 use Rattle.qscript.specs.Printing.State.{state_words}
 use Rattle.qscript.specs.Printing.Printed.{ended_words, printed}
 
--- a text without a newline, by a test
+-- a test: the text has no newline
 abbrev clean : List ℕ → Bool
 clean xs = list_all (λ b. not (b == 10)) xs
 
@@ -65,7 +65,7 @@ open_line b = grind (arith, list_all-append, in_row, number)
 
 -- ---- lines
 
--- a line for each
+-- a line for each element
 each_line : {A : Type 0} (line : A → List ℕ) → ((x : A) → clean (line x) ≡ true) → (xs : List A) → IsLines (flat_map (λ x. with_newline (line x)) xs) (length xs)
 each_line line ok [] = record { lines = []; as_many = refl; each = tt; text_is = refl }
 each_line line ok (x ∷ xs) = let more = each_line line ok xs in record {

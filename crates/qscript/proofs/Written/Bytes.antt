@@ -1,4 +1,4 @@
--- Bytes that are written, read again.
+-- Written bytes are read back.
 use Rattle.qscript.proofs.Common.{IsBytes, List, Ok, [], arith, buffer_word, encode_lower, is_hex_digit, length, list_all, list_all-from_AllPass, position_or_len, refl, true, ℕ, ◌*◌, ◌∷◌, ◌≡◌}
 use Rattle.std.proofs.lemmas.Bool.Decides.{nat_tests}
 use Rattle.hex.proofs.HexLemmas.{decode_of-encode_lower, decode_of-ok}

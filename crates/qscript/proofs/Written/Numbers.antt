@@ -1,4 +1,4 @@
--- Numbers that are written, read again.
+-- Written numbers are read back.
 use Rattle.qscript.proofs.Common.{Ok, Some, arith, decimal, decimal_nonempty, digits_decimal, digits_value-decimal, le-leb, length, length-decimal-le, lt-ltb, ltb-true, negsuc, own, pos, refl, suc, true, ℕ, ℤ, ◌<◌, ◌^◌, ◌≡◌, ◌≤◌}
 use Rattle.std.specs.Fmt.{signed_decimal}
 use Rattle.qreading.specs.Reading.Number.{digits_of, number_of, priority_of, signed_of, is_within, integer_of}

@@ -1,4 +1,4 @@
--- Lines that are written, read again.
+-- Written lines are read back.
 use Rattle.qscript.proofs.Common.{AllByRecursion, Bool, Call, IsSmall, IsTyped, IsTypedMember, IsTypedOperand, List, Member, Ok, Some, [], all_ascii_digits, ap, arith, bytes_eq, codes, decimal, digits_decimal, false, le-ltb, length, length-append, length-decimal-le, list_all, map, own, refl, subst, true, ℕ, ◌<◌, ◌^◌, ◌∙◌, ◌∷◌, ◌≡◌, ◌≤◌}
 use Rattle.std.proofs.lemmas.Bool.{false_from_ne_true}
 use Rattle.std.proofs.lemmas.Slice.Eq.{bytes_eq-Decides}
@@ -51,7 +51,7 @@ abbrev puts : Call → List Operand → Values → Values
 puts c [] v = v
 puts c (s ∷ sorts) v = puts c sorts (put c s v)
 
--- an operand's word is one, and is read back
+-- the word of an operand is a valid word, and is read back as the operand
 operand_back : (c : Call) (s : Operand) (v : Values) → IsTypedOperand c s → (is_word (operand_word c s) ≡ true) × (value_of s (operand_word c s) v ≡ Ok (put c s v))
 operand_back c s v h = grind (arith, small, number_word, number_back, priority_back, signed_word, integer_back, bytes_word, bytes_back)
 
@@ -72,12 +72,12 @@ call_are_words : (c : Call) → IsTyped c → list_all is_word (call_words c) �
 unfolding call_words
 call_are_words c h = rw ((kind_back (kind_of c)).0, (operands_back c (sorts_of (kind_of c)) no_values h).0) refl
 
--- the values of all its operands make the call
+-- a call is the call with the values of its operands
 call_made : (c : Call) → (let v = puts c (sorts_of (kind_of c)) no_values in call_with (kind_of c) v.numbers v.bytes v.buffer) ≡ c
 call_made calls.Shutdown = refl
 call_made c = refl
 
--- the words of a call name it
+-- the words of a call are read as that call
 call_named : (c : Call) → IsTyped c → (first_of (call_words c) >>= (λ ws. call_of ws.0 ws.1)) ≡ Ok c
 unfolding call_words call_of
 call_named c h =
@@ -100,7 +100,7 @@ call_said : (words : List (List ℕ)) (thread : ℕ) (call : Call) → (first_of
 call_said [] thread call e = cc
 call_said (w ∷ ws) thread call e = rw e refl
 
--- a call's line says that call of that thread
+-- the line of a call is read as that call of that thread
 pub call_read : (is_late : Bool) (thread : ℕ) (call : Call) → IsSmall thread → IsTyped call → length (call_line thread call) ≤ 4096
     → line_of is_late (call_line thread call) ≡ Ok (lines.Call thread call)
 unfolding line_of said_of call_line_of
@@ -112,7 +112,7 @@ call_read is_late thread call t h short =
 
 -- ---- threads
 
--- the words of a thread's line behind the first
+-- the words of a thread's line after the first word
 abbrev row : Member → List (List ℕ)
 row m = decimal m.thread ∷ decimal m.process ∷ decimal m.priority ∷ []
 
@@ -128,7 +128,7 @@ three n h = length-decimal-le 3 n (omega arith) (omega (arith, h)) (omega (arith
 member_short : (m : Member) → IsTypedMember m → length (member_line m) ≤ 4096
 member_short m h = simp length-append (omega (arith, three m.thread h.0, three m.process h.1, three m.priority (omega (arith, h.2.1))))
 
--- a thread's line says that thread, where it comes before the calls
+-- the line of a thread is read as that thread, if it comes before the calls
 pub member_read : (m : Member) → IsTypedMember m → line_of false (member_line m) ≡ Ok (lines.Roster m)
 unfolding line_of said_of roster_line_of member_of
 member_read m h =

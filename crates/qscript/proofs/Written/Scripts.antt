@@ -1,4 +1,4 @@
--- Scripts that are written, read again.
+-- Written scripts are read back.
 use Rattle.qscript.proofs.Common.{All, All-cons, All-nil, AllByRecursion, Call, Event, IsTypedMember, IsWritable, List, MayStand, Member, Ok, ScriptsAreRead, Stands, [], add-zero, ap, append-nil, append_assoc, arith, call_line, cons_option, event_call, false, flat_map, is_text, length, length-append, list_all, lt-leb, map, member_line, nat_lt, not_long, refl, slice_index, stands_first, stands_last, stands_more, suc, true, zero, ℕ, ◌++◌, ◌+◌, ◌-◌, ◌<◌, ◌==◌, ◌∙◌, ◌∷◌, ◌≡◌}
 use Rattle.std.proofs.lemmas.Bool.Decides.{nat_tests}
 use Rattle.qreading.specs.declared.reading.line.Line.{Line}
@@ -16,13 +16,13 @@ no_ends : (line : List ℕ) → list_all is_text line ≡ true → All (λ b. is
 no_ends [] h = All-nil (λ b. is_newline b ≡ false)
 no_ends (x ∷ xs) h = All-cons (λ b. is_newline b ≡ false) x xs (grind (arith, nat_tests)) (no_ends xs (grind arith))
 
--- and none is a carriage return
+-- no byte of a text is a carriage return
 no_return_at : (line : List ℕ) (k : ℕ) → list_all is_text line ≡ true → (slice_index line k == 13) ≡ false
 no_return_at [] k h = refl
 no_return_at (x ∷ xs) zero h = grind (arith, nat_tests)
 no_return_at (x ∷ xs) (suc k) h = grind (arith, no_return_at xs k)
 
--- what stands behind a line, where the line says this
+-- the rest of a text after a line with this content has been read
 line_stands : (text line after : List ℕ) (n : ℕ) (roster : List Member) (cs : List (ℕ × Call)) (l : Line) → list_all is_text line ≡ true → line_with roster cs line ≡ Ok l
     → Stands text ((line ++ 10 ∷ []) ++ after) n roster cs → Stands text after (n + 1) (roster ++ cons_option (member_in (Ok l)) []) (cs ++ cons_option (call_in (Ok l)) [])
 line_stands text line after n roster cs l h said s =

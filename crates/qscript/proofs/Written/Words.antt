@@ -1,4 +1,4 @@
--- Words that are written, read again.
+-- Written words are read back.
 use Rattle.qscript.proofs.Common.{All, All-cons, All-nil, Bool, List, [], all_ascii_digits, ap, append-nil, arith, decimal, decimal_nonempty, digits_decimal, false, is_text, length, list_all, lt-ltb, nat_le, nat_lt, own, refl, slice_index, slice_split, slice_split_at, slice_split_none, true, words_with_spaces, ℕ, ◌&&◌, ◌++◌, ◌<◌, ◌==◌, ◌^◌, ◌∙◌, ◌∷◌, ◌≡◌}
 use Rattle.std.proofs.lemmas.Bool.Decides.{nat_tests}
 use Rattle.std.proofs.lemmas.List.Folds.{list_all-append}
@@ -6,11 +6,11 @@ use Rattle.std.proofs.lemmas.Str.Parse.{tells_all_ascii_digits}
 use Rattle.qreading.specs.Reading.Words.{words_of, is_blank}
 use Rattle.qreading.proofs.Texts.Words.{word_kept}
 
--- a byte that prints and is no blank
+-- a printable byte that isn't a blank
 abbrev pub prints : ℕ → Bool
 prints b = nat_le 33 b && nat_le b 126
 
--- a word that can stand in a line
+-- a word that can occur in a line
 abbrev pub is_word : List ℕ → Bool
 is_word w = nat_lt 0 (length w) && list_all prints w
 
@@ -20,7 +20,7 @@ no_blanks : (w : List ℕ) → list_all prints w ≡ true → All (λ b. is_blan
 no_blanks [] h = All-nil (λ b. is_blank b ≡ false)
 no_blanks (x ∷ xs) h = All-cons (λ b. is_blank b ≡ false) x xs (grind (arith, nat_tests)) (no_blanks xs (grind arith))
 
--- a word alone
+-- a single word
 words_alone : (w : List ℕ) → is_word w ≡ true → words_of w ≡ w ∷ []
 unfolding words_of
 words_alone w h = rw (slice_split_none is_blank w (no_blanks w (grind arith))) (word_kept w [] (grind (arith, nat_tests)))
@@ -30,7 +30,7 @@ words_before : (w t : List ℕ) → is_word w ≡ true → words_of (w ++ 32 ∷
 unfolding words_of
 words_before w t h = rw (slice_split_at is_blank w 32 t (no_blanks w (grind arith)) refl) (word_kept w (slice_split is_blank t) (grind (arith, nat_tests)))
 
--- words in a row
+-- a first word, and further words after spaces
 pub words_in_row : (w : List ℕ) (ws : List (List ℕ)) → is_word w ≡ true → list_all is_word ws ≡ true → words_of (w ++ words_with_spaces ws) ≡ w ∷ ws
 words_in_row w [] h hs = ap words_of (append-nil w) ∙ words_alone w h
 words_in_row w (v ∷ []) h hs = words_before w v h ∙ ap (λ vs. w ∷ vs) (words_alone v (grind arith))
@@ -47,7 +47,7 @@ row_text [] h = refl
 row_text (w ∷ []) h = grind (arith, word_text w)
 row_text (w ∷ next ∷ ws) h = grind (arith, list_all-append, word_text w, row_text (next ∷ ws))
 
--- words in a row are text
+-- a first word, and further words after spaces, are valid text
 pub line_text : (w : List ℕ) (ws : List (List ℕ)) → is_word w ≡ true → list_all is_word ws ≡ true → list_all is_text (w ++ words_with_spaces ws) ≡ true
 line_text w ws h hs = grind (arith, list_all-append, word_text w, row_text ws)
 

@@ -10,8 +10,8 @@ use Rattle.qscript.specs.Printing.Printed.{texts_from, printed}
 abbrev pub with_more : Run → List Event → Run
 with_more run more = record { first = run.first; events = run.events ++ more }
 
--- the text of a longer run begins with that of the run up to its open lines; then come the lines of the
--- further events, and then the lines of the threads that are blocked after those
+-- the text of a longer run begins with the lines of the shorter run's events. Then come the lines of the
+-- further events, and then the lines of the threads that are blocked after them
 abbrev pub GoesOn : Type 0
 GoesOn = (run : Run) (more : List Event) (blocked : List Blocked)
     → printed (with_more run more) blocked
@@ -33,12 +33,12 @@ pub record IsLines (text : List ℕ) (count : ℕ) : Type 0 where
   pub each : AllByRecursion IsOneLine lines
   pub text_is : text ≡ flat_map with_newline lines
 
--- the number of calls that end in these events
+-- the number of completions in these events
 abbrev pub endings_in : List Event → ℕ
 endings_in [] = 0
 endings_in (e ∷ events) = length e.endings + endings_in events
 
--- the text of a run has a line for each call that ends in it and one for each blocked thread
+-- the text of a run has a line for each completion and a line for each blocked thread
 abbrev pub HasLines : Type 0
 HasLines = (run : Run) (blocked : List Blocked)
     → IsLines (printed run blocked) (endings_in run.events + length blocked)

@@ -1,4 +1,4 @@
--- The meaning of a script that was written.
+-- The meaning of a written script.
 use Rattle.std.specs.Prelude.{◌≡◌, ℕ, ◌<◌, ◌≤◌, ◌^◌, true, false, List, [], ◌∷◌, ◌++◌, length, map}
 use Rattle.std.specs.List.{AllByRecursion}
 use Rattle.hex.specs.Hex.{IsBytes}
@@ -47,7 +47,7 @@ IsTypedOperand c sort.Data = IsBytes (bytes_of c)
 IsTypedOperand c sort.ReplyBuffer = IsBytes (buffer_of c)
 IsTypedOperand c sort.Buffer = IsBytes (buffer_of c)
 
--- a call whose operands are within the ranges of their types, as those of every call of a program are
+-- a call whose operands are within the ranges of their types; each call of a program is such a call
 abbrev pub IsTyped : Call → Type 0
 IsTyped c = AllByRecursion (IsTypedOperand c) (sorts_of (kind_of c))
 
@@ -55,19 +55,20 @@ IsTyped c = AllByRecursion (IsTypedOperand c) (sorts_of (kind_of c))
 abbrev pub IsTypedMember : Member → Type 0
 IsTypedMember m = IsSmall m.thread × IsSmall m.process × IsLevel m.priority
 
--- an event's call can stand in a script of these threads: one of them made it, its numbers are in range, and
--- its line isn't too long
+-- an event's call can be written in a script of these threads: one of them made it, its numbers are in range,
+-- and its line isn't too long
 abbrev pub IsWritable : List Member → Event → Type 0
 IsWritable roster e = (is_in e.thread roster ≡ true) × IsSmall e.thread × IsTyped e.call
     × (length (call_line e.thread e.call) ≤ 4096)
 
--- these threads may stand in a script behind those before them: none comes twice, and there are at most 64
+-- these threads can be listed in a script after the threads before them: no thread is listed twice, and there
+-- are at most 64 threads
 abbrev pub MayStand : List Member → List Member → Type 0
 MayStand before [] = Unit {0}
 MayStand before (m ∷ members) =
     (is_in m.thread before ≡ false) × (length before < 64) × MayStand (before ++ m ∷ []) members
 
--- a script that was written means just the threads and calls that it was written for
+-- a written script means exactly the threads and calls that it was written for
 abbrev pub ScriptsAreRead : Type 0
 ScriptsAreRead = (roster : List Member) (events : List Event) → MayStand [] roster
     → AllByRecursion IsTypedMember roster → AllByRecursion (IsWritable roster) events

@@ -1,4 +1,4 @@
-//! Prints the lines of an event: one for each call that ended in it.
+//! Prints the lines of an event: one for each of its completions.
 
 ghost use Rattle.std.specs.Prelude.{◌≡◌, ◌++◌, OnOk, string_bytes};
 ghost use Rattle.std.specs.List.{flat_map};
@@ -11,7 +11,7 @@ use crate::printing::marks::push_mark;
 use qkernel::call::{Call, Completion};
 use std::alloc::AllocError;
 
-/// Returns whether the call's buffer is printed when it ends: for Send, Receive and Read.
+/// Returns whether the call's buffer is printed when the call completes: for Send, Receive and Read.
 pub fn shows(call: &Call) -> bool
     ensures { result ≡ shows_buffer call.now }
 {
@@ -21,8 +21,8 @@ pub fn shows(call: &Call) -> bool
     )
 }
 
-/// Returns whether the buffer of the call with this number is printed. `shown` says it for the calls from the one
-/// numbered `first` on.
+/// Returns whether the buffer of the call with this number is printed. `shown` has an entry for each call
+/// from number `first` on; the buffer of any other call isn't printed.
 fn is_shown(first: u64, shown: &[bool], number: u64) -> bool
     ensures { result ≡ shows_at first shown.now number }
 {
@@ -44,7 +44,7 @@ fn push_ended_buffer(out: &mut String, ending: &Completion, shows: bool) -> Resu
     Ok(())
 }
 
-/// Adds `EVENT CALL THREAD MARK`, the call's buffer if it is printed, and a newline.
+/// Adds `EVENT CALL THREAD RESULT`, the call's buffer if it is printed, and a newline.
 fn push_ending(
     out: &mut String,
     event: u64,
@@ -61,8 +61,8 @@ fn push_ending(
     write!(out, "\n")
 }
 
-/// Adds the lines of the event with this number. `shown` says for each call, from the one numbered `first` on, whether
-/// its buffer is printed.
+/// Adds the lines of the event with this number. `shown` has an entry for each call from number `first` on:
+/// whether its buffer is printed.
 pub fn push_endings(
     out: &mut String,
     first: u64,

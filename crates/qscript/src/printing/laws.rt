@@ -2,12 +2,13 @@
 
 ghost use Rattle.qscript.specs.Printing.Laws.{GoesOn, HasLines};
 
-/// The lines of a run's events stay as they are when the run goes on.
+/// The lines of a run's events don't change when the run continues.
 pub fn text_goes_on()
     ensures { GoesOn }
 {}
 
-/// Each printed line ends in a newline and has no other.
+/// Each printed line ends in a newline and has no other newline. There is one line for each completion, and
+/// one for each blocked thread.
 pub fn text_is_lines()
     ensures { HasLines }
 {}

@@ -1,4 +1,4 @@
-//! Prints how a call ended.
+//! Prints the result of a call.
 
 ghost use Rattle.std.specs.Prelude.{◌≡◌, [], ◌∷◌, ◌++◌, OnOk, codes, string_bytes};
 ghost use Rattle.qbase.specs.Errno.{word_of};
@@ -13,7 +13,7 @@ use qkernel::call::{Info, Mark};
 use qqueue::item::What;
 use std::alloc::AllocError;
 
-/// Adds the words of a mark, each behind a space.
+/// Adds the words of a result, each after a space.
 #[tactic(auto, unfolding(crate::specs::Printing::Marks::mark_words))]
 pub fn push_mark(out: &mut String, mark: Mark) -> Result<(), AllocError>
     ensures { OnOk result (string_bytes out.new ≡ string_bytes out.old ++ words_with_spaces (mark_words mark)) }
@@ -71,8 +71,8 @@ fn push_pulse(out: &mut String, item: u64, priority: Priority, what: What) -> Re
     push_brought(out, what)
 }
 
-/// Adds `user CODE VALUE`, `unblock RECEIVE_ID` or `disconnect PROCESS`. `What::Message` is never the content of a
-/// pulse.
+/// Adds `user CODE VALUE`, `unblock RECEIVE_ID` or `disconnect PROCESS`. `What::Message` is never the content
+/// of a pulse.
 fn push_brought(out: &mut String, what: What) -> Result<(), AllocError>
     ensures { OnOk result (string_bytes out.new ≡ string_bytes out.old ++ words_with_spaces (brought_words what)) }
 {
@@ -84,7 +84,8 @@ fn push_brought(out: &mut String, what: What) -> Result<(), AllocError>
     }
 }
 
-/// Adds `state ready PRIORITY`, or `state STATE CHANNEL PRIORITY` with `send`, `receive` or `reply` for STATE.
+/// Adds `state ready PRIORITY`, or `state STATE CHANNEL PRIORITY` with `send`, `receive` or `reply` for
+/// STATE.
 fn push_told(out: &mut String, state: ThreadState, priority: Priority) -> Result<(), AllocError>
     ensures { OnOk result (string_bytes out.new ≡ string_bytes out.old ++ words_with_spaces (told_words state priority)) }
 {

@@ -14,11 +14,11 @@ use qkernel::call::Completion;
 use qkernel::open_call::Blocked;
 use std::alloc::{AllocError, Global};
 
-/// The number of bytes that are reserved for the lines of an event: a typical line without a buffer, and some more.
+/// The bytes that are reserved for the lines of an event. A typical line without a buffer needs fewer.
 const LINE: usize = 32;
 
-/// The lines of the events so far, and for each of their calls whether its buffer is printed when it ends. The calls
-/// themselves aren't kept.
+/// The lines of the events so far, and for each of their calls whether its buffer is printed when the call
+/// completes. The calls themselves aren't kept.
 #[derive(Drop)]
 pub struct Printer {
     first: u64,
@@ -27,7 +27,8 @@ pub struct Printer {
 }
 
 impl Printer {
-    /// Returns the printer of a run whose first event has this number, with room for the lines of `events` events.
+    /// Returns the printer of a run whose first event has the number `first`. Memory is reserved for the
+    /// lines of `events` events.
     pub fn new(alloc: Global, first: u64, events: usize) -> Result<Printer, AllocError>
         ensures { IfOk result (HasPrinted (record { first = first; events = [] })) }
     {
@@ -38,8 +39,8 @@ impl Printer {
         })
     }
 
-    /// Adds the lines of the next event, which has this number. `shows` says whether the buffer of its own call is
-    /// printed when that ends.
+    /// Adds the lines of the next event, which has the number `event`. `shows` says whether the buffer of the
+    /// event's own call is printed when that call completes.
     pub fn push_event(
         &mut self,
         event: u64,
@@ -66,7 +67,8 @@ impl Printer {
         self.text.as_str()
     }
 
-    /// Returns the text of the whole run: the lines of its events, and one for each thread that is blocked after it.
+    /// Returns the text of the whole run: the lines of its events, and a line for each of these blocked
+    /// threads.
     pub fn finish(self, blocked: &[Blocked]) -> Result<String, AllocError>
         ensures { IfOk result (λ text. (run : Run) → HasPrinted run self → string_bytes text ≡ printed run blocked.now) }
     {

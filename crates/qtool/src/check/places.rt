@@ -15,9 +15,9 @@ pub struct Example {
     pub name: String,
     /// Its file.
     pub script: String,
-    /// The file of what it has to print: NAME.trace, or NAME.verdict of a design.
+    /// The file with its expected output: NAME.trace, or NAME.verdict for a design.
     pub trace: String,
-    /// The ending of this file.
+    /// The extension of this file: `trace` or `verdict`.
     pub what: &'static str,
 }
 
@@ -38,9 +38,9 @@ impl Example {
 }
 
 impl<R: Files + Print + Eprint + AllocGlobal + Clone + Drop> Check<'_, R> {
-    /// Returns the scripts of the files and folders to check, in order; those of a folder are sorted by name. A path
-    /// that can't be read is reported and counted. A script of the only folder, or of the current one, is named by its
-    /// file name alone, any other by its path.
+    /// Returns the scripts in the files and folders to check, in order. The scripts of a folder are sorted by
+    /// name. A path that can't be read is reported and counted. A script in the only folder, or in the
+    /// current folder, is named by its file name. Any other script is named by its path.
     pub(super) fn examples(&mut self) -> io::Result<Vec<Example>> {
         let alloc = self.rt.alloc();
         let mut examples = Vec::new(alloc);

@@ -2,7 +2,7 @@
 
 use std::fmt;
 
-/// The outcomes, each with its words in the count of one script, and of several.
+/// The outcomes, each with its words for one script and for several scripts.
 const OUTCOMES: [(&str, &str, &str); 6] = [
     ("same", "same", "same"),
     ("differs", "differs", "differ"),
@@ -12,7 +12,8 @@ const OUTCOMES: [(&str, &str, &str); 6] = [
     ("unread", "unread", "unread"),
 ];
 
-/// The number of scripts with each outcome, and of the files and folders that can't be read or written.
+/// The number of scripts with each outcome, and the number of files and folders that can't be read or
+/// written.
 #[derive(Clone, Copy, Default, PartialEq, Eq)]
 pub struct Tally([usize; 6]);
 

@@ -18,7 +18,7 @@ const NAMES_IN: &str = "names-in: Read a script with names, whatever its file is
 /// The option that prints names: its name and its help.
 const NAMES: &str = "names: Print names in place of numbers, as is done on a terminal";
 
-/// A command line that is built, if there is memory for it.
+/// A command line, or an error if there is no memory to build it.
 type Build<'a> = Result<Command<'a>, AllocError>;
 
 /// Returns a subcommand with these texts, without arguments.

@@ -1,23 +1,23 @@
-//! Unproved: words and layout. The order of a line.
+//! Unproved: words and layout. The action of a line of a play.
 
 use qreading::grammar::call_form;
 use qreading::reading::words::next_word;
 use std::str;
 
-/// The order of a line.
+/// The action of a line of a play.
 #[derive(Clone, Copy, PartialEq, Eq)]
 pub enum Order<'a> {
     /// Print the state of each thread.
     State,
     /// Remove the last line.
     Undo,
-    /// Write the lines so far into the file with this name, which is empty if it is missing.
+    /// Write the lines so far into the file with this name. The name is empty if it is missing.
     Save(&'a [u8]),
     /// List the commands.
     Help,
     /// End the play.
     Quit,
-    /// None: a command is followed by a word, which it doesn't take.
+    /// No action: after a command there is a word that the command doesn't take.
     Words,
     /// Add the line to the script.
     Line,
@@ -29,7 +29,7 @@ fn only_word(line: &[u8]) -> Option<&[u8]> {
     next_word(rest).is_none().then_some(word)
 }
 
-/// Returns whether a line is a command and a word that no line of a script has behind its first.
+/// Returns whether a line is a command, followed by a word that can't be the second word of a script's line.
 fn has_words(line: &[u8]) -> bool {
     if let Some((b"state" | b"undo" | b"help" | b"quit", rest)) = next_word(line)
         && let Some((second, _)) = next_word(rest)
@@ -39,7 +39,7 @@ fn has_words(line: &[u8]) -> bool {
     false
 }
 
-/// Returns the order of a line without its end.
+/// Returns the action of a line, which is given without its line end.
 pub fn order_of(line: &[u8]) -> Order<'_> {
     if let Some((b"save", rest)) = next_word(line) {
         return Order::Save(only_word(rest).unwrap_or(&[]));

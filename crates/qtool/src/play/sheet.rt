@@ -1,4 +1,5 @@
-//! Unproved: words and layout. The lines of a play: a plain script, or one with names from its first such line on.
+//! Unproved: words and layout. The lines of a play: a plain script, or a script with names from the first
+//! line on that isn't plain.
 
 use qbase::ids::ThreadNo;
 use qexplain::session::Session;
@@ -18,16 +19,17 @@ use std::alloc::{AllocError, Global};
 /// The outcome of adding lines.
 #[derive(Drop)]
 pub enum Taken {
-    /// They are added: what they add to the trace, without the lines of blocked threads, and what differs from the
-    /// expectations now and wasn't reported before.
+    /// The lines are added. The bytes are their part of the trace, without the lines of blocked threads. The
+    /// faults are the differences from the expectations that weren't reported before.
     Added(Vec<u8>, Vec<Fault>),
-    /// The line with this number, counted from the first of all, isn't one of a plain script.
+    /// The line with this number isn't a valid line of a plain script. It is counted from the first line of
+    /// the sheet.
     Plain(u64, LineFault),
-    /// The lines aren't those of a script with names.
+    /// The lines aren't valid lines of a script with names.
     Named(Vec<Fault>),
 }
 
-/// Lines with names, as they were read, and what they mean.
+/// Lines with names, as they were read, and their meaning.
 #[derive(Drop)]
 struct Names {
     text: Vec<u8>,
@@ -47,7 +49,8 @@ pub struct Sheet {
     no_names: Scope,
 }
 
-/// Returns whether a line has a sign that plain lines have only in comments: `=`, `->`, `;`, quotes or brackets.
+/// Returns whether a line has a sign that plain lines have only in comments: `=`, `->`, `;`, quotes or
+/// brackets.
 fn has_signs(line: &[u8]) -> bool {
     let mut before = b' ';
     for byte in line {
@@ -61,7 +64,7 @@ fn has_signs(line: &[u8]) -> bool {
     false
 }
 
-/// Adds lines behind others, each with its end.
+/// Appends lines to a text, with a line end after the last line.
 fn push_lines(text: &mut Vec<u8>, lines: &[u8]) -> Result<(), AllocError> {
     text.extend_from_slice(lines)?;
     if lines.last() != Some(&b'\n') {
@@ -75,13 +78,13 @@ fn kernel_of(session: &Session) -> Option<&Kernel> {
     Some(session.run()?.run().kernel())
 }
 
-/// Returns the number of lines of a text, each with its end.
+/// Returns the number of lines of a text in which each line has its end.
 fn line_count(text: &[u8]) -> usize {
     text.iter().filter(|byte| **byte == b'\n').count()
 }
 
 impl Names {
-    /// Makes a call, and compares what ends by it with what the lines expect.
+    /// Makes a call, and compares its completions with the expectations of the lines.
     fn make(
         &mut self,
         session: &mut Session,
@@ -97,7 +100,7 @@ impl Names {
         Ok(())
     }
 
-    /// Adds the threads to the run and makes the calls, and returns what differs from the expectations.
+    /// Adds the threads to the run and makes the calls. Returns the differences from the expectations.
     fn make_all(
         &mut self,
         session: &mut Session,
@@ -113,7 +116,7 @@ impl Names {
         self.growing.check.take_faults()
     }
 
-    /// Adds a line, and what it says to the run, unless it is faulty.
+    /// Adds a line, and adds its content to the run, unless it is faulty. Returns its faults.
     fn add(&mut self, session: &mut Session, line: &[u8]) -> Result<Vec<Fault>, AllocError> {
         let read = match self.growing.add(line)? {
             Ok(read) => read,
@@ -141,7 +144,7 @@ impl Sheet {
         }
     }
 
-    /// Returns the names that are printed: those of the lines so far, or none.
+    /// Returns the names that are printed: the names of the lines so far, or none.
     pub fn shown(&self) -> Context<'_> {
         match &self.names {
             Some(names) if self.in_names => names.growing.check.context(),
@@ -175,7 +178,8 @@ impl Sheet {
         }
     }
 
-    /// Adds a line of a plain script, or else of one with names, which the script is from then on.
+    /// Adds a line of a plain script. If it isn't valid there, adds it as a line with names, and the lines
+    /// are a script with names from then on.
     pub fn add(&mut self, line: &[u8]) -> Result<Taken, ScriptFault> {
         if self.names.is_some() {
             return Ok(self.add_named_line(line)?);
@@ -214,7 +218,7 @@ impl Sheet {
         }
     }
 
-    /// Returns the outcome of lines that were added when so many lines of the trace were shown.
+    /// Returns the outcome of lines that were added. `shown` is the number of lines of the trace before that.
     fn added(&self, shown: usize, faults: Vec<Fault>) -> Result<Taken, AllocError> {
         let mut lines = Lines(self.trace());
         for _ in 0..shown {
@@ -223,14 +227,15 @@ impl Sheet {
         Ok(Taken::Added(Vec::from_slice(self.alloc, lines.0)?, faults))
     }
 
-    /// Adds lines of a script with names, which is run from its first line on.
+    /// Adds lines of a script with names. The script is run again from its first line.
     pub fn add_named(&mut self, lines: &[u8]) -> Result<Taken, AllocError> {
         let mut text = Vec::from_slice(self.alloc, self.text())?;
         push_lines(&mut text, lines)?;
         self.run_again(text)
     }
 
-    /// Runs a script with names from its first line on, in place of the lines so far. If it is faulty, nothing changes.
+    /// Runs a script with names from its first line, in place of the lines so far. If it is faulty, nothing
+    /// changes.
     fn run_again(&mut self, text: Vec<u8>) -> Result<Taken, AllocError> {
         let shown = line_count(self.trace());
         let named = match read_so_far(self.alloc, text.as_slice())? {
@@ -250,7 +255,8 @@ impl Sheet {
         self.added(shown, faults)
     }
 
-    /// Removes the last line that is neither empty nor a comment, and returns it. The lines above it are run again.
+    /// Removes the last line that is neither empty nor a comment, and returns it. The lines above it are run
+    /// again.
     pub fn undo(&mut self) -> Result<Option<Vec<u8>>, AllocError> {
         if self.names.is_none() {
             return self.session.undo().map_err(|_| AllocError);
@@ -265,7 +271,7 @@ impl Sheet {
         Ok(Some(line))
     }
 
-    /// Returns what differs from the expectations at the end of the lines, and wasn't reported before.
+    /// Returns the differences from the expectations at the end of the lines that weren't reported before.
     pub fn finish(&mut self) -> Result<Vec<Fault>, AllocError> {
         match &mut self.names {
             Some(names) => names.growing.finish(kernel_of(&self.session)),

@@ -9,7 +9,7 @@ written_more a b d bs at n h k =
     let all : take (length bs - at) (drop at bs) ≡ drop at bs = take_all _ _ (simp length-drop (omega arith)) in
     rw take-add (Appends-trans a b d (take at bs) (take n (drop at bs)) h (rw all at k))
 
--- a write that takes something is no fault
+-- a write that takes some bytes hasn't failed
 pub writing-preserved : goal.writing-preserved
 writing-preserved g c = record {
   clean = grind (arith, nat_tests, c.writing.invariant.clean, c.in-Ok.ensures.faulted, c.if-count-eq0.false);

@@ -2,7 +2,7 @@ use Rattle.std.proofs.Common.{◌≡◌, sym, ◌∙◌, rules}
 use Rattle.std.proofs.lemmas.Slice.Eq.{bytes_eq-Decides}
 use Rattle.qtool.proofs.example.outcome_of.Goals as goal
 
--- what was printed is the trace, and it is the text of the run
+-- the output is the trace, and it is the text of the run
 pub returns-then-eq : goal.returns-then-eq
 returns-then-eq c =
     let same : c.as_slice.result.now ≡ c.args.trace.now = (bytes_eq-Decides _ _).0 (sym c.eq.ensures ∙ c.if-eq.true) in

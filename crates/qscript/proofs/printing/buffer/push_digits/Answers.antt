@@ -2,7 +2,7 @@ use Rattle.qscript.proofs.Common.{List, [], add-one, ap, append-nil, append_asso
 use Rattle.hex.specs.Hex.{lower_digits, encode_with}
 use Rattle.qscript.proofs.printing.buffer.push_digits.Goals as goal
 
--- the digits of one byte more
+-- the digits of one more byte
 digits_more : (t xs : List ℕ) (k : ℕ) → k < length xs
     → encode_with t (take (suc k) xs) ≡ encode_with t (take k xs) ++ slice_index t (slice_index xs k / 16) ∷ slice_index t (slice_index xs k % 16) ∷ []
 unfolding encode_with
