@@ -95,7 +95,7 @@ fn near_call(alloc: Global, word: &[u8]) -> Result<Option<&'static str>, AllocEr
 
 /// Returns the words for a word that names no call: the name that it is near to, or else the names of all calls.
 pub fn unknown_call(alloc: Global, word: &str) -> Result<String, AllocError> {
-    let mut text = format!(in alloc; "'{word}' names no call; ")?;
+    let mut text = format!(in alloc; "'{word}' isn't a call; ")?;
     if let Some(near) = near_call(alloc, word.as_bytes())? {
         write!(text, "did you mean '{near}'?")?;
         return Ok(text);

@@ -155,7 +155,7 @@ fn wake_all<K: Tie, L: Log>(
         }
         thread::yield_now();
     }
-    panic!(rt; "not all are awake")
+    panic!(rt; "a thread still sleeps")
 }
 
 /// All nine threads on a kernel that keeps no past, up to the call that ends the eight others' calls.
