@@ -70,7 +70,11 @@ fn main(rt: HostRuntime) -> Result<(), Fail> {
         show_reply(&rt, reply)?;
     }
     show_all(&rt, "timeout, cancelled", &timeout::without_flag(alloc)?)?;
-    show_all(&rt, "timeout, with an unblock pulse", &timeout::with_flag(alloc)?)?;
+    show_all(
+        &rt,
+        "timeout, with an unblock pulse",
+        &timeout::with_flag(alloc)?,
+    )?;
     show_all(&rt, "priority carried", &carried::carry_priority(alloc)?)?;
     show_all(&rt, "shut down", &shutdown::shut_down(alloc)?)?;
     Ok(())

@@ -169,7 +169,9 @@ impl Refused<'_> {
         let (by, message) = (self.names.call(send.ended_by), self.names.id(message));
         match send.end {
             End::Open => format!(in self.names.alloc; "message {message} isn't received yet"),
-            End::Cut => format!(in self.names.alloc; "{by} cancelled the send of message {message}"),
+            End::Cut => format!(in self.names.alloc;
+                "{by} cancelled the send of message {message}"
+            ),
             _ => format!(in self.names.alloc; "{by} replied to message {message}"),
         }
     }

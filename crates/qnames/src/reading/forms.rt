@@ -109,7 +109,13 @@ fn errno(alloc: Global, token: &Token<'_>) -> Result<&'static str, ReadError> {
     let words: Vec<&str> = errors.map(|errno| errno::word(*errno)).collect(alloc)?;
     let word = quotation(token.bytes);
     let all = error_words(alloc, token.bytes)?;
-    let what = no_such(alloc, word, words.as_slice(), "isn't an error", all.as_str());
+    let what = no_such(
+        alloc,
+        word,
+        words.as_slice(),
+        "isn't an error",
+        all.as_str(),
+    );
     Err(fault_at(token.place, what))
 }
 
@@ -179,7 +185,11 @@ impl Patterns {
     ) -> Result<(), ReadError> {
         self.all.push(Pattern::Word(word))?;
         if let Some(extra) = rest.get(parts.len()) {
-            return Err(wanted(self.alloc, extra, "expected no more words in this completion"));
+            return Err(wanted(
+                self.alloc,
+                extra,
+                "expected no more words in this completion",
+            ));
         }
         for (part, token) in parts.iter().zip(rest) {
             self.add(*part, token)?;

@@ -45,9 +45,14 @@ fn flag(alloc: Global, token: &Token<'_>, name: &[u8]) -> Result<u8, ReadError> 
         return Ok(*bit);
     }
     let names: Vec<&str> = FLAGS.iter().map(|(flag, _)| *flag).collect(alloc)?;
-    let all =
-        "expected FIXED_PRIORITY, UNBLOCK and DISCONNECT, with | between, or 0 for none";
-    let mut what = no_such(alloc, quotation(name), names.as_slice(), "isn't a flag", all)?;
+    let all = "expected FIXED_PRIORITY, UNBLOCK and DISCONNECT, with | between, or 0 for none";
+    let mut what = no_such(
+        alloc,
+        quotation(name),
+        names.as_slice(),
+        "isn't a flag",
+        all,
+    )?;
     push_operand_hint(&mut what, Slot::Flags, token.bytes)?;
     Err(fault_at(token.place, Ok(what)))
 }

@@ -56,7 +56,8 @@ pub fn thread_line(
         _ => return Err(word_count(alloc, place, tokens.len())),
     };
     if thread.is_none() && definition.is_none() {
-        let what = "the thread has neither a name nor a number: write 'NAME = thread PROCESS PRIORITY'";
+        let what =
+            "the thread has neither a name nor a number: write 'NAME = thread PROCESS PRIORITY'";
         return Err(fault_in_words(alloc, place, what));
     }
     Ok(ThreadLine {
@@ -111,7 +112,11 @@ pub fn state_line(
     };
     let state = state(alloc, name)?;
     if let ("ready", [first, ..]) = (state, rest) {
-        return Err(wanted(alloc, first, "expected nothing after 'ready': a ready thread isn't blocked on a channel"));
+        return Err(wanted(
+            alloc,
+            first,
+            "expected nothing after 'ready': a ready thread isn't blocked on a channel",
+        ));
     }
     Ok(StateCheck {
         calls,
