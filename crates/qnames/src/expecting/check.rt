@@ -214,7 +214,7 @@ impl Check {
         }
         let verb = check.kind.word();
         let came = self.came(end, check.place.line)?;
-        let what = format!(in self.alloc; "expected {verb} not to fail, found {came}");
+        let what = format!(in self.alloc; "expected '{verb}' not to fail, found {came}");
         difference_at(check.place, what)
     }
 
