@@ -109,7 +109,7 @@ def explore(program, text, symmetry):
         file.flush()
         words = ["/usr/bin/time", "-f", "%U %M", program, "explore", file.name]
         ran = subprocess.run(words + ([] if symmetry else ["--no-symmetry"]), capture_output=True, text=True)
-    moments = re.search(r": nothing found in .* ([\d,]+) moments", ran.stdout)
+    moments = re.search(r": nothing found in .* ([\d,]+) states", ran.stdout)
     if not moments:
         sys.exit(f"the program ended with {ran.returncode}: {ran.stdout}{ran.stderr}")
     seconds, kilobytes = ran.stderr.split()[-2:]
