@@ -5,7 +5,7 @@ usage: bench/explore.py [PROGRAM]
        bench/explore.py --count [--write] [--unproved] [--program FILE]
 
 Explores the example `clients.design` with more clients, with and without symmetry; five clients that a timer unblocks
-each; and four philosophers with four forks. Nothing is wrong in these designs. Of each this prints the moments, the
+each; and four philosophers with four forks. Nothing is wrong in these designs. Of each this prints the states, the
 least, median and greatest processor seconds of five runs, and the peak of the memory in MB. PROGRAM is
 crates/qdemo/out/qdemo if none is given. It wants GNU time.
 
@@ -103,28 +103,28 @@ def philosophers(count):
 
 
 def explore(program, text, symmetry):
-    """The moments, seconds and MB of a search that finds nothing."""
+    """The states, seconds and MB of a search that finds nothing."""
     with tempfile.NamedTemporaryFile("w", suffix=".design") as file:
         file.write(text)
         file.flush()
         words = ["/usr/bin/time", "-f", "%U %M", program, "explore", file.name]
         ran = subprocess.run(words + ([] if symmetry else ["--no-symmetry"]), capture_output=True, text=True)
-    moments = re.search(r": nothing found in .* ([\d,]+) states", ran.stdout)
-    if not moments:
+    states = re.search(r": nothing found in .* ([\d,]+) states", ran.stdout)
+    if not states:
         sys.exit(f"the program ended with {ran.returncode}: {ran.stdout}{ran.stderr}")
     seconds, kilobytes = ran.stderr.split()[-2:]
-    return moments[1], float(seconds), int(kilobytes) / 1000
+    return states[1], float(seconds), int(kilobytes) / 1000
 
 
 def measure(program):
-    """Prints the moments, seconds and MB of each design."""
+    """Prints the states, seconds and MB of each design."""
     designs = [(f"{n} clients" + ("" if equal else ", no symmetry"), clients(n), equal) for n, equal in SIZES]
     designs += [("5 clients with timers", TIMERS, True), ("4 philosophers", philosophers(4), True)]
-    print(f"{'design':24} {'moments':>9} {'least':>7} {'median':>7} {'most':>7} {'MB':>6}")
+    print(f"{'design':24} {'states':>9} {'least':>7} {'median':>7} {'most':>7} {'MB':>6}")
     for name, text, symmetry in designs:
-        moments, seconds, megabytes = zip(*[explore(program, text, symmetry) for _ in range(RUNS)])
+        states, seconds, megabytes = zip(*[explore(program, text, symmetry) for _ in range(RUNS)])
         spread = f"{min(seconds):>7.2f} {statistics.median(seconds):>7.2f} {max(seconds):>7.2f}"
-        print(f"{name:24} {moments[0]:>9} {spread} {max(megabytes):>6.1f}", flush=True)
+        print(f"{name:24} {states[0]:>9} {spread} {max(megabytes):>6.1f}", flush=True)
 
 
 def counted_designs():
