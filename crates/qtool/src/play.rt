@@ -25,10 +25,10 @@ const HELP: &str = "  \
   thread THREAD PROCESS PRIORITY             a thread of the roster
   THREAD CALL OPERANDS                       a call; 'qdemo help script' lists all
   NAME = thread PROCESS PRIORITY             a thread with a name
-  NAME = THREAD CALL OPERANDS -> COMPLETION  a call with a name, and its completion
-  THREAD is STATE                            a state that is expected
+  NAME = THREAD CALL OPERANDS -> COMPLETION  a named call with an expectation
+  THREAD is STATE                            an expected state
   state                                      print each thread's state and priority
-  undo                                       remove the last line
+  undo                                       remove the last line, and print it
   save FILE                                  write the lines so far into FILE
   quit                                       end
 ";
