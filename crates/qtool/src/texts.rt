@@ -329,7 +329,7 @@ these lines:
   end
   repeat N                runs the lines up to its end N times
   loop                    runs the lines up to its end again and again
-  serve                   the same; a receive in it makes the thread an idle server
+  serve                   the same; a thread in its receive is an idle server
   leave                   leaves the innermost repeat, loop or serve
   stop                    ends the program
   inside LOCK             up to its end, a thread at a call is inside the lock
@@ -379,8 +379,8 @@ In each state each thread that isn't blocked may make its next call, and the
 search explores all of these transitions. A computer with few processors makes
 fewer of them. A violation is reported with the fewest calls that lead to it:
 
-  blocked for ever               no thread can continue, and one is left that isn't
-                                 a server that receives in a serve
+  blocked for ever               no thread can continue, and one is left that
+                                 isn't a server that receives in a serve
   can't end any more             the threads continue, but reach no rest state
   a call fails                   and no expect or if below it names fail
   an expectation doesn't hold    with the completion
@@ -389,6 +389,7 @@ fewer of them. A violation is reported with the fewest calls that lead to it:
                                  another thread, which is ready
   too many are inside            a lock, with its threads
   a claim doesn't hold           with the states of its threads
+  a thread starves               with the loop that the others repeat
 
 With --script only the run that shows a violation is printed, as a script.
 Without a violation the output then goes to standard error. With --names, and
