@@ -110,22 +110,22 @@ def explore(program, text, symmetry):
         file.flush()
         words = ["/usr/bin/time", "-f", "%U %M", program, "explore", file.name]
         ran = subprocess.run(words + ([] if symmetry else ["--no-symmetry"]), capture_output=True, text=True)
-    moments = re.search(r": nothing found in .* ([\d,]+) moments", ran.stdout)
-    if not moments:
+    states = re.search(r": nothing found in .* ([\d,]+) states", ran.stdout)
+    if not states:
         sys.exit(f"the program ended with {ran.returncode}: {ran.stdout}{ran.stderr}")
     seconds, kilobytes = ran.stderr.split()[-2:]
-    return moments[1], float(seconds), int(kilobytes) / 1000
+    return states[1], float(seconds), int(kilobytes) / 1000
 
 
 def measure(program):
     """Prints the states, seconds and MB of each design."""
     designs = [(f"{n} clients" + ("" if equal else ", no symmetry"), clients(n), equal) for n, equal in SIZES]
     designs += [("5 clients with timers", TIMERS, True), ("4 philosophers", philosophers(4), True)]
-    print(f"{'design':24} {'moments':>9} {'least':>7} {'median':>7} {'most':>7} {'MB':>6}")
+    print(f"{'design':24} {'states':>9} {'least':>7} {'median':>7} {'most':>7} {'MB':>6}")
     for name, text, symmetry in designs:
-        moments, seconds, megabytes = zip(*[explore(program, text, symmetry) for _ in range(RUNS)])
+        states, seconds, megabytes = zip(*[explore(program, text, symmetry) for _ in range(RUNS)])
         spread = f"{min(seconds):>7.2f} {statistics.median(seconds):>7.2f} {max(seconds):>7.2f}"
-        print(f"{name:24} {moments[0]:>9} {spread} {max(megabytes):>6.1f}", flush=True)
+        print(f"{name:24} {states[0]:>9} {spread} {max(megabytes):>6.1f}", flush=True)
 
 
 def counted_designs():

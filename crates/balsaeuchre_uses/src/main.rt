@@ -65,13 +65,17 @@ fn main(rt: HostRuntime) -> Result<(), Fail> {
     println!(rt; "driver\n  {} values", values.len())?;
     let (answer, state) = answered::told_of_an_answer(&rt, alloc)?;
     let bytes = answer.bytes();
-    println!(rt; "told of an answer\n  {bytes:?} {state:?}")?;
+    println!(rt; "notified of a reply\n  {bytes:?} {state:?}")?;
     println!(rt; "kept waiting")?;
     for reply in &kept_waiting::kept_waiting(alloc)? {
         show_reply(&rt, reply)?;
     }
     show_all(&rt, "timeout, cancelled", &timeout::without_flag(alloc)?)?;
-    show_all(&rt, "timeout, told", &timeout::with_flag(alloc)?)?;
+    show_all(
+        &rt,
+        "timeout, with an unblock pulse",
+        &timeout::with_flag(alloc)?,
+    )?;
     show_all(&rt, "priority carried", &carried::carry_priority(alloc)?)?;
     show_all(&rt, "shut down", &shutdown::shut_down(alloc)?)?;
     Ok(())

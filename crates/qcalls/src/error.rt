@@ -20,7 +20,7 @@ pub enum CallError {
     #[error("call cancelled: {0:?}")]
     Cancelled(Errno),
     /// The server replied to the message with this code, by `msg_error`. It isn't 0.
-    #[error("message answered with the code {0}")]
+    #[error("server replied with the error code {0}")]
     Code(i32),
     /// The timekeeper cancelled the call because its time was over.
     #[error("call timed out")]
@@ -32,7 +32,7 @@ pub enum CallError {
     #[error("out of memory")]
     NoMemory,
     /// The call completed with the result of another kind of call. In a valid history no call does this.
-    #[error("call ended with the result of another kind of call")]
+    #[error("call completed with the result of another kind of call")]
     Unexpected,
 }
 

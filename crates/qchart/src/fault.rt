@@ -16,7 +16,7 @@ pub enum ChartFault {
     #[error("{0}")]
     Script(ScriptFault),
     /// The script has this many calls, and more than 400 of them would be drawn.
-    #[error("too many calls for a chart: {0}, and 400 at most can be drawn")]
+    #[error("too many calls for a chart: expected at most 400, found {0}")]
     TooManyCalls(usize),
 }
 

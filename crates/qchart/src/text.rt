@@ -23,7 +23,7 @@ const LEAST_GAP: usize = 26;
 
 const LEGEND: &str = "
 |  ready            ---->  message
-S  SEND-blocked     ====>  answer
+S  SEND-blocked     ====>  reply
 R  RECEIVE-blocked  ....>  pulse
 P  REPLY-blocked    o      sent or made before
 ";

@@ -31,11 +31,11 @@ impl Wait {
         let (thread, on) = (names.thread(self.thread), names.thread(self.on));
         let message = names.id(self.message);
         let (others, lack) = match (self.is_held, self.has_others) {
-            (true, _) => ("", "answered"),
-            (false, true) => (" or another thread of its process", "received"),
-            (false, false) => ("", "received"),
+            (true, _) => ("", "has no reply"),
+            (false, true) => (" or another thread of its process", "isn't received"),
+            (false, false) => ("", "isn't received"),
         };
-        format!(in names.alloc; "{thread} waits for {on}{others}: message {message} isn't {lack}")
+        format!(in names.alloc; "{thread} waits for {on}{others}: message {message} {lack}")
     }
 }
 

@@ -99,7 +99,7 @@ fn cut_words(names: Context<'_>, number: u64, past: &Past) -> Result<String, All
         CallKind::ChannelDestroy => "destroyed channel",
         CallKind::ConnectDetach => "detached connection",
         CallKind::Unblock => "unblocked thread",
-        _ => return format!(in names.alloc; "cut by {call}, which shut the kernel down"),
+        _ => return format!(in names.alloc; "cancelled by {call}, which shut the kernel down"),
     };
-    format!(in names.alloc; "cut by {call}, which {did} {operand}")
+    format!(in names.alloc; "cancelled by {call}, which {did} {operand}")
 }

@@ -38,7 +38,7 @@ pub fn unknown_word(alloc: Global, bytes: &[u8]) -> Result<String, AllocError> {
     match form_meant(alloc, bytes)? {
         Some(form) => {
             let name = form.word;
-            format!(in alloc; "'{word}' names no call; write '{name}' for it")
+            format!(in alloc; "'{word}' isn't a call; write '{name}'")
         }
         None => unknown_call(alloc, word),
     }
@@ -68,10 +68,10 @@ pub fn with_byte_hint(line: &[u8], mut fault: Fault) -> Result<Fault, AllocError
 /// there is no hint.
 pub fn text_hint(word: &[u8]) -> &'static str {
     match word {
-        [b'0', b'x' | b'X', ..] => "; they have no 0x before them",
-        [b'\'', ..] => "; a text has double quotes",
+        [b'0', b'x' | b'X', ..] => "; write them without 0x",
+        [b'\'', ..] => "; write a text in double quotes",
         _ if word.iter().all(|byte| byte.is_ascii_hexdigit()) => "",
-        [first, ..] if first.is_ascii_alphabetic() => "; a text has quotes",
+        [first, ..] if first.is_ascii_alphabetic() => "; write a text in quotes",
         _ => "",
     }
 }
@@ -85,7 +85,7 @@ pub fn is_comment(word: &[u8]) -> bool {
 }
 
 /// The hint for a line with names in a plain script.
-pub const NAMES_HINT: &str = "; a script with names is a file NAME.names, or wants --names-in";
+pub const NAMES_HINT: &str = "; a script with names is a file NAME.names, or needs --names-in";
 
 /// Returns whether a word is a sign that only scripts with names have.
 pub fn is_names_sign(word: &[u8]) -> bool {
@@ -95,11 +95,11 @@ pub fn is_names_sign(word: &[u8]) -> bool {
 /// Returns the hint about a superfluous word of a plain script. It is empty if there is no hint.
 pub fn extra_hint(word: &[u8]) -> &'static str {
     if word.starts_with(b"#") {
-        "; a comment has a line of its own"
+        "; write a comment on its own line"
     } else if is_comment(word) {
-        "; a comment begins with # and has a line of its own"
+        "; write a comment with # on its own line"
     } else if is(word, "|") {
-        "; flags have no spaces around |"
+        "; write flags without spaces around |"
     } else {
         ""
     }
@@ -178,7 +178,7 @@ fn push_code_hint(wanted: &mut String, word: &[u8]) -> Result<(), AllocError> {
 /// Returns the message about a word that isn't a number of a result. If the word names an error in QNX, the
 /// message has the number of the error.
 pub fn number_words(alloc: Global, word: &[u8]) -> Result<String, AllocError> {
-    let mut text = String::from_str(alloc, "a number is wanted, or * for any")?;
+    let mut text = String::from_str(alloc, "expected a number, or * for any")?;
     push_code_hint(&mut text, word)?;
     Ok(text)
 }
@@ -234,8 +234,8 @@ fn is_decimal(word: &[u8]) -> bool {
 /// Adds a correction for a word that isn't valid bytes.
 fn push_bytes_hint(wanted: &mut String, word: &[u8]) -> Result<(), AllocError> {
     match word {
-        [b'0', b'x' | b'X', ..] => wanted.push_str("; they have no 0x before them"),
-        [b'"' | b'\'', ..] => wanted.push_str("; text in quotes is no form of bytes"),
+        [b'0', b'x' | b'X', ..] => wanted.push_str("; write them without 0x"),
+        [b'"' | b'\'', ..] => wanted.push_str("; a plain script has no text in quotes"),
         [b'[', count @ .., b']'] => push_count_hint(wanted, count),
         _ if is_decimal(word) => push_count_hint(wanted, word),
         _ if word.contains(&b'x') => push_equal_hint(wanted, word),
@@ -259,9 +259,9 @@ fn push_equal_hint(wanted: &mut String, word: &[u8]) -> Result<(), AllocError> {
         return Ok(());
     }
     if word.len().saturating_sub(digits) != 3 {
-        wanted.push_str("; behind x stand the two digits of one byte")
+        wanted.push_str("; write the two digits of one byte after x")
     } else {
-        wanted.push_str("; there are 4,096 at most")
+        wanted.push_str("; write at most 4,096")
     }
 }
 
@@ -274,7 +274,7 @@ fn push_text_hint(wanted: &mut String, word: &[u8]) -> Result<(), AllocError> {
     if !is_text || word.iter().all(|byte| byte.is_ascii_hexdigit()) {
         return Ok(());
     }
-    wanted.push_str("; these letters are ")?;
+    wanted.push_str("; write these letters as ")?;
     for byte in word {
         write!(wanted, "{byte:02x}")?;
     }

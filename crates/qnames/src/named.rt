@@ -141,7 +141,7 @@ pub fn process_faults(alloc: Global, numbers: &[(Place, u64)], scope: &Scope) ->
     for (place, number) in numbers {
         let at = number.wrapping_sub(1) as usize;
         if let Some(name) = scope.process_names().get(at) {
-            let what = format!(in alloc; "{name} is the process of this number: write its name")?;
+            let what = format!(in alloc; "process {name} has this number: write its name")?;
             let place = *place;
             faults.push(Fault { place, what })?;
         }
@@ -153,9 +153,9 @@ pub fn process_faults(alloc: Global, numbers: &[(Place, u64)], scope: &Scope) ->
 pub fn line_fault(alloc: Global, line: u64, fault: LineFault) -> Faults {
     let place = Place { line, column: 1 };
     let words = match fault {
-        LineFault::LongLine => "the line's plain form has over 4,096 bytes",
+        LineFault::LongLine => "expected at most 4,096 bytes in the line's plain form",
         LineFault::DoubleThread => "another thread has this number",
-        LineFault::TooManyThreads => "a script has at most 64 threads",
+        LineFault::TooManyThreads => "expected at most 64 threads in a script",
         LineFault::UnknownThread => "no thread has this number",
         other => return single(alloc, place, format!(in alloc; "{other}")),
     };

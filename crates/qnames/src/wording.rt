@@ -65,16 +65,18 @@ impl Context<'_> {
             _ => ("", ""),
         };
         let wanted = kind.words();
-        let (front, wants, wanted) = match usage {
-            Usage::Caller => ("a call begins with the thread that makes it", "", ""),
-            Usage::Operand(verb) => (verb, " wants ", wanted),
-            Usage::Expectation => (wanted, " is wanted here", ""),
+        let (quote, front, expects, wanted) = match usage {
+            Usage::Caller => ("", "a call begins with the thread that makes it", "", ""),
+            Usage::Operand(verb) => ("'", verb, "' expects ", wanted),
+            Usage::Expectation => ("", wanted, " is expected here", ""),
         };
         let hint = match kind {
             Kind::Message if made == "receive" => "; a message has the name of its send",
             _ => "",
         };
-        format!(in self.alloc; "{name} is {is}{of}{call}, and {front}{wants}{wanted}{hint}")
+        format!(in self.alloc;
+            "{name} is {is}{of}{call}, but {quote}{front}{expects}{wanted}{hint}"
+        )
     }
 
     /// Returns the message about a fault of a name that must have this kind.

@@ -99,7 +99,7 @@ fn near_call(alloc: Global, word: &[u8]) -> Result<Option<&'static str>, AllocEr
 /// Returns the message about a word that names no call. It suggests the nearest name, or lists the names of
 /// all calls if none is near.
 pub fn unknown_call(alloc: Global, word: &str) -> Result<String, AllocError> {
-    let mut text = format!(in alloc; "'{word}' names no call; ")?;
+    let mut text = format!(in alloc; "'{word}' isn't a call; ")?;
     if let Some(near) = near_call(alloc, word.as_bytes())? {
         write!(text, "did you mean '{near}'?")?;
         return Ok(text);

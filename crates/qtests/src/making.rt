@@ -76,7 +76,7 @@ pub fn finished<K: Tie>(
     ports: Vec<Port<K>>,
 ) -> Report {
     if !shared.all(&ports) {
-        panic!(rt; "not all ports");
+        panic!(rt; "a port is missing");
     }
     shared.finish(ports)
 }
@@ -88,7 +88,7 @@ pub fn tallied<K: Tie>(
     ports: Vec<Port<K>>,
 ) -> Tally {
     if !shared.all(&ports) {
-        panic!(rt; "not all ports");
+        panic!(rt; "a port is missing");
     }
     shared.finish(ports)
 }

@@ -157,7 +157,7 @@ fn wake_all<K: Tie, L: Log>(
         }
         thread::yield_now();
     }
-    panic!(rt; "not all are awake")
+    panic!(rt; "a thread still sleeps")
 }
 
 /// Runs all nine threads on a kernel that keeps no history, up to the call that cancels the calls of eight

@@ -21,7 +21,7 @@ pub fn run_chart<R: Files + Input + Print + Eprint + AllocGlobal>(rt: &R, run: &
         return Err(end_with(rt, why, 2));
     }
     if run.to.is_some_and(|to| to < run.from) {
-        return Err(end_with(rt, "--to is a call before that of --from", 2));
+        return Err(end_with(rt, "--to is less than --from", 2));
     }
     let text = text_of(rt, file)?;
     let text = text.as_slice();

@@ -30,7 +30,7 @@ fn call_of(line: &str) -> Option<u64> {
 impl fmt::Display for Difference {
     fn fmt<W: fmt::Write>(&self, f: &mut fmt::Formatter<W>) -> fmt::Result {
         let Difference { found, wanted, .. } = self;
-        write!(f, "  found:  {found}\n  wanted: {wanted}")
+        write!(f, "  found:    {found}\n  expected: {wanted}")
     }
 }
 

@@ -21,16 +21,16 @@ use std::rt::Files;
 use std::{fs, io, str};
 
 /// The text of `help`.
-const HELP: &str = "\
-thread THREAD PROCESS PRIORITY         a thread of the roster
-THREAD CALL OPERANDS                   a call; 'qdemo help script' has them all
-NAME = thread PROCESS PRIORITY         a thread with a name
-NAME = THREAD CALL OPERANDS -> ENDING  a call with a name, and how it has to end
-THREAD is STATE                        a state that is expected
-state                                  what each thread does, and its priority
-undo                                   take the last line back
-save FILE                              write the lines so far
-quit                                   end
+const HELP: &str = "  \
+  thread THREAD PROCESS PRIORITY             a thread of the roster
+  THREAD CALL OPERANDS                       a call; 'qdemo help script' lists all
+  NAME = thread PROCESS PRIORITY             a thread with a name
+  NAME = THREAD CALL OPERANDS -> COMPLETION  a named call with an expectation
+  THREAD is STATE                            an expected state
+  state                                      print each thread's state and priority
+  undo                                       remove the last line, and print it
+  save FILE                                  write the lines so far into FILE
+  quit                                       end
 ";
 
 /// A play: the script so far, and the state of the play.
@@ -155,7 +155,7 @@ impl<R: Files + Input + Print + Eprint + AllocGlobal> Play<'_, R> {
             }
             Order::Undo => self.undo()?,
             Order::Save(name) => self.save(name),
-            Order::Words => self.refuse("state, undo, help and quit stand alone in a line"),
+            Order::Words => self.refuse("expected no word after state, undo, help or quit"),
             Order::Line => self.take(line)?,
         }
         Ok(true)
@@ -164,7 +164,7 @@ impl<R: Files + Input + Print + Eprint + AllocGlobal> Play<'_, R> {
     /// Removes the last line, and prints it.
     fn undo(&mut self) -> io::Result<()> {
         let Some(line) = self.sheet.undo()? else {
-            self.refuse("there is no line to take back");
+            self.refuse("there is no line to undo");
             return Ok(());
         };
         self.print(b"undo ")?;
@@ -187,13 +187,13 @@ impl<R: Files + Input + Print + Eprint + AllocGlobal> Play<'_, R> {
     fn save(&mut self, name: &[u8]) {
         let name = match str::from_utf8(name) {
             Ok(name) if !name.is_empty() => name,
-            _ => return self.refuse("save takes the name of a file"),
+            _ => return self.refuse("expected 'save FILE'"),
         };
         if let Err(error) = fs::write(self.rt, name, self.sheet.text()) {
             self.faulty = true;
             tell_unread(self.rt, name, error);
         } else if self.sheet.has_names() && !is_named(name) {
-            let why = format_args!("{name}: a script with names runs from a file NAME.names");
+            let why = format_args!("{name}: a script with names needs a file NAME.names to run");
             tell_failed(self.rt, why);
         }
     }

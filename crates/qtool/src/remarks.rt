@@ -95,7 +95,7 @@ impl<'a> Source<'a> {
         }
         let more = report.failures.saturating_sub(report.refusals.len());
         if more > 0 {
-            eprintln!(rt; "and {more} more that failed")?;
+            eprintln!(rt; "and {more} more failed")?;
         }
         for wait in &report.waits {
             eprintln!(rt; "{wait}")?;

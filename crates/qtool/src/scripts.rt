@@ -25,7 +25,7 @@ pub fn run_script<R: Files + Input + Print + Eprint + AllocGlobal>(rt: &R, run: 
     match file {
         _ if run.names_in || file.is_some_and(is_named) => run_named(rt, run),
         _ if run.plain => {
-            let why = "--plain wants a script with names: a file NAME.names, or --names-in";
+            let why = "--plain needs a script with names: a file NAME.names, or --names-in";
             Err(end_with(rt, why, 2))
         }
         None => run_plain(rt, run, rt.reader()),

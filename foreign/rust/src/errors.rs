@@ -121,7 +121,7 @@ pub enum CallError {
     Code(i32),
     /// The allocator refused.
     NoMemory,
-    /// The call ended with the result of another kind of call, which a correct kernel never returns.
+    /// The call completed with the result of another kind of call, which a correct kernel never returns.
     Unexpected,
 }
 
@@ -131,9 +131,9 @@ impl fmt::Display for CallError {
             CallError::Refused(errno) => write!(f, "call refused: {errno}"),
             CallError::Cancelled(errno) => write!(f, "call cancelled: {errno}"),
             CallError::TimedOut => f.write_str("call timed out"),
-            CallError::Code(code) => write!(f, "message answered with the code {code}"),
+            CallError::Code(code) => write!(f, "server replied with the error code {code}"),
             CallError::NoMemory => f.write_str("out of memory"),
-            CallError::Unexpected => f.write_str("call ended with the result of another kind of call"),
+            CallError::Unexpected => f.write_str("call completed with the result of another kind of call"),
         }
     }
 }

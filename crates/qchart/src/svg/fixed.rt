@@ -48,9 +48,9 @@ pub const LEGEND: &str =
 <rect class=\"receive\" x=\"230\" y=\"0\" width=\"14\" height=\"18\"/><text x=\"250\" y=\"13\">RECEIVE-blocked</text>
 <rect class=\"reply\" x=\"390\" y=\"0\" width=\"14\" height=\"18\"/><text x=\"410\" y=\"13\">REPLY-blocked</text>
 <line class=\"message\" x1=\"0\" y1=\"38\" x2=\"40\" y2=\"38\"/><text x=\"46\" y=\"42\">message</text>
-<line class=\"answer\" x1=\"120\" y1=\"38\" x2=\"160\" y2=\"38\"/><text x=\"166\" y=\"42\">answer</text>
+<line class=\"answer\" x1=\"120\" y1=\"38\" x2=\"160\" y2=\"38\"/><text x=\"166\" y=\"42\">reply</text>
 <line class=\"pulse\" x1=\"232\" y1=\"38\" x2=\"272\" y2=\"38\"/><text x=\"278\" y=\"42\">pulse</text>
 <circle class=\"dot\" cx=\"338\" cy=\"38\" r=\"4\"/><text x=\"348\" y=\"42\">call</text>
 <circle class=\"ring\" cx=\"396\" cy=\"38\" r=\"4\"/><text x=\"406\" y=\"42\">sent before</text>
-<path class=\"cross\" d=\"M493,33 L503,43 M503,33 L493,43\"/><text x=\"510\" y=\"42\">cut</text>
+<path class=\"cross\" d=\"M493,33 L503,43 M503,33 L493,43\"/><text x=\"510\" y=\"42\">cancelled</text>
 ";

@@ -33,15 +33,15 @@ impl Refused<'_> {
         match errno {
             Errno::Down => self.down(),
             Errno::Busy => self.busy(),
-            Errno::NoMemory => self.plain("there was no memory for it"),
+            Errno::NoMemory => self.plain("there was no memory for the call"),
             Errno::Again => self.plain(match kind {
-                CallKind::ChannelCreate => "64 channels are open, and there may be no more",
-                CallKind::ConnectAttach => "there are 1,024 connections, and there may be no more",
-                _ => "1,024 pulses wait on the channel, and no more may",
+                CallKind::ChannelCreate => "64 channels are open, which is the limit",
+                CallKind::ConnectAttach => "there are 1,024 connections, which is the limit",
+                _ => "1,024 pulses are queued on the channel, which is the limit",
             }),
             Errno::Badf => self.bad_connection(),
             Errno::Inval if kind == CallKind::Pulse => {
-                self.plain("its code is below 0, and the codes of pulses are 0 to 127")
+                self.plain("its code is below 0: expected a pulse code from 0 to 127")
             }
             Errno::Inval | Errno::Srch => self.badly_named(),
             _ => self.unknown(),
@@ -92,11 +92,11 @@ impl Refused<'_> {
                     "thread {thread} is blocked in {call}, and waits to receive on channel {channel}"
                 );
             }
-            ThreadState::ReplyBlocked(_) => "answered",
-            _ => "received",
+            ThreadState::ReplyBlocked(_) => "has a reply",
+            _ => "is received",
         };
         format!(in self.names.alloc;
-            "thread {thread} is blocked in {call} until its message is {lack}"
+            "thread {thread} is blocked in {call} until its message {lack}"
         )
     }
 
@@ -104,7 +104,7 @@ impl Refused<'_> {
     fn bad_flags(&self) -> Result<String, AllocError> {
         let flags = self.call.operand;
         format!(in self.names.alloc;
-            "flags are a sum of 1 (FIXED_PRIORITY), 2 (UNBLOCK) and 4 (DISCONNECT), and {flags} is none"
+            "{flags} isn't a sum of the flags 1 (FIXED_PRIORITY), 2 (UNBLOCK) and 4 (DISCONNECT)"
         )
     }
 
@@ -171,8 +171,10 @@ impl Refused<'_> {
         let (by, message) = (self.names.call(send.ended_by), self.names.id(message));
         match send.end {
             End::Open => format!(in self.names.alloc; "message {message} isn't received yet"),
-            End::Cut => format!(in self.names.alloc; "{by} ended the send of message {message}"),
-            _ => format!(in self.names.alloc; "{by} answered message {message}"),
+            End::Cut => format!(in self.names.alloc;
+                "{by} cancelled the send of message {message}"
+            ),
+            _ => format!(in self.names.alloc; "{by} replied to message {message}"),
         }
     }
 
@@ -184,7 +186,7 @@ impl Refused<'_> {
         let thread = self.names.thread(self.call.thread);
         let process = self.names.process(self.process());
         format!(in self.names.alloc;
-            "{thing} {named} is of process {owner}, and thread {thread} of process {process}"
+            "{thing} {named} belongs to process {owner}, and thread {thread} to process {process}"
         )
     }
 
@@ -193,7 +195,7 @@ impl Refused<'_> {
     fn missing(&self, thing: &str, other: String) -> Result<String, AllocError> {
         let named = self.names.id(self.call.operand);
         let found = self.call_words(self.call.operand)?;
-        format!(in self.names.alloc; "{named} is no {thing}: {found}; {other}")
+        format!(in self.names.alloc; "{named} isn't a {thing}: {found}; {other}")
     }
 
     /// Returns what the call with this number did.
@@ -207,7 +209,7 @@ impl Refused<'_> {
         };
         let call = self.names.call(number);
         let (did, item) = match past.end {
-            _ if number == self.history.made() => ("is this one", None),
+            _ if number == self.history.made() => ("is this call", None),
             End::Refused => ("was refused", None),
             End::Channel => ("made a channel", None),
             End::Connection => ("made a connection", None),

@@ -198,18 +198,18 @@ impl Check {
         }
         let wanted = &expected.text;
         let came = self.came(end, expected.place.line)?;
-        let what = format!(in self.alloc; "expected {wanted}, and {came}");
+        let what = format!(in self.alloc; "expected {wanted}, found {came}");
         difference_at(expected.place, what)
     }
 
-    /// Returns `RESULT came`, and the line of the call that completed it, if that isn't this line.
+    /// Returns the completion, and the line of the call that caused it, if that isn't this line.
     fn came(&self, end: &End, here: u64) -> Result<String, AllocError> {
         let came = end.told(self.context())?;
         let line = self.line_of(end.event);
         if line == here {
-            return format!(in self.alloc; "{came} came");
+            return Ok(came);
         }
-        format!(in self.alloc; "{came} came (line {line})")
+        format!(in self.alloc; "{came} (line {line})")
     }
 
     /// Returns the failure of a call, if no line expects it.
@@ -219,7 +219,7 @@ impl Check {
         }
         let verb = check.kind.word();
         let came = self.came(end, check.place.line)?;
-        let what = format!(in self.alloc; "{verb} isn't expected to fail, and {came}");
+        let what = format!(in self.alloc; "expected '{verb}' not to fail, found {came}");
         difference_at(check.place, what)
     }
 
@@ -271,7 +271,7 @@ impl Check {
         let name = &follower.name;
         let wanted = &follower.expectation.text;
         let what = format!(in self.alloc;
-            "expected that {name} ends here with {wanted}, and {came}"
+            "expected {name} to complete here with {wanted}, found {came}"
         );
         difference_at(follower.place, what)
     }
@@ -295,7 +295,7 @@ impl Check {
         }
         let is = self.context().state(&now)?;
         let wanted = &check.text;
-        let what = format!(in self.alloc; "expected {wanted}, and it is {is}");
+        let what = format!(in self.alloc; "expected {wanted}, found {is}");
         difference_at(check.place, what)
     }
 
@@ -349,7 +349,7 @@ impl Check {
         let state = state_name(open.map_or(ThreadState::Ready, |open| open.state));
         let wanted = &expected.text;
         let what = format!(in self.alloc;
-            "expected {wanted}, and the call hasn't ended: its thread is {state} at the end"
+            "expected {wanted}, found no completion: the thread is {state} at the end"
         );
         difference_at(expected.place, what)
     }

@@ -32,7 +32,7 @@ fn expectation(
     line: &[u8],
 ) -> Result<Expectation, ReadError> {
     let [word, rest @ ..] = tokens else {
-        let what = "how the call ends is missing, as in -> ok";
+        let what = "expected a completion after '->', as in -> ok";
         return Err(fault_in_words(alloc, arrow.behind(), what));
     };
     Ok(Expectation {
@@ -50,14 +50,14 @@ fn follower(
     line: &[u8],
 ) -> Result<Follower, ReadError> {
     let [name, arrow, rest @ ..] = tokens else {
-        let what = "behind ';' stands NAME -> and how that call ends";
+        let what = "expected 'NAME -> COMPLETION' after ';'";
         return Err(fault_in_words(alloc, semicolon.behind(), what));
     };
     if name.sort != Sort::Word || !is_name(name.bytes) {
-        return Err(wanted(alloc, name, "a call's name is wanted"));
+        return Err(wanted(alloc, name, "expected a call's name"));
     }
     if arrow.sort != Sort::Arrow {
-        return Err(wanted(alloc, arrow, "'->' is wanted"));
+        return Err(wanted(alloc, arrow, "expected '->'"));
     }
     Ok(Follower {
         name: word_of(alloc, name.bytes)?,

@@ -110,7 +110,13 @@ fn errno(alloc: Global, token: &Token<'_>) -> Result<&'static str, ReadError> {
     let words: Vec<&str> = errors.map(|errno| errno::word(*errno)).collect(alloc)?;
     let word = quotation(token.bytes);
     let all = error_words(alloc, token.bytes)?;
-    let what = no_such(alloc, word, words.as_slice(), "is no error", all.as_str());
+    let what = no_such(
+        alloc,
+        word,
+        words.as_slice(),
+        "isn't an error",
+        all.as_str(),
+    );
     Err(fault_at(token.place, what))
 }
 
@@ -140,7 +146,7 @@ fn bytes(alloc: Global, token: &Token<'_>) -> Result<Bytes, ReadError> {
         Sort::Word => bytes_said(alloc, token.bytes),
         _ => Err(ParseError::Memory),
     };
-    said.map_err(|_| wanted(alloc, token, "bytes are wanted, or * for any"))
+    said.map_err(|_| wanted(alloc, token, "expected bytes, or * for any"))
 }
 
 /// The patterns of a result.
@@ -181,7 +187,11 @@ impl Patterns {
     ) -> Result<(), ReadError> {
         self.all.push(Pattern::Word(word))?;
         if let Some(extra) = rest.get(parts.len()) {
-            return Err(wanted(self.alloc, extra, "nothing more is printed there"));
+            return Err(wanted(
+                self.alloc,
+                extra,
+                "expected no more words in this completion",
+            ));
         }
         for (part, token) in parts.iter().zip(rest) {
             self.add(*part, token)?;
@@ -204,7 +214,7 @@ impl Patterns {
     /// Adds the patterns of the result `state`. The state of the thread may be left out.
     fn add_state(&mut self, word: &'static str, content: &[Token<'_>]) -> Result<(), ReadError> {
         self.add_word(word, &[], &[])?;
-        self.add_of(&STATES, content, "a state is ready, send, receive or reply")
+        self.add_of(&STATES, content, "expected ready, send, receive or reply")
     }
 
     /// Adds the patterns of a pulse: its call and its priority, which may be left out, and its content.
@@ -214,7 +224,7 @@ impl Patterns {
         for _ in front.len()..parts.len() {
             self.all.push(Pattern::Any)?;
         }
-        self.add_of(&PULSES, content, "a pulse is user, unblock or disconnect")
+        self.add_of(&PULSES, content, "expected user, unblock or disconnect")
     }
 }
 
@@ -236,8 +246,8 @@ fn unknown_ending(alloc: Global, token: &Token<'_>) -> Result<String, AllocError
     let words: Vec<&str> = FORMS.iter().map(|(word, _)| *word).collect(alloc)?;
     let word = quotation(token.bytes);
     let all =
-        "a call ends with ok, fail, channel, connection, message, pulse, reply, error, count, state or info, or is blocked";
-    no_such(alloc, word, words.as_slice(), "ends no call", all)
+        "expected ok, fail, channel, connection, message, pulse, reply, error, count, state, info or blocked";
+    no_such(alloc, word, words.as_slice(), "isn't a completion", all)
 }
 
 /// Reads the expected result of a call.

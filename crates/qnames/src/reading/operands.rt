@@ -32,7 +32,7 @@ fn bytes(alloc: Global, slot: Slot, token: &Token<'_>) -> Result<Operand, ReadEr
         _ => {
             let hint = text_hint(token.bytes);
             let what = format!(in alloc;
-                "bytes are a text in quotes, [N] for N zeros, pairs of hexadecimal digits (0aff), up to 4,096 equal ones (16x00), or - for none{hint}"
+                "expected bytes: a text in quotes, [N] for N zeros, pairs of hexadecimal digits (0aff), up to 4,096 equal ones (16x00), or - for none{hint}"
             )?;
             Err(wanted(alloc, token, what.as_str()))
         }
@@ -45,9 +45,14 @@ fn flag(alloc: Global, token: &Token<'_>, name: &[u8]) -> Result<u8, ReadError> 
         return Ok(*bit);
     }
     let names: Vec<&str> = FLAGS.iter().map(|(flag, _)| *flag).collect(alloc)?;
-    let all =
-        "the flags are FIXED_PRIORITY, UNBLOCK and DISCONNECT, with | between, and 0 for none";
-    let mut what = no_such(alloc, quotation(name), names.as_slice(), "is no flag", all)?;
+    let all = "expected FIXED_PRIORITY, UNBLOCK and DISCONNECT, with | between, or 0 for none";
+    let mut what = no_such(
+        alloc,
+        quotation(name),
+        names.as_slice(),
+        "isn't a flag",
+        all,
+    )?;
     push_operand_hint(&mut what, Slot::Flags, token.bytes)?;
     Err(fault_at(token.place, Ok(what)))
 }
@@ -76,7 +81,7 @@ pub fn id(alloc: Global, kind: Kind, slot: Slot, token: &Token<'_>) -> Result<Op
     }
     if token.sort != Sort::Word || !is_name(token.bytes) {
         let kind = kind.words();
-        let what = format!(in alloc; "{kind}'s name or number is wanted")?;
+        let what = format!(in alloc; "expected {kind}'s name or number")?;
         return Err(wanted(alloc, token, what.as_str()));
     }
     Ok(Operand::Name(Mention {

@@ -30,14 +30,14 @@ fn process(alloc: Global, token: &Token<'_>) -> Result<Process, ReadError> {
             return Ok(Process::Name(word_of(alloc, token.bytes)?));
         }
     }
-    let what = "a process has a name, or a number from 0 to 255";
+    let what = "expected a process's name, or a number from 0 to 255";
     Err(wanted(alloc, token, what))
 }
 
 /// Returns the fault of a thread's line with too few or too many words.
 fn word_count(alloc: Global, place: Place, found: usize) -> ReadError {
     let what = format!(in alloc;
-        "a thread's line is NAME = thread PROCESS PRIORITY or NAME = thread THREAD PROCESS PRIORITY, found {found} words behind thread"
+        "expected 'NAME = thread PROCESS PRIORITY' or 'NAME = thread THREAD PROCESS PRIORITY', found {found} words after 'thread'"
     );
     fault_at(place, what)
 }
@@ -57,7 +57,8 @@ pub fn thread_line(
         _ => return Err(word_count(alloc, place, tokens.len())),
     };
     if thread.is_none() && definition.is_none() {
-        let what = "the thread has neither a name nor a number: NAME = thread PROCESS PRIORITY";
+        let what =
+            "the thread has neither a name nor a number: write 'NAME = thread PROCESS PRIORITY'";
         return Err(fault_in_words(alloc, place, what));
     }
     Ok(ThreadLine {
@@ -80,7 +81,7 @@ static STATES: [&str; 5] = [
 
 /// Reads the name of a state.
 fn state(alloc: Global, token: &Token<'_>) -> Result<&'static str, ReadError> {
-    let all = "a thread is ready, SEND-blocked, RECEIVE-blocked, REPLY-blocked or blocked";
+    let all = "expected ready, SEND-blocked, RECEIVE-blocked, REPLY-blocked or blocked";
     let mut states = STATES.iter().copied();
     let said = states.find(|state| token.is_word(state));
     said.ok_or_else(|| wanted(alloc, token, all))
@@ -88,7 +89,7 @@ fn state(alloc: Global, token: &Token<'_>) -> Result<&'static str, ReadError> {
 
 /// Reads the channel after `on`, if there is one.
 fn channel(alloc: Global, tokens: &[Token<'_>]) -> Result<Option<Operand>, ReadError> {
-    let what = "behind a state stands nothing, or 'on' and a channel";
+    let what = "expected nothing or 'on CHANNEL' after a state";
     match tokens {
         [] => Ok(None),
         [on, channel] if on.is_word("on") => Ok(Some(operand(alloc, Slot::Channel, channel)?)),
@@ -107,12 +108,16 @@ pub fn state_line(
     text: Word,
 ) -> Result<StateCheck, ReadError> {
     let [name, rest @ ..] = rest else {
-        let what = "a state is missing: THREAD is STATE";
+        let what = "expected a state: THREAD is STATE";
         return Err(fault_in_words(alloc, is.behind(), what));
     };
     let state = state(alloc, name)?;
     if let ("ready", [first, ..]) = (state, rest) {
-        return Err(wanted(alloc, first, "a ready thread is blocked on no channel"));
+        return Err(wanted(
+            alloc,
+            first,
+            "expected nothing after 'ready': a ready thread isn't blocked on a channel",
+        ));
     }
     Ok(StateCheck {
         calls,

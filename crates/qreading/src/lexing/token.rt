@@ -106,7 +106,7 @@ fn word_part(alloc: Global, rest: &[u8], place: Place) -> Result<Part<'_>, ReadE
     if len == 0 {
         let byte = rest.first().copied().unwrap_or(0);
         let what = format!(in alloc;
-            "byte 0x{byte:02X}: outside quotes and comments a line has tabs and the bytes 0x20 to 0x7E"
+            "byte 0x{byte:02X}: expected tabs and the bytes 0x20 to 0x7E outside quotes and comments"
         );
         return Err(fault_at(place, what));
     }
@@ -121,11 +121,11 @@ fn next_part(alloc: Global, rest: &[u8], place: Place) -> Result<Part<'_>, ReadE
         [b'-', b'>', ..] => Ok(sign(Sort::Arrow, rest, 2)),
         [b'"', text @ ..] => match quoted_len(text) {
             Some(len) => Ok(enclosed(Sort::Text, text, len)),
-            None => Err(fault_in_words(alloc, place, "the text has no second quote")),
+            None => Err(fault_in_words(alloc, place, "this text has no closing quote")),
         },
         [b'[', size @ ..] => match size.iter().position(|b| *b == b']') {
             Some(len) => Ok(enclosed(Sort::Size, size, len)),
-            None => Err(fault_in_words(alloc, place, "the size has no second bracket")),
+            None => Err(fault_in_words(alloc, place, "this size has no closing bracket")),
         },
         _ => word_part(alloc, rest, place),
     }

@@ -46,7 +46,7 @@ pub fn text_bytes(alloc: Global, token: &Token<'_>) -> Result<Bytes, ReadError> 
                     .saturating_add(1),
             };
             let what =
-                "no escape: \\n, \\t, \\r, \\0, \\\", \\\\ and \\x with two hexadecimal digits are";
+                "expected an escape: \\n, \\t, \\r, \\0, \\\", \\\\ or \\x with two hexadecimal digits";
             Err(fault_in_words(alloc, place, what))
         }
     }
@@ -59,7 +59,7 @@ pub fn size_of(alloc: Global, token: &Token<'_>) -> Result<u64, ReadError> {
         _ => Err(wanted(
             alloc,
             token,
-            "a size is [0] to [4096], so many bytes of zero",
+            "expected a size from [0] to [4096], for so many bytes of zero",
         )),
     }
 }

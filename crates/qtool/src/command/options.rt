@@ -7,16 +7,16 @@ use std::alloc::{AllocError, Global};
 
 /// The option that explains faults: its name and its help.
 const EXPLAIN: &str =
-    "explain: Explain faulty lines, and of script also calls that fail and threads that wait";
+    "explain: Explain faulty lines, and for script also failed calls and waiting threads";
 
 /// The option that prints JSON: its name and its help.
-const JSON: &str = "json: Print an object of JSON in place of each line";
+const JSON: &str = "json: Print a JSON object in place of each line";
 
 /// The option that reads names: its name and its help.
-const NAMES_IN: &str = "names-in: Read a script with names, whatever its file is called";
+const NAMES_IN: &str = "names-in: Read a script with names, whatever the name of its file";
 
 /// The option that prints names: its name and its help.
-const NAMES: &str = "names: Print names in place of numbers, as is done on a terminal";
+const NAMES: &str = "names: Print names in place of numbers, as on a terminal";
 
 /// A command line, or an error if there is no memory to build it.
 type Build<'a> = Result<Command<'a>, AllocError>;
@@ -65,23 +65,23 @@ fn file<'a>(alloc: Global, help: &'a str) -> Arg<'a> {
 /// Returns the subcommand `serve`.
 fn serve_command<'a>(alloc: Global) -> Build<'a> {
     let clients = value_parser!(u8).range(1..33);
-    let clients_help = "How many clients, 1 to 32";
+    let clients_help = "Number of clients, 1 to 32";
     let servers = value_parser!(u8).range(1..17);
-    let servers_help = "How many servers, 1 to 16";
+    let servers_help = "Number of servers, 1 to 16";
     let rounds = value_parser!(u16).range(1..1001);
-    let rounds_help = "How many rounds each client makes, 1 to 1000";
+    let rounds_help = "Number of rounds of each client, 1 to 1000";
     let command = subcommand(alloc, "serve", &SERVE)
         .arg(number(alloc, "clients", "N", clients, clients_help).default_value("2"))?
         .arg(number(alloc, "servers", "M", servers, servers_help).default_value("1"))?
         .arg(number(alloc, "rounds", "K", rounds, rounds_help).default_value("1"))?;
     let flags = [
-        "hold: Keep the first message until there is a second",
+        "hold: Keep the first message until a second is received",
         "time: Print how long the run and its round trips took",
-        "json: Print an object of JSON in place of lines",
+        "json: Print one JSON object in place of lines",
         "quiet: Show no progress",
     ];
     let command = with_flags(alloc, command, &flags)?;
-    let help = "Write NAME.txt, a script of the kernel's calls, and NAME.trace";
+    let help = "Write the kernel's calls as a script NAME.txt with its NAME.trace";
     command.arg(option(alloc, "record", "NAME", help))
 }
 
@@ -92,10 +92,10 @@ fn script_command<'a>(alloc: Global) -> Build<'a> {
         JSON,
         NAMES,
         NAMES_IN,
-        "plain: Print the plain script of one with names, and don't run it",
+        "plain: Print a script with names as a plain script, and don't run it",
         "strict: End with status 1 if a call failed",
     ];
-    let help = "The script's file; none or - is standard input";
+    let help = "The script's file; standard input if missing or -";
     let command = subcommand(alloc, "script", &SCRIPT).arg(file(alloc, help))?;
     with_flags(alloc, command, &flags)
 }
@@ -106,8 +106,8 @@ fn check_command<'a>(alloc: Global) -> Build<'a> {
         .value_name("PATH")
         .num_args(0..)
         .action(ArgAction::Append)
-        .help("Scripts, and folders of scripts; none is the current folder");
-    let update = "update: Write the traces that are missing or differ";
+        .help("Scripts, and folders of scripts; the current folder if missing");
+    let update = "update: Write the traces and verdicts that are missing or differ";
     let command = subcommand(alloc, "check", &CHECK).arg(paths)?;
     with_flags(alloc, command, &[update, EXPLAIN, JSON])
 }
@@ -115,16 +115,16 @@ fn check_command<'a>(alloc: Global) -> Build<'a> {
 /// Returns the subcommand `chart`.
 fn chart_command<'a>(alloc: Global) -> Build<'a> {
     let flags = [
-        "text: Draw in columns of text, as is done on a terminal, and not as SVG",
-        "bytes: Show the bytes of messages and answers, 8 at most",
+        "text: Draw in columns of text and not as SVG, as on a terminal",
+        "bytes: Show the bytes of messages and replies, at most 8",
         NAMES_IN,
     ];
     let call = value_parser!(u32).range(1..4294967295);
-    let from = "The number of the first call that is drawn";
-    let to = "The number of the last call that is drawn";
-    let help = "Write the drawing into this file; none or - is standard output";
+    let from = "Number of the first call to draw";
+    let to = "Number of the last call to draw";
+    let help = "The drawing's file; standard output if missing or -";
     let command = subcommand(alloc, "chart", &CHART)
-        .arg(file(alloc, "The script's file; none or - is standard input"))?
+        .arg(file(alloc, "The script's file; standard input if missing or -"))?
         .arg(option(alloc, "output", "FILE", help).short('o'))?;
     with_flags(alloc, command, &flags)?
         .arg(number(alloc, "from", "N", call, from).default_value("1"))?
@@ -133,16 +133,16 @@ fn chart_command<'a>(alloc: Global) -> Build<'a> {
 
 /// Returns the subcommand `explore`.
 fn explore_command<'a>(alloc: Global) -> Build<'a> {
-    let help = "The design's file; none or - is standard input";
-    let script = "script: Print the run that shows a fault alone, as a script";
-    let json = "json: Print an object of JSON in place of lines";
-    let listing = "listing: Print all that the design has, in rows of JSON, and explore nothing";
-    let symmetry = "no-symmetry: Tell equal copies apart";
+    let help = "The design's file; standard input if missing or -";
+    let script = "script: Print only the run that shows a violation, as a script";
+    let json = "json: Print one JSON object in place of lines";
+    let listing = "listing: Print the design as rows of JSON, and explore nothing";
+    let symmetry = "no-symmetry: Distinguish equal copies: no symmetry reduction";
     let count = value_parser!(u32).range(1..4294967295);
     let any = value_parser!(u32).range(0..4294967295);
-    let most = "Give up once more than N moments are known";
-    let random = "Make N interleavings by chance, and not all";
-    let seed = "What chance begins with; the same seed makes the same interleavings";
+    let most = "Give up when more than N states are visited";
+    let random = "Make only N random interleavings";
+    let seed = "Seed of the random interleavings; the same seed makes the same ones";
     let command = subcommand(alloc, "explore", &EXPLORE).arg(file(alloc, help))?;
     with_flags(alloc, command, &[script, NAMES, json, listing, symmetry])?
         .arg(number(alloc, "most", "N", count, most).default_value("1000000"))?
