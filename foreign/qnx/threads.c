@@ -258,7 +258,7 @@ int neutrino_pthread_cancel(pthread_t thread) {
     return error;
 }
 
-/* Sets a thread's name, of which the host keeps at most 15 bytes. The thread 0 is the caller. */
+/* Sets a thread's name, cut to the 15 bytes that the host keeps. The thread 0 is the caller. */
 int neutrino_pthread_setname_np(pthread_t thread, const char *name) {
     char cut[THREAD_NAME];
     if (!thread) thread = pthread_self();
