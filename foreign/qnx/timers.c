@@ -16,7 +16,7 @@ struct timer {
     struct sigevent event;
 };
 
-static struct timer timers[TIMERS]; /* by id, which begins with 1 */
+static struct timer timers[TIMERS]; /* by id; the first id is 1 */
 static int watched = -1;            /* the epoll of the front's own thread */
 
 /* The host's own functions. The headers declare them with QNX's timer_t. */

@@ -46,7 +46,7 @@ pub(crate) struct Place {
 
 const _: () = assert!(size_of::<Place>() == 128 && offset_of!(Place, word) == 64);
 
-// SAFETY: the functions below use each field by these rules.
+// SAFETY: by the safety conditions of the functions below, each field is used under these rules.
 // - `msglen` is used only under the kernel's lock.
 // - `mark` is written by `end`, before `end` releases ENDED. Each `open` has one `end`. The owner reads
 //   `mark` after it has acquired ENDED, and opens its next call after that.

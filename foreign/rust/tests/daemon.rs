@@ -413,7 +413,8 @@ fn over_a_mebibyte() {
     });
 }
 
-/// A daemon of another user is refused, unless the environment names that user. Only root can start one.
+/// A daemon of another user is refused, unless the environment names that user. Only root can start
+/// such a daemon.
 #[test]
 fn a_daemon_of_another_user() {
     const NOBODY: u32 = 65534;
