@@ -1,5 +1,5 @@
-/* A server and its clients, from C: each of the calls, and its endings.
- * exchange          prints the endings of a run
+/* A server and its clients in C: each call, with its completions.
+ * exchange          prints the completions of a run
  * exchange --time N times N rounds of Send, Receive and Reply */
 #define _POSIX_C_SOURCE 199309L
 #include "balsaeuchre.h"
@@ -49,7 +49,7 @@ static void show_mark(const balsaeuchre_ending *e) {
     }
 }
 
-/* Prints the endings of the event, or the error of the call. */
+/* Prints the completions of the event, or the error of the call. */
 static void show(const char *what, uint32_t error) {
     if (error) {
         printf("%s: no event, %s\n", what, error_names[error]);
@@ -76,7 +76,7 @@ static void open_kernel(void) {
     }
 }
 
-/* Returns whether the rows of a receive and of an Info have the same facts of the message. */
+/* Returns whether the rows of a receive and of an Info have the same data of the message. */
 static int says_same(const balsaeuchre_ending *a, const balsaeuchre_ending *b) {
     return a->sender == b->sender && a->process == b->process && a->priority == b->priority && a->id == b->id &&
            a->count == b->count && a->srcmsglen == b->srcmsglen && a->dstmsglen == b->dstmsglen;
@@ -129,7 +129,7 @@ static void show_answer(const char *what, uint32_t error) {
     printf("%s: %s\n", what, error_names[error]);
 }
 
-/* Prints the errors of wrong handles, requests and rosters. */
+/* Prints the errors of calls with wrong handles, requests and rosters. */
 static void show_refusals(void) {
     const balsaeuchre_thread one[] = {{1, 1, 1}, {1, 2, 3}};
     balsaeuchre none = BALSAEUCHRE_NONE;

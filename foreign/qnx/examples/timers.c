@@ -1,4 +1,4 @@
-/* Timers that send pulses: a periodic one, and one shot that the fifth tick starts. */
+/* Timers that send pulses: a periodic timer, and a timer of one shot that the fifth tick starts. */
 #include <stdio.h>
 #include <stdlib.h>
 #include <string.h>

@@ -1,4 +1,4 @@
-/* QNX's operations on an unsigned that threads share. Those in _value return the old value. */
+/* QNX's operations on an unsigned that threads share. The functions in _value return the old value. */
 #pragma GCC system_header
 #ifndef BALSAEUCHRE_QNX_ATOMIC_H
 #define BALSAEUCHRE_QNX_ATOMIC_H

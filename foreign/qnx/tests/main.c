@@ -59,7 +59,7 @@ void begin_send(struct client *client, int coid) {
     memcpy(client->reply, "...............", 16);
     client->coid = coid;
     client->thread = start(send_hello, client);
-    for (;;) { /* its tid is not known here, but it is the only thread that is blocked in a send */
+    for (;;) { /* its tid isn't known here, but only this thread is blocked in a send */
         for (int tid = 1; tid <= 60; tid++) {
             int state = neutrino_state(tid);
             if (state != STATE_SEND && state != STATE_REPLY) continue;

@@ -3,7 +3,7 @@
 
 enum { LONGEST = 3000, MOST = 7 };
 
-/* Cuts a buffer into parts, of which some may be empty. */
+/* Cuts a buffer into parts. Some parts may be empty. */
 static size_t cut(iov_t *parts, char *bytes, size_t length, unsigned *seed) {
     size_t count = (size_t)rand_r(seed) % MOST, done = 0;
     for (size_t at = 0; at < count; at++) {
@@ -18,7 +18,7 @@ static size_t cut(iov_t *parts, char *bytes, size_t length, unsigned *seed) {
 
 static int chid;
 
-/* Receives, reads the rest, writes and answers, each by parts. */
+/* Receives, reads the rest, writes and replies, each with parts. */
 static void *serve(void *argument) {
     static char message[LONGEST], answer[LONGEST];
     unsigned seed = 7;

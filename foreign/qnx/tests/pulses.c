@@ -33,7 +33,7 @@ void values(void) {
     check(ConnectDetach(coid) == 0 && ChannelDestroy(chid) == 0);
 }
 
-/* Notes of pulses that a destroyed channel had are free again. */
+/* The notes of a destroyed channel's pulses are free again. */
 void notes(void) {
     for (int turn = 0; turn < 3; turn++) {
         int chids[4], coids[4], spare = ChannelCreate(0), over = attach(spare);
@@ -52,7 +52,7 @@ void notes(void) {
     }
 }
 
-/* The turns of notes begin again after 524,286 of them. */
+/* The turns of notes begin again after 524,286 turns. */
 void many_notes(void) {
     int chid = ChannelCreate(0), coid = attach(chid);
     for (int sent = 0; sent < 530000; sent++) {

@@ -1,5 +1,6 @@
-//! Compares the declarations of `wire.rs`, `host.rs` and `kernel.rs` with the headers, by a program in C that prints the
-//! values of the same names. It wants a clone of the repository, and cc; the package by itself has no headers.
+//! Compares the declarations of `wire.rs`, `host.rs` and `kernel.rs` with the headers, by a program in C that
+//! prints the values of the same names. It needs cc and a clone of the repository. The package by itself has
+//! no headers, and then nothing is compared.
 
 use super::*;
 use crate::host::{self, Address, Packet, Part, Peer, Rights, User};
@@ -15,7 +16,8 @@ fn size_of_field<T, F>(_: fn(&T) -> &F) -> usize {
     size_of::<F>()
 }
 
-/// The size of a struct, and of each field its offset and its size. A field in a part of a struct is named by its way.
+/// The size of a struct, and the offset and the size of each field. A field in a part of a struct is named by
+/// its path.
 macro_rules! layout {
     ($rust:ty, $c:literal: $($($field:ident).+),+) => {{
         let mut rows: Vec<Row> = vec![(format!("sizeof({})", $c), size_of::<$rust>() as i64)];
@@ -83,7 +85,7 @@ fn kinds() -> Vec<Row> {
     rows.into_iter().map(|(name, value)| (format!("BALSAEUCHRE_{name}"), value)).collect()
 }
 
-/// Returns what C has in place of the rows' values.
+/// Returns the values that C has for the rows.
 fn printed(foreign: &Path, rows: &[Row]) -> Vec<i64> {
     let folder = env::temp_dir().join(format!("balsaeuchre-wire-{}", std::process::id()));
     fs::create_dir_all(&folder).unwrap();
