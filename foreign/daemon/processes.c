@@ -11,12 +11,12 @@
  * another program has its place.
  *
  * Ends. The daemon learns that a program has ended by its pidfd or by the end of its socket, whichever comes
- * first: the socket may stay open in a forked child, and exec closes it. The daemon then destroys the
- * program's channels and unblocks its calls. A call whose message is held on a channel with the flag UNBLOCK
- * stays open, and its server gets the unblock pulse. All other calls end at once. The daemon detaches all
- * connections except the connections of calls that stay open. The place is free as soon as nothing of the
- * program is left. If a server never replies, the program keeps its place until another program joins and all
- * places are taken. Then the daemon empties the place of the program that ended first.
+ * first. It needs both: the socket may stay open in a forked child, and exec closes it. Then the daemon
+ * destroys the program's channels and unblocks its calls. A call whose message is held on a channel with the
+ * flag UNBLOCK stays open, and its server gets the unblock pulse. All other calls end at once. The daemon
+ * detaches all connections except the connections of calls that stay open. The place is free as soon as
+ * nothing of the program is left. If a server never replies, the program keeps its place until another
+ * program joins and all places are taken. Then the daemon empties the place of the program that ended first.
  *
  * Room. The end of a program must not depend on a server that doesn't receive. A detach may make a
  * disconnect pulse, and the kernel refuses the detach if 1,024 pulses wait on the channel. So on each
@@ -115,8 +115,8 @@ static int take_place(struct client *c) {
 
 static void end_program(int process);
 
-/* From now on the table gives no number up to this one. A number of the upper half is ignored: a program that
- * names such a number would use up the numbers of all programs. */
+/* Lets a table skip all numbers up to this number, if it is of the lower half. A program that names a greater
+ * number would use up the numbers of all programs. */
 static void skip_up_to(enum table table, int number) {
     const struct names *names = &k->tables[table];
     int next = number_at(names, k->next[table]);

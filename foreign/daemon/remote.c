@@ -201,8 +201,8 @@ static void say_refusal(int error, unsigned places) {
         dprintf(STDERR_FILENO, "balsaeuchre: the balsaeuchred at %s takes no programs of user %u: its option --group "
                 "names a group that it takes\n", path, geteuid());
     else if (error == ENOEXEC)
-        dprintf(STDERR_FILENO, "balsaeuchre: the balsaeuchred at %s is of another release: expected one that takes "
-                "version %d\n", path, WIRE_VERSION);
+        dprintf(STDERR_FILENO, "balsaeuchre: the balsaeuchred at %s is of another release: expected a daemon that "
+                "takes version %d\n", path, WIRE_VERSION);
     else
         dprintf(STDERR_FILENO, "balsaeuchre: the balsaeuchred at %s refuses this program: %s\n", path, strerror(error));
 }

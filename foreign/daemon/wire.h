@@ -16,8 +16,8 @@ enum { WIRE_VERSION = 4, WIRE_MOST = 1 << 20, WIRE_NAME = 256, WIRE_GROUPS = 8 }
 
 enum wire_op {
     OP_PROCESS = 1, /* the first request of a program's socket: number is WIRE_VERSION; the result is its
-                       scoid. states, flags and pid are the last chid, coid and rcvid that the program had of
-                       an earlier daemon. This daemon doesn't give them again */
+                       scoid. states, flags and pid are an earlier daemon's last chid, coid and rcvid, which
+                       this daemon doesn't give again */
     OP_THREAD,      /* the first request of a thread's socket: number is its tid, value its priority */
     OP_CALL,        /* a call: the field request, and in number the id that the call names; the bytes: sent,
                        then a Send's reply buffer */

@@ -35,8 +35,8 @@ enum { CACHE_LINE = 64 };     /* bytes of a cache line */
  * end the call. ENDED: the call is completed. */
 enum { OPEN, ASLEEP, INTERRUPTED, ENDED };
 
-/* An id of the kernel, which has 40 bits, and its name, which is an int: a place in a table, and a turn,
- * which counts how often the place was taken. */
+/* An id of the kernel, which has 40 bits, and its name, which is an int. The name is a place in a table and a
+ * turn, which counts how often the place was taken. */
 struct name {
     uint64_t id : 40; /* 0: the place is free */
     uint64_t owner : 8;

@@ -169,7 +169,7 @@ static void take_signal(int signo, siginfo_t *info, void *context) {
     _exit(1);
 }
 
-/* Takes the pulses on its own channel. All are of its own events. */
+/* Takes the pulses on its own channel, which all come from its own events. */
 static void take_own_pulses(int chid) {
     for (;;) {
         struct _pulse pulse;

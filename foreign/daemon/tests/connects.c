@@ -116,7 +116,7 @@ static void idle(void) {
     check(ChannelDestroy(chid) == 0 && pthread_join(thread, NULL) == 0);
 }
 
-/* ---- long asks of one program */
+/* ---- long requests of one program */
 
 enum { LONG = 1 << 20, ROUNDS = 400, PAIRS = 5 };
 

@@ -157,7 +157,7 @@ static void events(void) {
     check(name_detach(name, 0) == 0);
 }
 
-/* Leaves its sockets to a child of which the library doesn't know, and ends. */
+/* Leaves its sockets to a child that the library doesn't know, and ends. */
 static void leave_to_child(void *unused) {
     struct message m;
     (void)unused;

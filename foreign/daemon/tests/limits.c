@@ -265,7 +265,7 @@ static void live(void *unused) {
     check(coid > 0 && MsgSend(other, "hello", 6, back, sizeof back) == 6);
 }
 
-/* Processes one after another, each of which gets a place. */
+/* Processes run one after another, and each gets a place. */
 static void lives(void) {
     const char *rounds = getenv("LIVES");
     pid_t server = spawn(echo, NULL);

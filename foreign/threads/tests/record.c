@@ -1,6 +1,6 @@
-/* Keeps each call of the library in the order of the layer's lock, and the results that each thread got
- * from its own calls. When a kernel is freed, one thread makes all its calls again. Each event must be the
- * same as before, and each completion must be the one that its thread got. Linked with --wrap for each
+/* Keeps each call of the library in the order of the layer's lock, and the results that each thread got from
+ * its own calls. When a kernel is freed, one thread makes all its calls again. Each event must be the same as
+ * before, and each completion must be the same as the result that its thread got. Linked with --wrap for each
  * function that has a __wrap_ here.
  */
 #include "tests.h"
