@@ -115,8 +115,8 @@ _Static_assert(OWN_ROWS * sizeof(balsaeuchre_ending) % CACHE_LINE == 0, "rows in
 
 struct neutrino {
     _Alignas(CACHE_LINE) pthread_mutex_t lock;
-    /* Calls only read the fields from here to clock_of, except that a call with the
-     * longest buffer yet writes most. */
+    /* Calls only read the fields from here to clock_of, except that a call with the longest buffer
+     * yet writes the field most. */
     _Alignas(CACHE_LINE) balsaeuchre library;
     struct neutrino_hooks hooks;
     size_t most;   /* the longest buffer of all places */
