@@ -112,7 +112,7 @@ static void expect_progress(int but, const pid_t *pids) {
     for (int at = 0; at < WORKERS; at++) {
         while (at != but && progress[at].count == before[at]) {
             check(waitpid(pids[at], NULL, WNOHANG) == 0);
-            if (time(NULL) > start + PATIENCE) fprintf(stderr, "worker %d is stuck at step %d\n", at, progress[at].step);
+            if (time(NULL) > start + PATIENCE) fprintf(stderr, "worker %d is at step %d\n", at, progress[at].step);
             check(time(NULL) <= start + PATIENCE);
             usleep(100);
         }
