@@ -1,7 +1,7 @@
-/* What pidin prints. Tested, not proved. */
+/* The text that pidin prints. Tested, not proved. */
 #include "printable.h"
 
-/* Prints on whom a thread is blocked. */
+/* Prints the channel, the thread and the process on which a thread is blocked. */
 static void show_blocked(FILE *to, const struct neutrino_blocked *blocked) {
     int place = k->place_of[blocked->server], owner = k->channels[place_in(&k->tables[CHANNELS], blocked->chid)].owner;
     const struct client *whom = place == PLACES ? NULL : client_of[place];
@@ -13,7 +13,7 @@ static void show_blocked(FILE *to, const struct neutrino_blocked *blocked) {
     fprintf(to, "\n");
 }
 
-/* The priority of a thread, which may be blocked. So the daemon's own thread asks. */
+/* The priority of a thread. The thread may be blocked, so the daemon's own thread makes the call. */
 static int shown_priority(const struct place *p) {
     balsaeuchre_request request = balsaeuchre_request_of(BALSAEUCHRE_STATE, SYSTEM, 0);
     request.target = p->tid;

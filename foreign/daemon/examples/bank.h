@@ -1,4 +1,4 @@
-/* What the bank and its clients send each other. */
+/* The messages between the bank and its clients. */
 #include <stdint.h>
 
 enum { MSG_BOOK = 0x701, MSG_WATCH, MSG_CLOSE };

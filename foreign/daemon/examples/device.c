@@ -1,5 +1,6 @@
-/* A device driver: a resource manager's loop. It holds one line, which a client writes and another one reads; a read of
- * an empty device waits in the driver, until a line comes or its client is tired of waiting. Ends with a pulse. */
+/* A device driver: a resource manager's loop. The device holds one line, which one client writes and another
+ * reads. A read of an empty device waits in the driver until a line comes, or until its client is tired of
+ * waiting. A pulse ends the driver. */
 #include <errno.h>
 #include <stdio.h>
 #include <stdlib.h>

@@ -1,4 +1,4 @@
-/* What the driver and its clients send each other. */
+/* The messages between the driver and its clients. */
 #include <stdint.h>
 
 enum { IO_READ = 0x601, IO_WRITE, LINE = 32 };

@@ -1,6 +1,7 @@
-/* hostile SECONDS SEED: programs that speak as wire.h says, but as no library does, beside honest ones, which go on. They
- * join, create channels, send, receive, answer, deliver events, unblock and cancel, with numbers of their own, of others
- * or of nobody, and change their boxes while the daemon reads them; and they are killed in any state. */
+/* hostile SECONDS SEED: hostile programs use the protocol of wire.h in ways in which no library does. Honest
+ * programs run at the same time, and have to continue. The hostile programs join, create channels, send,
+ * receive, reply, deliver events, unblock and cancel. They use numbers of their own, of others or of nobody,
+ * and change their boxes while the daemon reads them. They are killed in any state. */
 #define _GNU_SOURCE
 #include "tests.h"
 
@@ -18,7 +19,7 @@ enum kind { CHIDS, COIDS, RCVIDS, SCOIDS, KINDS };
 static struct {
     volatile long count[HONEST], asks, results;
     volatile int numbers[KINDS][NUMBERS]; /* of all hostile programs */
-    volatile pid_t pids[NUMBERS];         /* of programs */
+    volatile pid_t pids[NUMBERS];         /* the pids of programs */
 } *shared;
 
 static int below(int most) { return rand() % most; }
@@ -57,7 +58,7 @@ static void ask_honestly(void *at) {
     for (;;) {
         size_t length = 2 + (size_t)below(LONGEST - 2);
         for (size_t byte = 0; byte < length; byte++) sent[byte] = (char)(rand() | 1);
-        memset(sent, 0x7f, 2); /* no _IO_CONNECT */
+        memset(sent, 0x7f, 2); /* a type other than _IO_CONNECT */
         check(MsgSend(coid, sent, length, back, sizeof back) == (long)length);
         invert(back, length);
         check(memcmp(sent, back, length) == 0);
@@ -76,7 +77,8 @@ static void note(enum kind kind, int64_t number) {
     if (number > 0 && number <= INT32_MAX) shared->numbers[kind][below(NUMBERS)] = (int)number;
 }
 
-/* A number of this kind, of any program; or near to one, or of another kind, or anything. */
+/* Returns a number of this kind of any program. Sometimes it is near to such a number,
+ * of another kind, or random. */
 static int number_of_kind(enum kind kind) {
     switch (below(20)) {
     case 0: return any(kind) + below(3) - 1;
@@ -98,7 +100,8 @@ static int connect_to(void) {
     }
 }
 
-/* Asks by a packet. Returns the error, or -1 if the socket is closed. files gets those that come. */
+/* Sends a request as a packet. Returns the error of the answer, or -1 if the socket is closed. files
+ * gets the files of the answer. */
 static int exchange(int fd, const struct wire_ask *ask, const void *bytes, struct wire_answer *answer, int files[2]) {
     static char text[100000];
     union { struct cmsghdr head; char room[CMSG_SPACE(2 * sizeof(int))]; } rights = {.head = {0}};
@@ -135,7 +138,8 @@ static void open_thread(int at) {
     atomic_store(&threads[at].box->word, WIRE_ANSWERED);
 }
 
-/* What the program's own socket asks: of names, clients, senders and events. */
+/* Sends a request by the program's own socket, about names, clients, senders or events. Returns
+ * false if the socket is closed. */
 static bool ask_by_program(void) {
     static const uint32_t ops[] = {OP_NAME, OP_UNNAME, OP_FIND, OP_CLIENT, OP_SENDER, OP_EVENT,
                                    OP_DEATH, OP_UNBLOCK, OP_CANCEL, OP_SHOW};
@@ -174,7 +178,7 @@ static enum kind kind_of(uint8_t call) {
     }
 }
 
-/* A call that could be right. Few channels are destroyed, so that some stay. */
+/* Returns a call that could be valid. It rarely destroys a channel, so that some stay. */
 static struct wire_ask any_call(int at) {
     static const uint8_t often[] = {BALSAEUCHRE_SEND, BALSAEUCHRE_RECEIVE, BALSAEUCHRE_REPLY, BALSAEUCHRE_PULSE};
     uint8_t kind = below(2) ? often[below(sizeof often)] : (uint8_t)(1 + below(17));
@@ -199,7 +203,7 @@ static struct wire_ask any_call(int at) {
     return ask;
 }
 
-/* Looks at the answer of a box, and notes what it brings. */
+/* Notes the numbers in the answer of a box. */
 static void take_answer(int at) {
     const struct wire_answer answer = threads[at].box->answer;
     if (answer.error) return;
@@ -215,7 +219,7 @@ static void take_answer(int at) {
     }
 }
 
-/* Puts an ask into the box of a thread, and changes box and ask while the daemon may read them. */
+/* Puts a request into the box of a thread, and changes the box while the daemon may read it. */
 static void ask_by_box(int at) {
     struct wire_box *box = threads[at].box;
     const uint64_t once = 1;
@@ -226,7 +230,7 @@ static void ask_by_box(int at) {
     atomic_store(&box->word, below(50) ? WIRE_OPEN : (uint32_t)below(5));
     atomic_fetch_add(&box->asked, below(100) ? 1 : 2);
     check(write(threads[at].bell, &once, sizeof once) > 0 || errno == EAGAIN);
-    for (int turn = below(8) ? 0 : below(SPINS); turn; turn--) { /* the ask, the word, the answer and the bytes */
+    for (int turn = below(8) ? 0 : below(SPINS); turn; turn--) { /* request, answer and word change */
         ((volatile uint8_t *)&box->ask)[below(sizeof ask)] = (uint8_t)rand();
         if (below(20) == 0) box->answer.length = (uint32_t)rand();
         if (below(20) == 0) atomic_store(&box->word, (uint32_t)below(5));
@@ -248,7 +252,7 @@ static void step(int at) {
     else if (below(50) == 0) atomic_store(&threads[at].box->given_up, threads[at].call), ask_by_box(at);
 }
 
-/* A program, which joins, does its work, and ends or is killed. */
+/* A program that joins, does its work, and ends or is killed. */
 static void attack(void *seed) {
     struct wire_ask join = {.op = OP_PROCESS, .number = WIRE_VERSION};
     struct wire_answer answer;
@@ -291,7 +295,7 @@ int main(int count, char **words) {
         check(!WIFEXITED(status) || WEXITSTATUS(status) == 0);
         hostile[at] = spawn(attack, (void *)(uintptr_t)rand());
         time_t start = time(NULL);
-        for (int each = 0; each < HONEST; each++) { /* these go on meanwhile */
+        for (int each = 0; each < HONEST; each++) { /* these continue meanwhile */
             while (shared->count[each] == before[each]) {
                 check(waitpid(honest[each], NULL, WNOHANG) == 0 && time(NULL) <= start + PATIENCE);
                 usleep(1000);

@@ -1,5 +1,5 @@
-/* kills KILLS SEED: servers and clients as processes, one of which is killed at a random time, again and again; after
- * each kill all others have to go on. */
+/* kills KILLS SEED: servers and clients as processes. Again and again one of them is killed at a random time.
+ * After each kill all others have to continue. */
 #define _GNU_SOURCE
 #include "tests.h"
 
@@ -22,12 +22,12 @@ static bool is_gone(int error) {
 
 static unsigned rest_of(unsigned length, unsigned at) { return (length * 7 + at) & 127; }
 
-/* Each byte becomes another, so that what a box had before is no answer. */
+/* Changes each byte, so that the old content of a box isn't a correct reply. */
 static void invert(char *bytes, size_t length) {
     for (size_t at = 0; at < length; at++) bytes[at] = (char)~bytes[at];
 }
 
-/* Answers a message of length bytes, which begins with that length, in one of four ways. */
+/* Replies to a message in one of four ways. The message begins with its length in bytes. */
 static void answer(rcvid_t rcvid, char *room, const struct _msg_info *info) {
     uint32_t length;
     memcpy(&length, room, sizeof length);
@@ -66,7 +66,7 @@ static void serve(void *at) {
     }
 }
 
-/* Sends a message, and looks whether the right answer has come. Returns whether the connection still serves. */
+/* Sends a message, and checks the reply. Returns whether the connection still works. */
 static bool ask(int coid, char *sent, char *back) {
     uint32_t length = 4 + (uint32_t)rand() % (rand() % 16 ? 100 : LONG - 4);
     memcpy(sent, &length, sizeof length);
@@ -112,7 +112,7 @@ static void expect_progress(int but, const pid_t *pids) {
     for (int at = 0; at < WORKERS; at++) {
         while (at != but && progress[at].count == before[at]) {
             check(waitpid(pids[at], NULL, WNOHANG) == 0);
-            if (time(NULL) > start + PATIENCE) fprintf(stderr, "worker %d stands at step %d\n", at, progress[at].step);
+            if (time(NULL) > start + PATIENCE) fprintf(stderr, "worker %d is at step %d\n", at, progress[at].step);
             check(time(NULL) <= start + PATIENCE);
             usleep(100);
         }

@@ -1,8 +1,9 @@
 /* A device driver as one writes it for QNX: a resource manager's loop.
  *
- * The device holds one line, which one client writes and another reads. A read of an empty device waits in the
- * driver, REPLY-blocked, until a line comes; a client that is tired of waiting is unblocked by a pulse. Pulses tell
- * the driver of interrupts. What QNX does not have: the kernel is opened, and each thread joins it and leaves.
+ * The device holds one line, which one client writes and another reads. A client that reads an empty device
+ * is REPLY-blocked until a line comes. If the client is tired of waiting, a pulse asks the driver to unblock
+ * it. The driver also gets a pulse for each interrupt. Two things differ from QNX: the kernel is opened, and
+ * each thread joins it and leaves.
  */
 #include <errno.h>
 #include <pthread.h>
@@ -161,7 +162,8 @@ int main(void) {
     neutrino_leave();
     int coid = open_device(WRITER);
     pthread_create(&running[0], NULL, driver, NULL);
-    for (int i = 0; i < 3; i++) MsgSendPulse(coid, 50, PULSE_INTERRUPT, 1); /* as an interrupt's handler does */
+    /* As the handler of an interrupt does. */
+    for (int i = 0; i < 3; i++) MsgSendPulse(coid, 50, PULSE_INTERRUPT, 1);
     read_for(coid, 20 * 1000000ull);
     pthread_create(&running[1], NULL, reader, NULL);
     try_the_device(coid);

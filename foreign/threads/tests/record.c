@@ -1,6 +1,7 @@
-/* Keeps each call of the library in the order of the layer's lock, and what each thread got of its own calls. When a
- * kernel is freed, one thread makes all its calls again: each event must be the one before, and each ending the one
- * that its thread got. Linked with --wrap for the functions of which there is a __wrap_ here.
+/* Keeps each call of the library in the order of the layer's lock, and the results that each thread got from
+ * its own calls. When a kernel is freed, one thread makes all its calls again. Each event must be the same as
+ * before, and each completion must be the same as the result that its thread got. Linked with --wrap for each
+ * function that has a __wrap_ here.
  */
 #include "tests.h"
 #include "balsaeuchre.h"
@@ -17,7 +18,7 @@ struct entry {
     balsaeuchre_ending *rows;
     balsaeuchre_done done;
     uint32_t answer;
-    bool is_hidden; /* the layer made it, and its thread did not ask for it */
+    bool is_hidden; /* the layer made the call, and its thread didn't ask for it */
 };
 struct gots { struct got *all; size_t count, size, turn; int kind; };
 struct record {
@@ -28,7 +29,7 @@ struct record {
     bool is_thread[THREADS]; /* the others of the roster are the layer's clocks */
     struct entry *entries;
     size_t count, size;
-    struct gots gots[THREADS]; /* by thread; kind is that of the call that it is in */
+    struct gots gots[THREADS]; /* by thread; kind is the kind of its current call */
 };
 
 static struct record records[KERNELS];
@@ -80,14 +81,14 @@ uint32_t __wrap_balsaeuchre_new(const balsaeuchre_thread *threads, size_t thread
     return 0;
 }
 
-/* By the layer, under its lock. */
+/* The layer calls it under its lock. */
 uint32_t __wrap_balsaeuchre_make_call(balsaeuchre *handle, const balsaeuchre_request *request, const uint8_t *sent,
                                       size_t sent_len, const uint8_t *room, size_t room_len, balsaeuchre_ending *rows,
                                       size_t row_count, uint8_t *bytes, size_t bytes_len, balsaeuchre_done *done) {
     uint32_t error = __real_balsaeuchre_make_call(handle, request, sent, sent_len, room, room_len, rows, row_count,
                                                   bytes, bytes_len, done);
     struct record *r = record_of(handle->place);
-    if (!r) return error; /* of a kernel that a child opened or that is made again */
+    if (!r) return error; /* a kernel that a child opened, or that is made again */
     r->entries = grow(r->entries, r->count, &r->size, sizeof *r->entries);
     struct entry *e = &r->entries[r->count++];
     *e = (struct entry){.request = *request, .sent_len = sent_len, .room_len = room_len, .answer = error};
