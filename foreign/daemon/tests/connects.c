@@ -178,6 +178,44 @@ static void greedy(void) {
     kill_child(long_server);
 }
 
+/* Receives the first bytes of each message, and replies with them: its own requests are short. */
+static void acknowledge(void *name) {
+    char bytes[4];
+    struct _msg_info info;
+    name_attach_t *attached = name_attach(NULL, name, 0);
+    check(attached);
+    for (;;) {
+        rcvid_t rcvid = receive_answering_opens(attached->chid, bytes, sizeof bytes, &info);
+        if (rcvid > 0) check(MsgReply(rcvid, 0, bytes, sizeof bytes) == 0 || errno == ESRCH);
+    }
+}
+
+/* The median of the microseconds in which a server gets this many bytes. */
+static double median_send(int coid, size_t bytes) {
+    static char sent[LONG], got[4];
+    double trips[TURNS];
+    for (int turn = 0; turn < TURNS; turn++) {
+        double start = seconds(CLOCK_MONOTONIC);
+        check(MsgSend(coid, sent, bytes, got, sizeof got) == 0);
+        trips[turn] = (seconds(CLOCK_MONOTONIC) - start) * 1e6;
+    }
+    qsort(trips, TURNS, sizeof *trips, compare);
+    return trips[TURNS / 2];
+}
+
+/* A client and its server don't wait for each other's turn: after messages of 1 MiB the client's short ones take as long
+ * as before. If the server counted as another program that asks, they would wait for milliseconds. */
+static void partners(void) {
+    pid_t server = spawn(acknowledge, "short");
+    int coid = open_name("short");
+    double before = median_send(coid, LONG / 40);
+    median_send(coid, LONG);
+    double after = median_send(coid, LONG / 40);
+    if (getenv("VERBOSE")) fprintf(stderr, "26 KB: %.0f us before, %.0f us after\n", before, after);
+    check(after < 10 * before);
+    kill_child(server);
+}
+
 /* ---- whose daemon it is */
 
 static struct shared { volatile int came; } *shared;
@@ -513,8 +551,8 @@ static void not_again(void) { start_again(false); }
 
 #define TEST(name) {#name, name}
 static const struct { const char *name; void (*run)(void); } tests[] = {
-    TEST(timeouts), TEST(idle), TEST(greedy), TEST(owners), TEST(places), TEST(longest), TEST(no_place), TEST(no_thread),
-    TEST(closed_files), TEST(strangers), TEST(told_channels), TEST(again), TEST(not_again),
+    TEST(timeouts), TEST(idle), TEST(greedy), TEST(partners), TEST(owners), TEST(places), TEST(longest), TEST(no_place),
+    TEST(no_thread), TEST(closed_files), TEST(strangers), TEST(told_channels), TEST(again), TEST(not_again),
 };
 
 static void run(void *at) { tests[(intptr_t)at].run(); }
