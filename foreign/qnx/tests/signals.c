@@ -190,7 +190,8 @@ void jumps(void) {
     check(setprio(0, 10) > 0 && ConnectDetach(over_all) == 0 && ChannelDestroy(chid) == 0);
 }
 
-static _Atomic int forked;
+static const struct itimerval soon = {{0, 0}, {0, 1000}}; /* a millisecond, once */
+static _Atomic int forked, forks_wanted;
 
 static void fork_within(int signo) {
     int before = errno, status;
@@ -201,26 +202,26 @@ static void fork_within(int signo) {
         _exit(chid > 0 || errno == EDEADLK ? 0 : 1);
     }
     check(waitpid(child, &status, 0) == child && WIFEXITED(status) && WEXITSTATUS(status) == 0);
-    atomic_fetch_add(&forked, 1);
+    /* A fork may take longer than the timer: it is set again only now, so that the calls go on between two forks. */
+    if (atomic_fetch_add(&forked, 1) + 1 < atomic_load(&forks_wanted)) setitimer(ITIMER_REAL, &soon, NULL);
     errno = before;
 }
 
 /* A handler may fork wherever it has interrupted the front. The calls here allocate no memory, since the
  * host's fork waits for the host's allocator. */
 void forks_in_handlers(void) {
-    struct itimerval often = {{0, 1000}, {0, 1000}}, never = {{0, 0}, {0, 0}};
     struct _server_info info;
     int chid = ChannelCreate(0), wanted = 20 + rounds / 10;
     atomic_store(&forked, 0);
+    atomic_store(&forks_wanted, wanted);
     handle(SIGALRM, fork_within, SA_RESTART);
-    check(setitimer(ITIMER_REAL, &often, NULL) == 0);
+    check(setitimer(ITIMER_REAL, &soon, NULL) == 0);
     while (atomic_load(&forked) < wanted) {
         int coid = attach(chid);
         check(ConnectServerInfo(0, coid, &info) == coid && ConnectFlags(0, coid, 0, 0) == 0);
         check(ConnectDetach(coid) == 0);
     }
-    check(setitimer(ITIMER_REAL, &never, NULL) == 0 && signal(SIGALRM, SIG_DFL) == fork_within);
-    check(ChannelDestroy(chid) == 0);
+    check(signal(SIGALRM, SIG_DFL) == fork_within && ChannelDestroy(chid) == 0);
 }
 
 static void *receive_often(void *argument) {
