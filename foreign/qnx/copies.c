@@ -22,7 +22,7 @@ struct note_of_copy {
 static void look_at_note(const struct note_of_copy *note, const char *file, struct copies *found) {
     int64_t offset;
     memcpy(&offset, note->offset, sizeof offset);
-    const atomic_int *mark = (const atomic_int *)(note->offset + offset);
+    const atomic_int *mark = (const atomic_int *)((uintptr_t)note->offset + (uintptr_t)offset); /* in another object */
     if (mark == &opened) found->own = file;
     else if (atomic_load(mark)) found->other = file;
 }
