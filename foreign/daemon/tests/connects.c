@@ -505,7 +505,15 @@ static pid_t end_and_start(pid_t old, int chid) {
     return daemon;
 }
 
+static void *reply_to_urgent(void *chid) {
+    struct _msg_info info;
+    rcvid_t rcvid = MsgReceive((int)(intptr_t)chid, NULL, 0, &info);
+    check(rcvid > 0 && info.priority == 21 && MsgReply(rcvid, 0, NULL, 0) == 0);
+    return NULL;
+}
+
 static void use_again(void *daemon) {
+    pthread_t server;
     const struct sched_param param = {.sched_priority = 21};
     struct sched_param now;
     struct _pulse pulse;
@@ -526,6 +534,8 @@ static void use_again(void *daemon) {
     check(MsgSendPulse(own, -1, 3, 4) == 0 && MsgReceivePulse(other, &pulse, sizeof pulse, NULL) == 0);
     check(pulse.code == 3 && pulse.value.sival_int == 4);
     check(SchedGet(0, 0, &now) != -1 && now.sched_priority == 21);
+    check(pthread_create(&server, NULL, reply_to_urgent, (void *)(intptr_t)other) == 0);
+    check(MsgSend(own, NULL, 0, NULL, 0) == 0 && pthread_join(server, NULL) == 0);
     attach_in_thread(other);
     kill_child(next);
 }
