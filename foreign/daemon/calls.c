@@ -233,11 +233,12 @@ static void end_at_once(struct client *c) {
 static void make_call(struct client *c) {
     const struct wire_ask *a = &c->ask;
     uint64_t ended = 0, until = now() + a->time;
+    if (until < a->time) until = UINT64_MAX;
     c->answer = (struct wire_answer){.error = 0};
     c->wrote = false;
     c->call = (struct call){.request = a->request, .table = table_of(a->request.kind), .number = a->number,
                             .own_priority = a->flags & WIRE_OWN_PRIORITY, .states = a->states,
-                            .until = !a->states ? 0 : until < a->time ? UINT64_MAX : until,
+                            .until = a->states ? until : 0,
                             .sent = c->bytes, .sent_len = a->sent_len, .room = c->bytes + a->sent_len,
                             .room_len = a->room_len, .info = &c->answer.info, .cancels = a->flags & WIRE_CANCELS};
     int error = c->bytes ? prepare_call(c) : ENOMEM, kind = a->request.kind;

@@ -11,7 +11,10 @@
 enum woken { HAS_ENDED, TIMED_OUT, WAS_INTERRUPTED };
 static void lock(neutrino *of) { (void)of; }
 static void unlock(neutrino *of) { (void)of; }
-static void wake(neutrino *of, uint64_t asleep) { (void)of, (void)asleep; }
+static void wake(neutrino *of, uint64_t asleep) {
+    (void)of;
+    (void)asleep;
+}
 static bool is_ended(struct place *p) { return !p->call; }
 static void open_word(struct place *p, bool interrupted) { p->word = interrupted ? INTERRUPTED : OPEN; }
 static uint64_t tell(neutrino *of, uint64_t ended);

@@ -23,11 +23,12 @@ struct life {
     volatile int detached[SERVERS], disconnected[SERVERS];
 };
 
-static struct {
+struct all {
     volatile int lives;
     volatile long count[WORKERS];
     struct life life[LIVES];
-} *all;
+};
+static struct all *all;
 
 struct message {
     uint16_t type;
@@ -162,7 +163,8 @@ static void serve(void) {
 static struct life *own;
 
 static void take_signal(int signo, siginfo_t *info, void *context) {
-    (void)signo, (void)context;
+    (void)signo;
+    (void)context;
     if (info->si_value.sival_int == own->pid) return;
     static const char text[] = "a signal of another program\n";
     if (write(STDERR_FILENO, text, sizeof text - 1) < 0) _exit(2);

@@ -218,7 +218,10 @@ static void partners(void) {
 
 /* ---- whose daemon it is */
 
-static struct shared { volatile int came; } *shared;
+struct shared {
+    volatile int came;
+};
+static struct shared *shared;
 
 /* Listens as another user, and counts the programs that send anything. Answers none of them. */
 static void listen_as_nobody(void *path) {

@@ -7,11 +7,12 @@
 #include <sys/socket.h>
 #include <sys/un.h>
 
-static struct shared {
+struct shared {
     volatile int errors[8];
     volatile int seen, sent, received;
     volatile int scoid;
-} *shared;
+};
+static struct shared *shared;
 
 static void until_seen(int count) {
     while (shared->seen < count) usleep(200);

@@ -16,11 +16,12 @@
 enum { HOSTILE = 3, HONEST = 2, THREADS = 6, NUMBERS = 64, LONGEST = 3000, ROOM = 100000, SPINS = 200 };
 enum kind { CHIDS, COIDS, RCVIDS, SCOIDS, KINDS };
 
-static struct {
+struct shared {
     volatile long count[HONEST], asks, results;
     volatile int numbers[KINDS][NUMBERS]; /* of all hostile programs */
     volatile pid_t pids[NUMBERS];         /* the pids of programs */
-} *shared;
+};
+static struct shared *shared;
 
 static int below(int most) { return rand() % most; }
 
@@ -118,7 +119,10 @@ static int exchange(int fd, const struct wire_ask *ask, const void *bytes, struc
 }
 
 static void close_thread(int at) {
-    if (threads[at].box) munmap(threads[at].box, sizeof *threads[at].box), close(threads[at].bell);
+    if (threads[at].box) {
+        munmap(threads[at].box, sizeof *threads[at].box);
+        close(threads[at].bell);
+    }
     if (threads[at].fd > 0) close(threads[at].fd);
     threads[at].box = NULL;
     threads[at].fd = 0;
@@ -247,9 +251,15 @@ static void step(int at) {
         return;
     }
     bool is_closed = recv(threads[at].fd, &byte, 1, MSG_DONTWAIT) == 0;
-    if (is_closed) close_thread(at);
-    else if (atomic_load(&threads[at].box->word) == WIRE_ANSWERED) take_answer(at), ask_by_box(at);
-    else if (below(50) == 0) atomic_store(&threads[at].box->given_up, threads[at].call), ask_by_box(at);
+    if (is_closed) {
+        close_thread(at);
+    } else if (atomic_load(&threads[at].box->word) == WIRE_ANSWERED) {
+        take_answer(at);
+        ask_by_box(at);
+    } else if (below(50) == 0) {
+        atomic_store(&threads[at].box->given_up, threads[at].call);
+        ask_by_box(at);
+    }
 }
 
 /* A program that joins, does its work, and ends or is killed. */

@@ -13,10 +13,11 @@
 
 #include "wire.h"
 
-static struct shared {
+struct shared {
     volatile int seen, ends;
     volatile pid_t pid;
-} *shared;
+};
+static struct shared *shared;
 
 struct message {
     uint16_t type;
@@ -327,7 +328,11 @@ static void two_users(void) {
     int left = 0, started = 0;
     name_attach_t *name = name_attach(NULL, "server", 0);
     while (started < PROGRAMS || left) {
-        for (; started < PROGRAMS && left < AT_A_TIME; started++, left++) spawn(say_user, (void *)(intptr_t)(rand() % 2));
+        while (started < PROGRAMS && left < AT_A_TIME) {
+            spawn(say_user, (void *)(intptr_t)(rand() % 2));
+            started++;
+            left++;
+        }
         union { struct _pulse pulse; struct message message; } room;
         struct _msg_info info;
         int free_entry = -1, at = 0, status;

@@ -185,7 +185,10 @@ static void make_again(struct record *r) {
     for (size_t at = 0; at < r->count; at++) {
         struct entry *e = &r->entries[at];
         compare(r, e, &kernel, at);
-        free(e->sent), free(e->room), free(e->rows), free(e->bytes);
+        free(e->sent);
+        free(e->room);
+        free(e->rows);
+        free(e->bytes);
     }
     for (int thread = 0; thread < THREADS; thread++) {
         struct gots *gots = &r->gots[thread];
