@@ -8,7 +8,11 @@
 
 enum { SERVERS = 3, WORKERS = 8, LONG = 100000 };
 
-static struct { volatile long count; volatile int step; } *progress; /* by worker */
+struct progress {
+    volatile long count;
+    volatile int step;
+};
+static struct progress *progress; /* by worker */
 static int worker;
 
 static void note(int step) {
