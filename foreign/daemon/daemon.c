@@ -69,8 +69,8 @@ static uint32_t open_all(void) {
     }
     roster[length++] = (balsaeuchre_thread){SYSTEM, SYSTEM, USUAL};
     open_tables(k);
-    k->tables[MESSAGES].turns >>= SLOT_BITS;    /* the low bits of an rcvid are its sender's process */
-    k->tables[CONNECTIONS].turns >>= 1;         /* an scoid has a bit that no coid has */
+    k->tables[MESSAGES].turns >>= SLOT_BITS; /* the low bits of an rcvid are its sender's process */
+    k->tables[CONNECTIONS].turns >>= 1;      /* an scoid has a bit that no coid has */
     k->hooks.pulse = complete_pulse;
     open_notes();
     record_roster(roster, length);
@@ -179,8 +179,9 @@ static int run(void) {
  * kernel on standard error. */
 static bool has_its_library(void) {
     if (balsaeuchre_version() != BALSAEUCHRE_VERSION)
-        return complain("its header and its library have other versions, or one of them is unproved: build it again, by "
-                        "foreign/install");
+        return complain(
+            "its header and its library have other versions, or one of them is unproved: build it again, by "
+            "foreign/install");
     if (BALSAEUCHRE_VERSION & BALSAEUCHRE_UNPROVED) fputs("balsaeuchred: its kernel is unproved\n", stderr);
     return true;
 }

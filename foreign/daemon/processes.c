@@ -120,7 +120,8 @@ static void end_program(int process);
 static void skip_up_to(enum table table, int number) {
     const struct names *names = &k->tables[table];
     int next = number_at(names, k->next[table]);
-    if (number >= next && (uint32_t)number >> names->bits < names->turns / 2) k->next[table] += (uint64_t)(number - next) + 1;
+    if (number >= next && (uint32_t)number >> names->bits < names->turns / 2)
+        k->next[table] += (uint64_t)(number - next) + 1;
 }
 
 /* Skips the numbers that a program had of an earlier daemon. The program may still use

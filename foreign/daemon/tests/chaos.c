@@ -46,9 +46,7 @@ static struct life *life_of(pid_t pid) {
     return NULL;
 }
 
-static bool is_gone(int error) {
-    return error == ESRCH || error == EBADF || error == ENOENT || error == EAGAIN;
-}
+static bool is_gone(int error) { return error == ESRCH || error == EBADF || error == ENOENT || error == EAGAIN; }
 
 /* ---- servers */
 
@@ -129,7 +127,8 @@ static void take_pulse(const struct _pulse *pulse) {
         take_disconnect(pulse);
     } else {
         check(pulse->code == 5);
-        check(ConnectClientInfo(pulse->scoid, &client, 0) == 0 ? client.pid == pulse->value.sival_int : errno == EINVAL);
+        check(ConnectClientInfo(pulse->scoid, &client, 0) == 0 ? client.pid == pulse->value.sival_int
+                                                               : errno == EINVAL);
     }
 }
 
@@ -142,7 +141,10 @@ static void serve(void) {
         check(name || errno == EEXIST || errno == EBUSY || is_gone(errno));
         if (!name) usleep(500);
         for (int left = name ? 200 + rand() % 2000 : 0; left; left--) {
-            union { struct _pulse pulse; struct message message; } room;
+            union {
+                struct _pulse pulse;
+                struct message message;
+            } room;
             struct _msg_info info;
             set_timeout(1 + rand() % 20);
             rcvid_t rcvid = MsgReceive(name->chid, &room, sizeof room, &info);

@@ -20,9 +20,7 @@ static void note(int step) {
     progress[worker].step = step;
 }
 
-static bool is_gone(int error) {
-    return error == ESRCH || error == EBADF || error == ENOENT || error == EAGAIN;
-}
+static bool is_gone(int error) { return error == ESRCH || error == EBADF || error == ENOENT || error == EAGAIN; }
 
 static unsigned rest_of(unsigned length, unsigned at) { return (length * 7 + at) & 127; }
 

@@ -19,7 +19,11 @@
 enum { SOCKETS = 4, ROOM = sizeof(struct wire_ask) + 4096 };
 
 /* The first socket is the process's own. */
-static struct { int fd, left, bell; uint32_t call; struct wire_box *box; } all[SOCKETS];
+static struct {
+    int fd, left, bell;
+    uint32_t call;
+    struct wire_box *box;
+} all[SOCKETS];
 static long closed, answered;
 
 static int connect_to(const char *path) {

@@ -12,7 +12,10 @@
 
 typedef union {
     struct _pulse pulse;
-    struct { uint16_t type; int32_t number; } request;
+    struct {
+        uint16_t type;
+        int32_t number;
+    } request;
 } message_t;
 
 static int chid, coid;
