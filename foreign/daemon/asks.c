@@ -20,7 +20,10 @@ static balsaeuchre_request pulse_of(int priority, int code) {
 /* Asks for a pulse by the clock of the program whose message has this rcvid, over one of that program's
  * connections. rcvid 0: this program. */
 static long ask_for_pulse(int rcvid, int coid, balsaeuchre_request pulse, union sigval value, unsigned flags) {
-    struct wire_ask ask = {.op = OP_EVENT, .number = rcvid, .request = pulse, .flags = flags,
+    struct wire_ask ask = {.op = OP_EVENT,
+                           .number = rcvid,
+                           .request = pulse,
+                           .flags = flags,
                            .value = (uint64_t)(intptr_t)value.sival_ptr};
     ask.request.id = (uint64_t)(uint32_t)coid;
     return ask_plainly(&ask);

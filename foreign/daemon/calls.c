@@ -3,14 +3,24 @@
 /* The table of the id that a call names, or NO_TABLE if it names none. TABLES: programs don't make this
  * call. */
 static enum table table_of(uint8_t kind) {
-    static const uint8_t tables[] = {
-        [0] = TABLES, [BALSAEUCHRE_SHUTDOWN] = TABLES, [BALSAEUCHRE_CHANNEL_CREATE] = NO_TABLE,
-        [BALSAEUCHRE_PRIORITY_SET] = NO_TABLE, [BALSAEUCHRE_STATE] = NO_TABLE, [BALSAEUCHRE_UNBLOCK] = NO_TABLE,
-        [BALSAEUCHRE_CONNECT_ATTACH] = CHANNELS, [BALSAEUCHRE_RECEIVE] = CHANNELS,
-        [BALSAEUCHRE_RECEIVE_PULSE] = CHANNELS, [BALSAEUCHRE_CHANNEL_DESTROY] = CHANNELS,
-        [BALSAEUCHRE_SEND] = CONNECTIONS, [BALSAEUCHRE_PULSE] = CONNECTIONS,
-        [BALSAEUCHRE_CONNECT_DETACH] = CONNECTIONS, [BALSAEUCHRE_REPLY] = MESSAGES, [BALSAEUCHRE_ERROR] = MESSAGES,
-        [BALSAEUCHRE_READ] = MESSAGES, [BALSAEUCHRE_WRITE] = MESSAGES, [BALSAEUCHRE_INFO] = MESSAGES};
+    static const uint8_t tables[] = {[0] = TABLES,
+                                     [BALSAEUCHRE_SHUTDOWN] = TABLES,
+                                     [BALSAEUCHRE_CHANNEL_CREATE] = NO_TABLE,
+                                     [BALSAEUCHRE_PRIORITY_SET] = NO_TABLE,
+                                     [BALSAEUCHRE_STATE] = NO_TABLE,
+                                     [BALSAEUCHRE_UNBLOCK] = NO_TABLE,
+                                     [BALSAEUCHRE_CONNECT_ATTACH] = CHANNELS,
+                                     [BALSAEUCHRE_RECEIVE] = CHANNELS,
+                                     [BALSAEUCHRE_RECEIVE_PULSE] = CHANNELS,
+                                     [BALSAEUCHRE_CHANNEL_DESTROY] = CHANNELS,
+                                     [BALSAEUCHRE_SEND] = CONNECTIONS,
+                                     [BALSAEUCHRE_PULSE] = CONNECTIONS,
+                                     [BALSAEUCHRE_CONNECT_DETACH] = CONNECTIONS,
+                                     [BALSAEUCHRE_REPLY] = MESSAGES,
+                                     [BALSAEUCHRE_ERROR] = MESSAGES,
+                                     [BALSAEUCHRE_READ] = MESSAGES,
+                                     [BALSAEUCHRE_WRITE] = MESSAGES,
+                                     [BALSAEUCHRE_INFO] = MESSAGES};
     return kind < sizeof tables ? tables[kind] : TABLES;
 }
 
@@ -51,11 +61,19 @@ static size_t length_of_answer(const struct client *c) {
     const struct place *p = c->place;
     size_t room = c->call.room_len, count = 0;
     switch (c->call.request.kind) {
-    case BALSAEUCHRE_SEND: return c->wrote ? room : c->answer.count;
-    case BALSAEUCHRE_RECEIVE: count = p->result ? (size_t)c->answer.info.msglen : sizeof(struct _pulse); break;
-    case BALSAEUCHRE_RECEIVE_PULSE: count = sizeof(struct _pulse); break;
-    case BALSAEUCHRE_READ: count = (size_t)p->result; break;
-    default: break;
+    case BALSAEUCHRE_SEND:
+        return c->wrote ? room : c->answer.count;
+    case BALSAEUCHRE_RECEIVE:
+        count = p->result ? (size_t)c->answer.info.msglen : sizeof(struct _pulse);
+        break;
+    case BALSAEUCHRE_RECEIVE_PULSE:
+        count = sizeof(struct _pulse);
+        break;
+    case BALSAEUCHRE_READ:
+        count = (size_t)p->result;
+        break;
+    default:
+        break;
     }
     if (p->error) return 0;
     return count < room ? count : room;
@@ -233,13 +251,21 @@ static void end_at_once(struct client *c) {
 static void make_call(struct client *c) {
     const struct wire_ask *a = &c->ask;
     uint64_t ended = 0, until = now() + a->time;
+    if (until < a->time) until = UINT64_MAX;
     c->answer = (struct wire_answer){.error = 0};
     c->wrote = false;
-    c->call = (struct call){.request = a->request, .table = table_of(a->request.kind), .number = a->number,
-                            .own_priority = a->flags & WIRE_OWN_PRIORITY, .states = a->states,
-                            .until = !a->states ? 0 : until < a->time ? UINT64_MAX : until,
-                            .sent = c->bytes, .sent_len = a->sent_len, .room = c->bytes + a->sent_len,
-                            .room_len = a->room_len, .info = &c->answer.info, .cancels = a->flags & WIRE_CANCELS};
+    c->call = (struct call){.request = a->request,
+                            .table = table_of(a->request.kind),
+                            .number = a->number,
+                            .own_priority = a->flags & WIRE_OWN_PRIORITY,
+                            .states = a->states,
+                            .until = a->states ? until : 0,
+                            .sent = c->bytes,
+                            .sent_len = a->sent_len,
+                            .room = c->bytes + a->sent_len,
+                            .room_len = a->room_len,
+                            .info = &c->answer.info,
+                            .cancels = a->flags & WIRE_CANCELS};
     int error = c->bytes ? prepare_call(c) : ENOMEM, kind = a->request.kind;
     if (!error && !(error = note_call(k, c->place, &c->call))) {
         error = make_under_lock(k, c->place, &c->call, &k->event, &ended);

@@ -11,7 +11,10 @@
 enum woken { HAS_ENDED, TIMED_OUT, WAS_INTERRUPTED };
 static void lock(neutrino *of) { (void)of; }
 static void unlock(neutrino *of) { (void)of; }
-static void wake(neutrino *of, uint64_t asleep) { (void)of, (void)asleep; }
+static void wake(neutrino *of, uint64_t asleep) {
+    (void)of;
+    (void)asleep;
+}
 static bool is_ended(struct place *p) { return !p->call; }
 static void open_word(struct place *p, bool interrupted) { p->word = interrupted ? INTERRUPTED : OPEN; }
 static uint64_t tell(neutrino *of, uint64_t ended);
@@ -66,8 +69,8 @@ static uint32_t open_all(void) {
     }
     roster[length++] = (balsaeuchre_thread){SYSTEM, SYSTEM, USUAL};
     open_tables(k);
-    k->tables[MESSAGES].turns >>= SLOT_BITS;    /* the low bits of an rcvid are its sender's process */
-    k->tables[CONNECTIONS].turns >>= 1;         /* an scoid has a bit that no coid has */
+    k->tables[MESSAGES].turns >>= SLOT_BITS; /* the low bits of an rcvid are its sender's process */
+    k->tables[CONNECTIONS].turns >>= 1;      /* an scoid has a bit that no coid has */
     k->hooks.pulse = complete_pulse;
     open_notes();
     record_roster(roster, length);
@@ -176,8 +179,9 @@ static int run(void) {
  * kernel on standard error. */
 static bool has_its_library(void) {
     if (balsaeuchre_version() != BALSAEUCHRE_VERSION)
-        return complain("its header and its library have other versions, or one of them is unproved: build it again, by "
-                        "foreign/install");
+        return complain(
+            "its header and its library have other versions, or one of them is unproved: build it again, by "
+            "foreign/install");
     if (BALSAEUCHRE_VERSION & BALSAEUCHRE_UNPROVED) fputs("balsaeuchred: its kernel is unproved\n", stderr);
     return true;
 }

@@ -28,9 +28,9 @@ _Static_assert(PROCESSES <= 1 << SLOT_BITS, "a process in the bits of a place");
 /* A connected socket: a program's own, or a thread's. Before its first packet it is neither. */
 struct client {
     bool is_used, is_process;
-    int fd; /* -1: it has ended, while the thread's call is still open */
-    int bell;             /* of a thread; -1: none */
-    struct wire_box *box; /* of a thread, or null */
+    int fd;                   /* -1: it has ended, while the thread's call is still open */
+    int bell;                 /* of a thread; -1: none */
+    struct wire_box *box;     /* of a thread, or null */
     uint32_t asked, given_up; /* the values last read from the box */
     bool rings;               /* the value last written to the box */
     struct ucred peer;

@@ -18,13 +18,13 @@ struct note {
     /* Of a pulse that the kernel made: the number of the call that made a disconnect pulse, or the id of
      * an unblock pulse's message. */
     uint64_t id;
-    int later;   /* of such a pulse: the channel's next note of this kind, or -1 */
+    int later; /* of such a pulse: the channel's next note of this kind, or -1 */
 };
 
 static struct note notes[NOTES];
 static int free_note = -1;
-static int pulses[CHANNEL_PLACES]; /* by a channel's place: its notes, as many as pulses wait there */
-static int listed[CHANNEL_PLACES]; /* the channel's first note of a pulse that the kernel made, or -1 */
+static int pulses[CHANNEL_PLACES];       /* by a channel's place: its notes, as many as pulses wait there */
+static int listed[CHANNEL_PLACES];       /* the channel's first note of a pulse that the kernel made, or -1 */
 static uint8_t flags_of[CHANNEL_PLACES]; /* the channel's flags in the kernel */
 
 static int chid_at(int place) { return (int)(k->channels[place].turn << CHANNEL_BITS) | place; }
@@ -165,7 +165,10 @@ enum { THREAD_DEATH = 0x100, COID_DISCONNECT = 0x200, DEATHS = THREAD_DEATH | CO
 enum { CODE_THREADDEATH = -3, CODE_COIDDEATH = -4 };
 
 /* By the channel's place. flags 0: the channel doesn't ask for these pulses. */
-static struct { uint64_t connection; unsigned flags; } told[CHANNEL_PLACES];
+static struct {
+    uint64_t connection;
+    unsigned flags;
+} told[CHANNEL_PLACES];
 
 /* Prepares a new channel for the pulses about ends that its flags ask for. Returns 0 or an errno. */
 static int tell_of_ends(int chid, unsigned flags) {
@@ -216,7 +219,6 @@ static void end_channel(int chid) {
     told[place].flags = 0;
     for (int at = 0; at < CONNECTION_PLACES; at++) {
         const struct name *name = &k->connections[at];
-        if (name->id && name->peer == chid)
-            tell_process(name->owner, COID_DISCONNECT, CODE_COIDDEATH, coid_at(at));
+        if (name->id && name->peer == chid) tell_process(name->owner, COID_DISCONNECT, CODE_COIDDEATH, coid_at(at));
     }
 }

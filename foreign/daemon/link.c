@@ -26,8 +26,10 @@ static bool may_ask(int fd, const char *path) {
     if (getsockopt(fd, SOL_SOCKET, SO_PEERCRED, &daemon, &length)) return false;
     if (daemon.uid == 0 || daemon.uid == geteuid() || daemon.uid == trusted_user()) return true;
     if (atomic_exchange(&said, true)) return false;
-    dprintf(STDERR_FILENO, "balsaeuchre: the balsaeuchred at %s is of user %u: expected root's (0) or this user's "
-            "(%u). BALSAEUCHRE_SYSTEM_USER=%u takes it\n", path, daemon.uid, geteuid(), daemon.uid);
+    dprintf(STDERR_FILENO,
+            "balsaeuchre: the balsaeuchred at %s is of user %u: expected root's (0) or this user's "
+            "(%u). BALSAEUCHRE_SYSTEM_USER=%u takes it\n",
+            path, daemon.uid, geteuid(), daemon.uid);
     return false;
 }
 
@@ -52,7 +54,10 @@ static int connect_to(const char *path) {
 static long exchange(int fd, struct wire_ask *ask, struct iovec sent, struct wire_answer *answer, struct iovec room,
                      int files[2]) {
     struct iovec asked[] = {{ask, sizeof *ask}, sent}, answered[] = {{answer, sizeof *answer}, room};
-    union { struct cmsghdr head; char room[CMSG_SPACE(2 * sizeof *files)]; } rights = {.head = {0}};
+    union {
+        struct cmsghdr head;
+        char room[CMSG_SPACE(2 * sizeof *files)];
+    } rights = {.head = {0}};
     struct msghdr out = {.msg_iov = asked, .msg_iovlen = 2}, in = {.msg_iov = answered, .msg_iovlen = 2};
     ssize_t length;
     in.msg_control = &rights;

@@ -25,8 +25,10 @@ static bool take_lock(const char *path) {
 }
 
 static const char *kind_of(mode_t mode) {
-    return S_ISREG(mode) ? "a regular file" : S_ISDIR(mode) ? "a directory" : S_ISLNK(mode) ? "a symbolic link"
-         : S_ISFIFO(mode) ? "a pipe" : "a device";
+    if (S_ISREG(mode)) return "a regular file";
+    if (S_ISDIR(mode)) return "a directory";
+    if (S_ISLNK(mode)) return "a symbolic link";
+    return S_ISFIFO(mode) ? "a pipe" : "a device";
 }
 
 /* Whether a path is a socket or doesn't exist. Reports any other file, which stays as it is. */

@@ -21,27 +21,21 @@ static const char usage[] =
     "  --help              prints this\n"
     "SOCKET.lock is held while the daemon runs, so that one daemon has SOCKET. The file stays after the end.\n";
 
-static const struct { int *limit, most; } numbers[] = {
-    {&limits.processes, PROCESSES - 1},
-    {&limits.threads, PLACES - 2},
-    {&limits.channels, CHANNEL_PLACES},
-    {&limits.connections, CONNECTION_PLACES},
-    {&limits.bytes, INT_MAX},
+static const struct {
+    int *limit, most;
+} numbers[] = {
+    {&limits.processes, PROCESSES - 1},       {&limits.threads, PLACES - 2}, {&limits.channels, CHANNEL_PLACES},
+    {&limits.connections, CONNECTION_PLACES}, {&limits.bytes, INT_MAX},
 };
 enum { NUMBERS = sizeof numbers / sizeof *numbers };
 
 /* An option with a number has the index of its limit in the table above. */
 static const struct option options[] = {
-    {"processes", required_argument, NULL, 0},
-    {"threads", required_argument, NULL, 1},
-    {"channels", required_argument, NULL, 2},
-    {"connections", required_argument, NULL, 3},
-    {"bytes", required_argument, NULL, 4},
-    {"group", required_argument, NULL, 'g'},
-    {"record", required_argument, NULL, 'r'},
-    {"version", no_argument, NULL, 'v'},
-    {"help", no_argument, NULL, 'h'},
-    {NULL, 0, NULL, 0},
+    {"processes", required_argument, NULL, 0}, {"threads", required_argument, NULL, 1},
+    {"channels", required_argument, NULL, 2},  {"connections", required_argument, NULL, 3},
+    {"bytes", required_argument, NULL, 4},     {"group", required_argument, NULL, 'g'},
+    {"record", required_argument, NULL, 'r'},  {"version", no_argument, NULL, 'v'},
+    {"help", no_argument, NULL, 'h'},          {NULL, 0, NULL, 0},
 };
 
 /* Reports on standard error why the daemon doesn't start. Returns false. */

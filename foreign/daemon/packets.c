@@ -7,23 +7,40 @@ static bool serve(struct client *c, const struct wire_ask *a, const uint8_t *byt
     if (a->sent_len && !has_bytes) return false;
     c->answer = (struct wire_answer){.error = 0};
     switch (a->op) {
-    case OP_NAME: attach_name(c, a, bytes); break;
-    case OP_UNNAME: detach_name(c, a); break;
-    case OP_FIND: look_up_name(c, a, bytes); break;
-    case OP_CLIENT: tell_client(c, a); break;
+    case OP_NAME:
+        attach_name(c, a, bytes);
+        break;
+    case OP_UNNAME:
+        detach_name(c, a);
+        break;
+    case OP_FIND:
+        look_up_name(c, a, bytes);
+        break;
+    case OP_CLIENT:
+        tell_client(c, a);
+        break;
     case OP_SENDER:
         if (c->box) return false; /* an answer in a box can't bring a file */
         tell_sender(c, a);
         break;
-    case OP_EVENT: deliver_event(c, a); break;
+    case OP_EVENT:
+        deliver_event(c, a);
+        break;
     case OP_DEATH:
         tell_process(c->process, THREAD_DEATH, CODE_THREADDEATH, a->number);
         put_result(c, 0, 0);
         break;
-    case OP_UNBLOCK: unblock_sender(c, a); break;
-    case OP_CANCEL: cancel_thread(c, a); break;
-    case OP_SHOW: show_all(c); break;
-    default: return false;
+    case OP_UNBLOCK:
+        unblock_sender(c, a);
+        break;
+    case OP_CANCEL:
+        cancel_thread(c, a);
+        break;
+    case OP_SHOW:
+        show_all(c);
+        break;
+    default:
+        return false;
     }
     return true;
 }

@@ -37,7 +37,8 @@ int main(int count, char **words) {
     const char *path = count > 1 ? words[1] : getenv("BALSAEUCHRE_SYSTEM");
     if (count > 2 || !path || *path == '-') {
         fputs("usage: pidin [SOCKET]\nPrints the programs of the balsaeuchred at SOCKET, by default at "
-              "BALSAEUCHRE_SYSTEM. pidin --version prints its version.\n", stderr);
+              "BALSAEUCHRE_SYSTEM. pidin --version prints its version.\n",
+              stderr);
         return 2;
     }
     int fd = connect_to(path);

@@ -120,7 +120,8 @@ static void end_program(int process);
 static void skip_up_to(enum table table, int number) {
     const struct names *names = &k->tables[table];
     int next = number_at(names, k->next[table]);
-    if (number >= next && (uint32_t)number >> names->bits < names->turns / 2) k->next[table] += (uint64_t)(number - next) + 1;
+    if (number >= next && (uint32_t)number >> names->bits < names->turns / 2)
+        k->next[table] += (uint64_t)(number - next) + 1;
 }
 
 /* Skips the numbers that a program had of an earlier daemon. The program may still use
@@ -133,7 +134,10 @@ static void skip_numbers(const struct wire_ask *a) {
 
 static void join_process(struct client *c, const struct wire_ask *a) {
     int other = process_of(c->peer.pid);
-    if (other && has_ended(processes[other].pidfd)) end_program(other), other = 0;
+    if (other && has_ended(processes[other].pidfd)) {
+        end_program(other);
+        other = 0;
+    }
     int error = a->number != WIRE_VERSION ? ENOEXEC : other ? EBUSY : take_place(c);
     if (!error) skip_numbers(a);
     c->answer.count = (uint32_t)limits.processes;
@@ -152,7 +156,10 @@ static int process_of_thread(const struct client *c) {
 static void join_thread(struct client *c, const struct wire_ask *a) {
     int process = process_of_thread(c), seat = 0;
     while (process && seat < PLACES && (k->places[seat].pid != process || client_of[seat])) seat++;
-    int error = !process ? ESRCH : thread_of(process, a->number) ? EBUSY : seat == PLACES ? EAGAIN : 0;
+    int error = 0;
+    if (!process) error = ESRCH;
+    else if (thread_of(process, a->number)) error = EBUSY;
+    else if (seat == PLACES) error = EAGAIN;
     int files[2] = {-1, -1};
     if (a->number < 1 || a->number > UINT8_MAX || a->value < 1 || a->value > UINT8_MAX) error = EINVAL;
     /* EMFILE is about the daemon's files, not the program's. */

@@ -4,7 +4,7 @@
 static struct neutrino remote_kernel; /* only its process is used */
 static bool is_remote;
 static int program_socket = -1, program_scoid;
-static bool reconnects; /* after the daemon's end the program connects to the next one */
+static bool reconnects;             /* after the daemon's end the program connects to the next one */
 static int files[UINT8_MAX + 1][2]; /* sockets and bells by tid, for a forked child to close; -1: none */
 /* The greatest numbers that the program has had, for the next daemon. */
 static volatile int last_chid, last_coid, last_rcvid;
@@ -114,9 +114,15 @@ static long call_with(struct call *c, uint64_t value, pid_t pid, unsigned flags)
     bool sends = c->request.kind == BALSAEUCHRE_SEND;
     struct iovec sent[2] = {{(void *)(uintptr_t)c->sent, c->sent_len}, {c->room, sends ? c->room_len : 0}};
     if (refuse_call()) return -1;
-    struct wire_ask ask = {.op = OP_CALL, .call = ++calls ? calls : ++calls, .number = c->number, .pid = pid,
-                           .states = self->states, .flags = flags | (c->own_priority ? WIRE_OWN_PRIORITY : 0),
-                           .time = self->time, .value = value, .room_len = (uint32_t)c->room_len,
+    struct wire_ask ask = {.op = OP_CALL,
+                           .call = ++calls ? calls : ++calls,
+                           .number = c->number,
+                           .pid = pid,
+                           .states = self->states,
+                           .flags = flags | (c->own_priority ? WIRE_OWN_PRIORITY : 0),
+                           .time = self->time,
+                           .value = value,
+                           .room_len = (uint32_t)c->room_len,
                            .request = c->request};
     self->states = 0;
     long result = ask_with(&ask, sent, &answer, (struct iovec){c->room, c->room_len});
@@ -192,17 +198,25 @@ static void say_refusal(int error, unsigned places) {
     const char *path = system_path;
     if (error == ESHUTDOWN || atomic_exchange(&said, true)) return;
     if (error == EAGAIN && places)
-        dprintf(STDERR_FILENO, "balsaeuchre: the balsaeuchred at %s has places for %u programs, and all are taken: its "
-                "option --processes gives more\n", path, places);
+        dprintf(STDERR_FILENO,
+                "balsaeuchre: the balsaeuchred at %s has places for %u programs, and all are taken: its "
+                "option --processes gives more\n",
+                path, places);
     else if (error == ENFILE)
-        dprintf(STDERR_FILENO, "balsaeuchre: the balsaeuchred at %s can open no further file: start it with a greater "
-                "limit (ulimit -n)\n", path);
+        dprintf(STDERR_FILENO,
+                "balsaeuchre: the balsaeuchred at %s can open no further file: start it with a greater "
+                "limit (ulimit -n)\n",
+                path);
     else if (error == EACCES)
-        dprintf(STDERR_FILENO, "balsaeuchre: the balsaeuchred at %s takes no programs of user %u: its option --group "
-                "names a group that it takes\n", path, geteuid());
+        dprintf(STDERR_FILENO,
+                "balsaeuchre: the balsaeuchred at %s takes no programs of user %u: its option --group "
+                "names a group that it takes\n",
+                path, geteuid());
     else if (error == ENOEXEC)
-        dprintf(STDERR_FILENO, "balsaeuchre: the balsaeuchred at %s is of another release: expected a daemon that "
-                "takes version %d\n", path, WIRE_VERSION);
+        dprintf(STDERR_FILENO,
+                "balsaeuchre: the balsaeuchred at %s is of another release: expected a daemon that "
+                "takes version %d\n",
+                path, WIRE_VERSION);
     else
         dprintf(STDERR_FILENO, "balsaeuchre: the balsaeuchred at %s refuses this program: %s\n", path, strerror(error));
 }
@@ -211,8 +225,8 @@ static void say_refusal(int error, unsigned places) {
 static int open_program_socket(void) {
     struct iovec none = {NULL, 0};
     struct wire_answer answer = {.error = 0};
-    struct wire_ask ask = {.op = OP_PROCESS, .number = WIRE_VERSION, .states = last_chid, .flags = (unsigned)last_coid,
-                           .pid = last_rcvid};
+    struct wire_ask ask = {
+        .op = OP_PROCESS, .number = WIRE_VERSION, .states = last_chid, .flags = (unsigned)last_coid, .pid = last_rcvid};
     int fd = connect_to(system_path);
     if (fd == -1) return refuse_path(system_path) ? 0 : -1;
     int scoid = (int)exchange(fd, &ask, none, &answer, none, NULL), error = errno;
@@ -265,14 +279,16 @@ static void say_waiting(unsigned places) {
     uint64_t time = now();
     if (!since || time - since > 20 * (uint64_t)SECOND) since = time; /* a new wait */
     if (!places || time - since < SECOND || atomic_exchange(&said, true)) return;
-    dprintf(STDERR_FILENO, "balsaeuchre: a thread waits for a place: this program has %u in the balsaeuchred at %s, "
-            "whose option --threads gives more\n", places, system_path);
+    dprintf(STDERR_FILENO,
+            "balsaeuchre: a thread waits for a place: this program has %u in the balsaeuchred at %s, "
+            "whose option --threads gives more\n",
+            places, system_path);
 }
 
 /* Opens the calling thread's box, and notes its files. Returns 0, or -1 and sets errno. */
 static int open_thread(int tid, int priority) {
-    struct wire_ask ask = {.op = OP_THREAD, .number = tid, .value = (uint64_t)priority,
-                           .pid = (int32_t)syscall(SYS_gettid)};
+    struct wire_ask ask = {
+        .op = OP_THREAD, .number = tid, .value = (uint64_t)priority, .pid = (int32_t)syscall(SYS_gettid)};
     struct wire_answer answer = {.error = 0};
     if (open_box(system_path, &ask, &answer)) {
         int error = errno;

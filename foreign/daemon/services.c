@@ -97,7 +97,10 @@ static void deliver_event(struct client *c, const struct wire_ask *a) {
     if (a->flags & WIRE_OWN_PRIORITY) request.priority = c->place ? priority_of(k, c->place) : USUAL;
     struct note content = {.chid = chid, .scoid = processes[c->process].scoid, .code = a->request.pulse_code};
     content.value = (int64_t)a->value;
-    int error = !process ? ESRCH : !id ? EBADF : !request.priority ? EINVAL : 0;
+    int error = 0;
+    if (!process) error = ESRCH;
+    else if (!id) error = EBADF;
+    else if (!request.priority) error = EINVAL;
     if (!error && !(a->flags & WIRE_TESTS)) error = has_room(chid) ? send_pulse(request, &content) : EAGAIN;
     put_result(c, error, 0);
 }

@@ -27,8 +27,12 @@ static void show_thread(FILE *to, const struct client *c) {
     pid_t pid = processes[c->process].peer.pid;
     name_thread(pid, c->host_tid, name);
     fprintf(to, "%8d %3d %-15s %4d ", (int)pid, c->tid, name, shown_priority(c->place));
-    if (blocked.state == STATE_READY) fprintf(to, "READY\n");
-    else fprintf(to, "%-8s ", states[blocked.state]), show_blocked(to, &blocked);
+    if (blocked.state == STATE_READY) {
+        fprintf(to, "READY\n");
+    } else {
+        fprintf(to, "%-8s ", states[blocked.state]);
+        show_blocked(to, &blocked);
+    }
 }
 
 static void show_channel(FILE *to, int place) {

@@ -8,7 +8,7 @@
 #include <sys/syscall.h>
 #include <sys/uio.h>
 
-static int events;      /* the epoll */
+static int events; /* the epoll */
 /* In the epoll its address marks any bell. After a bell all boxes are looked at. */
 static const char bell;
 
@@ -63,7 +63,10 @@ static void close_box(struct client *c) {
 /* Sends an answer as a packet, with up to two files. */
 static void send_answer(struct client *c, const void *bytes, const int *files, size_t count) {
     struct iovec parts[] = {{&c->answer, sizeof c->answer}, {(void *)(uintptr_t)bytes, c->answer.length}};
-    union { struct cmsghdr head; char room[CMSG_SPACE(2 * sizeof *files)]; } rights = {.head = {0}};
+    union {
+        struct cmsghdr head;
+        char room[CMSG_SPACE(2 * sizeof *files)];
+    } rights = {.head = {0}};
     struct msghdr packet = {.msg_iov = parts, .msg_iovlen = 2};
     if (count) {
         rights.head = (struct cmsghdr){CMSG_LEN(count * sizeof *files), SOL_SOCKET, SCM_RIGHTS};
@@ -108,9 +111,7 @@ static void put_answer(struct client *c, int error, int64_t result, const void *
     else if (c->fd != -1) send_answer(c, bytes, NULL, 0);
 }
 
-static void put_result(struct client *c, int error, int64_t result) {
-    put_answer(c, error, result, NULL, 0);
-}
+static void put_result(struct client *c, int error, int64_t result) { put_answer(c, error, result, NULL, 0); }
 
 /* Takes memory for a call's bytes, if its process may have so many. The memory isn't cleared. An answer has
  * only those bytes of the room that the kernel has written or that came with the call. */

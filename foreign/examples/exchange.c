@@ -11,9 +11,8 @@
 
 enum { SERVER = 1, CLIENT = 2, OTHER = 3 };
 
-static const char *const error_names[] = {"ok",       "srch", "badf",      "inval",     "again",
-                                          "intr",     "busy", "nomemory",  "down",      "exhausted",
-                                          "tracefull", "nothread", "closed", "isopen"};
+static const char *const error_names[] = {"ok",       "srch", "badf",      "inval",     "again",    "intr",   "busy",
+                                          "nomemory", "down", "exhausted", "tracefull", "nothread", "closed", "isopen"};
 static const char *const state_names[] = {"", "ready", "send-blocked", "receive-blocked", "reply-blocked"};
 
 static balsaeuchre kernel = BALSAEUCHRE_NONE;
@@ -29,23 +28,42 @@ static void show_pulse(const balsaeuchre_ending *e) {
 
 static void show_mark(const balsaeuchre_ending *e) {
     switch (e->mark) {
-    case BALSAEUCHRE_DONE: printf("done"); break;
-    case BALSAEUCHRE_FAILED: printf("failed %s", error_names[e->errno_]); break;
-    case BALSAEUCHRE_CHANNEL: printf("channel %llu", (unsigned long long)e->id); break;
-    case BALSAEUCHRE_CONNECTION: printf("connection %llu", (unsigned long long)e->id); break;
-    case BALSAEUCHRE_REPLIED: printf("replied %lld, %zu copied", (long long)e->status, e->count); break;
-    case BALSAEUCHRE_MESSAGE: printf("message %llu, %zu copied", (unsigned long long)e->rcvid, e->count); break;
-    case BALSAEUCHRE_ERRORED: printf("errored %d", (int)e->value); break;
-    case BALSAEUCHRE_COUNT: printf("%zu copied", e->count); break;
+    case BALSAEUCHRE_DONE:
+        printf("done");
+        break;
+    case BALSAEUCHRE_FAILED:
+        printf("failed %s", error_names[e->errno_]);
+        break;
+    case BALSAEUCHRE_CHANNEL:
+        printf("channel %llu", (unsigned long long)e->id);
+        break;
+    case BALSAEUCHRE_CONNECTION:
+        printf("connection %llu", (unsigned long long)e->id);
+        break;
+    case BALSAEUCHRE_REPLIED:
+        printf("replied %lld, %zu copied", (long long)e->status, e->count);
+        break;
+    case BALSAEUCHRE_MESSAGE:
+        printf("message %llu, %zu copied", (unsigned long long)e->rcvid, e->count);
+        break;
+    case BALSAEUCHRE_ERRORED:
+        printf("errored %d", (int)e->value);
+        break;
+    case BALSAEUCHRE_COUNT:
+        printf("%zu copied", e->count);
+        break;
     case BALSAEUCHRE_INFORMED:
         printf("thread %u of process %u, priority %u, connection %llu, %zu of %zu bytes, room for %zu", e->sender,
                e->process, e->priority, (unsigned long long)e->id, e->count, e->srcmsglen, e->dstmsglen);
         break;
-    case BALSAEUCHRE_PULSED: show_pulse(e); break;
+    case BALSAEUCHRE_PULSED:
+        show_pulse(e);
+        break;
     case BALSAEUCHRE_THREAD_STATE:
         printf("%s, channel %llu, priority %u", state_names[e->state], (unsigned long long)e->id, e->priority);
         break;
-    default: exit(3);
+    default:
+        exit(3);
     }
 }
 
@@ -125,9 +143,7 @@ static void show_run(void) {
     show_pulses(chid, coid);
 }
 
-static void show_answer(const char *what, uint32_t error) {
-    printf("%s: %s\n", what, error_names[error]);
-}
+static void show_answer(const char *what, uint32_t error) { printf("%s: %s\n", what, error_names[error]); }
 
 /* Prints the errors of calls with wrong handles, requests and rosters. */
 static void show_refusals(void) {

@@ -56,13 +56,16 @@ static __attribute__((noinline)) int mark_copy(void) {
     struct copies found = {"this file", NULL};
     __asm__ volatile(".pushsection .note.balsaeuchre, \"a\", @note\n"
                      ".balign 4\n.long 12, 8, 1\n.asciz \"balsaeuchre\"\n.quad %c0 - .\n"
-                     ".popsection" : : "i"(&opened));
+                     ".popsection"
+                     :
+                     : "i"(&opened));
     atomic_store(&opened, 1);
     dl_iterate_phdr(look_at_file, &found);
     if (!found.other) return 0;
     atomic_store(&opened, 0);
     if (!has_said)
-        dprintf(STDERR_FILENO, "balsaeuchre: %s has the kernel of this process, and %s was linked with another copy of the "
+        dprintf(STDERR_FILENO,
+                "balsaeuchre: %s has the kernel of this process, and %s was linked with another copy of the "
                 "library, which can't use it: link the program with -rdynamic, so that both use one copy\n",
                 found.other, found.own);
     has_said = true;

@@ -7,12 +7,16 @@ static int wrong_event(const struct sigevent *event) {
     int signo = event->sigev_signo;
     switch (SIGEV_GET_TYPE(event)) {
     case SIGEV_NONE:
-    case SIGEV_UNBLOCK: return 0;
-    case SIGEV_PULSE: return wrong_pulse(event->sigev_priority, event->sigev_code);
+    case SIGEV_UNBLOCK:
+        return 0;
+    case SIGEV_PULSE:
+        return wrong_pulse(event->sigev_priority, event->sigev_code);
     case SIGEV_SIGNAL:
     case SIGEV_SIGNAL_CODE:
-    case SIGEV_SIGNAL_THREAD: return signo < 1 || signo >= NSIG ? EINVAL : 0;
-    default: return EINVAL;
+    case SIGEV_SIGNAL_THREAD:
+        return signo < 1 || signo >= NSIG ? EINVAL : 0;
+    default:
+        return EINVAL;
     }
 }
 
@@ -75,8 +79,10 @@ int MsgDeliverEvent(rcvid_t rcvid, const struct sigevent *event) {
     bool is_remote = neutrino_remote();
     int type = SIGEV_GET_TYPE(event), tid;
     switch (type) {
-    case SIGEV_NONE: return 0;
-    case SIGEV_PULSE: return is_remote ? neutrino_remote_deliver(rcvid, event, true) : send_event_pulse(event);
+    case SIGEV_NONE:
+        return 0;
+    case SIGEV_PULSE:
+        return is_remote ? neutrino_remote_deliver(rcvid, event, true) : send_event_pulse(event);
     case SIGEV_UNBLOCK:
         if (is_remote) return neutrino_remote_unblock(rcvid);
         tid = sender_of(rcvid);

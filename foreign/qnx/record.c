@@ -70,10 +70,12 @@ static void name_line(int tid, const char *from) {
 
 /* Gives a thread its line with a name, if it has none. The caller has the record's lock. */
 static void list_thread(int tid) {
-    char name[NAME_ROOM];
+    char name[NAME_ROOM] = "clock";
     if (*record.names[tid]) return;
     if (tid <= SEATS) snprintf(name, sizeof name, "t%d", tid);
-    name_line(tid, tid <= SEATS ? name : tid == TICKER ? "timers" : tid == SYSTEM ? "system" : "clock");
+    else if (tid == TICKER) strcpy(name, "timers");
+    else if (tid == SYSTEM) strcpy(name, "system");
+    name_line(tid, name);
     write_all();
 }
 

@@ -90,19 +90,30 @@ static void add_call(struct line *line, const struct made *made) {
     add(line, " %s", kinds[r->kind].word);
     if (kinds[r->kind].names) add_name(line, kinds[r->kind].names, r->id);
     switch (r->kind) {
-    case BALSAEUCHRE_CHANNEL_CREATE: add(line, " %d", r->flags); break;
-    case BALSAEUCHRE_REPLY: add(line, " %lld", (long long)r->status); break;
-    case BALSAEUCHRE_ERROR: add(line, " %d", r->code); break;
+    case BALSAEUCHRE_CHANNEL_CREATE:
+        add(line, " %d", r->flags);
+        break;
+    case BALSAEUCHRE_REPLY:
+        add(line, " %lld", (long long)r->status);
+        break;
+    case BALSAEUCHRE_ERROR:
+        add(line, " %d", r->code);
+        break;
     case BALSAEUCHRE_READ:
-    case BALSAEUCHRE_WRITE: add(line, " %zu", r->offset); break;
-    case BALSAEUCHRE_PULSE: add(line, " %d %d %d", r->priority, r->pulse_code, r->value); break;
+    case BALSAEUCHRE_WRITE:
+        add(line, " %zu", r->offset);
+        break;
+    case BALSAEUCHRE_PULSE:
+        add(line, " %d %d %d", r->priority, r->pulse_code, r->value);
+        break;
     case BALSAEUCHRE_PRIORITY_SET:
     case BALSAEUCHRE_STATE:
     case BALSAEUCHRE_UNBLOCK:
         add(line, " ");
         add_thread(line, r->target);
         break;
-    default: break;
+    default:
+        break;
     }
     if (r->kind == BALSAEUCHRE_PRIORITY_SET) add(line, " %d", r->priority);
     if (r->kind == BALSAEUCHRE_SEND || r->kind == BALSAEUCHRE_REPLY || r->kind == BALSAEUCHRE_WRITE)
@@ -132,11 +143,23 @@ static void add_result(struct line *line, const balsaeuchre_ending *row, const s
     static const char *const errors[] = {"ok", "srch", "badf", "inval", "again", "intr", "busy", "nomemory", "down"};
     static const char *const states[] = {"", "ready", "send", "receive", "reply"};
     switch (row->mark) {
-    case BALSAEUCHRE_DONE: add(line, "ok"); break;
-    case BALSAEUCHRE_FAILED: add(line, "fail %s", row->errno_ < 9 ? errors[row->errno_] : "*"); break;
-    case BALSAEUCHRE_CHANNEL: add(line, "channel"); add_name(line, "ch", row->id); break;
-    case BALSAEUCHRE_CONNECTION: add(line, "connection"); add_name(line, "co", row->id); break;
-    case BALSAEUCHRE_ERRORED: add(line, "error %d", row->value); break;
+    case BALSAEUCHRE_DONE:
+        add(line, "ok");
+        break;
+    case BALSAEUCHRE_FAILED:
+        add(line, "fail %s", row->errno_ < 9 ? errors[row->errno_] : "*");
+        break;
+    case BALSAEUCHRE_CHANNEL:
+        add(line, "channel");
+        add_name(line, "ch", row->id);
+        break;
+    case BALSAEUCHRE_CONNECTION:
+        add(line, "connection");
+        add_name(line, "co", row->id);
+        break;
+    case BALSAEUCHRE_ERRORED:
+        add(line, "error %d", row->value);
+        break;
     case BALSAEUCHRE_REPLIED:
         add(line, "reply %lld", (long long)row->status);
         if (made->sent_len <= LONGEST) add_bytes(line, bytes + row->start, row->count, false);
@@ -156,7 +179,9 @@ static void add_result(struct line *line, const balsaeuchre_ending *row, const s
         if (row->srcmsglen <= MOST && row->dstmsglen <= MOST)
             add(line, " %zu %zu %zu %d", row->count, row->srcmsglen, row->dstmsglen, row->priority);
         break;
-    case BALSAEUCHRE_PULSED: add_pulse(line, row); break;
+    case BALSAEUCHRE_PULSED:
+        add_pulse(line, row);
+        break;
     default:
         add(line, "state %s", states[row->state & 7]);
         if (row->state != BALSAEUCHRE_READY) add_name(line, "ch", row->id);

@@ -238,7 +238,8 @@ static void as_system(void (*work)(void *argument), void *argument) {
     struct quiet quiet;
     be_quiet(&quiet);
     pthread_mutex_lock(&systems);
-    if (neutrino_act_as(kernel, SYSTEM, work, argument)) perror("balsaeuchre: the front's own thread can't make a call");
+    if (neutrino_act_as(kernel, SYSTEM, work, argument))
+        perror("balsaeuchre: the front's own thread can't make a call");
     pthread_mutex_unlock(&systems);
     end_quiet(&quiet);
 }

@@ -4,7 +4,7 @@ enum { ORDERS = TIMERS, EVERY = 20 }; /* EVERY: milliseconds between looks for c
 
 /* An order that the front's thread gets through a pipe. */
 struct order {
-    int coid; /* the connection over which it sends a pulse; 0: it shows the threads */
+    int coid;                 /* the connection over which it sends a pulse; 0: it shows the threads */
     int priority, code, zero; /* zero takes the place of padding, so each byte is written */
     union sigval value;
 };

@@ -127,8 +127,11 @@ int TimerInfo(pid_t pid, timer_t id, int flags, struct _timer_info *info) {
     for (; flags & _NTO_TIMER_SEARCH && id >= 1 && id <= TIMERS && !timers[id - 1].is_used; id++) continue;
     const struct timer *t = timer_of(id);
     if (!t || neutrino_timer_gettime(id, &left)) return -1;
-    *info = (struct _timer_info){.otime = itimer_of(&left), .notify = t->event.sigev_notify, .clockid = t->clock,
-                                 .overruns = (uint32_t)neutrino_timer_getoverrun(id), .event = t->event};
+    *info = (struct _timer_info){.otime = itimer_of(&left),
+                                 .notify = t->event.sigev_notify,
+                                 .clockid = t->clock,
+                                 .overruns = (uint32_t)neutrino_timer_getoverrun(id),
+                                 .event = t->event};
     info->itime = info->otime;
     info->flags = (info->otime.nsec ? _NTO_TI_ACTIVE : 0u) | (t->flags & TIMER_ABSTIME ? _NTO_TI_ABSOLUTE : 0u);
     return id;

@@ -16,7 +16,10 @@ static struct event event_of(neutrino *k, const struct place *p) {
     size_t at = (size_t)(p - k->places);
     bool ends_many = p->kind == BALSAEUCHRE_CHANNEL_DESTROY || p->kind == BALSAEUCHRE_CONNECT_DETACH;
     struct event e = {.rows = k->rows + OWN_ROWS * at, .bytes = k->near[at], .bytes_len = NEAR};
-    if (ends_many || k->most > NEAR / 2) e.bytes = k->event.bytes, e.bytes_len = k->event.bytes_len;
+    if (ends_many || k->most > NEAR / 2) {
+        e.bytes = k->event.bytes;
+        e.bytes_len = k->event.bytes_len;
+    }
     return e;
 }
 

@@ -89,12 +89,24 @@ static void receive_pulse(neutrino *k, struct place *p, const balsaeuchre_ending
 /* Writes the result of a completion for its thread. */
 static void answer(neutrino *k, struct place *p, const balsaeuchre_ending *row) {
     switch (row->mark) {
-    case BALSAEUCHRE_MESSAGE: receive_message(k, p, row); break;
-    case BALSAEUCHRE_PULSED: receive_pulse(k, p, row); break;
-    case BALSAEUCHRE_FAILED: p->error = host_error(row->errno_); break;
-    case BALSAEUCHRE_ERRORED: p->error = row->value; break;
-    case BALSAEUCHRE_REPLIED: p->result = (long)row->status; break;
-    case BALSAEUCHRE_COUNT: p->result = (long)row->count; break;
+    case BALSAEUCHRE_MESSAGE:
+        receive_message(k, p, row);
+        break;
+    case BALSAEUCHRE_PULSED:
+        receive_pulse(k, p, row);
+        break;
+    case BALSAEUCHRE_FAILED:
+        p->error = host_error(row->errno_);
+        break;
+    case BALSAEUCHRE_ERRORED:
+        p->error = row->value;
+        break;
+    case BALSAEUCHRE_REPLIED:
+        p->result = (long)row->status;
+        break;
+    case BALSAEUCHRE_COUNT:
+        p->result = (long)row->count;
+        break;
     case BALSAEUCHRE_CHANNEL:
         p->result = new_name(k, CHANNELS, row->id, p->pid);
         k->channels[place_in(&k->tables[CHANNELS], (int)p->result)].receiver = p->tid;
@@ -103,13 +115,18 @@ static void answer(neutrino *k, struct place *p, const balsaeuchre_ending *row) 
         p->result = new_name(k, CONNECTIONS, row->id, p->pid);
         k->connections[place_in(&k->tables[CONNECTIONS], (int)p->result)].peer = p->number;
         break;
-    case BALSAEUCHRE_INFORMED: fill_info(&k->places[k->place_of[row->sender]], row, p->call->info); break;
-    case BALSAEUCHRE_THREAD_STATE: p->result = p->call->own_priority ? row->priority : row->state; break;
+    case BALSAEUCHRE_INFORMED:
+        fill_info(&k->places[k->place_of[row->sender]], row, p->call->info);
+        break;
+    case BALSAEUCHRE_THREAD_STATE:
+        p->result = p->call->own_priority ? row->priority : row->state;
+        break;
     case BALSAEUCHRE_DONE:
         if (p->kind == BALSAEUCHRE_CHANNEL_DESTROY) end_name(k, CHANNELS, p->number);
         if (p->kind == BALSAEUCHRE_CONNECT_DETACH) end_name(k, CONNECTIONS, p->number);
         break;
-    default: abort();
+    default:
+        abort();
     }
 }
 

@@ -54,8 +54,7 @@ static int open_kernel(neutrino *k, const struct neutrino_thread *threads, size_
     memset(k->place_of, PLACES, sizeof k->place_of);
     for (size_t at = 0; at < count; at++) {
         k->place_of[threads[at].tid] = (uint8_t)at;
-        k->places[at] = (struct place){.word = ENDED, .tid = threads[at].tid, .pid = threads[at].pid,
-                                       .looks = looks};
+        k->places[at] = (struct place){.word = ENDED, .tid = threads[at].tid, .pid = threads[at].pid, .looks = looks};
     }
     open_tables(k);
     pthread_mutex_init(&k->lock, NULL);

@@ -27,10 +27,10 @@
 #include <unistd.h>
 
 enum { PLACES = BALSAEUCHRE_ROWS, CHANNEL_BITS = 6, CONNECTION_BITS = 10, MESSAGE_BITS = 6 };
-enum { SCOID = 0x40000000 };  /* a server connection id is SCOID plus the client's process */
-enum { FRONT = 1024 };        /* bytes of a receive buffer that the kernel gets; a Read brings the rest */
-enum { NEAR = 2 * FRONT };    /* bytes of a thread's own room for the bytes of its calls' completions */
-enum { CACHE_LINE = 64 };     /* bytes of a cache line */
+enum { SCOID = 0x40000000 }; /* a server connection id is SCOID plus the client's process */
+enum { FRONT = 1024 };       /* bytes of a receive buffer that the kernel gets; a Read brings the rest */
+enum { NEAR = 2 * FRONT };   /* bytes of a thread's own room for the bytes of its calls' completions */
+enum { CACHE_LINE = 64 };    /* bytes of a cache line */
 /* A thread's word. OPEN: its call is open. ASLEEP: the thread also sleeps. INTERRUPTED: it has to wake and
  * end the call. ENDED: the call is completed. */
 enum { OPEN, ASLEEP, INTERRUPTED, ENDED };
@@ -122,8 +122,8 @@ struct neutrino {
     size_t most;   /* the longest buffer of all places */
     pid_t process; /* the host's process that opened it */
     _Alignas(CACHE_LINE) struct names tables[TABLES];
-    uint8_t place_of[256];                 /* by tid; PLACES: no thread has this number */
-    uint8_t clock_of[256];                 /* by process: the thread that unblocks calls that time out */
+    uint8_t place_of[256];                      /* by tid; PLACES: no thread has this number */
+    uint8_t clock_of[256];                      /* by process: the thread that unblocks calls that time out */
     _Alignas(CACHE_LINE) uint64_t next[TABLES]; /* the serial of a table's next number */
     size_t joined;
     size_t promised; /* the sum of the longest buffers: event has room for so many bytes */

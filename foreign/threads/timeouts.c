@@ -28,7 +28,10 @@ static uint64_t end_early(neutrino *k, struct place *p, enum woken woken) {
     lock(k);
     if (!is_ended(p)) {
         struct call *c = p->call;
-        if (woken == WAS_INTERRUPTED) c->interrupted = true, open_word(p, false);
+        if (woken == WAS_INTERRUPTED) {
+            c->interrupted = true;
+            open_word(p, false);
+        }
         bool may = c->interrupted || c->states >> p->state & 1;
         bool may_later = p->state == STATE_SEND && c->states & _NTO_TIMEOUT_REPLY;
         if (may ? !unblock(k, p, &ended) : may_later) again = now() + LATER;

@@ -35,7 +35,11 @@ static int watch(int rcvid, pid_t pid, int chid)
 
 static void *serve(void *arg)
 {
-    union { uint16_t type; struct _pulse pulse; bank_request_t request; } msg;
+    union {
+        uint16_t type;
+        struct _pulse pulse;
+        bank_request_t request;
+    } msg;
     struct _msg_info info;
 
     for (;;) {
@@ -45,9 +49,15 @@ static void *serve(void *arg)
         if (rcvid == 0)
             continue;
         switch (msg.type) {
-        case _IO_CONNECT: error = MsgReply(rcvid, EOK, NULL, 0); break;
-        case MSG_BOOK: error = book(rcvid, msg.request.amount); break;
-        case MSG_WATCH: error = watch(rcvid, info.pid, msg.request.chid); break;
+        case _IO_CONNECT:
+            error = MsgReply(rcvid, EOK, NULL, 0);
+            break;
+        case MSG_BOOK:
+            error = book(rcvid, msg.request.amount);
+            break;
+        case MSG_WATCH:
+            error = watch(rcvid, info.pid, msg.request.chid);
+            break;
         case MSG_CLOSE:
             MsgReply(rcvid, balance, NULL, 0);
             name_detach(attach, 0); /* this ends the other thread's receive */

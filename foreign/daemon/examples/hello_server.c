@@ -8,7 +8,11 @@
 
 int main(void)
 {
-    union { uint16_t type; struct _pulse pulse; char text[64]; } msg;
+    union {
+        uint16_t type;
+        struct _pulse pulse;
+        char text[64];
+    } msg;
     struct _msg_info info;
     name_attach_t *attach = name_attach(NULL, "hello", 0);
     int served = 0;

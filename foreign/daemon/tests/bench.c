@@ -17,7 +17,11 @@ static int rounds, repeats;
 static size_t length = 4;
 static char *sent, *got;
 static int ends[2];
-static struct { _Alignas(64) _Atomic uint32_t there; _Alignas(64) _Atomic uint32_t back; } *words;
+struct words {
+    _Alignas(64) _Atomic uint32_t there;
+    _Alignas(64) _Atomic uint32_t back;
+};
+static struct words *words;
 
 static void serve_messages(void) {
     name_attach_t *name = name_attach(NULL, "bench", 0);

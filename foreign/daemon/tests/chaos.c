@@ -23,11 +23,12 @@ struct life {
     volatile int detached[SERVERS], disconnected[SERVERS];
 };
 
-static struct {
+struct all {
     volatile int lives;
     volatile long count[WORKERS];
     struct life life[LIVES];
-} *all;
+};
+static struct all *all;
 
 struct message {
     uint16_t type;
@@ -45,9 +46,7 @@ static struct life *life_of(pid_t pid) {
     return NULL;
 }
 
-static bool is_gone(int error) {
-    return error == ESRCH || error == EBADF || error == ENOENT || error == EAGAIN;
-}
+static bool is_gone(int error) { return error == ESRCH || error == EBADF || error == ENOENT || error == EAGAIN; }
 
 /* ---- servers */
 
@@ -128,7 +127,8 @@ static void take_pulse(const struct _pulse *pulse) {
         take_disconnect(pulse);
     } else {
         check(pulse->code == 5);
-        check(ConnectClientInfo(pulse->scoid, &client, 0) == 0 ? client.pid == pulse->value.sival_int : errno == EINVAL);
+        check(ConnectClientInfo(pulse->scoid, &client, 0) == 0 ? client.pid == pulse->value.sival_int
+                                                               : errno == EINVAL);
     }
 }
 
@@ -141,7 +141,10 @@ static void serve(void) {
         check(name || errno == EEXIST || errno == EBUSY || is_gone(errno));
         if (!name) usleep(500);
         for (int left = name ? 200 + rand() % 2000 : 0; left; left--) {
-            union { struct _pulse pulse; struct message message; } room;
+            union {
+                struct _pulse pulse;
+                struct message message;
+            } room;
             struct _msg_info info;
             set_timeout(1 + rand() % 20);
             rcvid_t rcvid = MsgReceive(name->chid, &room, sizeof room, &info);
@@ -162,7 +165,8 @@ static void serve(void) {
 static struct life *own;
 
 static void take_signal(int signo, siginfo_t *info, void *context) {
-    (void)signo, (void)context;
+    (void)signo;
+    (void)context;
     if (info->si_value.sival_int == own->pid) return;
     static const char text[] = "a signal of another program\n";
     if (write(STDERR_FILENO, text, sizeof text - 1) < 0) _exit(2);

@@ -203,8 +203,8 @@ static double median_send(int coid, size_t bytes) {
     return trips[TURNS / 2];
 }
 
-/* A client and its server don't wait for each other's turn: after messages of 1 MiB the client's short ones take as long
- * as before. If the server counted as another program that asks, they would wait for milliseconds. */
+/* A client and its server don't wait for each other's turn: after messages of 1 MiB the client's short ones take as
+ * long as before. If the server counted as another program that asks, they would wait for milliseconds. */
 static void partners(void) {
     pid_t server = spawn(acknowledge, "short");
     int coid = open_name("short");
@@ -218,7 +218,10 @@ static void partners(void) {
 
 /* ---- whose daemon it is */
 
-static struct shared { volatile int came; } *shared;
+struct shared {
+    volatile int came;
+};
+static struct shared *shared;
 
 /* Listens as another user, and counts the programs that send anything. Answers none of them. */
 static void listen_as_nobody(void *path) {
@@ -242,8 +245,10 @@ static void ask_nobody(void *user) {
     if (user) check(setenv("BALSAEUCHRE_SYSTEM_USER", user, 1) == 0);
     fails(ChannelCreate(0), user ? ESHUTDOWN : EPERM);
     fails(ChannelCreate(0), user ? ESHUTDOWN : EPERM);
-    snprintf(wanted, sizeof wanted, "balsaeuchre: the balsaeuchred at %s is of user %d: expected root's (0) or "
-             "this user's (%d). BALSAEUCHRE_SYSTEM_USER=%d takes it\n", getenv("BALSAEUCHRE_SYSTEM"), NOBODY, geteuid(), NOBODY);
+    snprintf(wanted, sizeof wanted,
+             "balsaeuchre: the balsaeuchred at %s is of user %d: expected root's (0) or "
+             "this user's (%d). BALSAEUCHRE_SYSTEM_USER=%d takes it\n",
+             getenv("BALSAEUCHRE_SYSTEM"), NOBODY, geteuid(), NOBODY);
     check(strcmp(said(errors), user ? "" : wanted) == 0);
 }
 
@@ -559,10 +564,15 @@ static void start_again(bool reconnects) {
 static void again(void) { start_again(true); }
 static void not_again(void) { start_again(false); }
 
-#define TEST(name) {#name, name}
-static const struct { const char *name; void (*run)(void); } tests[] = {
-    TEST(timeouts), TEST(idle), TEST(greedy), TEST(partners), TEST(owners), TEST(places), TEST(longest), TEST(no_place),
-    TEST(no_thread), TEST(closed_files), TEST(strangers), TEST(told_channels), TEST(again), TEST(not_again),
+#define TEST(name) \
+    { #name, name }
+static const struct {
+    const char *name;
+    void (*run)(void);
+} tests[] = {
+    TEST(timeouts),  TEST(idle),          TEST(greedy),   TEST(partners),  TEST(owners),
+    TEST(places),    TEST(longest),       TEST(no_place), TEST(no_thread), TEST(closed_files),
+    TEST(strangers), TEST(told_channels), TEST(again),    TEST(not_again),
 };
 
 static void run(void *at) { tests[(intptr_t)at].run(); }

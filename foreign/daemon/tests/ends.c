@@ -7,11 +7,12 @@
 #include <sys/socket.h>
 #include <sys/un.h>
 
-static struct shared {
+struct shared {
     volatile int errors[8];
     volatile int seen, sent, received;
     volatile int scoid;
-} *shared;
+};
+static struct shared *shared;
 
 static void until_seen(int count) {
     while (shared->seen < count) usleep(200);
@@ -449,11 +450,15 @@ static void daemon_dies(void) {
     expect_end(server);
 }
 
-#define TEST(name) {#name, name}
-static const struct { const char *name; void (*run)(void); } tests[] = {
+#define TEST(name) \
+    { #name, name }
+static const struct {
+    const char *name;
+    void (*run)(void);
+} tests[] = {
     TEST(client_dies), TEST(held_without_flag), TEST(late_client_dies), TEST(answered_late), TEST(never_answered),
-    TEST(sender_dies), TEST(server_dies), TEST(connection_dies), TEST(full_channel), TEST(full_of_disconnects),
-    TEST(thread_ends), TEST(fork_and_exec), TEST(interrupted), TEST(shown), TEST(daemon_dies),
+    TEST(sender_dies), TEST(server_dies),       TEST(connection_dies),  TEST(full_channel),  TEST(full_of_disconnects),
+    TEST(thread_ends), TEST(fork_and_exec),     TEST(interrupted),      TEST(shown),         TEST(daemon_dies),
 };
 
 static void run(void *at) { tests[(intptr_t)at].run(); }

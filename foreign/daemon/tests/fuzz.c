@@ -6,7 +6,7 @@
 
 enum { SOCKETS = 4 };
 
-static int far[SOCKETS];        /* the clients' ends */
+static int far[SOCKETS];         /* the clients' ends */
 static int results[2 * SOCKETS]; /* of the last answers; later packets may name them */
 
 static struct client *open_socket(int at) {

@@ -13,10 +13,11 @@
 
 #include "wire.h"
 
-static struct shared {
+struct shared {
     volatile int seen, ends;
     volatile pid_t pid;
-} *shared;
+};
+static struct shared *shared;
 
 struct message {
     uint16_t type;
@@ -53,7 +54,10 @@ static void ask_for_signal(void *unused) {
 /* Receives one message and replies to it. Ignores pulses before it. */
 static rcvid_t take_message(int chid, struct message *m, struct _msg_info *info) {
     for (;;) {
-        union { struct _pulse pulse; struct message message; } room;
+        union {
+            struct _pulse pulse;
+            struct message message;
+        } room;
         set_timeout(LATE);
         rcvid_t rcvid = receive_answering_opens(chid, &room, sizeof room, info);
         check(rcvid != -1);
@@ -295,7 +299,7 @@ static void reused_pids(void) {
     }
 }
 
-enum { LINK = 5 }; /* the most messages of a program */
+enum { LINK = 5 };                           /* the most messages of a program */
 static const uid_t users[] = {12345, 12346}; /* the numbers of two users */
 
 static gid_t group_of_daemon(void) {
@@ -323,12 +327,22 @@ static void say_user(void *at) {
  * the result until the disconnect pulse. The result is right for each message. */
 static void two_users(void) {
     enum { PROGRAMS = 300, AT_A_TIME = 6 };
-    static struct { int scoid; uid_t user; } known[1024];
+    static struct {
+        int scoid;
+        uid_t user;
+    } known[1024];
     int left = 0, started = 0;
     name_attach_t *name = name_attach(NULL, "server", 0);
     while (started < PROGRAMS || left) {
-        for (; started < PROGRAMS && left < AT_A_TIME; started++, left++) spawn(say_user, (void *)(intptr_t)(rand() % 2));
-        union { struct _pulse pulse; struct message message; } room;
+        while (started < PROGRAMS && left < AT_A_TIME) {
+            spawn(say_user, (void *)(intptr_t)(rand() % 2));
+            started++;
+            left++;
+        }
+        union {
+            struct _pulse pulse;
+            struct message message;
+        } room;
         struct _msg_info info;
         int free_entry = -1, at = 0, status;
         set_timeout(20);
@@ -405,9 +419,14 @@ static void of_users(void) {
     signals_of_users();
 }
 
-#define TEST(name) {#name, name}
-static const struct { const char *name; void (*run)(void); } tests[] = {
-    TEST(disconnects), TEST(scoids), TEST(events), TEST(forked), TEST(forked_blocked), TEST(reused_pids), TEST(of_users),
+#define TEST(name) \
+    { #name, name }
+static const struct {
+    const char *name;
+    void (*run)(void);
+} tests[] = {
+    TEST(disconnects),    TEST(scoids),      TEST(events),   TEST(forked),
+    TEST(forked_blocked), TEST(reused_pids), TEST(of_users),
 };
 
 static void run(void *at) { tests[(intptr_t)at].run(); }

@@ -8,7 +8,11 @@
 
 enum { SERVERS = 3, WORKERS = 8, LONG = 100000 };
 
-static struct { volatile long count; volatile int step; } *progress; /* by worker */
+struct progress {
+    volatile long count;
+    volatile int step;
+};
+static struct progress *progress; /* by worker */
 static int worker;
 
 static void note(int step) {
@@ -16,9 +20,7 @@ static void note(int step) {
     progress[worker].step = step;
 }
 
-static bool is_gone(int error) {
-    return error == ESRCH || error == EBADF || error == ENOENT || error == EAGAIN;
-}
+static bool is_gone(int error) { return error == ESRCH || error == EBADF || error == ENOENT || error == EAGAIN; }
 
 static unsigned rest_of(unsigned length, unsigned at) { return (length * 7 + at) & 127; }
 

@@ -273,10 +273,14 @@ static void lives(void) {
     kill_child(server);
 }
 
-#define TEST(name) {#name, name}
-static const struct { const char *name; void (*run)(void); } tests[] = {
-    TEST(channels), TEST(connections), TEST(pulses), TEST(threads), TEST(late), TEST(processes), TEST(lengths),
-    TEST(writes), TEST(stopped), TEST(users), TEST(absent), TEST(lives), TEST(busy),
+#define TEST(name) \
+    { #name, name }
+static const struct {
+    const char *name;
+    void (*run)(void);
+} tests[] = {
+    TEST(channels), TEST(connections), TEST(pulses), TEST(threads), TEST(late),  TEST(processes), TEST(lengths),
+    TEST(writes),   TEST(stopped),     TEST(users),  TEST(absent),  TEST(lives), TEST(busy),
 };
 
 static void run(void *at) { tests[(intptr_t)at].run(); }

@@ -19,7 +19,11 @@
 enum { SOCKETS = 4, ROOM = sizeof(struct wire_ask) + 4096 };
 
 /* The first socket is the process's own. */
-static struct { int fd, left, bell; uint32_t call; struct wire_box *box; } all[SOCKETS];
+static struct {
+    int fd, left, bell;
+    uint32_t call;
+    struct wire_box *box;
+} all[SOCKETS];
 static long closed, answered;
 
 static int connect_to(const char *path) {
@@ -56,7 +60,10 @@ static void reopen(const char *path, int at) {
     struct iovec part = {room, sizeof room};
     struct msghdr in = {.msg_iov = &part, .msg_iovlen = 1, .msg_control = rights, .msg_controllen = sizeof rights};
     if (all[at].fd) close(all[at].fd);
-    if (all[at].box) munmap(all[at].box, sizeof *all[at].box), close(all[at].bell);
+    if (all[at].box) {
+        munmap(all[at].box, sizeof *all[at].box);
+        close(all[at].bell);
+    }
     all[at].box = NULL;
     all[at].fd = connect_to(path);
     all[at].left = 1 + below(100);

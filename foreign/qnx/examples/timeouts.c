@@ -11,7 +11,10 @@ static int plain, told;
 
 static void *server(void *arg)
 {
-    union { struct _pulse pulse; char text[16]; } msg;
+    union {
+        struct _pulse pulse;
+        char text[16];
+    } msg;
     struct _msg_info info;
     int held = 0;
 

@@ -7,7 +7,10 @@ static int coid, chid;
 static _Atomic int answered, serving = 1;
 
 static void *serve(void *argument) {
-    union { struct _pulse pulse; uint8_t bytes[32]; } message;
+    union {
+        struct _pulse pulse;
+        uint8_t bytes[32];
+    } message;
     struct _msg_info info;
     check(getprio(0) > 0); /* takes a place */
     while (!atomic_load(&serving)) usleep(100);

@@ -4,7 +4,10 @@
 static int chid_of_names, answer_of_names;
 
 static void *greet(void *argument) {
-    union { struct _pulse hdr; struct _io_connect connect; } message;
+    union {
+        struct _pulse hdr;
+        struct _io_connect connect;
+    } message;
     struct _msg_info info;
     int rcvid = MsgReceive(chid_of_names, &message, sizeof message, &info);
     check(rcvid > 0 && message.hdr.type == _IO_CONNECT && message.hdr.subtype == _IO_CONNECT_OPEN);

@@ -19,8 +19,16 @@ void codes(void) {
 }
 
 void values(void) {
-    static const intptr_t all[] = {0, 1, -1, INT_MAX, INT_MIN, (intptr_t)INT_MAX + 1, (intptr_t)INT_MIN - 1,
-                                   INTPTR_MAX, INTPTR_MIN, 0x123456789abc};
+    static const intptr_t all[] = {0,
+                                   1,
+                                   -1,
+                                   INT_MAX,
+                                   INT_MIN,
+                                   (intptr_t)INT_MAX + 1,
+                                   (intptr_t)INT_MIN - 1,
+                                   INTPTR_MAX,
+                                   INTPTR_MIN,
+                                   0x123456789abc};
     int chid = ChannelCreate(0), coid = attach(chid);
     for (size_t at = 0; at < sizeof all / sizeof *all; at++) {
         for (int code = -2; code < 128; code += 43) {

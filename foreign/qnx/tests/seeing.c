@@ -45,7 +45,9 @@ void shown(void) {
     check(close(ends[0]) == 0 && close(ends[1]) == 0 && ConnectDetach(coid) == 0 && ChannelDestroy(chid) == 0);
 }
 
-struct pair { int chid, coid; };
+struct pair {
+    int chid, coid;
+};
 
 static void *send_across(void *argument) {
     struct pair *own = argument;

@@ -86,7 +86,10 @@ static void use_threads(int chid) {
     struct sched_param param;
     static char line[4096];
     char text[32] = "name";
-    union { struct _thread_name name; char room[64]; } data = {.name = {.new_name_len = 4}};
+    union {
+        struct _thread_name name;
+        char room[64];
+    } data = {.name = {.new_name_len = 4}};
     int ends[2];
     memcpy(data.name.name_buf, text, 5);
     check(SchedGet(0, 0, &param) != -1 && SchedSet(0, 0, SCHED_RR, &param) == 0 && setprio(0, 10) > 0 && gettid() > 0);

@@ -23,8 +23,12 @@
 #define fails(call, error) check((call) == -1 && errno == (error))
 /* fails_r is for the form in _r of a function that returns a number, and returns_r for the other forms in _r.
  * No form in _r changes errno. */
-#define fails_r(call, error) check((errno = 77, (call) == -(error)) && errno == 77)
-#define returns_r(call, error) check((errno = 77, (call) == (error)) && errno == 77)
+#define fails_r(call, error) returns_r(call, -(error))
+#define returns_r(call, error) \
+    do { \
+        errno = 77; \
+        check((call) == (error) && errno == 77); \
+    } while (0)
 
 enum { ATTACHED = _NTO_SIDE_CHANNEL };
 enum { HANGS = 300 }; /* seconds after which a child that hangs is ended; the machine may be busy */

@@ -112,7 +112,10 @@ void policies(void) {
 
 /* ThreadCtl: names, and the commands that change nothing. */
 void controls(void) {
-    union { struct _thread_name name; char room[sizeof(struct _thread_name) + 32]; } data = {.name = {3, 0, ""}};
+    union {
+        struct _thread_name name;
+        char room[sizeof(struct _thread_name) + 32];
+    } data = {.name = {3, 0, ""}};
     char *text = data.name.name_buf, name[16];
     int mask = 1;
     memcpy(text, "abcdef", 7);

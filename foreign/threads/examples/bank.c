@@ -18,9 +18,18 @@ enum { NTELLERS = 3, NSERVERS = 2, BOOKINGS = 200, AMOUNT = 10, ACCOUNTS = 4 };
 enum { MSG_BOOK = 0x201, MSG_BALANCE, MSG_WATCH };
 enum { CODE_PASSED = _PULSE_CODE_MINAVAIL, CODE_STOP };
 
-typedef struct { uint16_t type, account; int32_t amount, chid; } bank_request_t;
-typedef union { struct _pulse pulse; bank_request_t request; } bank_msg_t;
-typedef struct { int32_t balance; int watcher; } account_t;
+typedef struct {
+    uint16_t type, account;
+    int32_t amount, chid;
+} bank_request_t;
+typedef union {
+    struct _pulse pulse;
+    bank_request_t request;
+} bank_msg_t;
+typedef struct {
+    int32_t balance;
+    int watcher;
+} account_t;
 
 static neutrino *kernel;
 static int bank_chid;
@@ -60,10 +69,14 @@ static int handle_request(int rcvid, const bank_request_t *msg, const struct _ms
     if ((size_t)info->msglen < sizeof *msg) return EBADMSG;
     if (msg->account >= ACCOUNTS) return ENOENT;
     switch (msg->type) {
-    case MSG_BOOK: return book(rcvid, &accounts[msg->account], msg->amount);
-    case MSG_BALANCE: return book(rcvid, &accounts[msg->account], 0);
-    case MSG_WATCH: return watch(rcvid, &accounts[msg->account], info->pid, msg->chid);
-    default: return ENOSYS;
+    case MSG_BOOK:
+        return book(rcvid, &accounts[msg->account], msg->amount);
+    case MSG_BALANCE:
+        return book(rcvid, &accounts[msg->account], 0);
+    case MSG_WATCH:
+        return watch(rcvid, &accounts[msg->account], info->pid, msg->chid);
+    default:
+        return ENOSYS;
     }
 }
 

@@ -184,10 +184,10 @@ struct _pulse {
 struct _msg_info {
     uint32_t nd;
     uint32_t srcnd;
-    pid_t pid;         /* of the sender */
+    pid_t pid; /* of the sender */
     int32_t tid;
     int32_t chid;
-    int32_t scoid;     /* one for each process that sends */
+    int32_t scoid; /* one for each process that sends */
     int32_t coid;
     int16_t priority;
     int16_t flags;     /* _NTO_MI_UNBLOCK_REQ or 0 */

@@ -180,7 +180,9 @@ static int calls_seen, bytes_seen;
 
 static void see_call(const struct balsaeuchre_request *request, const void *sent, size_t sent_len, const void *room,
                      size_t room_len, const struct balsaeuchre_event *event) {
-    (void)sent, (void)room, (void)room_len;
+    (void)sent;
+    (void)room;
+    (void)room_len;
     calls_seen++;
     check(event->done.call == (uint64_t)calls_seen && request->thread == 1);
     bytes_seen += (int)sent_len;

@@ -177,7 +177,7 @@ void cancels(void) {
     sends.coid = ConnectAttach(0, CLIENTS, waits.chid, 0, 0);
     check(sends.coid > 0 && neutrino_leave() == 0);
     pthread_t sending = start(send_once, &sends);
-    result_of(waiting); /* the thread never ends if it is not cancelled */
+    result_of(waiting);                   /* the thread never ends if it is not cancelled */
     check(neutrino_join(kernel, 3) == 0); /* its number is free, and its process still holds the message */
     struct job again = {.kernel = kernel, .tid = 2, .chid = waits.chid, .states = _NTO_TIMEOUT_RECEIVE};
     check(result_of(start(receive_once, &again)) == -ETIMEDOUT);

@@ -61,7 +61,8 @@ static int one_by_one(enum table table, bool one_stays) {
 /* The numbers of channels begin with 1, and continue with the place 0 of the next turn. */
 static int from_one(void) {
     for (int number = 1; number < 200; number++) {
-        check(new_name(&k, CHANNELS, (uint64_t)number, 1) == number && id_of(&k, CHANNELS, number, 1) == (uint64_t)number);
+        check(new_name(&k, CHANNELS, (uint64_t)number, 1) == number &&
+              id_of(&k, CHANNELS, number, 1) == (uint64_t)number);
         check(id_of(&k, CHANNELS, number + 1, 0) == 0 && number_of(&k, CHANNELS, (uint64_t)number) == number);
         end_name(&k, CHANNELS, number);
     }

@@ -10,7 +10,11 @@
 
 enum { KERNELS = 4, THREADS = 256 };
 
-struct got { long result; int error; uint8_t *bytes; };
+struct got {
+    long result;
+    int error;
+    uint8_t *bytes;
+};
 struct entry {
     balsaeuchre_request request;
     uint8_t *sent, *room, *bytes;
@@ -20,7 +24,11 @@ struct entry {
     uint32_t answer;
     bool is_hidden; /* the layer made the call, and its thread didn't ask for it */
 };
-struct gots { struct got *all; size_t count, size, turn; int kind; };
+struct gots {
+    struct got *all;
+    size_t count, size, turn;
+    int kind;
+};
 struct record {
     void *place; /* the library's kernel, or null */
     neutrino *kernel;
@@ -129,19 +137,25 @@ static int error_of(const balsaeuchre_ending *row, const struct got *got) {
 static bool is_result(const balsaeuchre_ending *row, const struct got *got) {
     struct _pulse pulse;
     switch (row->mark) {
-    case BALSAEUCHRE_REPLIED: return got->result == row->status;
-    case BALSAEUCHRE_COUNT: return got->result == (long)row->count;
-    case BALSAEUCHRE_THREAD_STATE: return got->result == row->state || got->result == row->priority;
+    case BALSAEUCHRE_REPLIED:
+        return got->result == row->status;
+    case BALSAEUCHRE_COUNT:
+        return got->result == (long)row->count;
+    case BALSAEUCHRE_THREAD_STATE:
+        return got->result == row->state || got->result == row->priority;
     case BALSAEUCHRE_PULSED:
         if (row->what != BALSAEUCHRE_WHAT_USER) return got->result == 0;
         memcpy(&pulse, got->bytes, sizeof pulse);
         return got->result == 0 && pulse.code == row->pulse_code;
     case BALSAEUCHRE_MESSAGE:
     case BALSAEUCHRE_CHANNEL:
-    case BALSAEUCHRE_CONNECTION: return got->result > 0;
+    case BALSAEUCHRE_CONNECTION:
+        return got->result > 0;
     case BALSAEUCHRE_DONE:
-    case BALSAEUCHRE_INFORMED: return got->result == 0;
-    default: return got->result == -1;
+    case BALSAEUCHRE_INFORMED:
+        return got->result == 0;
+    default:
+        return got->result == -1;
     }
 }
 
@@ -185,7 +199,10 @@ static void make_again(struct record *r) {
     for (size_t at = 0; at < r->count; at++) {
         struct entry *e = &r->entries[at];
         compare(r, e, &kernel, at);
-        free(e->sent), free(e->room), free(e->rows), free(e->bytes);
+        free(e->sent);
+        free(e->room);
+        free(e->rows);
+        free(e->bytes);
     }
     for (int thread = 0; thread < THREADS; thread++) {
         struct gots *gots = &r->gots[thread];
@@ -265,15 +282,15 @@ WRAP(int, ConnectAttach, CONNECT_ATTACH, (uint32_t nd, pid_t pid, int chid, unsi
 WRAP(int, ConnectDetach, CONNECT_DETACH, (int coid), (coid), NULL, 0)
 WRAP(long, MsgSend, SEND, (int coid, const void *smsg, size_t sbytes, void *rmsg, size_t rbytes),
      (coid, smsg, sbytes, rmsg, rbytes), rmsg, rbytes)
-WRAP(int, MsgReceive, RECEIVE, (int chid, void *msg, size_t bytes, struct _msg_info *info),
-     (chid, msg, bytes, info), msg, bytes)
+WRAP(int, MsgReceive, RECEIVE, (int chid, void *msg, size_t bytes, struct _msg_info *info), (chid, msg, bytes, info),
+     msg, bytes)
 WRAP(int, MsgReceivePulse, RECEIVE_PULSE, (int chid, void *pulse, size_t bytes, struct _msg_info *info),
      (chid, pulse, bytes, info), pulse, bytes)
-WRAP(int, MsgReply, REPLY, (int rcvid, long status, const void *msg, size_t bytes), (rcvid, status, msg, bytes),
-     NULL, 0)
+WRAP(int, MsgReply, REPLY, (int rcvid, long status, const void *msg, size_t bytes), (rcvid, status, msg, bytes), NULL,
+     0)
 WRAP(int, MsgError, ERROR, (int rcvid, int error_), (rcvid, error_), NULL, 0)
-WRAP(ssize_t, MsgRead, READ, (int rcvid, void *msg, size_t bytes, size_t offset), (rcvid, msg, bytes, offset),
-     msg, bytes)
+WRAP(ssize_t, MsgRead, READ, (int rcvid, void *msg, size_t bytes, size_t offset), (rcvid, msg, bytes, offset), msg,
+     bytes)
 WRAP(ssize_t, MsgWrite, WRITE, (int rcvid, const void *msg, size_t bytes, size_t offset), (rcvid, msg, bytes, offset),
      NULL, 0)
 WRAP(int, MsgInfo, INFO, (int rcvid, struct _msg_info *info), (rcvid, info), NULL, 0)

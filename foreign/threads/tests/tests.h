@@ -36,7 +36,7 @@ struct job {
     int coid; /* the connection over which it sends, or 0: it attaches one */
 };
 
-neutrino *open_few(void);       /* with the caller as thread 1 */
+neutrino *open_few(void);         /* with the caller as thread 1 */
 void close_few(neutrino *kernel); /* only the caller may have joined it */
 void become(neutrino *kernel, int tid);
 pthread_t start(void *(*work)(void *), void *argument);

@@ -34,8 +34,7 @@
 #define SIGEV_FLAG_CODE_UPDATEABLE 0x80000
 #define SIGEV_FLAG_MASK 0xf0000
 #define SIGEV_GET_TYPE(event) ((event)->sigev_notify & ~SIGEV_FLAG_MASK)
-#define SIGEV_SET_TYPE(event, type) \
-    ((void)((event)->sigev_notify = ((event)->sigev_notify & SIGEV_FLAG_MASK) | (type)))
+#define SIGEV_SET_TYPE(event, type) ((void)((event)->sigev_notify = ((event)->sigev_notify & SIGEV_FLAG_MASK) | (type)))
 #define SIGEV_MAKE_UPDATEABLE(event) ((void)((event)->sigev_notify |= SIGEV_FLAG_UPDATEABLE))
 #define SIGEV_CLEAR_UPDATEABLE(event) ((void)((event)->sigev_notify &= ~SIGEV_FLAG_UPDATEABLE))
 #define SIGEV_MAKE_CODE_UPDATEABLE(event) ((void)((event)->sigev_notify |= SIGEV_FLAG_CODE_UPDATEABLE))

@@ -72,7 +72,8 @@ fn constants() -> Vec<Row> {
                 _PULSE_CODE_UNBLOCK: CODE_UNBLOCK, _PULSE_CODE_DISCONNECT: CODE_DISCONNECT),
         vec![("_NTO_TIMEOUT_SEND | _NTO_TIMEOUT_RECEIVE | _NTO_TIMEOUT_REPLY".to_string(), TIMED_STATES.into())],
         same!(host: AF_UNIX, SOCK_SEQPACKET, SOCK_CLOEXEC, SOL_SOCKET, SO_PEERCRED, SCM_RIGHTS, SHUT_RDWR, MSG_PEEK,
-              MSG_DONTWAIT, MSG_NOSIGNAL, MSG_CMSG_CLOEXEC, PROT_READ, PROT_WRITE, MAP_SHARED, MADV_DONTFORK, AT_SECURE),
+              MSG_DONTWAIT, MSG_NOSIGNAL, MSG_CMSG_CLOEXEC, PROT_READ, PROT_WRITE, MAP_SHARED, MADV_DONTFORK,
+              AT_SECURE),
         values!(FUTEX_WAIT: host::FUTEX_WAIT, SYS_gettid: host::SYS_GETTID, SYS_futex: host::SYS_FUTEX),
         same!(host: ENOENT, ESRCH, EINTR, EBADF, EAGAIN, ENOMEM, EBUSY, EEXIST, EOVERFLOW, ESHUTDOWN, ETIMEDOUT),
     ]
@@ -102,7 +103,8 @@ fn printed(foreign: &Path, rows: &[Row]) -> Vec<i64> {
 }
 
 const HEAD: &str = "#define _GNU_SOURCE\n\
-    #include <errno.h>\n#include <linux/futex.h>\n#include <pwd.h>\n#include <stdio.h>\n#include <sys/auxv.h>\n#include <sys/mman.h>\n#include <sys/socket.h>\n\
+    #include <errno.h>\n#include <linux/futex.h>\n#include <pwd.h>\n#include <stdio.h>\n\
+    #include <sys/auxv.h>\n#include <sys/mman.h>\n#include <sys/socket.h>\n\
     #include <sys/syscall.h>\n#include <sys/uio.h>\n#include <sys/un.h>\n#include \"wire.h\"\n\
     struct rights { size_t cmsg_len; int cmsg_level, cmsg_type, files[2]; };\n\
     _Static_assert(sizeof(struct cmsghdr) == offsetof(struct rights, files), \"files follow the head\");\n";
