@@ -5,7 +5,7 @@ use Rattle.std.specs.Prelude.{ℤ, pos, Result, Err, Option, None, Some, option_
 use Rattle.std.specs.List.{AllByRecursion}
 use Rattle.std.proofs.lemmas.Bool.{true≢false}
 use Rattle.std.proofs.lemmas.Option.{none-some, same_Some}
-use Rattle.qbase.specs.Laying.{laid_count, lay_over}
+use Rattle.qbase.specs.Copying.{laid_count, lay_over}
 use Rattle.qbase.specs.declared.errno.Errno.{Errno}
 use Rattle.qbase.specs.declared.errno.Errno.TheVariants.{NoMemory, Srch}
 use Rattle.qbase.proofs.Lists.{all_filter_map, all_more}
@@ -54,10 +54,10 @@ use Rattle.qrules.proofs.Traces.Properties.Rows.Delivering.{Delivers, delivery_m
 use Rattle.qrules.proofs.Traces.Properties.Rows.Receiving.{receive_takes}
 use Rattle.qrules.proofs.Traces.Properties.Rows.Telling.{told_meets, unblock_ends}
 use Rattle.qrules.specs.Trace.{call_at}
-use Rattle.qcalls.specs.Errors.{failure}
-use Rattle.qcalls.specs.declared.error.CallError.{CallError}
-use Rattle.qcalls.specs.declared.error.CallError.TheVariants.{Unexpected}
-use Rattle.balsaeuchre.specs.Fitting.{fits, reading_of, EndingsFit, FittingIsExpected, NeverUnexpected}
+use Rattle.balsaeuchre_calls.specs.Errors.{failure}
+use Rattle.balsaeuchre_calls.specs.declared.error.CallError.{CallError}
+use Rattle.balsaeuchre_calls.specs.declared.error.CallError.TheVariants.{Unexpected}
+use Rattle.balsaeuchre.specs.Fitting.{fits, reading_of, CompletionsFit, FittingIsExpected, NeverUnexpected}
 
 -- the receive of this kind
 abbrev receive_call : Kind → ℕ → List ℕ → Call
@@ -149,13 +149,13 @@ received_fits priority unblocked (Some copied) (InReceive r) m = refl
 of_call : (past : Trace) (x : Completion) (i : ℕ) (c : Call) → x.call ≡ i → call_at past i ≡ Some c → fits c x.mark ≡ true → option_map (λ c. fits c x.mark) (call_at past x.call) ≡ Some true
 of_call past x i c at is fit = ap (option_map (λ c. fits c x.mark)) (ap (call_at past) at ∙ is) ∙ ap Some fit
 
-pub endings_fit : EndingsFit
-endings_fit roster past e r l =
+pub completions_fit : CompletionsFit
+completions_fit roster past e r l =
     let f = facts_of roster past in
     let P = λ (x : Completion). option_map (λ c. fits c x.mark) (call_at (e ∷ past) x.call) ≡ Some true in
     elim (l.1.1) [
       | inl a ↦ subst (AllByRecursion P) (sym a.1) (all_filter_map P (completion_to f e.thread e.call) (threads_of roster) (λ v y is.
-          elim (completion_names f e.thread e.call v y (laws_of f e.thread e.call e.endings a) is) [
+          elim (completion_names f e.thread e.call v y (laws_of f e.thread e.call e.completions a) is) [
             | inl own ↦ of_call (e ∷ past) y (length past + 1) e.call own.names.call (call_newest e past) (own_fits f e.thread e.call y own.is)
             | inr other ↦
                 let k = open_parts roster past v other.names.waiting other.names.is in
@@ -163,7 +163,7 @@ endings_fit roster past e r l =
                 of_call (e ∷ past) y (number_of k.block) asked.call (other.names.call ∙ k.number) (call_earlier e past (number_of k.block) (block_below roster past v k.block k.is) ∙ asked.is)
                 (asked_fits (number_of k.block) v asked.channel asked.call k.block y.mark asked.asks_it
                 ∙ filled_fits _ k.block y.mark ∙ received_fits _ _ _ (filled past k.block) y.mark ∙ ap (λ o. fits (call_in o) y.mark) (sym k.same)
-                ∙ ends_fits f e.thread e.call v y (passes_of f e.thread e.call e.endings a) other.is other.names.waiting other.names.is)
+                ∙ ends_fits f e.thread e.call v y (passes_of f e.thread e.call e.completions a) other.is other.names.waiting other.names.is)
           ]))
       | inr a ↦ subst (AllByRecursion P) (sym a.2) (of_call (e ∷ past) (refusal_completion f e.thread e.call a.0) (length past + 1) e.call refl (call_newest e past) refl, tt)
     ]
@@ -190,5 +190,5 @@ pub fitting_is_expected : FittingIsExpected
 fitting_is_expected c m buffer fit waited is = true≢false (ap is_unexpected (sym is) ∙ expected c waited m buffer fit)
 
 pub never_unexpected : NeverUnexpected
-never_unexpected roster past e r l = all_more _ _ e.endings (endings_fit roster past e r l) (λ x fit c at.
+never_unexpected roster past e r l = all_more _ _ e.completions (completions_fit roster past e r l) (λ x fit c at.
     fitting_is_expected c x.mark x.buffer (same_Some _ true (ap (option_map (λ c. fits c x.mark)) (sym at) ∙ fit)))

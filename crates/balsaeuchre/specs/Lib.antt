@@ -1,6 +1,6 @@
 -- The definitions in the contracts that a caller sees.
 -- how the bytes of a message, a reply or a read are copied and counted
-pub use Rattle.qbase.specs.Laying
+pub use Rattle.qbase.specs.Copying
 -- rosters
 pub use Rattle.qtables.specs.Members
 -- the rules of the calls, the history, valid histories and their properties
@@ -14,14 +14,14 @@ pub use Rattle.qrules.specs.Past
 pub use Rattle.qrules.specs.Lawful
 pub use Rattle.qrules.specs.Properties
 -- the kernel after its history, and a run of calls
-pub use Rattle.qstate.specs.Thread
+pub use Rattle.qkernel_state.specs.Thread
 pub use Rattle.qkernel.specs.Kernel
 pub use Rattle.qkernel.specs.LentCall
 pub use Rattle.qkernel.specs.Stands
 pub use Rattle.qkernel.specs.Run
 pub use Rattle.qkernel.specs.Blocked
 -- the shared kernel and its ports
-pub use Rattle.qpast.specs.History as SeenPast
+pub use Rattle.qshared.specs.History as SeenPast
 pub use Rattle.qhandoff.specs.Words
 pub use Rattle.qshared.specs.Answered
 pub use Rattle.qshared.specs.Asking
@@ -32,18 +32,18 @@ pub use Rattle.qshared.specs.Naming
 pub use Rattle.qshared.specs.TwoCalls
 pub use Rattle.qshared.specs.Unkept
 -- the calls under QNX's names: the record of an endpoint, the effect of a call, and how its result is read
-pub use Rattle.qcalls.specs.History
-pub use Rattle.qcalls.specs.Errors
-pub use Rattle.qcalls.specs.Results
-pub use Rattle.qcalls.specs.Making
-pub use Rattle.qcalls.specs.Coming
-pub use Rattle.qcalls.specs.Timing
-pub use Rattle.qcalls.specs.Closing
+pub use Rattle.balsaeuchre_calls.specs.History
+pub use Rattle.balsaeuchre_calls.specs.Errors
+pub use Rattle.balsaeuchre_calls.specs.Results
+pub use Rattle.balsaeuchre_calls.specs.Making
+pub use Rattle.balsaeuchre_calls.specs.Coming
+pub use Rattle.balsaeuchre_calls.specs.Timing
+pub use Rattle.balsaeuchre_calls.specs.Closing
 -- the laws
 pub mod Fitting
-pub use Rattle.qlaws.specs.Lawful as LawForms
-pub use Rattle.qlaws.specs.Endings
-pub use Rattle.qlaws.specs.OpenCalls
-pub use Rattle.qlaws.specs.Pending
-pub use Rattle.qlaws.specs.Ids
-pub use Rattle.qshared.specs.Laws
+pub use Rattle.qrules_laws.specs.Lawful as LawForms
+pub use Rattle.qrules_laws.specs.Completions
+pub use Rattle.qrules_laws.specs.OpenCalls
+pub use Rattle.qrules_laws.specs.Pending
+pub use Rattle.qrules_laws.specs.Ids
+pub use Rattle.qshared.specs.HistoryLaws

@@ -3,11 +3,11 @@
 //! A thread makes a `Caller` from its `Port` and the shared kernel. Each method of the caller waits until its
 //! call completes, and returns the result or a `CallError`. The trait `Calls` has the calls that never block.
 
-pub use qcalls::Result;
-pub use qcalls::alarms::Alarms;
-pub use qcalls::caller::Caller;
-pub use qcalls::calls::Calls;
-pub use qcalls::endpoint::{Endpoint, KernelPort, Told};
-pub use qcalls::error::CallError;
-pub use qcalls::opening::{PortCaller, callers, close, two_callers};
-pub use qcalls::results::{Answer, Pulse, Received, Request, State};
+pub use balsaeuchre_calls::Result;
+pub use balsaeuchre_calls::alarms::Alarms;
+pub use balsaeuchre_calls::caller::Caller;
+pub use balsaeuchre_calls::calls::Calls;
+pub use balsaeuchre_calls::endpoint::{Endpoint, KernelPort, LastOutcome};
+pub use balsaeuchre_calls::error::CallError;
+pub use balsaeuchre_calls::opening::{PortCaller, callers, close, two_callers};
+pub use balsaeuchre_calls::results::{Reply, Pulse, Received, Request, ThreadStatus};

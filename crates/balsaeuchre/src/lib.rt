@@ -7,7 +7,7 @@
 
 pub mod calls;
 mod fitting;
-pub mod laws;
+pub mod history_laws;
 pub mod shared;
 pub mod simulator;
 
@@ -23,7 +23,7 @@ pub use qkernel::run::run;
 pub use qkernel::trace::Trace;
 pub use qmodel::call::{Call, Completion, Info, Mark};
 pub use qqueue::item::What;
-pub use qstate::endings::Endings;
-pub use qstate::seat::Seat;
+pub use qkernel_state::completions::Completions;
+pub use qkernel_state::thread_ref::ThreadRef;
 pub use qtables::member::Member;
 pub use qtables::roster::{Roster, THREAD_LIMIT};

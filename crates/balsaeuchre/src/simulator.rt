@@ -4,6 +4,6 @@
 //! like a `Caller`. A send or a receive that blocks returns `Outcome::Blocked`. `Simulator::take` returns the
 //! completion of a blocked call once there is one.
 
-pub use qcalls::ending::Ending;
-pub use qcalls::simulator::thread::SimulatorThread;
-pub use qcalls::simulator::{Outcome, Simulator};
+pub use balsaeuchre_calls::completed::Completed;
+pub use balsaeuchre_calls::simulator::thread::SimulatorThread;
+pub use balsaeuchre_calls::simulator::{Outcome, Simulator};

@@ -1,7 +1,7 @@
 -- Names of other crates and of the definitions, which many of these proofs use.
 pub use Rattle.balsaeuchre_c.specs.Calling.{Informs, OfEachRow, Restores, brought_at}
 pub use Rattle.balsaeuchre_c.specs.Rows.{Fills, Tells, told_bytes, told_of}
-pub use Rattle.balsaeuchre_c.specs.Telling.{IsTold, TellsAt, buffers, start_of}
+pub use Rattle.balsaeuchre_c.specs.WriteRows.{IsTold, TellsAt, buffers, start_of}
 pub use Rattle.balsaeuchre_c.specs.declared.row.Row.{Row}
 pub use Rattle.core.proofs.alloc.Calls.{token}
 pub use Rattle.qbase.proofs.Lengths.{lay_length}

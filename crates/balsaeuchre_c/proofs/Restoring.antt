@@ -48,7 +48,7 @@ ended_alone f t c X own is alone same answers = elim answers [
 module _ (roster : List Member) (past : Trace) (t : ℕ) (c : Call) (X : List Completion) where
   -- the event
   abbrev v : Event
-  v = record { thread = t; call = c; endings = X }
+  v = record { thread = t; call = c; completions = X }
 
   -- a Read or a Write completes in its own event
   counted : (d : Call) (place : ℕ) (y : Completion) (n : ℕ) → Answers (facts_of roster past) t d X → slice_get X place ≡ Some y → IsCounted past (effect_of d).reads (effect_of d).writes y n

@@ -20,11 +20,11 @@ lay_over-more b xs ys =
     grind (arith, common_steps, both, room, cut, take-length xs, length-append xs ys, take-append_seam, drop-append-drop, length-take-le)
 
 -- the invariant of `tell`: the first `count` completions are written
-pub record IsToldTo (s : State) (endings : List Completion) (old_rows rows : List Row) (old_bytes bytes : List ℕ) (count at : ℕ) : Type 0 where
-  pub told : (place : ℕ) → place < count → TellsAt s endings old_bytes rows place
+pub record IsToldTo (s : State) (completions : List Completion) (old_rows rows : List Row) (old_bytes bytes : List ℕ) (count at : ℕ) : Type 0 where
+  pub told : (place : ℕ) → place < count → TellsAt s completions old_bytes rows place
   pub rest : drop count rows ≡ drop count old_rows
-  pub laid : bytes ≡ lay_over old_bytes 0 (buffers (take count endings))
-  pub reached : at ≡ laid_count old_bytes 0 (buffers (take count endings))
+  pub laid : bytes ≡ lay_over old_bytes 0 (buffers (take count completions))
+  pub reached : at ≡ laid_count old_bytes 0 (buffers (take count completions))
   pub room : length bytes ≡ length old_bytes
 
 -- it is preserved when one more completion is written

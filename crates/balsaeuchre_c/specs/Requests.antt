@@ -9,25 +9,25 @@ use Rattle.qmodel.specs.declared.call.Call.{Call}
 use Rattle.qmodel.specs.declared.kind.CallKind.{CallKind}
 use Rattle.qmodel.specs.declared.kind.CallKind.TheVariants.{Reply, Write}
 use Rattle.qmodel.specs.declared.kind.TheConstants.{KINDS}
-use Rattle.qmodel.specs.declared.operands.Operand.{Operand}
-use Rattle.qmodel.specs.declared.operands.Operand.TheVariants as sort
+use Rattle.qmodel.specs.declared.operands.OperandKind.{OperandKind}
+use Rattle.qmodel.specs.declared.operands.OperandKind.TheVariants as sort
 use Rattle.qmodel.specs.declared.operands.Operands.{Operands}
 use Rattle.qmodel.specs.Kinds.{call_with, sorts_of}
-use Rattle.balsaeuchre_c.specs.declared.request.Request.{Request}
+use Rattle.balsaeuchre_c.specs.declared.request.CallRequest.{CallRequest}
 use Rattle.balsaeuchre_c.specs.Numbers.{numbered}
 
 -- true if an operand is a priority
-abbrev pub is_priority : Operand → Bool
+abbrev pub is_priority : OperandKind → Bool
 is_priority sort.Priority = true
 is_priority other = false
 
 -- the priority of a call of this kind: 1 if the kind has no priority; none if it has one and the request's is
 -- 0
-abbrev pub priority_as : CallKind → Request → Option ℕ
+abbrev pub priority_as : CallKind → CallRequest → Option ℕ
 priority_as kind r = if list_any is_priority (sorts_of kind) then priority_of r.priority else Some 1
 
 -- the operands in a request, with this priority
-abbrev pub operands_at : Request → ℕ → Operands
+abbrev pub operands_at : CallRequest → ℕ → Operands
 operands_at r p = record {
   id = r.id;
   thread = r.target;
@@ -42,11 +42,11 @@ operands_at r p = record {
 }
 
 -- the operands of a call of this kind; none if it has a priority and the request's is 0
-abbrev pub operands_as : CallKind → Request → Option Operands
+abbrev pub operands_as : CallKind → CallRequest → Option Operands
 operands_as kind r = option_map (operands_at r) (priority_as kind r)
 
 -- the call of this kind, with these bytes and this buffer; none if it has a priority and the request's is 0
-abbrev pub call_as : CallKind → Request → List ℕ → List ℕ → Option Call
+abbrev pub call_as : CallKind → CallRequest → List ℕ → List ℕ → Option Call
 call_as kind r sent room = option_map (λ o. call_with kind o sent room) (operands_as kind r)
 
 -- true if a call of this kind borrows its bytes, since it never blocks
@@ -57,7 +57,7 @@ borrows other = false
 
 -- the call that a request encodes; none if no kind has its number, or if the kind has a priority and the
 -- request's is 0
-abbrev pub call_of : Request → List ℕ → List ℕ → Option Call
+abbrev pub call_of : CallRequest → List ℕ → List ℕ → Option Call
 call_of r sent room = option_and_then (λ kind. call_as kind r sent room) (numbered KINDS r.kind)
 
 -- the error if there is no call: the request encodes none, or it encodes one and there is no memory

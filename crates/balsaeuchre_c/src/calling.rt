@@ -1,13 +1,13 @@
 //! Makes a call for C, and writes its completions.
 
 ghost use Rattle.std.specs.Prelude.{◌≡◌, length, IfOk, IfErr};
-ghost use Rattle.qstate.specs.Kept.{members_of};
+ghost use Rattle.qkernel_state.specs.Kept.{members_of};
 ghost use Rattle.balsaeuchre_c.specs.Calling.{CallError, IsEvent};
 
-use crate::request::Request;
+use crate::request::CallRequest;
 use crate::row::Row;
 use crate::session::Session;
-use crate::telling::{Done, tell};
+use crate::write_rows::{EventCounts, tell};
 use qbase::errno::Errno;
 
 /// The number of rows that a call needs: an event has at most this many completions.
@@ -17,12 +17,12 @@ const ROW_LIMIT: usize = 64;
 /// `Inval` if there are fewer than `ROW_LIMIT` rows, or like `Session::make`.
 pub fn make_call(
     session: &mut Session,
-    request: &Request,
+    request: &CallRequest,
     sent: &[u8],
     room: &[u8],
     rows: &mut [Row],
     bytes: &mut [u8],
-) -> Result<Done, Errno>
+) -> Result<EventCounts, Errno>
     ensures event { IfOk result (λ done. IsEvent session.old request.now sent.now room.now session.new rows.old rows.new bytes.old bytes.new done) }
     ensures roster { members_of session.new.kernel.threads ≡ members_of session.old.kernel.threads }
     ensures error { IfErr result (λ errno. CallError session.old request.now sent.now room.now (length rows.old) errno) }
@@ -32,5 +32,5 @@ pub fn make_call(
         return Err(Errno::Inval);
     }
     session.make(request, sent, room)?;
-    Ok(tell(&session.kernel, session.endings.as_slice(), rows, bytes))
+    Ok(tell(&session.kernel, session.completions.as_slice(), rows, bytes))
 }

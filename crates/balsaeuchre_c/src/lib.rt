@@ -4,7 +4,7 @@
 
 ghost use Rattle.std.specs.Prelude.{◌≡◌, ◌≤◌, length, Some};
 ghost use Rattle.qbase.specs.declared.errno.Errno.{Errno};
-ghost use Rattle.qstate.specs.Kept.{members_of};
+ghost use Rattle.qkernel_state.specs.Kept.{members_of};
 ghost use Rattle.balsaeuchre_c.specs.declared.session.Session.{Session};
 ghost use Rattle.qbase.specs.declared.errno.TheConstants.{ERRNOS};
 ghost use Rattle.balsaeuchre_c.specs.Calling.{CallError, IsEvent};
@@ -21,16 +21,16 @@ mod roster;
 mod row;
 mod sending;
 mod session;
-mod telling;
+mod write_rows;
 
 use error::errno_number;
 use handle::Handle;
-use request::Request;
-use roster::Thread;
+use request::CallRequest;
+use roster::RosterThread;
 use row::Row;
 use std::alloc::Global;
 use std::ptr::NonNull;
-use telling::Done;
+use write_rows::EventCounts;
 
 /// The version of the library and of its header: a hundred times the first number plus the second, so 10 is
 /// 0.10.
@@ -47,7 +47,7 @@ pub extern "C" fn balsaeuchre_version() -> u32
 /// Makes a kernel of these threads, and writes its address to `out`. Returns 0. On an error it returns the
 /// error's number, and writes nothing.
 #[unsafe(no_mangle)]
-pub extern "C" fn balsaeuchre_new(alloc: Global, threads: &[Thread], out: &mut *mut u8) -> u32
+pub extern "C" fn balsaeuchre_new(alloc: Global, threads: &[RosterThread], out: &mut *mut u8) -> u32
     ensures made { result ≡ 0 → (session : Session) × IsNewOf threads.now session }
     ensures refused { 1 ≤ result → (errno : Errno) × (numbered ERRNOS result ≡ Some errno) × NewError threads.now errno }
 {
@@ -71,12 +71,12 @@ pub extern "C" fn balsaeuchre_free(kernel: Handle) {
 #[unsafe(no_mangle)]
 pub extern "C" fn balsaeuchre_make_call(
     kernel: &mut Handle,
-    request: &Request,
+    request: &CallRequest,
     sent: &[u8],
     room: &[u8],
     rows: &mut [Row],
     bytes: &mut [u8],
-    done: &mut Done,
+    done: &mut EventCounts,
 ) -> u32
     ensures event { result ≡ 0 → IsEvent kernel.old.session request.now sent.now room.now kernel.new.session rows.old rows.new bytes.old bytes.new done.new }
     ensures refused { 1 ≤ result → (errno : Errno) × (numbered ERRNOS result ≡ Some errno) × CallError kernel.old.session request.now sent.now room.now (length rows.old) errno }

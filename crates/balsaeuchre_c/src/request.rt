@@ -11,14 +11,14 @@ use qbase::priority::Priority;
 use qkernel::call::Call;
 use qkernel::lent_call::LentCall;
 use qmodel::kind::CallKind;
-use qmodel::operands::{Operand, Operands};
+use qmodel::operands::{OperandKind, Operands};
 use std::alloc::Global;
 
 /// A call of the kind `kind`, which reads only the fields that it needs. The call's bytes and its buffer are
 /// passed separately.
 #[repr(C)]
 #[derive(Clone, Copy)]
-pub struct Request {
+pub struct CallRequest {
     /// The number of the call's kind, 1 to 17.
     pub kind: u8,
     /// The thread that makes it.
@@ -43,7 +43,7 @@ pub struct Request {
     pub offset: usize,
 }
 
-impl Request {
+impl CallRequest {
     /// Returns the priority of a call of this kind. It is the lowest if the kind has no priority, and `None`
     /// if the kind has one and the field is 0.
     fn priority(&self, kind: CallKind) -> Option<Priority>
@@ -53,7 +53,7 @@ impl Request {
             .form()
             .operands
             .iter()
-            .any(|sort| matches!(sort, Operand::Priority))
+            .any(|sort| matches!(sort, OperandKind::Priority))
         {
             Priority::new(self.priority)
         } else {

@@ -73,13 +73,13 @@ pub struct Row {
 impl Row {
     /// Returns the row of a completion without its result. `told_len` bytes of its buffer belong to it. They
     /// begin at `start` in C's array `bytes`, and `written` of them were written.
-    fn without_mark(ending: &Completion, start: usize, told_len: usize, written: usize) -> Row
-        requires { told_len ≡ length (told_bytes ending.now) }
-        ensures { IsOf result ending.now start written }
+    fn without_mark(completion: &Completion, start: usize, told_len: usize, written: usize) -> Row
+        requires { told_len ≡ length (told_bytes completion.now) }
+        ensures { IsOf result completion.now start written }
     {
         Row {
-            call: ending.call,
-            thread: ending.thread.0,
+            call: completion.call,
+            thread: completion.thread.0,
             start,
             length: told_len,
             written,
@@ -89,7 +89,7 @@ impl Row {
 
     fn errno(self, errno: Errno) -> Row
         ensures mark { mark_of result ≡ Some (Mark.Failed errno) }
-        ensures same { (ending : Completion) → (start written : ℕ) → IsOf self ending start written → IsOf result ending start written }
+        ensures same { (completion : Completion) → (start written : ℕ) → IsOf self completion start written → IsOf result completion start written }
     {
         Row {
             mark: 2,
@@ -100,7 +100,7 @@ impl Row {
 
     fn replied(self, status: i64, copied: usize) -> Row
         ensures mark { mark_of result ≡ Some (Mark.Replied status copied) }
-        ensures same { (ending : Completion) → (start written : ℕ) → IsOf self ending start written → IsOf result ending start written }
+        ensures same { (completion : Completion) → (start written : ℕ) → IsOf self completion start written → IsOf result completion start written }
     {
         Row {
             mark: 5,
@@ -112,7 +112,7 @@ impl Row {
 
     fn info(self, info: Info) -> Row
         ensures mark { mark_of result ≡ Some (Mark.Info info) }
-        ensures same { (ending : Completion) → (start written : ℕ) → IsOf self ending start written → IsOf result ending start written }
+        ensures same { (completion : Completion) → (start written : ℕ) → IsOf self completion start written → IsOf result completion start written }
     {
         Row {
             mark: 9,
@@ -129,7 +129,7 @@ impl Row {
 
     fn pulse(self, item: u64, priority: Priority, what: What) -> Row
         ensures mark { mark_of result ≡ Some (Mark.Pulse item priority what) }
-        ensures same { (ending : Completion) → (start written : ℕ) → IsOf self ending start written → IsOf result ending start written }
+        ensures same { (completion : Completion) → (start written : ℕ) → IsOf self completion start written → IsOf result completion start written }
     {
         let row = Row {
             mark: 10,
@@ -160,7 +160,7 @@ impl Row {
 
     fn state(self, state: ThreadState, priority: Priority) -> Row
         ensures mark { mark_of result ≡ Some (Mark.State state priority) }
-        ensures same { (ending : Completion) → (start written : ℕ) → IsOf self ending start written → IsOf result ending start written }
+        ensures same { (completion : Completion) → (start written : ℕ) → IsOf self completion start written → IsOf result completion start written }
     {
         let (number, chid) = match state {
             ThreadState::Ready => (1, 0),
@@ -181,7 +181,7 @@ impl Row {
         ensures mark { mark_of result ≡ Some (Mark.Message rcvid copied) }
         ensures count { result.count ≡ copied }
         ensures info { Fills result info }
-        ensures same { (ending : Completion) → (start written : ℕ) → IsOf self ending start written → IsOf result ending start written }
+        ensures same { (completion : Completion) → (start written : ℕ) → IsOf self completion start written → IsOf result completion start written }
     {
         let row = Row {
             mark: 6,
@@ -206,7 +206,7 @@ impl Row {
     fn with_mark(self, mark: Mark, info: Option<Info>) -> Row
         ensures mark { mark_of result ≡ Some mark }
         ensures message { (rcvid copied : ℕ) → mark ≡ Mark.Message rcvid copied → (result.count ≡ copied) × Fills result info }
-        ensures same { (ending : Completion) → (start written : ℕ) → IsOf self ending start written → IsOf result ending start written }
+        ensures same { (completion : Completion) → (start written : ℕ) → IsOf self completion start written → IsOf result completion start written }
     {
         match mark {
             Mark::Ok => Row { mark: 1, ..self },
@@ -247,15 +247,15 @@ impl Row {
     /// it. They begin at `start` in C's array `bytes`, and `written` of them were written.
     pub fn of(
         kernel: &Kernel,
-        ending: &Completion,
+        completion: &Completion,
         start: usize,
         told_len: usize,
         written: usize,
     ) -> Row
-        requires { told_len ≡ length (told_bytes ending.now) }
-        ensures { Tells result kernel.now ending.now start written }
+        requires { told_len ≡ length (told_bytes completion.now) }
+        ensures { Tells result kernel.now completion.now start written }
     {
-        let info = info_beside(kernel, ending.mark);
-        Row::without_mark(ending, start, told_len, written).with_mark(ending.mark, info)
+        let info = info_beside(kernel, completion.mark);
+        Row::without_mark(completion, start, told_len, written).with_mark(completion.mark, info)
     }
 }

@@ -1,9 +1,9 @@
 //! Bytes on the heap.
 
 ghost use Rattle.std.specs.Prelude.{◌≡◌, ℕ, List, [], IfOk, length, drop, replicate, ◌==◌};
-ghost use Rattle.qbase.specs.Laying.{lay_over, laid_count};
+ghost use Rattle.qbase.specs.Copying.{lay_over, laid_count};
 
-use crate::laying::{lay, take};
+use crate::copying::{lay, take};
 use std::alloc::{AllocError, Global};
 use std::marker::Model;
 
@@ -39,7 +39,7 @@ impl Bytes {
     }
 
     /// Makes a `Bytes` with a copy of `bytes`; error if the allocator refuses.
-    /// `first_message.rt` of `crates/balsaeuchre_uses` makes its messages and buffers with it.
+    /// `first_message.rt` of `crates/balsaeuchre_examples` makes its messages and buffers with it.
     pub fn copied(alloc: Global, bytes: &[u8]) -> Result<Bytes, AllocError>
         ensures { IfOk result (λ copy. copy ≡ bytes.now) }
     {

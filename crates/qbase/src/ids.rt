@@ -6,7 +6,7 @@ ghost use Rattle.std.specs.Prelude.{ℕ};
 use std::marker::Model;
 
 /// The number of a thread, 0 to 255; a roster has at most 64 threads.
-/// `first_message.rt` of `crates/balsaeuchre_uses` uses two.
+/// `first_message.rt` of `crates/balsaeuchre_examples` uses two.
 #[derive(Clone, Copy, Debug, PartialEq, Eq)]
 pub struct ThreadNo(pub u8);
 
@@ -19,7 +19,7 @@ impl Model for ThreadNo {
 }
 
 /// The number of a process, 0 to 255. Threads of one process share its channels and connections, as the
-/// client and its fellow do in `timeout.rt` of `crates/balsaeuchre_uses`.
+/// client and its fellow do in `timeout.rt` of `crates/balsaeuchre_examples`.
 #[derive(Clone, Copy, Debug, PartialEq, Eq)]
 pub struct ProcessNo(pub u8);
 

@@ -7,6 +7,6 @@ pub mod bytes;
 pub mod errno;
 pub mod flags;
 pub mod ids;
-pub mod laying;
+pub mod copying;
 pub mod priority;
 pub mod state;

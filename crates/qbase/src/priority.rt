@@ -24,7 +24,7 @@ impl Model for Priority {
 
 impl Priority {
     /// Makes a priority from a number; `None` if the number is 0.
-    /// `carried.rt` of `crates/balsaeuchre_uses` makes three.
+    /// `carried.rt` of `crates/balsaeuchre_examples` makes three.
     pub fn new(level: u8) -> Option<Priority>
         ensures { result ≡ priority_of level }
     {

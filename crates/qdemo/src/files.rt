@@ -1,8 +1,8 @@
 //! Writes the two files of a recording.
 
-use qserve::fault::ServeFault;
-use qserve::recording::{Recording, Store};
-use qtool::ending::tell_unread;
+use qdemo_serve::fault::ServeFault;
+use qdemo_serve::recording::{Recording, RecordStore};
+use qdemo_commands::completion::tell_unread;
 use std::rt::Files;
 use std::{fs, io};
 
@@ -30,7 +30,7 @@ impl<'a, R: Files + Eprint + AllocGlobal> RecordFiles<'a, R> {
     }
 }
 
-impl<'a, R: Files + Eprint + AllocGlobal> Store for RecordFiles<'a, R> {
+impl<'a, R: Files + Eprint + AllocGlobal> RecordStore for RecordFiles<'a, R> {
     fn store(&mut self, recording: &Recording) -> Result<(), ServeFault> {
         self.put("txt", recording.script.as_str())?;
         self.put("trace", recording.trace.as_str())

@@ -7,14 +7,14 @@ mod serving;
 
 use clap::Error;
 use clap::error::ErrorKind;
-use qtool::charts::run_chart;
-use qtool::check::run_check;
-use qtool::colours::{Colours, Screen};
-use qtool::command::{Action, action_of};
-use qtool::designs::run_explore;
-use qtool::ending::{end_failed, end_unwritten, end_with};
-use qtool::play::run_play;
-use qtool::scripts::run_script;
+use qdemo_commands::charts::run_chart;
+use qdemo_commands::check::run_check;
+use qdemo_commands::colours::{Colours, Screen};
+use qdemo_commands::command::{Action, action_of};
+use qdemo_commands::designs::run_explore;
+use qdemo_commands::completion::{end_failed, end_unwritten, end_with};
+use qdemo_commands::play::run_play;
+use qdemo_commands::scripts::run_script;
 use serving::run_serve;
 use std::env::VarError;
 use std::io::IsTerminal;
@@ -50,13 +50,13 @@ fn main(rt: HostRuntime) -> ExitCode {
 /// Returns which outputs are terminals. These have colours, unless `NO_COLOR` is set and not empty.
 fn screen(rt: &HostRuntime) -> Screen {
     let (output, errors) = (rt.stdout().is_terminal(), rt.stderr().is_terminal());
-    let are_wanted = match env::var(rt, "NO_COLOR") {
+    let are_expected = match env::var(rt, "NO_COLOR") {
         Ok(value) => value.is_empty(),
         Err(error) => error == VarError::NotPresent,
     };
     let colours = Colours {
-        output: are_wanted && output,
-        errors: are_wanted && errors,
+        output: are_expected && output,
+        errors: are_expected && errors,
     };
     Screen {
         output,

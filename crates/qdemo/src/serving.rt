@@ -1,17 +1,17 @@
 //! The action `serve`: runs a server and its clients.
 
-ghost use Rattle.qserve.specs.Fit.{Fit};
+ghost use Rattle.qdemo_serve.specs.Fit.{Fit};
 
 use crate::files::RecordFiles;
 use qscript::watched::Watched;
-use qserve::fault::ServeFault;
-use qserve::recording::{Forget, Store};
-use qserve::serve::serve;
-use qserve::settings::Settings;
-use qtool::command::ServeRun;
-use qtool::ending::{end_failed, end_quietly, end_unwritten, end_with};
-use qtool::streams::Outlet;
-use qtool::summary::{json_of, with_units};
+use qdemo_serve::fault::ServeFault;
+use qdemo_serve::recording::{Forget, RecordStore};
+use qdemo_serve::serve::serve;
+use qdemo_serve::settings::Settings;
+use qdemo_commands::command::ServeRun;
+use qdemo_commands::completion::{end_failed, end_quietly, end_unwritten, end_with};
+use qdemo_commands::streams::Outlet;
+use qdemo_commands::summary::{json_of, with_units};
 use std::alloc::AllocError;
 use std::process::ExitCode;
 use std::rt::{Clock, Files};
@@ -53,7 +53,7 @@ pub fn run_serve<R: Files + Print + Eprint + AllocGlobal + Threads + Wait + Cloc
 
 /// Runs a server and its clients, stores their recording, and prints the results as lines, with units or as
 /// JSON.
-fn serve_with<R: Print + Eprint + AllocGlobal + Threads + Wait + Clock + Sync, S: Store>(
+fn serve_with<R: Print + Eprint + AllocGlobal + Threads + Wait + Clock + Sync, S: RecordStore>(
     rt: &R,
     settings: Settings,
     json: bool,
@@ -81,7 +81,7 @@ fn end_served(rt: &impl Eprint, fault: ServeFault) -> ExitCode {
 }
 
 /// Runs a server and its clients, stores their recording, and prints the results with units, or as JSON.
-fn serve_in_words<R: Print + Eprint + AllocGlobal + Threads + Wait + Clock + Sync, S: Store>(
+fn serve_in_words<R: Print + Eprint + AllocGlobal + Threads + Wait + Clock + Sync, S: RecordStore>(
     rt: &R,
     settings: Settings,
     json: bool,

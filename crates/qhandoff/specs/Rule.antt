@@ -7,9 +7,9 @@ use mathlib.Core.Option.{some, none}
 use mathlib.Core.Option as maybe
 use lib.ListN.{get_elem?}
 use Rattle.atomic_table.specs.Table.{State}
-use Rattle.qhandoff.specs.declared.view.Line.{Line}
-use Rattle.qhandoff.specs.declared.view.Desk.{Desk}
-use Rattle.qhandoff.specs.declared.view.Hand.{Hand}
+use Rattle.qhandoff.specs.declared.view.CellView.{CellView}
+use Rattle.qhandoff.specs.declared.view.KernelView.{KernelView}
+use Rattle.qhandoff.specs.declared.view.ThreadView.{ThreadView}
 use Rattle.qhandoff.specs.declared.view.View.{View}
 use Rattle.qhandoff.specs.declared.view.View.TheVariants.{Kernel, Thread, Joined}
 
@@ -27,19 +27,19 @@ cell_of w = w / 8
 
 module _ {T : Type 0} where
   -- the line of a thread whose cell isn't opened, and for which nothing was put
-  abbrev pub idle_line : Line T
+  abbrev pub idle_line : CellView T
   idle_line = record { opened = false; putting = false; put = []; taken = None }
 
   -- the hand of a thread that took nothing
-  abbrev pub new_hand : ℕ → Hand T
+  abbrev pub new_hand : ℕ → ThreadView T
   new_hand t = record { thread = t; taken = []; taking = None }
 
   -- the knowledge of the kernel's token about thread t
-  abbrev pub line : Desk T → ℕ → Line T
+  abbrev pub line : KernelView T → ℕ → CellView T
   line d t = slice_index_or d.lines t idle_line
 
   -- the desk with another line for thread t
-  abbrev pub with_line : Desk T → ℕ → Line T → Desk T
+  abbrev pub with_line : KernelView T → ℕ → CellView T → KernelView T
   with_line d t l = record d { lines = slice_set d.lines t l }
 
   -- the slot is at home and empty
@@ -55,24 +55,24 @@ module _ {T : Type 0} where
   IsHeld o = o ≡ some none
 
   -- all completions that were put were taken
-  abbrev pub AllTaken : Line T → Hand T → Type 0
+  abbrev pub AllTaken : CellView T → ThreadView T → Type 0
   AllTaken l h = l.put ≡ h.taken
 
   -- all completions that were put were taken, except the last, which is x
-  abbrev pub AllTakenBut : Line T → Hand T → T → Type 0
+  abbrev pub AllTakenBut : CellView T → ThreadView T → T → Type 0
   AllTakenBut l h x = l.put ≡ h.taken ++ x ∷ []
 
   -- an opened cell's slot is empty, or the kernel's token holds it while it puts a completion
-  abbrev pub FitsPut : Line T → Slot T → Type 0
+  abbrev pub FitsPut : CellView T → Slot T → Type 0
   FitsPut l o = ((l.putting ≡ false) × IsEmpty o) ⊎ ((l.putting ≡ true) × IsHeld o)
 
   -- a full cell's slot has x, or the thread's token holds it while it takes x
-  abbrev pub FitsTake : Hand T → T → Slot T → Type 0
+  abbrev pub FitsTake : ThreadView T → T → Slot T → Type 0
   FitsTake h x o = ((h.taking ≡ None) × Has o x) ⊎ ((h.taking ≡ Some x) × IsHeld o)
 
   -- the conditions for each value of a cell's word. They say whether the cell is opened, whether a completion
   -- is being put or taken, whether all completions were taken, and where the slot is.
-  abbrev pub Fits : ℕ → Line T → Hand T → Slot T → Type 0
+  abbrev pub Fits : ℕ → CellView T → ThreadView T → Slot T → Type 0
   Fits zero l h o = (l.opened ≡ false) × (l.putting ≡ false) × (h.taking ≡ None) × AllTaken l h × IsEmpty o
   Fits (suc zero) l h o = (l.opened ≡ true) × (h.taking ≡ None) × AllTaken l h × FitsPut l o
   Fits (suc (suc zero)) l h o =
@@ -80,30 +80,30 @@ module _ {T : Type 0} where
   Fits (suc (suc (suc n))) l h o = ⊥
 
   -- a joined token took the list in its line, and isn't taking anything
-  abbrev pub Settled : Option (List T) → Hand T → Type 0
+  abbrev pub Settled : Option (List T) → ThreadView T → Type 0
   Settled None h = Unit {0}
   Settled (Some ts) h = (ts ≡ h.taken) × (h.taking ≡ None)
 
   -- token 0 is the kernel's and knows the desk; token t + 1 is thread t's and knows its hand until it is
   -- joined
-  abbrev pub Knows : Desk T → (ℕ → Hand T) → ℕ → View T → Type 0
-  Knows desk hand j (Kernel d) = (j ≡ 0) × (d ≡ desk)
-  Knows desk hand j (Thread h) =
-      (j ≡ suc h.thread) × (h ≡ hand h.thread) × ((line desk h.thread).taken ≡ None)
-  Knows desk hand j Joined = Unit {0}
+  abbrev pub Knows : KernelView T → (ℕ → ThreadView T) → ℕ → View T → Type 0
+  Knows kernel_view hand j (Kernel d) = (j ≡ 0) × (d ≡ kernel_view)
+  Knows kernel_view hand j (Thread h) =
+      (j ≡ suc h.thread) × (h ≡ hand h.thread) × ((line kernel_view h.thread).taken ≡ None)
+  Knows kernel_view hand j Joined = Unit {0}
 
   -- there are n cells, a desk, and a hand for each thread. The words, the slots and all tokens agree with
   -- them. A thread whose token isn't made yet took nothing.
   pub record KeepsRule (n : ℕ) (s : State (Option T) (View T)) : Type 0 where
-    pub desk : Desk T
-    pub hand : ℕ → Hand T
+    pub kernel_view : KernelView T
+    pub hand : ℕ → ThreadView T
     pub words : length s.words ≡ n * 8
     pub slots : length s.homes ≡ n
-    pub lines : length desk.lines ≡ n
-    pub kernel : get_elem? s.views 0 ≡ some (Kernel desk)
-    pub seats : length s.views ≡ suc desk.seats
-    pub unmade : (t : ℕ) → desk.seats ≤ t → (hand t ≡ new_hand t) × ((line desk t).taken ≡ None)
+    pub lines : length kernel_view.lines ≡ n
+    pub kernel : get_elem? s.views 0 ≡ some (Kernel kernel_view)
+    pub seats : length s.views ≡ suc kernel_view.seats
+    pub unmade : (t : ℕ) → kernel_view.seats ≤ t → (hand t ≡ new_hand t) × ((line kernel_view t).taken ≡ None)
     pub each_cell : (t : ℕ) → t < n
-        → Fits (slice_index s.words (word_of t)) (line desk t) (hand t) (get_elem? s.homes t)
-        × Settled (line desk t).taken (hand t)
-    pub each_seat : (j : ℕ) (v : View T) → get_elem? s.views j ≡ some v → Knows desk hand j v
+        → Fits (slice_index s.words (word_of t)) (line kernel_view t) (hand t) (get_elem? s.homes t)
+        × Settled (line kernel_view t).taken (hand t)
+    pub each_seat : (j : ℕ) (v : View T) → get_elem? s.views j ≡ some v → Knows kernel_view hand j v

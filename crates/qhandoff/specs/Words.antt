@@ -3,12 +3,12 @@ use Rattle.std.specs.Prelude.{◌<◌, ◌≡◌, ℕ, ◌==◌, if◌then◌els
 use mathlib.Core.Option.{none, some}
 use mathlib.Core.Option as maybe
 use lib.ListN.{get_elem?}
-use Rattle.qhandoff.specs.declared.view.Desk.{Desk}
+use Rattle.qhandoff.specs.declared.view.KernelView.{KernelView}
 use Rattle.qhandoff.specs.declared.seats.KernelSeat.{KernelSeat}
 use Rattle.qhandoff.specs.declared.seats.ThreadSeat.{ThreadSeat}
 use Rattle.qhandoff.specs.declared.cells.Cells.{Cells}
 use Rattle.atomic_table.specs.Seated.{TableId}
-use Rattle.qhandoff.specs.Steps.{desk_in, hand_in}
+use Rattle.qhandoff.specs.Steps.{kernel_view_in, hand_in}
 
 module _ {T : Type 0} where
   -- the identity of these cells
@@ -20,8 +20,8 @@ module _ {T : Type 0} where
   count c = c.table.shared.table_id.slots
 
   -- the knowledge of the kernel's token
-  abbrev pub desk : KernelSeat T → Desk T
-  desk s = desk_in s.seat.me.0
+  abbrev pub kernel_view : KernelSeat T → KernelView T
+  kernel_view s = kernel_view_in s.seat.me.0
 
   -- the identity of the cells that the kernel's token belongs to
   abbrev pub kernel_id : KernelSeat T → TableId

@@ -4,8 +4,8 @@
 ghost use Rattle.std.specs.Prelude.{◌≡◌, ◌<◌, ◌++◌, [], ◌∷◌, true, false, MatchBool, MatchOption};
 ghost use Rattle.std.specs.Bool.{OnTrue};
 ghost use Rattle.qhandoff.specs.Rule.{line};
-ghost use Rattle.qhandoff.specs.Steps.{opened_desk, cancelled_desk, put_desk, IsBusy};
-ghost use Rattle.qhandoff.specs.Words.{count, desk, taken, kernel_id, thread_id, thread_of, IsKernelOf, IsThreadOf};
+ghost use Rattle.qhandoff.specs.Steps.{opened_kernel_view, cancelled_kernel_view, put_kernel_view, IsBusy};
+ghost use Rattle.qhandoff.specs.Words.{count, kernel_view, taken, kernel_id, thread_id, thread_of, IsKernelOf, IsThreadOf};
 
 use crate::cells::{Cells, word_of};
 use crate::seats::{KernelSeat, ThreadSeat};
@@ -27,8 +27,8 @@ impl<T: Drop> KernelSeat<T> {
         requires cells { IsKernelOf cells.now self.old }
         requires thread { thread < count cells.now }
         ensures cells { kernel_id self.new ≡ kernel_id self.old }
-        ensures won { OnTrue result ((line (desk self.new) thread).opened ≡ true) }
-        ensures desk { MatchBool result ((desk self.new ≡ opened_desk (desk self.old) thread) × ((line (desk self.old) thread).opened ≡ false)) ((desk self.new ≡ desk self.old) × IsBusy (line (desk self.old) thread)) }
+        ensures won { OnTrue result ((line (kernel_view self.new) thread).opened ≡ true) }
+        ensures kernel_view { MatchBool result ((kernel_view self.new ≡ opened_kernel_view (kernel_view self.old) thread) × ((line (kernel_view self.old) thread).opened ≡ false)) ((kernel_view self.new ≡ kernel_view self.old) × IsBusy (line (kernel_view self.old) thread)) }
     {
         // This is SeqCst. Acquire is enough: it synchronizes with the release of the thread's last
         // `GiveBack`, which emptied the slot.
@@ -43,9 +43,9 @@ impl<T: Drop> KernelSeat<T> {
     pub fn cancel(&mut self, cells: &Cells<T>, thread: usize)
         requires cells { IsKernelOf cells.now self.old }
         requires thread { thread < count cells.now }
-        requires opened { (line (desk self.old) thread).opened ≡ true }
+        requires opened { (line (kernel_view self.old) thread).opened ≡ true }
         ensures cells { kernel_id self.new ≡ kernel_id self.old }
-        ensures desk { desk self.new ≡ cancelled_desk (desk self.old) thread }
+        ensures kernel_view { kernel_view self.new ≡ cancelled_kernel_view (kernel_view self.old) thread }
     {
         // This is SeqCst. Relaxed is enough: the slot wasn't touched, and the thread does the same at 0 as at
         // 1.
@@ -59,9 +59,9 @@ impl<T: Drop> KernelSeat<T> {
     pub fn put(&mut self, cells: &Cells<T>, thread: usize, completion: T)
         requires cells { IsKernelOf cells.now self.old }
         requires thread { thread < count cells.now }
-        requires opened { (line (desk self.old) thread).opened ≡ true }
+        requires opened { (line (kernel_view self.old) thread).opened ≡ true }
         ensures cells { kernel_id self.new ≡ kernel_id self.old }
-        ensures desk { desk self.new ≡ put_desk (desk self.old) thread completion }
+        ensures kernel_view { kernel_view self.new ≡ put_kernel_view (kernel_view self.old) thread completion }
     {
         let shared = &cells.table.shared;
         let word = word_of(thread);

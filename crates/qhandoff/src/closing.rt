@@ -6,8 +6,8 @@ ghost use mathlib.Core.Option.{some};
 ghost use lib.ListN.{get_elem?};
 ghost use Rattle.qhandoff.specs.declared.view.View.TheVariants.{Kernel};
 ghost use Rattle.qhandoff.specs.Rule.{line};
-ghost use Rattle.qhandoff.specs.Steps.{desk_in, joined_at};
-ghost use Rattle.qhandoff.specs.Words.{cells_id, count, desk, taken, took, one, tagged, left_for, thread_id, thread_of, Rises, AreBelow, IsKernelOf, IsRow};
+ghost use Rattle.qhandoff.specs.Steps.{kernel_view_in, joined_at};
+ghost use Rattle.qhandoff.specs.Words.{cells_id, count, kernel_view, taken, took, one, tagged, left_for, thread_id, thread_of, Rises, AreBelow, IsKernelOf, IsRow};
 
 use crate::cells::Cells;
 use crate::seats::{KernelSeat, ThreadSeat};
@@ -23,9 +23,9 @@ fn join_one<T: Drop>(
     other: ThreadSeat<T>,
 )
     requires sized { (shared.now.key ≡ shared.now.table_id.slots) × (shared.now.table_id.words ≡ shared.now.table_id.slots * 8) }
-    requires seat { (seat.old.table_id ≡ shared.now.table_id) × (seat.old.me ≡ (Kernel (desk_in seat.old.me.0), [])) }
+    requires seat { (seat.old.table_id ≡ shared.now.table_id) × (seat.old.me ≡ (Kernel (kernel_view_in seat.old.me.0), [])) }
     requires other { thread_id other ≡ shared.now.table_id }
-    ensures { (seat.new.table_id ≡ seat.old.table_id) × (seat.new.me ≡ (Kernel (joined_at (desk_in seat.old.me.0) (thread_of other) (taken other)), [])) }
+    ensures { (seat.new.table_id ≡ seat.old.table_id) × (seat.new.me ≡ (Kernel (joined_at (kernel_view_in seat.old.me.0) (thread_of other) (taken other)), [])) }
 {
     let ThreadSeat {
         thread: _,
@@ -43,10 +43,10 @@ fn join_all<T: Drop>(
     mut threads: Vec<ThreadSeat<T>>,
 )
     requires sized { (shared.now.key ≡ shared.now.table_id.slots) × (shared.now.table_id.words ≡ shared.now.table_id.slots * 8) }
-    requires seat { (seat.old.table_id ≡ shared.now.table_id) × (seat.old.me ≡ (Kernel (desk_in seat.old.me.0), [])) × (length (desk_in seat.old.me.0).lines ≡ shared.now.table_id.slots) }
+    requires seat { (seat.old.table_id ≡ shared.now.table_id) × (seat.old.me ≡ (Kernel (kernel_view_in seat.old.me.0), [])) × (length (kernel_view_in seat.old.me.0).lines ≡ shared.now.table_id.slots) }
     requires threads { (length threads.items ≡ shared.now.table_id.slots) × IsRow shared.now.table_id threads.items }
-    ensures seat { (seat.new.table_id ≡ seat.old.table_id) × (seat.new.me ≡ (Kernel (desk_in seat.new.me.0), [])) }
-    ensures lines { (t : ℕ) → t < shared.entry.now.table_id.slots → line (desk_in seat.new.me.0) t ≡ record (line (desk_in seat.old.me.0) t) { taken = Some (took (get_elem? threads.items t)) } }
+    ensures seat { (seat.new.table_id ≡ seat.old.table_id) × (seat.new.me ≡ (Kernel (kernel_view_in seat.new.me.0), [])) }
+    ensures lines { (t : ℕ) → t < shared.entry.now.table_id.slots → line (kernel_view_in seat.new.me.0) t ≡ record (line (kernel_view_in seat.old.me.0) t) { taken = Some (took (get_elem? threads.items t)) } }
 {
     while let Some(other) = threads.pop() {
         join_one(shared, seat, other);
@@ -101,7 +101,7 @@ impl<T: Drop> Cells<T> {
         requires threads { (length threads.items ≡ count self) × IsRow (cells_id self) threads.items }
         ensures rises { Rises result.items }
         ensures within { AreBelow (count self) result.items }
-        ensures told { (t : ℕ) → t < count self → took (get_elem? threads.items t) ++ left_for t result.items ≡ (line (desk kernel) t).put }
+        ensures told { (t : ℕ) → t < count self → took (get_elem? threads.items t) ++ left_for t result.items ≡ (line (kernel_view kernel) t).put }
     {
         let Cells { table, room } = self;
         let KernelSeat { mut seat } = kernel;

@@ -5,7 +5,7 @@
 mod calls;
 pub mod cells;
 mod closing;
-pub mod laws;
+pub mod handoff_laws;
 mod making;
 pub mod seats;
 mod steps;

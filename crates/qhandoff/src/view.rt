@@ -3,7 +3,7 @@
 use std::collections::LinkedList;
 
 /// The knowledge of the kernel's token about one thread.
-pub struct Line<T> {
+pub struct CellView<T> {
     /// The thread's cell was opened, and nothing is put into it yet.
     pub opened: bool,
     /// A completion is being put for the thread.
@@ -17,13 +17,13 @@ pub struct Line<T> {
 
 /// The knowledge of the kernel's token: the number of thread tokens that were made, and a line for each
 /// thread.
-pub struct Desk<T> {
+pub struct KernelView<T> {
     pub seats: u64,
-    pub lines: LinkedList<Line<T>>,
+    pub lines: LinkedList<CellView<T>>,
 }
 
 /// The knowledge of a thread's token.
-pub struct Hand<T> {
+pub struct ThreadView<T> {
     /// The index of the thread's cell.
     pub thread: u64,
     /// All completions that the thread took, the oldest first.
@@ -35,9 +35,9 @@ pub struct Hand<T> {
 /// The knowledge of any token of the table.
 pub enum View<T> {
     /// The kernel's token.
-    Kernel(Desk<T>),
+    Kernel(KernelView<T>),
     /// The token of a thread.
-    Thread(Hand<T>),
+    Thread(ThreadView<T>),
     /// A thread's token that was joined: the kernel's token has its knowledge.
     Joined,
 }

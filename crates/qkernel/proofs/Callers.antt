@@ -1,9 +1,9 @@
 -- The caller's entry of the roster, and its right to make a call.
 use Rattle.qkernel.proofs.Common.{◌≡◌, ℕ, List, [], ◌∷◌, refl, ap, sym, ◌∙◌, cond, Bool, true, false, eqb, Busy, Down, Option, None, Some, is_some, eqb-true, same_Some, none-some, member_at, Member, OpenCall}
-use Rattle.qkernel.specs.declared.kernel.caller.Caller.{Caller}
+use Rattle.qkernel.specs.declared.kernel.call_context.CallContext.{CallContext}
 
 -- the caller's entry of the roster
-abbrev pub caller_of : Caller → ℕ → Member
+abbrev pub caller_of : CallContext → ℕ → Member
 caller_of caller began = record { thread = caller.seat.thread; process = caller.process; priority = began }
 
 -- a member is found under its number

@@ -1,6 +1,6 @@
 -- Names of other crates and of the definitions, which many of these proofs use.
 pub use Rattle.qbase.proofs.Lists.{all_append, all_filter, all_filter_map, all_map, all_more, cond_same, eqb_either, eqb_same, filter_twice, is_among, or_none}
-pub use Rattle.qbase.specs.Laying.{laid_count, lay_over}
+pub use Rattle.qbase.specs.Copying.{laid_count, lay_over}
 pub use Rattle.qbase.specs.declared.errno.Errno.{Errno}
 pub use Rattle.qbase.specs.declared.errno.Errno.TheVariants.{Again, Badf, Busy, Down, Intr, Inval, NoMemory, Srch}
 pub use Rattle.qbase.specs.declared.state.ThreadState.TheVariants.{Ready}
@@ -38,21 +38,21 @@ pub use Rattle.qrules.specs.Records.{blocked_thread, cancel_where, disconnect_it
 pub use Rattle.qrules.specs.Rules.{row_of}
 pub use Rattle.qrules.specs.Rules.Held.{info_of, refusal_unless_held}
 pub use Rattle.qrules.specs.Rules.Threads.{state_in}
-pub use Rattle.qstate.proofs.ChannelWrites.{sets_items, sets_queue}
-pub use Rattle.qstate.proofs.Inserting.{endings_fewer, inserted_among, own_first, own_one, two_endings}
-pub use Rattle.qstate.proofs.Receivers.{ended_thread, newest_receives, taken_by, waits_among}
-pub use Rattle.qstate.proofs.Seats.{seat_kept, unknown_open}
-pub use Rattle.qstate.proofs.Senders.{answered_by, call_sent, changes_sender, held_sent, own_open}
-pub use Rattle.qstate.specs.Cancelling.{AreCancelled, LoseCancelled, completion_for, is_cancelled_among, is_cancelled_by}
-pub use Rattle.qstate.specs.Channel.{ClosesIn, SetsItems, ids_of, is_of, own_channel_in, route_in}
-pub use Rattle.qstate.specs.Endings.{with_completion_if, with_completion_in_place}
-pub use Rattle.qstate.specs.Held.{guarded_message_in, is_held_in, is_held_of}
-pub use Rattle.qstate.specs.Kept.{channel_in, items_waiting_on, members_of, open_channel_of, pending_in, thread_priority}
-pub use Rattle.qstate.specs.Pulses.{IsLeft, IsMet, IsSent, IsSentIfDue, IsTurnedAway, has_room}
-pub use Rattle.qstate.specs.Thread.{ChangesOpen, ChangesSender, HandsOver, SetsOpen, SetsPriority, Wakes, blocked_count, message_from, newest_in, open_in, ready_thread, sender_in, sent_call}
-pub use Rattle.qstate.specs.declared.cancelling.CancelSet.TheVariants.{All, Of, On, Over}
-pub use Rattle.qstate.specs.declared.channel.Channel.{Channel}
-pub use Rattle.qstate.specs.declared.thread.Thread.{Thread}
+pub use Rattle.qkernel_state.proofs.ChannelWrites.{sets_items, sets_queue}
+pub use Rattle.qkernel_state.proofs.Inserting.{completions_fewer, inserted_among, own_first, own_one, two_completions}
+pub use Rattle.qkernel_state.proofs.Receivers.{ended_thread, newest_receives, taken_by, waits_among}
+pub use Rattle.qkernel_state.proofs.Seats.{seat_kept, unknown_open}
+pub use Rattle.qkernel_state.proofs.Senders.{answered_by, call_sent, changes_sender, held_sent, own_open}
+pub use Rattle.qkernel_state.specs.Cancelling.{AreCancelled, LoseCancelled, completion_for, is_cancelled_among, is_cancelled_by}
+pub use Rattle.qkernel_state.specs.Channel.{ClosesIn, SetsItems, ids_of, is_of, own_channel_in, route_in}
+pub use Rattle.qkernel_state.specs.Completions.{with_completion_if, with_completion_in_place}
+pub use Rattle.qkernel_state.specs.Held.{guarded_message_in, is_held_in, is_held_of}
+pub use Rattle.qkernel_state.specs.Kept.{channel_in, items_waiting_on, members_of, open_channel_of, pending_in, thread_priority}
+pub use Rattle.qkernel_state.specs.Pulses.{IsLeft, IsMet, IsSent, IsSentIfDue, IsTurnedAway, has_room}
+pub use Rattle.qkernel_state.specs.Thread.{ChangesOpen, ChangesSender, HandsOver, SetsOpen, SetsPriority, Wakes, blocked_count, message_from, newest_in, open_in, ready_thread, sender_in, sent_call}
+pub use Rattle.qkernel_state.specs.declared.cancelling.CancelSet.TheVariants.{All, Of, On, Over}
+pub use Rattle.qkernel_state.specs.declared.channel.Channel.{Channel}
+pub use Rattle.qkernel_state.specs.declared.thread.Thread.{Thread}
 pub use Rattle.qtables.specs.Entries.{IsRising, entry_at, without_entry}
 pub use Rattle.qtables.specs.Members.{IsRoster, member_at}
 pub use Rattle.qtables.specs.declared.connection.Connection.{Connection}

@@ -2,10 +2,10 @@
 use Rattle.qkernel.proofs.Common.{IsSound, Item, List, None, OpenChannel, Option, Some, State, [], ap, cond, eqb, entry_at, false, length, map, members_of, open_in, option_map, refl, sym, true, ℕ, ◌+◌, ◌∙◌, ◌∷◌, ◌≡◌}
 use Rattle.std.proofs.lemmas.List.{length-map}
 use Rattle.qkernel.specs.Kernel.{facts_in}
-use Rattle.qstate.specs.Channel.{ids_of}
-use Rattle.qstate.specs.Copies.{channel_told, entry_told}
-use Rattle.qstate.specs.Kept.{channel_in, items_waiting_on, open_channel_of, pending_in, thread_priority}
-use Rattle.qstate.specs.declared.channel.Channel.{Channel}
+use Rattle.qkernel_state.specs.Channel.{ids_of}
+use Rattle.qkernel_state.specs.Copies.{channel_told, entry_told}
+use Rattle.qkernel_state.specs.Kept.{channel_in, items_waiting_on, open_channel_of, pending_in, thread_priority}
+use Rattle.qkernel_state.specs.declared.channel.Channel.{Channel}
 
 -- the facts about the channels
 abbrev Told : Type 0

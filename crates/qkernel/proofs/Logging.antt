@@ -17,7 +17,7 @@ kept_events xs ys (e ∷ es) w = rw (kept_range xs ys e.start e.end w.0.0 w.0.1,
 
 -- more completions of the next call
 pub logged_more : (es : List Entry) (xs ys : List Completion) (m s r q n : ℕ) → IsKept es xs m s → n ≡ q - length ys
-    → logged_by es (xs ++ ys) m s r n ≡ record (logged_by es xs m s r q) { endings = drop s xs ++ ys; completion_room = q - length ys }
+    → logged_by es (xs ++ ys) m s r n ≡ record (logged_by es xs m s r q) { completions = drop s xs ++ ys; completion_room = q - length ys }
 logged_more es xs ys m s r q n h room = rw (kept_events xs ys (take m es) h.within, drop-append-le s xs ys h.begun, room) refl
 
 -- if no call is noted, all entries are events

@@ -12,7 +12,7 @@ runs_none : (s : State) → RunsAtTraces s [] s
 runs_none s = λ roster past l st. (l, st)
 
 -- one more event
-pub runs_more : (old mid new : State) (events : List Event) (e : Event) → RunsAtTraces old events mid → is_some (member_at (members_of mid.threads) e.thread) ≡ true → AnswersAtTraces mid e.thread e.call e.endings new
+pub runs_more : (old mid new : State) (events : List Event) (e : Event) → RunsAtTraces old events mid → is_some (member_at (members_of mid.threads) e.thread) ≡ true → AnswersAtTraces mid e.thread e.call e.completions new
     → RunsAtTraces old (events ++ e ∷ []) new
 runs_more old mid new events e run known step = λ roster past l st.
     let now = run roster past l st in
@@ -23,7 +23,7 @@ runs_more old mid new events e run known step = λ roster past l st.
 -- ---- the run so far; todo has the calls still to come
 
 abbrev as_event : ℕ × Call → List Completion → Event
-as_event q X = record { thread = q.0; call = q.1; endings = X }
+as_event q X = record { thread = q.0; call = q.1; completions = X }
 
 told_push : (events : List Event) (q : ℕ × Call) (X : List Completion) (todo : List (ℕ × Call)) → map event_call (events ++ as_event q X ∷ []) ++ todo ≡ map event_call events ++ q ∷ todo
 told_push [] q X todo = refl
@@ -33,13 +33,13 @@ pub record Running (old : State) (calls : List (ℕ × Call)) (now : State) (log
   pub ran : RunsAtTraces old log.events now
   pub told : map event_call log.events ++ todo ≡ calls
   pub noted : log.noted ≡ todo
-  pub none : log.endings ≡ []
+  pub none : log.completions ≡ []
   pub members : members_of now.threads ≡ members_of old.threads
   pub known : AllKnown (members_of old.threads) todo
   pub limit : now.made + length todo ≤ 2 ^ 40
   pub room : length todo + blocked_count now.threads ≤ log.completion_room
 
-pub running_at_start : (old : State) (calls : List (ℕ × Call)) (log : Logged) → AllKnown (members_of old.threads) calls → old.made + length calls ≤ 2 ^ 40 → log.noted ≡ calls → log.events ≡ [] → log.endings ≡ []
+pub running_at_start : (old : State) (calls : List (ℕ × Call)) (log : Logged) → AllKnown (members_of old.threads) calls → old.made + length calls ≤ 2 ^ 40 → log.noted ≡ calls → log.events ≡ [] → log.completions ≡ []
     → length calls + blocked_count old.threads ≤ log.completion_room → Running old calls old log calls
 running_at_start old calls log known limit noted events none room = record {
   ran = rw events (runs_none old);
@@ -67,13 +67,13 @@ module _ (old : State) (calls : List (ℕ × Call)) (now : State) (log : Logged)
     pub next_room : length X ≤ log.completion_room
     next_room = let room : suc (length todo) + blocked_count now.threads ≤ log.completion_room = r.room in omega arith
 
-    pub running_more : Running old calls new (with_next (record log { endings = log.endings ++ X; completion_room = log.completion_room - length X })) todo
+    pub running_more : Running old calls new (with_next (record log { completions = log.completions ++ X; completion_room = log.completion_room - length X })) todo
     running_more =
         let limit : now.made + suc (length todo) ≤ 2 ^ 40 = r.limit in
         let room : suc (length todo) + blocked_count now.threads ≤ log.completion_room = r.room in
-        let mine : log.endings ++ X ≡ X = ap (λ ys. ys ++ X) r.none in
-        let next : with_next (record log { endings = log.endings ++ X; completion_room = log.completion_room - length X })
-        ≡ record { events = log.events ++ as_event q X ∷ []; noted = todo; endings = []; call_room = log.call_room; completion_room = log.completion_room - length X } = rw (r.noted, mine) refl in
+        let mine : log.completions ++ X ≡ X = ap (λ ys. ys ++ X) r.none in
+        let next : with_next (record log { completions = log.completions ++ X; completion_room = log.completion_room - length X })
+        ≡ record { events = log.events ++ as_event q X ∷ []; noted = todo; completions = []; call_room = log.call_room; completion_room = log.completion_room - length X } = rw (r.noted, mine) refl in
         rw next (record {
           ran = runs_more old now new log.events (as_event q X) r.ran next_known step;
           told = told_push log.events q X todo ∙ r.told;

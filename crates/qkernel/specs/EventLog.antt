@@ -10,7 +10,7 @@ use Rattle.qmodel.specs.Trace.{Event}
 pub record Logged : Type 0 where
   pub events : List Event
   pub noted : List (ℕ × Call)
-  pub endings : List Completion
+  pub completions : List Completion
   pub call_room : ℕ
   pub completion_room : ℕ
 
@@ -19,9 +19,9 @@ abbrev pub with_first : Logged → List (ℕ × Call) → Logged
 with_first l [] = l
 with_first l (q ∷ noted) =
     record {
-      events = l.events ++ record { thread = q.0; call = q.1; endings = l.endings } ∷ [];
+      events = l.events ++ record { thread = q.0; call = q.1; completions = l.completions } ∷ [];
       noted = noted;
-      endings = [];
+      completions = [];
       call_room = l.call_room;
       completion_room = l.completion_room;
     }

@@ -9,15 +9,15 @@ use Rattle.qmodel.specs.Trace.{Event}
 
 -- the event of an entry; its completions are a range of the list of all completions
 abbrev pub event_of : List Completion → Entry → Event
-event_of endings e = record { thread = e.thread; call = e.call; endings = slice_range endings e.start e.end }
+event_of completions e = record { thread = e.thread; call = e.call; completions = slice_range completions e.start e.end }
 
 -- the events of the entries
 abbrev pub events_of : List Completion → List Entry → List Event
-events_of endings entries = map (event_of endings) entries
+events_of completions entries = map (event_of completions) entries
 
 -- the completions of each entry are a range within the list of all completions
 abbrev pub AllWithin : List Completion → List Entry → Type 0
-AllWithin endings entries = AllByRecursion (λ e. (e.start ≤ e.end) × (e.end ≤ length endings)) entries
+AllWithin completions entries = AllByRecursion (λ e. (e.start ≤ e.end) × (e.end ≤ length completions)) entries
 
 -- the thread and the call of an entry
 abbrev pub entry_call : Entry → ℕ × Call
@@ -26,17 +26,17 @@ entry_call e = (e.thread, e.call)
 -- the log of these entries and completions: the first made entries are events, and the completions from start
 -- are the next call's
 abbrev pub logged_by : List Entry → List Completion → ℕ → ℕ → ℕ → ℕ → Logged
-logged_by entries endings made start call_room completion_room =
+logged_by entries completions made start call_room completion_room =
     record {
-      events = events_of endings (take made entries);
+      events = events_of completions (take made entries);
       noted = map entry_call (drop made entries);
-      endings = drop start endings;
+      completions = drop start completions;
       call_room = call_room;
       completion_room = completion_room;
     }
 
 -- the invariant of an event log
-pub record IsKept (entries : List Entry) (endings : List Completion) (made start : ℕ) : Type 0 where
-  pub within : AllWithin endings (take made entries)
+pub record IsKept (entries : List Entry) (completions : List Completion) (made start : ℕ) : Type 0 where
+  pub within : AllWithin completions (take made entries)
   pub few : made ≤ length entries
-  pub begun : start ≤ length endings
+  pub begun : start ≤ length completions

@@ -5,11 +5,11 @@ use Rattle.qrules.specs.Words.{length, Bool, Connection, List, ℕ}
 use Rattle.qrules.specs.Facts.{Facts}
 use Rattle.qtables.specs.Entries.{entry_at, IsRising}
 use Rattle.qtables.specs.Members.{IsRoster}
-use Rattle.qstate.specs.Channel.{ids_of}
-use Rattle.qstate.specs.Kept.{channel_in, pending_in, thread_priority, members_of}
-use Rattle.qstate.specs.Thread.{open_in}
-use Rattle.qstate.specs.declared.channel.Channel.{Channel}
-use Rattle.qstate.specs.declared.thread.Thread.{Thread}
+use Rattle.qkernel_state.specs.Channel.{ids_of}
+use Rattle.qkernel_state.specs.Kept.{channel_in, pending_in, thread_priority, members_of}
+use Rattle.qkernel_state.specs.Thread.{open_in}
+use Rattle.qkernel_state.specs.declared.channel.Channel.{Channel}
+use Rattle.qkernel_state.specs.declared.thread.Thread.{Thread}
 
 -- the number of calls made, whether it is shut down, the threads, the open channels and the live connections
 pub record State : Type 0 where

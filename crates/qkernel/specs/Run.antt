@@ -8,7 +8,7 @@ use Rattle.qmodel.specs.Trace.{Run}
 use Rattle.qrules.specs.Lawful.{IsLawful, IsOnlyRun}
 use Rattle.qrules.specs.Properties.{HasProperties}
 use Rattle.qrules.specs.Trace.{followed_by, Event, ThreadNo, Trace}
-use Rattle.qstate.specs.Kept.{members_of}
+use Rattle.qkernel_state.specs.Kept.{members_of}
 use Rattle.qkernel.specs.Kernel.{State}
 use Rattle.qkernel.specs.Stands.{StandsAt}
 

@@ -10,7 +10,7 @@ use Rattle.qrules.specs.Outcome.{Answers}
 use Rattle.qrules.specs.Rule.{buffer_of, own_completion}
 use Rattle.qrules.specs.Rules.Held.{info_of}
 use Rattle.qrules.specs.Trace.{ReceiveId, ThreadNo, Trace}
-use Rattle.qstate.specs.Kept.{members_of}
+use Rattle.qkernel_state.specs.Kept.{members_of}
 use Rattle.qkernel.specs.Kernel.{facts_in, State}
 
 -- the kernel matches this history
@@ -20,10 +20,10 @@ StandsAt roster s past = facts_in s ≡ facts_of roster past
 -- for every valid history that the kernel matched, these completions follow the rules of the call, and the
 -- kernel now matches the history with the event added
 abbrev pub AnswersAtTraces : State → ThreadNo → Call → List Completion → State → Type 0
-AnswersAtTraces old t c endings new =
+AnswersAtTraces old t c completions new =
     (roster : List Member) (past : Trace) → IsLawful roster past → StandsAt roster old past
-    → Answers (facts_of roster past) t c endings
-    × StandsAt roster new (record { thread = t; call = c; endings = endings } ∷ past)
+    → Answers (facts_of roster past) t c completions
+    × StandsAt roster new (record { thread = t; call = c; completions = completions } ∷ past)
 
 -- for every history that the kernel matches, this is the result that an Info of message i would have
 abbrev pub InfoAtTraces : State → ReceiveId → Option Info → Type 0
@@ -33,8 +33,8 @@ InfoAtTraces s i info =
 
 -- a call that fails in its own event, with no other completion, changes only the number of calls made
 abbrev pub LeavesIfRefused : State → ThreadNo → Call → List Completion → State → Type 0
-LeavesIfRefused old t c endings new = (e : Errno)
-    → endings ≡ own_completion (facts_in old) t (mark.Failed e) (buffer_of c) ∷ []
+LeavesIfRefused old t c completions new = (e : Errno)
+    → completions ≡ own_completion (facts_in old) t (mark.Failed e) (buffer_of c) ∷ []
     → facts_in new ≡ record (facts_in old) { number = (facts_in old).number + 1 }
 
 -- the error of a call that isn't made: NoThread if its thread isn't in the roster, and otherwise Exhausted,

@@ -7,7 +7,7 @@ ghost use Rattle.qkernel.specs.EventLog.{with_next};
 use crate::trace::{Entry, Trace};
 use qbase::ids::ThreadNo;
 use qmodel::call::{Call, Completion};
-use qstate::endings::Endings;
+use qkernel_state::completions::Completions;
 use std::alloc::{AllocError, Global};
 use std::marker::Model;
 
@@ -21,7 +21,7 @@ use std::marker::Model;
 pub struct EventLog {
     // The entries of the events, followed by the entries of the noted calls.
     entries: Vec<Entry>,
-    endings: Vec<Completion>,
+    completions: Vec<Completion>,
     // The number of entries that are events.
     made: usize,
     // The index at which the completions of the next call begin.
@@ -37,20 +37,20 @@ impl Model for EventLog {
 
     ghost use Rattle.qkernel.specs.Kept.{logged_by, IsKept};
 
-    ghost view = { λ l. logged_by l.entries.items l.endings.items l.made l.start (vec_capacity l.entries - vec_len l.entries) (vec_capacity l.endings - vec_len l.endings) };
+    ghost view = { λ l. logged_by l.entries.items l.completions.items l.made l.start (vec_capacity l.entries - vec_len l.entries) (vec_capacity l.completions - vec_len l.completions) };
 
-    ghost invariant = { λ l. IsKept l.entries.items l.endings.items l.made l.start };
+    ghost invariant = { λ l. IsKept l.entries.items l.completions.items l.made l.start };
 }
 
 /// Moves the completions of one event to the end of the list, which must have room for them.
-fn append(all: &mut Vec<Completion>, endings: &mut Endings)
-    requires { vec_len all.old + array_vec_len endings.old ≤ vec_capacity all.old }
-    ensures items { all.new.items ≡ all.old.items ++ endings.old.items }
+fn append(all: &mut Vec<Completion>, completions: &mut Completions)
+    requires { vec_len all.old + array_vec_len completions.old ≤ vec_capacity all.old }
+    ensures items { all.new.items ≡ all.old.items ++ completions.old.items }
     ensures capacity { vec_capacity all.new ≡ vec_capacity all.old }
-    ensures emptied { endings.new.items ≡ [] }
+    ensures emptied { completions.new.items ≡ [] }
 {
-    endings.as_mut_slice().reverse();
-    while let Some(completion) = endings.pop() {
+    completions.as_mut_slice().reverse();
+    while let Some(completion) = completions.pop() {
         all.push_reserved(completion);
     }
 }
@@ -65,29 +65,29 @@ fn place(entry: &mut Entry, start: usize, end: usize)
 
 impl EventLog {
     /// Makes an empty log with room for these numbers of calls and completions.
-    pub fn with_room(alloc: Global, calls: usize, endings: usize) -> Result<EventLog, AllocError>
-        ensures empty { IfOk result (λ log. (log.events ≡ []) × (log.noted ≡ []) × (log.endings ≡ [])) }
-        ensures room { IfOk result (λ log. (log.call_room ≡ calls) × (log.completion_room ≡ endings)) }
+    pub fn with_room(alloc: Global, calls: usize, completions: usize) -> Result<EventLog, AllocError>
+        ensures empty { IfOk result (λ log. (log.events ≡ []) × (log.noted ≡ []) × (log.completions ≡ [])) }
+        ensures room { IfOk result (λ log. (log.call_room ≡ calls) × (log.completion_room ≡ completions)) }
     {
         let entries = Vec::with_capacity(alloc, calls)?;
-        let endings = Vec::with_capacity(alloc, endings)?;
+        let completions = Vec::with_capacity(alloc, completions)?;
         Ok(EventLog {
             entries,
-            endings,
+            completions,
             made: 0,
             start: 0,
         })
     }
 
     /// Makes room for these numbers of further calls and completions.
-    pub fn reserve(&mut self, calls: usize, endings: usize) -> Result<(), AllocError>
+    pub fn reserve(&mut self, calls: usize, completions: usize) -> Result<(), AllocError>
         ensures same { self.new ≡ record self.old { call_room = self.new.call_room; completion_room = self.new.completion_room } }
         ensures kept { (self.old.call_room ≤ self.new.call_room) × (self.old.completion_room ≤ self.new.completion_room) }
-        ensures room { OnOk result ((calls ≤ self.new.call_room) × (endings ≤ self.new.completion_room)) }
-        ensures succeeds { (calls ≤ self.old.call_room) × (endings ≤ self.old.completion_room) → IsOk result }
+        ensures room { OnOk result ((calls ≤ self.new.call_room) × (completions ≤ self.new.completion_room)) }
+        ensures succeeds { (calls ≤ self.old.call_room) × (completions ≤ self.old.completion_room) → IsOk result }
     {
         self.entries.reserve(calls)?;
-        self.endings.reserve(endings)
+        self.completions.reserve(completions)
     }
 
     /// Notes a call, which is made after all calls that were noted before. There must be room for it.
@@ -104,21 +104,21 @@ impl EventLog {
     }
 
     /// Adds a completion to the next call. There must be room for it.
-    pub fn push_ending(&mut self, completion: Completion)
+    pub fn push_completion(&mut self, completion: Completion)
         requires { 0 < self.old.completion_room }
-        ensures { self.new ≡ record self.old { endings = self.old.endings ++ completion ∷ []; completion_room = self.old.completion_room - 1 } }
+        ensures { self.new ≡ record self.old { completions = self.old.completions ++ completion ∷ []; completion_room = self.old.completion_room - 1 } }
     {
-        self.endings.push_reserved(completion);
+        self.completions.push_reserved(completion);
     }
 
     /// Adds completions to the next call, and empties the list that they come from. There must be room for
     /// them.
-    pub fn append(&mut self, endings: &mut Endings)
-        requires { length endings.old.items ≤ self.old.completion_room }
-        ensures logged { self.new ≡ record self.old { endings = self.old.endings ++ endings.old.items; completion_room = self.old.completion_room - length endings.old.items } }
-        ensures emptied { endings.new.items ≡ [] }
+    pub fn append(&mut self, completions: &mut Completions)
+        requires { length completions.old.items ≤ self.old.completion_room }
+        ensures logged { self.new ≡ record self.old { completions = self.old.completions ++ completions.old.items; completion_room = self.old.completion_room - length completions.old.items } }
+        ensures emptied { completions.new.items ≡ [] }
     {
-        append(&mut self.endings, endings);
+        append(&mut self.completions, completions);
     }
 
     /// Turns the next call and the completions that were added into an event. The call must have been made.
@@ -126,7 +126,7 @@ impl EventLog {
         requires { 0 < length self.old.noted }
         ensures { self.new ≡ with_next self.old }
     {
-        let end = self.endings.len();
+        let end = self.completions.len();
         place(&mut self.entries[self.made], self.start, end);
         self.made += 1;
         self.start = end;
@@ -147,9 +147,9 @@ impl EventLog {
     {
         let EventLog {
             entries,
-            endings,
+            completions,
             ..
         } = self;
-        Trace::of(first, entries, endings)
+        Trace::of(first, entries, completions)
     }
 }

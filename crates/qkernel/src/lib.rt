@@ -9,4 +9,4 @@ pub mod run;
 pub mod trace;
 
 pub use qmodel::{call, open_call};
-pub use qstate::{endings, seat};
+pub use qkernel_state::{completions, thread_ref};

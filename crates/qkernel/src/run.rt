@@ -4,8 +4,8 @@ ghost use Rattle.std.specs.Prelude.{◌≡◌, ◌+◌, ◌<◌, ◌≤◌, ◌^
 ghost use Rattle.std.specs.List.{AllByRecursion};
 ghost use Rattle.qkernel.specs.Run.{Headline, RunsAtTraces, AllKnown, RunError};
 ghost use Rattle.qrules.specs.Lawful.{event_call};
-ghost use Rattle.qstate.specs.Thread.{blocked_count};
-ghost use Rattle.qstate.specs.Kept.{members_of};
+ghost use Rattle.qkernel_state.specs.Thread.{blocked_count};
+ghost use Rattle.qkernel_state.specs.Kept.{members_of};
 
 use crate::event_log::EventLog;
 use crate::kernel::{CALL_LIMIT, Kernel};
@@ -14,14 +14,14 @@ use arrayvec::ArrayVec;
 use qbase::errno::Errno;
 use qbase::ids::ThreadNo;
 use qmodel::call::Call;
-use qstate::endings::Endings;
+use qkernel_state::completions::Completions;
 use qtables::roster::THREAD_LIMIT;
 use std::alloc::{AllocError, Global};
 
 /// Makes a log that notes a copy of each call, with room for all their completions.
 fn log_for(alloc: Global, calls: &[(ThreadNo, Call)]) -> Result<EventLog, AllocError>
     requires { length calls.now ≤ 2 ^ 40 }
-    ensures none { IfOk result (λ log. (log.events ≡ []) × (log.endings ≡ [])) }
+    ensures none { IfOk result (λ log. (log.events ≡ []) × (log.completions ≡ [])) }
     ensures noted { IfOk result (λ log. log.noted ≡ calls.now) }
     ensures room { IfOk result (λ log. log.completion_room ≡ length calls.now + 64) }
 {
@@ -58,7 +58,7 @@ fn give_back(calls: &mut Vec<(ThreadNo, Call)>)
 /// Makes the calls in order, and logs the events. The calls must be the noted calls of the log.
 fn run_all(kernel: &mut Kernel, log: &mut EventLog, mut calls: Vec<(ThreadNo, Call)>)
     requires noted { log.old.noted ≡ calls.items }
-    requires none { (log.old.events ≡ []) × (log.old.endings ≡ []) }
+    requires none { (log.old.events ≡ []) × (log.old.completions ≡ []) }
     requires known { AllKnown (members_of kernel.old.threads) calls.items }
     requires limit { kernel.old.made + length calls.items ≤ 2 ^ 40 }
     requires room { length calls.items + blocked_count kernel.old.threads ≤ log.old.completion_room }
@@ -66,12 +66,12 @@ fn run_all(kernel: &mut Kernel, log: &mut EventLog, mut calls: Vec<(ThreadNo, Ca
     ensures told { map event_call log.new.events ≡ calls.items }
     ensures all { log.new.noted ≡ [] }
 {
-    let mut endings: Endings = ArrayVec::new_in(kernel.alloc());
+    let mut completions: Completions = ArrayVec::new_in(kernel.alloc());
     calls.reverse();
     while let Some(next) = calls.pop() {
         let (thread, call) = next;
-        kernel.step(thread, call, &mut endings);
-        log.append(&mut endings);
+        kernel.step(thread, call, &mut completions);
+        log.append(&mut completions);
         log.event();
         give_back(&mut calls);
     }
@@ -84,7 +84,7 @@ fn run_all(kernel: &mut Kernel, log: &mut EventLog, mut calls: Vec<(ThreadNo, Ca
 /// The error is `NoThread` if a thread of the list isn't in the roster. Otherwise it is `Exhausted` if the
 /// list would pass 2^40 calls, and otherwise `NoMemory`.
 ///
-/// `first_message.rt` of `crates/balsaeuchre_uses` is a complete use of it.
+/// `first_message.rt` of `crates/balsaeuchre_examples` is a complete use of it.
 pub fn run(kernel: &mut Kernel, calls: Vec<(ThreadNo, Call)>) -> Result<Trace, Errno>
     ensures headline { IfOk result (λ trace. Headline kernel.old trace kernel.new) }
     ensures ok { OnOk result (AllKnown (members_of kernel.old.threads) calls.items × (kernel.old.made + length calls.items ≤ 2 ^ 40)) }

@@ -19,12 +19,12 @@ pub(crate) struct Entry {
 
 /// The events of a run, in order: each call with the completions of its event. Contracts see the number of
 /// the first event and the list of the events.
-/// `main.rt` of `crates/balsaeuchre_uses` prints a trace.
+/// `main.rt` of `crates/balsaeuchre_examples` prints a trace.
 #[derive(Debug, Drop)]
 pub struct Trace {
     first: u64,
     entries: Vec<Entry>,
-    endings: Vec<Completion>,
+    completions: Vec<Completion>,
 }
 
 impl Model for Trace {
@@ -34,21 +34,21 @@ impl Model for Trace {
 
     ghost use Rattle.qkernel.specs.Kept.{events_of, AllWithin};
 
-    ghost view = { λ t. record { first = t.first; events = events_of t.endings.items t.entries.items } };
+    ghost view = { λ t. record { first = t.first; events = events_of t.completions.items t.entries.items } };
 
-    ghost invariant = { λ t. AllWithin t.endings.items t.entries.items };
+    ghost invariant = { λ t. AllWithin t.completions.items t.entries.items };
 }
 
 impl Trace {
     /// Makes the trace of these entries and completions, whose first event has the number `first`.
-    pub(crate) fn of(first: u64, entries: Vec<Entry>, endings: Vec<Completion>) -> Trace
-        requires { AllWithin endings.items entries.items }
-        ensures { result ≡ record { first = first; events = events_of endings.items entries.items } }
+    pub(crate) fn of(first: u64, entries: Vec<Entry>, completions: Vec<Completion>) -> Trace
+        requires { AllWithin completions.items entries.items }
+        ensures { result ≡ record { first = first; events = events_of completions.items entries.items } }
     {
         Trace {
             first,
             entries,
-            endings,
+            completions,
         }
     }
 
@@ -86,11 +86,11 @@ impl Trace {
     }
 
     /// Returns the completions of the event at index `k`, from 0, in ascending order of thread number.
-    pub fn endings(&self, k: usize) -> &[Completion]
+    pub fn completions(&self, k: usize) -> &[Completion]
         requires { k < length self.now.events }
-        ensures { option_map (λ e. e.endings) (slice_get self.now.events k) ≡ Some result.now }
+        ensures { option_map (λ e. e.completions) (slice_get self.now.events k) ≡ Some result.now }
     {
         let entry = &self.entries[k];
-        &self.endings[entry.start..entry.end]
+        &self.completions[entry.start..entry.end]
     }
 }

@@ -7,8 +7,8 @@ use Rattle.qmodel.specs.declared.call.Call.TheVariants as call
 use Rattle.qmodel.specs.declared.kind.CallKind.{CallKind}
 use Rattle.qmodel.specs.declared.kind.CallKind.TheVariants as kind
 use Rattle.qmodel.specs.declared.kind.TheConstants.{KINDS}
-use Rattle.qmodel.specs.declared.operands.Operand.{Operand}
-use Rattle.qmodel.specs.declared.operands.Operand.TheVariants as sort
+use Rattle.qmodel.specs.declared.operands.OperandKind.{OperandKind}
+use Rattle.qmodel.specs.declared.operands.OperandKind.TheVariants as sort
 use Rattle.qmodel.specs.declared.operands.Operands.{Operands}
 use Rattle.qmodel.specs.Operands.{no_operands, number_at, of_id, of_thread}
 
@@ -37,7 +37,7 @@ unfoldable pub kind_named : List ℕ → Option CallKind
 kind_named word = find (λ k. bytes_eq word (script_word k)) KINDS
 
 -- the sorts of the operands of a call of this kind, in the order of a script
-abbrev pub sorts_of : CallKind → List Operand
+abbrev pub sorts_of : CallKind → List OperandKind
 sorts_of kind.ChannelCreate = sort.Flags ∷ []
 sorts_of kind.ConnectAttach = sort.Channel ∷ []
 sorts_of kind.Send = sort.Connection ∷ sort.Message ∷ sort.ReplyBuffer ∷ []

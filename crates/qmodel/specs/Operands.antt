@@ -1,7 +1,7 @@
 -- The numbers among the operands of a call.
 use Rattle.std.specs.Prelude.{ℕ, pos}
-use Rattle.qmodel.specs.declared.operands.Operand.{Operand}
-use Rattle.qmodel.specs.declared.operands.Operand.TheVariants as sort
+use Rattle.qmodel.specs.declared.operands.OperandKind.{OperandKind}
+use Rattle.qmodel.specs.declared.operands.OperandKind.TheVariants as sort
 use Rattle.qmodel.specs.declared.operands.Operands.{Operands}
 
 -- the numbers of a call that has none: 0, and the lowest priority
@@ -28,7 +28,7 @@ abbrev pub of_thread : ℕ → Operands
 of_thread n = record no_operands { thread = n }
 
 -- the number of an operand of this sort: the flags, the thread, or the id for any other sort
-abbrev pub number_at : Operands → Operand → ℕ
+abbrev pub number_at : Operands → OperandKind → ℕ
 number_at o sort.Flags = o.flags
 number_at o sort.Thread = o.thread
 number_at o other = o.id

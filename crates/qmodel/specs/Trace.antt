@@ -41,7 +41,7 @@ Priority = ℕ
 pub record Event : Type 0 where
   pub thread : ThreadNo
   pub call : Call
-  pub endings : List Completion
+  pub completions : List Completion
 
 -- a history: all events so far, the newest first. The oldest event has the number 1.
 abbrev pub Trace : Type 0

@@ -3,7 +3,7 @@
 ghost use Rattle.std.specs.Prelude.{◌≡◌};
 ghost use Rattle.qmodel.specs.Kinds.{kind_named, script_word, sorts_of};
 
-use crate::operands::Operand;
+use crate::operands::OperandKind;
 
 /// A call without its operands. The variants have the names of the variants of `Call`.
 #[derive(Clone, Copy, Debug, PartialEq, Eq)]
@@ -81,23 +81,23 @@ pub enum Product {
 
 /// A row of the table of calls.
 #[derive(Clone, Copy)]
-pub struct Form {
+pub struct CallForm {
     /// The word for the call in a script.
     pub word: &'static str,
     /// QNX's names for the call, in lowercase without underscores.
     pub qnx_names: &'static [&'static str],
     /// The operands, in the order of a script.
-    pub operands: &'static [Operand],
+    pub operands: &'static [OperandKind],
     pub product: Product,
 }
 
 /// A row of the table: the word, QNX's names, the operands, and the product of the call.
 macro_rules! form {
     ($word:literal, [$($name:literal),*], [$($operand:ident),*], $product:ident) => {
-        Form {
+        CallForm {
             word: $word,
             qnx_names: &[$($name),*],
-            operands: &[$(Operand::$operand),*],
+            operands: &[$(OperandKind::$operand),*],
             product: Product::$product,
         }
     };
@@ -105,7 +105,7 @@ macro_rules! form {
 
 impl CallKind {
     /// Returns the row of this kind in the table of calls.
-    pub fn form(self) -> Form
+    pub fn form(self) -> CallForm
         ensures word { result.word.now ≡ script_word self }
         ensures operands { result.operands.now ≡ sorts_of self }
     {

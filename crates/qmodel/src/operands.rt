@@ -8,7 +8,7 @@ use qbase::priority::Priority;
 
 /// The sort of an operand.
 #[derive(Clone, Copy, Debug, PartialEq, Eq)]
-pub enum Operand {
+pub enum OperandKind {
     Thread,
     Process,
     Priority,
@@ -84,12 +84,12 @@ impl Operands {
     }
 
     /// Returns the number of an operand of this sort: the flags, the thread, or the id for any other sort.
-    pub fn number(&self, sort: Operand) -> u64
+    pub fn number(&self, sort: OperandKind) -> u64
         ensures { result ≡ number_at self.now sort }
     {
         match sort {
-            Operand::Flags => u64::from(self.flags),
-            Operand::Thread => u64::from(self.thread.0),
+            OperandKind::Flags => u64::from(self.flags),
+            OperandKind::Thread => u64::from(self.thread.0),
             _ => self.id,
         }
     }

@@ -4,7 +4,7 @@ pub use Rattle.qqueue.specs.Best.{best_of, first_of_two, is_pulse, item_of_numbe
 pub use Rattle.qqueue.specs.Contents.{IsRising}
 pub use Rattle.qqueue.specs.Joins.{ClosedUp, Joined, Relinked, SameLinks}
 pub use Rattle.qqueue.specs.Kept.{AreRings, IsKept, first_at}
-pub use Rattle.qqueue.specs.Lanes.{IsForemost, first_in}
+pub use Rattle.qqueue.specs.LevelHeads.{IsForemost, first_in}
 pub use Rattle.qqueue.specs.Order.{BestIsFirst, NoBestIfNoneMayBeTaken, comes_before}
 pub use Rattle.qqueue.specs.Rings.{Linked, Path, Ring, Rises, after_of, before_of, first_of, is_on, item_at, item_of, items_at, keys_on, place_in, places_after, places_from, places_of, pulses_of, put_item, put_items, put_place}
 pub use Rattle.qqueue.specs.declared.item.Item.{Item}

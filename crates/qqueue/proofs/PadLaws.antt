@@ -1,4 +1,4 @@
--- Lists that are padded with zeros.
+-- LevelRings that are padded with zeros.
 use Rattle.qqueue.proofs.Common.{◌≡◌, ℕ, zero, suc, ◌≤◌, List, [], ◌∷◌, ◌++◌, length, get_or, take, replicate, cond, Bool, true, false, refl, ap, ◌∙◌, take_all}
 
 zeros : (n k : ℕ) → let zeroes : List ℕ = replicate n 0 in get_or zeroes k 0 ≡ 0

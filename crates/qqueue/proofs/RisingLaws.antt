@@ -1,4 +1,4 @@
--- Lists of rising numbers, with one more item or after a filter.
+-- LevelRings of rising numbers, with one more item or after a filter.
 use Rattle.qqueue.proofs.Common.{◌<◌, List, [], ◌∷◌, ◌++◌, Bool, true, false, cond, filter, AllByRecursion, Item, IsRising, all_append, all_filter}
 
 -- rising items with one more, greater item at the end still rise

@@ -2,10 +2,10 @@
 #![tactic(auto)]
 
 pub mod item;
-mod lane;
-pub mod laws;
+mod level_heads;
+pub mod queue_laws;
 mod links;
-mod lists;
+mod level_rings;
 mod node;
 mod order;
 pub mod queue;

@@ -10,7 +10,7 @@ ghost use Rattle.qqueue.specs.Rings.{places_of, items_at, item_of, pulses_of};
 
 use crate::item::{Item, Kind};
 use crate::links::key_of;
-use crate::lists::Lists;
+use crate::level_rings::LevelRings;
 use crate::order::in_order;
 use qbase::errno::Errno;
 use qbase::priority::Priority;
@@ -21,7 +21,7 @@ use std::marker::Model;
 /// were sent. Contracts see the items, and the room that is reserved for more, but not how they are kept.
 #[derive(Debug, Drop)]
 pub struct Queue {
-    lists: Lists,
+    lists: LevelRings,
     // The number of items that are pulses.
     pulses: usize,
 }
@@ -40,7 +40,7 @@ impl Model for Queue {
 }
 
 /// Removes the item under this key, updates the count of pulses, and returns the item.
-fn take_out(lists: &mut Lists, pulses: &mut usize, key: usize) -> Item
+fn take_out(lists: &mut LevelRings, pulses: &mut usize, key: usize) -> Item
     requires kept { IsKept lists.old }
     requires there { IsSome (item_of lists.old.nodes key) }
     requires counted { pulses.old ≡ pulses_of (items_at (places_of lists.old.nodes)) }
@@ -63,7 +63,7 @@ impl Queue {
         ensures { result ≡ record { items = []; room = 0 } }
     {
         Queue {
-            lists: Lists::new(alloc),
+            lists: LevelRings::new(alloc),
             pulses: 0,
         }
     }

@@ -1,6 +1,6 @@
 -- Names of other crates and of the definitions, which many of these proofs use.
 pub use Rattle.qbase.proofs.Lists.{all_append, all_filter, all_filter_map, all_map, all_more, all_passing, any_filter_map, any_filter_map_at, any_never, any_only, cond_same, eqb_either, eqb_same, filter_all, filter_same, filter_twice, filter_whole, is_among, none_of, or_none, some_of}
-pub use Rattle.qbase.specs.Laying.{laid_count, lay_over}
+pub use Rattle.qbase.specs.Copying.{laid_count, lay_over}
 pub use Rattle.qbase.specs.declared.errno.Errno.{Errno}
 pub use Rattle.qbase.specs.declared.errno.Errno.TheVariants.{Badf, Busy, Down, Intr, Inval, NoMemory, Srch}
 pub use Rattle.qmodel.specs.OpenCalls.{buffer_in, number_of, thread_of}
@@ -31,7 +31,7 @@ pub use Rattle.qrules.specs.Rules.Connections.{disconnect_pulse}
 pub use Rattle.qrules.specs.Rules.Held.{info_of, refusal_unless_held}
 pub use Rattle.qrules.specs.Rules.Pulse.{pulse_over}
 pub use Rattle.qrules.specs.Rules.Unblock.{due_pulse_of, guards, pulse_for, unblock_pulse}
-pub use Rattle.qrules.specs.Trace.{AreApart, InEachEvent, call_at, endings_of, gets, thread_at}
+pub use Rattle.qrules.specs.Trace.{AreApart, InEachEvent, call_at, completions_of, gets, thread_at}
 pub use Rattle.qtables.specs.Members.{IsRoster, member_at}
 pub use Rattle.qtables.specs.declared.connection.Connection.{Connection}
 pub use Rattle.qtables.specs.declared.member.Member.{Member}

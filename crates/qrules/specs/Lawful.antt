@@ -50,7 +50,7 @@ module _ (roster : List Member) where
   abbrev pub priority_given_by : Event → Trace → List SentItem → ThreadNo → Option Priority
   priority_given_by e past items t = option_or (priority_set_by e past t) (first_among
       (λ x. if x.thread == t then option_and_then (λ r. carried_priority past items r.number) (item_in x.mark)
-      else None) e.endings)
+      else None) e.completions)
 
   -- all items made, and the threads' priorities: each accepted event may make an item, and a thread begins
   -- with the priority in the roster
@@ -73,7 +73,7 @@ module _ (roster : List Member) where
   -- the call after the events before it
   abbrev pub IsLawful : Trace → Type 0
   IsLawful = InEachEvent (λ past e.
-      IsTrue (is_some (member_at roster e.thread)) × Answers (facts_of past) e.thread e.call e.endings)
+      IsTrue (is_some (member_at roster e.thread)) × Answers (facts_of past) e.thread e.call e.completions)
 
 -- ---- the only run
 
@@ -84,7 +84,7 @@ event_call e = (e.thread, e.call)
 -- no call of these events failed for lack of memory
 abbrev pub HadMemory : List Event → Type 0
 HadMemory events =
-    AllByRecursion (λ e. AllByRecursion (λ x. x.mark ≡ mark.Failed NoMemory → ⊥) e.endings) events
+    AllByRecursion (λ e. AllByRecursion (λ x. x.mark ≡ mark.Failed NoMemory → ⊥) e.completions) events
 
 -- if these events had memory, no other events with the same calls are valid after this history and had memory
 abbrev pub IsOnlyRun : List Member → Trace → List Event → Type 0

@@ -29,11 +29,11 @@ module _ (f : Facts) (t : ThreadNo) (c : Call) where
 -- for true, the call is accepted, and the completions are the row's, in rising thread number. For false, the
 -- call fails, and the only completion is the caller's, with its buffer.
 abbrev pub Outcome : Bool → Facts → ThreadNo → Call → List Completion → Type 0
-Outcome true f t c endings =
-    (refusal_of f t c ≡ None) × (endings ≡ filter_map (completion_to f t c) (threads_of f.roster))
-Outcome false f t c endings = (e : Errno) × MayRefuse f t c e
-    × (endings ≡ own_completion f t (mark.Failed e) (buffer_of c) ∷ [])
+Outcome true f t c completions =
+    (refusal_of f t c ≡ None) × (completions ≡ filter_map (completion_to f t c) (threads_of f.roster))
+Outcome false f t c completions = (e : Errno) × MayRefuse f t c e
+    × (completions ≡ own_completion f t (mark.Failed e) (buffer_of c) ∷ [])
 
 -- these completions are right for the call: it is accepted, or it fails
 abbrev pub Answers : Facts → ThreadNo → Call → List Completion → Type 0
-Answers f t c endings = Outcome true f t c endings ⊎ Outcome false f t c endings
+Answers f t c completions = Outcome true f t c completions ⊎ Outcome false f t c completions

@@ -23,7 +23,7 @@ is_failure other = false
 -- the call of event e, which comes next after this history, was accepted: none of e's completions is a
 -- failure of that call
 abbrev pub is_accepted : Event → Trace → Bool
-is_accepted e past = not (list_any (λ x. (x.call == length past + 1) && is_failure x.mark) e.endings)
+is_accepted e past = not (list_any (λ x. (x.call == length past + 1) && is_failure x.mark) e.completions)
 
 -- the value of the function for event i; None if there is no event i or its call wasn't accepted
 abbrev pub accepted_at : {A : Type 0} → (Event → Option A) → Trace → CallNo → Option A
@@ -44,7 +44,7 @@ is_number number i = option_map_or (λ n. n == i) number false
 
 -- call i has completed
 abbrev pub is_ended : Trace → CallNo → Bool
-is_ended past i = list_any (λ e. list_any (λ x. x.call == i) e.endings) past
+is_ended past i = list_any (λ e. list_any (λ x. x.call == i) e.completions) past
 
 -- a received item: its number, and how many bytes were copied, which is 0 for a pulse
 pub record ReceivedItem : Type 0 where
@@ -60,13 +60,13 @@ item_in other = None
 -- the first value that the function gives for these completions
 abbrev pub first_among : {A : Type 0} → (Completion → Option A) → List Completion → Option A
 first_among say [] = None
-first_among say (x ∷ endings) = option_or (say x) (first_among say endings)
+first_among say (x ∷ completions) = option_or (say x) (first_among say completions)
 
 -- how many bytes of item i were copied at its receipt; None if it hasn't been received
 abbrev pub copied_count_of : Trace → CallNo → Option ℕ
 copied_count_of [] i = None
 copied_count_of (e ∷ past) i = option_or (first_among
-    (λ x. option_and_then (λ r. if r.number == i then Some r.copied else None) (item_in x.mark)) e.endings)
+    (λ x. option_and_then (λ r. if r.number == i then Some r.copied else None) (item_in x.mark)) e.completions)
     (copied_count_of past i)
 
 -- item i has been received

@@ -4,7 +4,7 @@ use Rattle.qrules.specs.Words.{[], best_of, count_by, drop, false, filter_map, i
 use Rattle.qrules.specs.Words.{lay_over, map, not, option_and_then, option_map, option_map_or, option_or}
 use Rattle.qrules.specs.Words.{true, AllByRecursion, Any, Bool, Completion, Item, List}
 use Rattle.qrules.specs.Words.{Mark, Member, None, Option, Some, ℕ}
-use Rattle.qrules.specs.Trace.{call_at, endings_of, Bytes, CallNo, ChannelId, ConnectionId, Event}
+use Rattle.qrules.specs.Trace.{call_at, completions_of, Bytes, CallNo, ChannelId, ConnectionId, Event}
 use Rattle.qrules.specs.Trace.{InEachEvent, Priority, ReceiveId, ThreadNo, Trace}
 use Rattle.qrules.specs.Facts.{owns, receive_of, send_of, OpenReceive, OpenSend}
 use Rattle.qrules.specs.Rule.{buffer_of, ReceiveRequest, SentItem, Transfer}
@@ -15,8 +15,8 @@ use Rattle.qrules.specs.Lawful.{facts_of, item_made_by, items_and_priorities}
 use Rattle.qrules.specs.Words.mark
 
 -- P holds for each completion of each event, together with the event and the events before it
-abbrev pub InEachEnding : (Trace → Event → Completion → Type 0) → Trace → Type 0
-InEachEnding P = InEachEvent (λ past e. AllByRecursion (P past e) e.endings)
+abbrev pub InEachCompletion : (Trace → Event → Completion → Type 0) → Trace → Type 0
+InEachCompletion P = InEachEvent (λ past e. AllByRecursion (P past e) e.completions)
 
 -- ---- each item is received at most once, and each call completes at most once
 
@@ -35,11 +35,11 @@ items roster past = (items_and_priorities roster past).items
 
 -- no item is received twice, none before it was made, and no call completes twice
 pub record ReceivedOnce (roster : List Member) (past : Trace) : Type 0 where
-  pub each_item : AllDifferent (filter_map number_received (endings_of past))
+  pub each_item : AllDifferent (filter_map number_received (completions_of past))
   pub none_early : InEachEvent (λ past e. AllByRecursion
       (λ i. is_some (item_among (items roster (e ∷ past)) i) ≡ true)
-      (filter_map number_received e.endings)) past
-  pub each_call : AllDifferent (map (λ x. x.call) (endings_of past))
+      (filter_map number_received e.completions)) past
+  pub each_call : AllDifferent (map (λ x. x.call) (completions_of past))
 
 -- ---- a message gets at most one reply, by a call that may reply to it, and its sender gets the reply
 
@@ -62,13 +62,13 @@ pub record AnswersIts (roster : List Member) (past : Trace) (e : Event) (x : Com
 -- an accepted call that replies to a message causes exactly one completion of that message's Send
 abbrev pub AnswersOnce : Trace → Event → Type 0
 AnswersOnce past e = (i : ReceiveId) → (effect_of e.call).answers ≡ Some i → is_accepted e past ≡ true
-    → count_by (λ x. x.call == i) e.endings ≡ 1
+    → count_by (λ x. x.call == i) e.completions ≡ 1
 
 -- each completion that is a reply meets AnswersIts, and each accepted call that replies causes exactly one
 -- completion of its message's Send
 abbrev pub AnsweredToSender : List Member → Trace → Type 0
 AnsweredToSender roster = InEachEvent (λ past e.
-    AllByRecursion (λ x. is_answer x.mark ≡ true → AnswersIts roster past e x) e.endings × AnswersOnce past e)
+    AllByRecursion (λ x. is_answer x.mark ≡ true → AnswersIts roster past e x) e.completions × AnswersOnce past e)
 
 -- ---- every buffer and every count is exactly as the copying requires
 
@@ -114,7 +114,7 @@ IsCopied past e x other = x.buffer ≡ buffer_at (e ∷ past) x.call
 
 -- the bytes of each completion are copied in this way
 abbrev pub CopiedExactly : Trace → Type 0
-CopiedExactly = InEachEnding (λ past e x. IsCopied past e x x.mark)
+CopiedExactly = InEachCompletion (λ past e x. IsCopied past e x x.mark)
 
 -- ---- a receipt takes the item of greatest priority, and among equals the item that was made first
 
@@ -140,7 +140,7 @@ pub record TakesBest
 -- each receipt takes the best item
 abbrev pub BestFirst : List Member → Trace → Type 0
 BestFirst roster =
-    InEachEnding (λ past e x. (i : CallNo) → number_received x ≡ Some i → TakesBest roster past e x i)
+    InEachCompletion (λ past e x. (i : CallNo) → number_received x ≡ Some i → TakesBest roster past e x i)
 
 -- ---- items of one priority, sent over one connection, are received in the order in which they were sent
 
@@ -171,7 +171,7 @@ IsEarliest roster past e j k = (h : ChannelId) → AllByRecursion
 
 -- a Receive that takes an item sent over a connection takes the earliest of that connection and priority
 abbrev pub SentOrder : List Member → Trace → Type 0
-SentOrder roster = InEachEnding
+SentOrder roster = InEachCompletion
     (λ past e x. (j : CallNo) (k : ConnectionId) → TakesSent (e ∷ past) x j k → IsEarliest roster past e j k)
 
 -- ---- once a channel is destroyed nothing is received from it, and no thread is blocked on it
@@ -179,9 +179,9 @@ SentOrder roster = InEachEnding
 -- these completions receive nothing from channel h, and no call is open on it after this history. A Send is
 -- open on the channel that its connection was attached to, whether or not the connection has been detached.
 pub record IsShut
-    (roster : List Member) (past : Trace) (endings : List Completion) (h : ChannelId) : Type 0 where
+    (roster : List Member) (past : Trace) (completions : List Completion) (h : ChannelId) : Type 0 where
   pub none_received : AllByRecursion (λ x. (i : CallNo) → number_received x ≡ Some i
-      → option_map (λ m. m.channel) (item_among (items roster past) i) ≡ Some h → ⊥) endings
+      → option_map (λ m. m.channel) (item_among (items roster past) i) ≡ Some h → ⊥) completions
   pub no_send : (t : ThreadNo) (s : OpenSend) → send_of (facts_of roster past) t ≡ Some s
       → option_map (λ c. c.channel) (attached_connection roster past s.connection) ≡ Some h → ⊥
   pub no_receive : (t : ThreadNo) (r : OpenReceive) → receive_of (facts_of roster past) t ≡ Some r
@@ -190,7 +190,7 @@ pub record IsShut
 -- after each event, each channel that is destroyed by then is shut
 abbrev pub ShutForGood : List Member → Trace → Type 0
 ShutForGood roster = InEachEvent
-    (λ past e. (h : ChannelId) → is_destroyed (e ∷ past) h ≡ true → IsShut roster (e ∷ past) e.endings h)
+    (λ past e. (h : ChannelId) → is_destroyed (e ∷ past) h ≡ true → IsShut roster (e ∷ past) e.completions h)
 
 -- ---- all six
 

@@ -6,7 +6,7 @@ use Rattle.std.specs.Prelude.{List}
 use Rattle.std.specs.Prelude.{[], Option, None, Some, if◌then◌else◌}
 use Rattle.std.specs.List.{list_any}
 use Rattle.std.specs.Ordering.{int_eq}
-use Rattle.qbase.specs.Laying.{lay_over}
+use Rattle.qbase.specs.Copying.{lay_over}
 use Rattle.qbase.specs.declared.errno.Errno.{Errno}
 use Rattle.qqueue.specs.Best.{is_pulse}
 use Rattle.qqueue.specs.declared.item.Item.{Item}

@@ -30,21 +30,21 @@ thread_at [] i = None
 thread_at (e ∷ past) i = if i == length past + 1 then Some e.thread else thread_at past i
 
 -- all completions so far
-abbrev pub endings_of : Trace → List Completion
-endings_of past = flat_map (λ e. e.endings) past
+abbrev pub completions_of : Trace → List Completion
+completions_of past = flat_map (λ e. e.completions) past
 
 -- ---- the completions of one event
 
 -- one of these completions is thread t's
 abbrev pub gets : List Completion → ThreadNo → Bool
-gets endings t = list_any (λ x. x.thread == t) endings
+gets completions t = list_any (λ x. x.thread == t) completions
 
 -- no thread has two of these completions
 abbrev pub AreApart : List Completion → Type 0
 AreApart [] = Unit {0}
-AreApart (x ∷ endings) = (gets endings x.thread ≡ false) × AreApart endings
+AreApart (x ∷ completions) = (gets completions x.thread ≡ false) × AreApart completions
 
 -- these completions are in rising thread number
 abbrev pub RiseByThread : List Completion → Type 0
 RiseByThread [] = Unit {0}
-RiseByThread (x ∷ endings) = AllByRecursion (λ y. x.thread < y.thread) endings × RiseByThread endings
+RiseByThread (x ∷ completions) = AllByRecursion (λ y. x.thread < y.thread) completions × RiseByThread completions

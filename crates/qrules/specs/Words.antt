@@ -9,7 +9,7 @@ pub use Rattle.std.specs.Prelude.{List, [], length, drop, reverse, map, filter, 
 pub use Rattle.std.specs.Prelude.{count_by, fold, slice_get}
 pub use Rattle.std.specs.List.{AllByRecursion, list_any, reduce}
 pub use Rattle.std.specs.Ordering.{int_eq}
-pub use Rattle.qbase.specs.Laying.{laid_count, lay_over}
+pub use Rattle.qbase.specs.Copying.{laid_count, lay_over}
 pub use Rattle.qbase.specs.declared.errno.Errno.{Errno}
 pub use Rattle.qbase.specs.declared.errno.Errno.TheVariants.{Again, Badf, Busy, Down}
 pub use Rattle.qbase.specs.declared.errno.Errno.TheVariants.{Intr, Inval, NoMemory, Srch}

@@ -3,12 +3,12 @@ use Rattle.qscript.proofs.Common.{AllJoin, AllKnown, Bool, Call, CanRun, Err, Li
 use Rattle.std.proofs.Math.Bool.{or-false}
 use Rattle.std.proofs.lemmas.Bool.Decides.{nat_tests}
 use Rattle.qbase.proofs.Lists.{all_append, all_more, length-filter_map}
-use Rattle.qreading.specs.declared.reading.line.Line.{Line}
-use Rattle.qreading.specs.declared.reading.line.Line.TheVariants as lines
-use Rattle.qreading.specs.declared.fault.LineFault.{LineFault}
-use Rattle.qreading.specs.Reading.Lines.{lines_of, is_newline, without_return, without_last_end}
-use Rattle.qreading.specs.Reading.Meaning.{TooLong, Says, meaning, is_in, line_after_roster, member_in, call_in, roster_of, calls_of, line_behind, line_with, line_after, fault_in, fault_at, first_fault, fault_or}
-use Rattle.qreading.proofs.Texts.Early.{bind_ok, placed_keeps, alone}
+use Rattle.qscript_text.specs.declared.reading.line.ScriptLine.{ScriptLine}
+use Rattle.qscript_text.specs.declared.reading.line.ScriptLine.TheVariants as lines
+use Rattle.qscript_text.specs.declared.fault.LineFault.{LineFault}
+use Rattle.qscript_text.specs.Reading.Lines.{lines_of, is_newline, without_return, without_last_end}
+use Rattle.qscript_text.specs.Reading.Meaning.{TooLong, Says, meaning, is_in, line_after_roster, member_in, call_in, roster_of, calls_of, line_behind, line_with, line_after, fault_in, fault_at, first_fault, fault_or}
+use Rattle.qscript_text.proofs.Texts.Early.{bind_ok, placed_keeps, alone}
 use Rattle.qscript.proofs.Joining.{enrolled_more}
 
 -- ---- the threads in a roster
@@ -38,13 +38,13 @@ joins_more r (x ∷ ms) m all new = (all.0, joins_more (with_member x r) ms m al
 -- ---- one more line
 
 -- the thread of a valid roster line isn't in the roster before it, and isn't the 65th
-joins_next : (ms : List Member) (m : Member) (l : Line) → line_after_roster ms (lines.Roster m) ≡ Ok l → join_refusal (roster_with [] ms) m.thread ≡ None
+joins_next : (ms : List Member) (m : Member) (l : ScriptLine) → line_after_roster ms (lines.Roster m) ≡ Ok l → join_refusal (roster_with [] ms) m.thread ≡ None
 joins_next ms m l h = grind (arith, nat_tests, known (roster_with [] ms) m.thread, enrolled m.thread [] ms)
 
-calls_next : (ms : List Member) (t : ℕ) (c : Call) (l : Line) → line_after_roster ms (lines.Call t c) ≡ Ok l → is_some (member_at (roster_with [] ms) t) ≡ true
+calls_next : (ms : List Member) (t : ℕ) (c : Call) (l : ScriptLine) → line_after_roster ms (lines.Call t c) ≡ Ok l → is_some (member_at (roster_with [] ms) t) ≡ true
 calls_next ms t c l h = grind (arith, known (roster_with [] ms) t, enrolled t [] ms)
 
-fine_more : (ms : List Member) (cs : List (ℕ × Call)) (l : Line) → Fine ms cs → line_after_roster ms l ≡ Ok l
+fine_more : (ms : List Member) (cs : List (ℕ × Call)) (l : ScriptLine) → Fine ms cs → line_after_roster ms l ≡ Ok l
     → Fine (ms ++ cons_option (member_in (Ok l)) []) (cs ++ cons_option (call_in (Ok l)) [])
 fine_more ms cs lines.Blank f h = rw (append-nil, append-nil) f
 fine_more ms cs (lines.Roster m) f h = record {
@@ -58,7 +58,7 @@ fine_more ms cs (lines.Call t c) f h = record {
 
 -- ---- all lines
 
-fine_with : (ms : List Member) (cs : List (ℕ × Call)) (line : List ℕ) (l : Line) → Fine ms cs → line_with ms cs line ≡ Ok l
+fine_with : (ms : List Member) (cs : List (ℕ × Call)) (line : List ℕ) (l : ScriptLine) → Fine ms cs → line_with ms cs line ≡ Ok l
     → Fine (ms ++ cons_option (member_in (Ok l)) []) (cs ++ cons_option (call_in (Ok l)) [])
 unfolding line_with line_behind
 fine_with ms cs line l f h =
@@ -66,7 +66,7 @@ fine_with ms cs line l f h =
     fine_more ms cs l f (ap (line_after_roster ms) (sym (placed_keeps ms b.0 l b.2)) ∙ b.2)
 
 -- a line without a fault has a content
-no_fault_in : (n : ℕ) (r : Result Line LineFault) → fault_in n r ≡ None → (l : Line) × (r ≡ Ok l)
+no_fault_in : (n : ℕ) (r : Result ScriptLine LineFault) → fault_in n r ≡ None → (l : ScriptLine) × (r ≡ Ok l)
 no_fault_in n (Ok l) h = (l, refl)
 no_fault_in n (Err f) h = cc
 

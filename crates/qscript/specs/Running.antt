@@ -5,7 +5,7 @@ use Rattle.qmodel.specs.declared.call.Call.{Call}
 use Rattle.qmodel.specs.declared.open_call.Blocked.{Blocked}
 use Rattle.qmodel.specs.Trace.{Run as Events, Trace}
 use Rattle.qrules.specs.Lawful.{facts_of}
-use Rattle.qstate.specs.Kept.{members_of}
+use Rattle.qkernel_state.specs.Kept.{members_of}
 use Rattle.qkernel.specs.Blocked.{blocked_threads}
 use Rattle.qkernel.specs.Kernel.{State}
 use Rattle.qkernel.specs.Stands.{StandsAt}

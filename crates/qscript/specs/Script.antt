@@ -11,9 +11,9 @@ use Rattle.qkernel.specs.Run.{AllKnown}
 use Rattle.qrules.specs.Properties.{HasProperties}
 use Rattle.qrules.specs.Lawful.{event_call, facts_of, HadMemory, IsLawful}
 use Rattle.qrules.specs.Trace.{followed_by}
-use Rattle.qreading.specs.declared.fault.LineFault.{LineFault}
+use Rattle.qscript_text.specs.declared.fault.LineFault.{LineFault}
 use Rattle.qscript.specs.Enrolled.{roster_with, AllJoin}
-use Rattle.qreading.specs.Reading.Meaning.{meaning, Says, Faulty}
+use Rattle.qscript_text.specs.Reading.Meaning.{meaning, Says, Faulty}
 use Rattle.qscript.specs.Printing.Printed.{printed}
 use Rattle.qscript.specs.Transfer.{IsReading, FailsWithin, IsOverfull, StopsWithin}
 

@@ -9,4 +9,4 @@ pub mod transfer;
 pub mod watched;
 pub mod writing;
 
-pub use qreading::{MOST_TEXT, Script, fault, parse};
+pub use qscript_text::{MOST_TEXT, Script, fault, parse};

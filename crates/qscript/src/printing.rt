@@ -5,7 +5,7 @@ ghost use Rattle.qscript.specs.Printing.Printed.{printed};
 
 pub mod buffer;
 pub mod ended_line;
-mod laws;
+mod printing_laws;
 pub mod marks;
 pub mod open_line;
 pub(crate) mod operands;
@@ -25,7 +25,7 @@ pub fn text_of(alloc: Global, run: &Trace, blocked: &[Blocked]) -> Result<String
     let mut printer = Printer::new(alloc, run.first(), run.len())?;
     'events: for k in 0..run.len() {
         let event = run.first() + k as u64;
-        printer.push_event(event, shows(run.call(k)), run.endings(k))?;
+        printer.push_event(event, shows(run.call(k)), run.completions(k))?;
     }
     let text = printer.finish(blocked)?;
     Ok(text)

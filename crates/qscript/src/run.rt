@@ -3,7 +3,7 @@
 ghost use Rattle.std.specs.Prelude.{◌≡◌, ℕ, ◌+◌, ◌⊎◌, ◌++◌, ◌∷◌, [], List, IfErr, IfOk, OnOk, is_some, string_bytes, true};
 ghost use Rattle.qtables.specs.Members.{member_at};
 ghost use Rattle.qmodel.specs.declared.call.Call.{Call};
-ghost use Rattle.qstate.specs.Kept.{members_of};
+ghost use Rattle.qkernel_state.specs.Kept.{members_of};
 ghost use Rattle.qkernel.specs.Kernel.{State, IsSound};
 ghost use Rattle.qkernel.specs.Stands.{StandsAt, AnswersAtTraces, DispatchError};
 ghost use Rattle.qscript.specs.Running.{HasMade, IsEnded};
@@ -13,7 +13,7 @@ use crate::printing::printer::Printer;
 use qbase::errno::Errno;
 use qbase::ids::ThreadNo;
 use qkernel::call::{Call, Completion};
-use qkernel::endings::Endings;
+use qkernel::completions::Completions;
 use qkernel::kernel::Kernel;
 use qtables::roster::Roster;
 use std::alloc::{AllocError, Global};
@@ -23,7 +23,7 @@ use std::alloc::{AllocError, Global};
 pub struct Run {
     kernel: Kernel,
     printer: Printer,
-    endings: Endings,
+    completions: Completions,
 }
 
 impl Run {
@@ -40,7 +40,7 @@ impl Run {
         Ok(Run {
             kernel,
             printer,
-            endings: Endings::new_in(alloc),
+            completions: Completions::new_in(alloc),
         })
     }
 
@@ -49,7 +49,7 @@ impl Run {
     /// for the text. Then the call is made, and the text must not be used afterwards.
     pub fn make(&mut self, thread: ThreadNo, call: Call) -> Result<(), Errno>
         ensures text { OnOk result ((old : State) (calls : List (ℕ × Call)) → HasMade old calls self.old → HasMade old (calls ++ (thread, call) ∷ []) self.new) }
-        ensures event { OnOk result (AnswersAtTraces self.old.kernel thread call self.new.endings.items self.new.kernel) }
+        ensures event { OnOk result (AnswersAtTraces self.old.kernel thread call self.new.completions.items self.new.kernel) }
         ensures roster { members_of self.new.kernel.threads ≡ members_of self.old.kernel.threads }
         ensures known { OnOk result (is_some (member_at (members_of self.old.kernel.threads) thread) ≡ true) }
         ensures made { OnOk result (self.new.kernel.made ≡ self.old.kernel.made + 1) }
@@ -59,13 +59,13 @@ impl Run {
             return Err(Errno::NoThread);
         };
         let shows = shows(&call);
-        self.endings.clear();
-        if let Err((errno, _)) = self.kernel.call_at(&seat, call, &mut self.endings) {
+        self.completions.clear();
+        if let Err((errno, _)) = self.kernel.call_at(&seat, call, &mut self.completions) {
             return Err(errno);
         }
         let event = self.kernel.made();
         self.printer
-            .push_event(event, shows, self.endings.as_slice())?;
+            .push_event(event, shows, self.completions.as_slice())?;
         Ok(())
     }
 
@@ -77,10 +77,10 @@ impl Run {
     }
 
     /// Returns the completions of the latest call, in rising thread number.
-    pub fn endings(&self) -> &[Completion]
-        ensures { result.now ≡ self.now.endings.items }
+    pub fn completions(&self) -> &[Completion]
+        ensures { result.now ≡ self.now.completions.items }
     {
-        self.endings.as_slice()
+        self.completions.as_slice()
     }
 
     /// Returns the lines of all completions so far.

@@ -2,20 +2,20 @@
 
 ghost use Rattle.std.specs.Prelude.{◌≡◌, ℕ, ◌+◌, ◌≤◌, ◌^◌, [], length, IfOk, IfErr, OnOk, IsErrOf, false, string_bytes};
 ghost use Rattle.qkernel.specs.Run.{AllKnown};
-ghost use Rattle.qstate.specs.Kept.{members_of};
+ghost use Rattle.qkernel_state.specs.Kept.{members_of};
 ghost use Rattle.qscript.specs.Running.{HasMade};
 ghost use Rattle.qscript.specs.Enrolled.{roster_with, AllJoin};
 ghost use Rattle.qscript.specs.Script.{CanRun, IsTextOfRun, IsRun, IsUnread, IsTooLong, IsFaulty, IsCut};
 ghost use Rattle.qscript.specs.Watched.{inner_of, has_faulted};
-ghost use Rattle.qreading.specs.declared.fault.LineFault.{LineFault};
+ghost use Rattle.qscript_text.specs.declared.fault.LineFault.{LineFault};
 
 use crate::run::Run;
 use crate::transfer::{read_all, write_all};
 use crate::watched::Watched;
 use qbase::ids::ThreadNo;
 use qkernel::call::Call;
-use qreading::fault::ScriptFault;
-use qreading::reading::script::{Script, parse};
+use qscript_text::fault::ScriptFault;
+use qscript_text::reading::script::{Script, parse};
 use qtables::member::Member;
 use qtables::roster::Roster;
 use std::alloc::{AllocError, Global};

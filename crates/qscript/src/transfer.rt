@@ -5,8 +5,8 @@ ghost use Rattle.std.specs.Io.KnownBytes.{Appends};
 ghost use Rattle.qscript.specs.Transfer.{IsReading, IsReadFault, IsWriteFault};
 
 use crate::watched::Watched;
-use qreading::fault::ScriptFault;
-use qreading::reading::script::MOST_TEXT;
+use qscript_text::fault::ScriptFault;
+use qscript_text::reading::script::MOST_TEXT;
 use std::alloc::Global;
 use std::io::{Read, Write};
 

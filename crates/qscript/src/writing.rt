@@ -6,7 +6,7 @@ ghost use Rattle.std.specs.Option.{option_map};
 ghost use Rattle.qscript.specs.Writing.Text.{member_text, call_text, script_text};
 
 mod call_line;
-mod laws;
+mod writing_laws;
 
 use call_line::push_call;
 use qkernel::trace::Trace;

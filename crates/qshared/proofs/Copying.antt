@@ -27,7 +27,7 @@ pub record Copying (ts : List ℕ) (X : List Completion) (rooms rooms' : List �
   pub done : List Completion
   pub whole : done ++ left ≡ X
   pub copied : Copied ts done rooms rooms'
-  pub logged : log' ≡ record log { endings = log.endings ++ done; completion_room = log.completion_room - length done }
+  pub logged : log' ≡ record log { completions = log.completions ++ done; completion_room = log.completion_room - length done }
 
 pub copying_next : (ts : List ℕ) (X : List Completion) (rooms rooms' : List ℕ) (log log' : Logged) (x : Completion) (left : List Completion)
     → AreApart X → AllByRecursion (MayCopy ts rooms) X → Copying ts X rooms rooms' log log' (x ∷ left) → MayCopy ts rooms' x
@@ -46,7 +46,7 @@ copying_room ts X rooms rooms' log log' x left room h =
     omega arith
 
 pub copying_more : (ts : List ℕ) (X : List Completion) (rooms rooms' rooms'' : List ℕ) (log log' log'' : Logged) (x : Completion) (left : List Completion)
-    → Copying ts X rooms rooms' log log' (x ∷ left) → Copied ts (x ∷ []) rooms' rooms'' → log'' ≡ record log' { endings = log'.endings ++ x ∷ []; completion_room = log'.completion_room - 1 } → Copying ts X rooms rooms'' log log'' left
+    → Copying ts X rooms rooms' log log' (x ∷ left) → Copied ts (x ∷ []) rooms' rooms'' → log'' ≡ record log' { completions = log'.completions ++ x ∷ []; completion_room = log'.completion_room - 1 } → Copying ts X rooms rooms'' log log'' left
 copying_more ts X rooms rooms' rooms'' log log' log'' x left h one logged =
     let more : length (h.done ++ x ∷ []) ≡ length h.done + 1 = length-append h.done (x ∷ []) in
     let room : log.completion_room - length h.done - 1 ≡ log.completion_room - length (h.done ++ x ∷ []) = omega arith in
@@ -54,9 +54,9 @@ copying_more ts X rooms rooms' rooms'' log log' log'' x left h one logged =
       done = h.done ++ x ∷ [];
       whole = append_assoc h.done (x ∷ []) left ∙ h.whole;
       copied = more_copied ts h.done (x ∷ []) rooms rooms' rooms'' h.copied one;
-      logged = logged ∙ ap (λ (l : Logged). record l { endings = l.endings ++ x ∷ []; completion_room = l.completion_room - 1 }) h.logged
-          ∙ ap (λ ys. record log { endings = ys; completion_room = log.completion_room - length h.done - 1 }) (append_assoc log.endings h.done (x ∷ []))
-          ∙ ap (λ n. record log { endings = log.endings ++ (h.done ++ x ∷ []); completion_room = n }) room;
+      logged = logged ∙ ap (λ (l : Logged). record l { completions = l.completions ++ x ∷ []; completion_room = l.completion_room - 1 }) h.logged
+          ∙ ap (λ ys. record log { completions = ys; completion_room = log.completion_room - length h.done - 1 }) (append_assoc log.completions h.done (x ∷ []))
+          ∙ ap (λ n. record log { completions = log.completions ++ (h.done ++ x ∷ []); completion_room = n }) room;
     }
 
 pub left_next : (X : List Completion) (i : ℕ) (d : Completion) → i < length X → drop i X ≡ get_or X i d ∷ drop (i + 1) X

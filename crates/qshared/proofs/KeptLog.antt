@@ -1,5 +1,5 @@
 -- A kept history after an event: the conditions of `event` are enough to keep its invariant.
-use Rattle.qshared.proofs.Common.{◌≡◌, ◌≢◌, ℕ, ◌+◌, ◌-◌, ◌<◌, ◌≤◌, ◌^◌, List, [], ◌∷◌, ◌++◌, length, get_or, set, refl, ap, sym, subst, ◌∙◌, arith, Bool, true, false, eqb, inl, inr, ◌⊎◌, length-append, length-set, get_or-set_other, get_or-set_same, None, Some, is_some, AllByRecursion, cases_Bool, eqb-true, eqb-false, true≢false, none-some, same_Some, none_of, some_of, TraceFull, NoMemory, member_at, Member, Call, Completion, Answers, refusal_of, AreApart, gets, followed_by, Event, Trace, GoesToBlocked, blocked_unless_ended, endings_are_apart, endings_go_to_blocked, IsLawful, facts_of, with_event, open_call, is_blocked, effect_of, known, Logged, with_next, place, is_down, HasRoomFor, HasRooms, MayCopy, Copied, IsKept, blocked_same, followed_length, followed_push}
+use Rattle.qshared.proofs.Common.{◌≡◌, ◌≢◌, ℕ, ◌+◌, ◌-◌, ◌<◌, ◌≤◌, ◌^◌, List, [], ◌∷◌, ◌++◌, length, get_or, set, refl, ap, sym, subst, ◌∙◌, arith, Bool, true, false, eqb, inl, inr, ◌⊎◌, length-append, length-set, get_or-set_other, get_or-set_same, None, Some, is_some, AllByRecursion, cases_Bool, eqb-true, eqb-false, true≢false, none-some, same_Some, none_of, some_of, TraceFull, NoMemory, member_at, Member, Call, Completion, Answers, refusal_of, AreApart, gets, followed_by, Event, Trace, GoesToBlocked, blocked_unless_ended, completions_are_apart, completions_go_to_blocked, IsLawful, facts_of, with_event, open_call, is_blocked, effect_of, known, Logged, with_next, place, is_down, HasRoomFor, HasRooms, MayCopy, Copied, IsKept, blocked_same, followed_length, followed_push}
 use Rattle.qbase.specs.declared.errno.Errno.{Errno}
 use Rattle.qmodel.specs.declared.call.Call.TheVariants.{Shutdown}
 use Rattle.qrules.proofs.Traces.TraceLaws.Lengths.{buffer_brought, after_fits, completion_fits}
@@ -83,14 +83,14 @@ finds roster limit threads rooms log c room ready t X v h z =
 
 -- a log with one more event
 abbrev pub with_event_of : Logged → Event → Logged
-with_event_of log e = record { events = log.events ++ e ∷ []; noted = []; endings = []; call_room = log.call_room - 1; completion_room = log.completion_room - length e.endings }
+with_event_of log e = record { events = log.events ++ e ∷ []; noted = []; completions = []; call_room = log.call_room - 1; completion_room = log.completion_room - length e.completions }
 
 -- completions are put, then their call is noted, and then the call becomes an event
-pub next_log : (log copied noted next : Logged) (t : ℕ) (c : Call) (X : List Completion) → (log.noted ≡ []) × (log.endings ≡ []) → copied ≡ record log { endings = log.endings ++ X; completion_room = log.completion_room - length X }
-    → noted ≡ record copied { noted = copied.noted ++ (t, c) ∷ []; call_room = copied.call_room - 1 } → next ≡ with_next noted → next ≡ with_event_of log (record { thread = t; call = c; endings = X })
+pub next_log : (log copied noted next : Logged) (t : ℕ) (c : Call) (X : List Completion) → (log.noted ≡ []) × (log.completions ≡ []) → copied ≡ record log { completions = log.completions ++ X; completion_room = log.completion_room - length X }
+    → noted ≡ record copied { noted = copied.noted ++ (t, c) ∷ []; call_room = copied.call_room - 1 } → next ≡ with_next noted → next ≡ with_event_of log (record { thread = t; call = c; completions = X })
 next_log log copied noted next t c X none a b d =
-    let put : Logged = record log { endings = X; completion_room = log.completion_room - length X; noted = [] } in
-    let start : copied ≡ put = a ∙ ap (λ ys. record log { endings = ys ++ X; completion_room = log.completion_room - length X }) none.1 ∙ ap (λ ys. record log { endings = X; completion_room = log.completion_room - length X; noted = ys }) none.0 in
+    let put : Logged = record log { completions = X; completion_room = log.completion_room - length X; noted = [] } in
+    let start : copied ≡ put = a ∙ ap (λ ys. record log { completions = ys ++ X; completion_room = log.completion_room - length X }) none.1 ∙ ap (λ ys. record log { completions = X; completion_room = log.completion_room - length X; noted = ys }) none.0 in
     let mid : noted ≡ record put { noted = (t, c) ∷ []; call_room = put.call_room - 1 } = b ∙ ap (λ (l : Logged). record l { noted = l.noted ++ (t, c) ∷ []; call_room = l.call_room - 1 }) start in
     d ∙ ap with_next mid
 
@@ -100,7 +100,7 @@ module _ (roster : List Member) (limit : ℕ) (threads rooms : List ℕ) (log : 
   past = followed_by [] log.events
 
   abbrev e : Event
-  e = record { thread = t; call = c; endings = X }
+  e = record { thread = t; call = c; completions = X }
 
   pub lawful_next : IsLawful roster (e ∷ past)
   lawful_next = (f.lawful, (f.member, f.answers))
@@ -109,7 +109,7 @@ module _ (roster : List Member) (limit : ℕ) (threads rooms : List ℕ) (log : 
   past_is = followed_push [] log.events e
 
   pub apart : AreApart X
-  apart = endings_are_apart roster past e f.kept.rises lawful_next
+  apart = completions_are_apart roster past e f.kept.rises lawful_next
 
   module _ (i : ℕ) (found : place threads t ≡ Some i) where
     at : place (threads_of roster) t ≡ Some i
@@ -131,7 +131,7 @@ module _ (roster : List Member) (limit : ℕ) (threads rooms : List ℕ) (log : 
     -- each completion may be copied
     pub all_may_copy : AllByRecursion (MayCopy threads (set rooms i room)) X
     all_may_copy = subst (λ ts. AllByRecursion (MayCopy ts (set rooms i room)) X) (sym f.kept.threads_are)
-        (both X (endings_go_to_blocked roster past e f.kept.rises lawful_next) (completion_fits roster past e f.kept.rises lawful_next)) where
+        (both X (completions_go_to_blocked roster past e f.kept.rises lawful_next) (completion_fits roster past e f.kept.rises lawful_next)) where
           both : (Y : List Completion) → AllByRecursion (GoesToBlocked roster past t) Y → AllByRecursion (λ x. length x.buffer ≤ length (buffer_brought roster past t c x.thread)) Y
               → AllByRecursion (MayCopy (threads_of roster) (set rooms i room)) Y
           both [] a b = tt

@@ -1,5 +1,5 @@
 -- The completions that are left in the cells, without the cells.
-use Rattle.qshared.proofs.Common.{◌≡◌, ℕ, zero, suc, ◌+◌, ◌<◌, ◌≤◌, List, [], ◌∷◌, ◌++◌, length, map, get_or, refl, ap, sym, subst, ◌∙◌, cond, Bool, true, false, eqb, inl, inr, arith, Some, AllByRecursion, cases_Bool, eqb-true, eqb-false, eq-eqb, ne_eqb, true≢false, same_Some, some, some-injective, some-ne-none, get_elem?, all_more, Completion, Rises, all_at, among_member, AreBelow, left_for, took, Member, ThreadSeat, Call, Extends, IsSince, calls_of, AreDue, AreKnown, AreLater, at_once, collected, endings_due, in_turn, later_due, later_of, of_thread, place, at_map, RiseByThread}
+use Rattle.qshared.proofs.Common.{◌≡◌, ℕ, zero, suc, ◌+◌, ◌<◌, ◌≤◌, List, [], ◌∷◌, ◌++◌, length, map, get_or, refl, ap, sym, subst, ◌∙◌, cond, Bool, true, false, eqb, inl, inr, arith, Some, AllByRecursion, cases_Bool, eqb-true, eqb-false, eq-eqb, ne_eqb, true≢false, same_Some, some, some-injective, some-ne-none, get_elem?, all_more, Completion, Rises, all_at, among_member, AreBelow, left_for, took, Member, ThreadSeat, Call, Extends, IsSince, calls_of, AreDue, AreKnown, AreLater, at_once, collected, completions_due, in_turn, later_due, later_of, of_thread, place, at_map, RiseByThread}
 use Rattle.qmodel.specs.Trace.{Trace}
 use Rattle.qhandoff.specs.Words as cells
 use Rattle.qrules.proofs.Words.Facts.{threads_of}
@@ -59,7 +59,7 @@ own_later caller t X = elim (eqb caller t) as (λ b. AllByRecursion (λ x. x.thr
 
 own_due : (past : Trace) (t : ℕ) → AllByRecursion (λ x. x.thread ≡ t) (later_due past t)
 own_due [] t = tt
-own_due (e ∷ past) t = all_append _ (later_due past t) (later_of e.thread t e.endings) (own_due past t) (own_later e.thread t e.endings)
+own_due (e ∷ past) t = all_append _ (later_due past t) (later_of e.thread t e.completions) (own_due past t) (own_later e.thread t e.completions)
 
 -- ---- each completion is left for its own thread
 
@@ -138,7 +138,7 @@ module _ (ts : List ℕ) (past : Trace) (xs : List Left) (rises : Rises ts) (up 
 
 -- the completions of one thread, by the prefix that its port last saw
 pub port_due : (past seen last : Trace) (asked : List Call) (u t : ℕ) (took left : List Completion) (pending blocked : Bool) → u ≡ t → Extends past seen → IsSince seen last → calls_of past t ≡ asked → calls_of last u ≡ asked
-    → AreLater pending (at_once last u) took → AreLater blocked (at_once past t) (later_due past t) → in_turn (at_once past t) (later_due past t) ≡ endings_due past t → took ++ left ≡ later_due past t → collected last u took ++ left ≡ endings_due past t
+    → AreLater pending (at_once last u) took → AreLater blocked (at_once past t) (later_due past t) → in_turn (at_once past t) (later_due past t) ≡ completions_due past t → took ++ left ≡ later_due past t → collected last u took ++ left ≡ completions_due past t
 port_due past seen last asked u t took left pending blocked same extends since now then mine owed whole told =
     let once : at_once past t ≡ at_once last t = once_same past seen last asked t extends (extends_since seen last since) now (ap (calls_of last) (sym same) ∙ then) in
     ap (λ v. collected last v took ++ left) same
@@ -158,7 +158,7 @@ module _ {P : Type 0} (seat : P → ThreadSeat Completion) (mine : P → List Co
 
   -- the completions of all threads
   pub all_due : (ports : List P) → length ports ≡ length (threads_of roster)
-      → ((t k : ℕ) (p : P) → get_elem? ports k ≡ some p → place (threads_of roster) t ≡ Some k → took (some (seat p)) ++ of_thread t left ≡ later_due past t → mine p ++ of_thread t left ≡ endings_due past t)
+      → ((t k : ℕ) (p : P) → get_elem? ports k ≡ some p → place (threads_of roster) t ≡ Some k → took (some (seat p)) ++ of_thread t left ≡ later_due past t → mine p ++ of_thread t left ≡ completions_due past t)
       → ((t i : ℕ) → place (threads_of roster) t ≡ Some i → took (get_elem? (map seat ports) i) ++ of_thread t left ≡ later_due past t) → AreDue roster (map mine ports) left past
   all_due ports many each cells t i at =
       let below : i < length (threads_of roster) = place_below (threads_of roster) t i at in

@@ -1,5 +1,5 @@
 -- The lists of calls that the threads asked for.
-use Rattle.qshared.proofs.Common.{◌≡◌, ℕ, zero, suc, ◌<◌, List, [], ◌∷◌, ◌++◌, map, set, length, get_or, refl, ap, sym, subst, ◌∙◌, arith, true, false, eqb, inl, inr, append-nil, get_or-set_other, Some, cases_Bool, eqb-true, eqb-false, true≢false, same_Some, none, some, get_elem?, Member, Call, Completion, with_event, Heard, Answered, AreCallsOf, calls_of, heard_in, is_call, place, UnderLock, Admits, Performs, Refuses, Called, Done, Blocked, Refused}
+use Rattle.qshared.proofs.Common.{◌≡◌, ℕ, zero, suc, ◌<◌, List, [], ◌∷◌, ◌++◌, map, set, length, get_or, refl, ap, sym, subst, ◌∙◌, arith, true, false, eqb, inl, inr, append-nil, get_or-set_other, Some, cases_Bool, eqb-true, eqb-false, true≢false, same_Some, none, some, get_elem?, Member, Call, Completion, with_event, KernelCalls, Answered, AreCallsOf, calls_of, heard_in, is_call, place, UnderLock, Admits, Performs, Refuses, Called, Done, Blocked, Refused}
 use Rattle.std.proofs.lemmas.List.{get_or-set_same, get_or-map, map-set, set-get_or}
 use mathlib.Core.Option as maybe
 use Rattle.qrules.proofs.Words.Facts.{threads_of}
@@ -27,16 +27,16 @@ names_of name (p ∷ ps) [] many is = absurd (omega (arith, many))
 names_of name (p ∷ ps) (n ∷ ns) many is = ap (λ m. m ∷ map name ps) (sym (is 0 p refl)) ∙ ap (λ ms. n ∷ ms) (names_of name ps ns (omega (arith, many)) (λ k q e. is (suc k) q e))
 
 -- the names of a list of halves after one half was changed and kept its name
-pub kept_names : (hs : List Heard) (i : ℕ) (h h' : Heard) → i < length hs → h ≡ get_or hs i h → h'.name ≡ h.name → map (λ x. x.name) (set hs i h') ≡ map (λ x. x.name) hs
+pub kept_names : (hs : List KernelCalls) (i : ℕ) (h h' : KernelCalls) → i < length hs → h ≡ get_or hs i h → h'.name ≡ h.name → map (λ x. x.name) (set hs i h') ≡ map (λ x. x.name) hs
 kept_names hs i h h' near is same = map-set (λ x. x.name) hs i h' ∙ ap (set (map (λ x. x.name) hs) i) (same ∙ ap (λ x. x.name) is ∙ sym (get_or-map (λ x. x.name) hs i h 0 near)) ∙ set-get_or (map (λ x. x.name) hs) i 0
 
 -- the list of a half to which a call was added
-pub told_list : (hs : List Heard) (i : ℕ) (h h' : Heard) (c : Call) → i < length hs → h ≡ get_or hs i h → h'.calls ≡ h.calls ++ c ∷ [] → h'.calls ≡ get_or (map (λ x. x.calls) hs) i [] ++ c ∷ []
+pub told_list : (hs : List KernelCalls) (i : ℕ) (h h' : KernelCalls) (c : Call) → i < length hs → h ≡ get_or hs i h → h'.calls ≡ h.calls ++ c ∷ [] → h'.calls ≡ get_or (map (λ x. x.calls) hs) i [] ++ c ∷ []
 told_list hs i h h' c near is told = told ∙ ap (λ xs. xs ++ c ∷ []) (ap (λ x. x.calls) is ∙ sym (get_or-map (λ x. x.calls) hs i h [] near))
 
 -- ---- the calls of the threads
 
-pub nothing_heard : (hs : List Heard) → ((k : ℕ) → heard_in (get_elem? hs k) ≡ []) → (i : ℕ) → get_or (map (λ h. h.calls) hs) i [] ≡ []
+pub nothing_heard : (hs : List KernelCalls) → ((k : ℕ) → heard_in (get_elem? hs k) ≡ []) → (i : ℕ) → get_or (map (λ h. h.calls) hs) i [] ≡ []
 nothing_heard [] empty zero = refl
 nothing_heard [] empty (suc i) = refl
 nothing_heard (h ∷ hs) empty zero = empty 0

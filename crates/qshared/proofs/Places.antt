@@ -1,9 +1,9 @@
 -- The index of a thread among the threads of a roster.
 use Rattle.qshared.proofs.Common.{◌≡◌, ℕ, suc, zero, ◌+◌, ◌<◌, List, [], ◌∷◌, length, get_or, refl, ap, sym, subst, ◌∙◌, cond, arith, true, false, eqb, None, Some, is_some, ◌||◌, position_from, AllByRecursion, eqb-true, ne_eqb, eq-eqb, true≢false, position_from-zero, same_Some, none-some, is_among, Rises, threads_of, members_of, is_there, member_at, place}
-use Rattle.qstate.specs.declared.seat.Seat.{Seat}
-use Rattle.qstate.specs.declared.thread.Thread.{Thread}
-use Rattle.qstate.specs.Thread.{seat_in}
-use Rattle.qstate.specs.Threads.{IsSeatIn}
+use Rattle.qkernel_state.specs.declared.thread_ref.ThreadRef.{ThreadRef}
+use Rattle.qkernel_state.specs.declared.thread.Thread.{Thread}
+use Rattle.qkernel_state.specs.Thread.{seat_in}
+use Rattle.qkernel_state.specs.Threads.{IsSeatIn}
 
 -- thread t is at index i, and at no index before
 abbrev pub IsAt : List ℕ → ℕ → ℕ → Type 0
@@ -90,12 +90,12 @@ same_from u (t ∷ threads) i = ap (cond (eqb t.member.thread u) (Some i)) (same
 pub place_is_seat : (threads : List Thread) (u : ℕ) → place (threads_of (members_of threads)) u ≡ seat_in threads u
 place_is_seat threads u = position_from-zero (λ v. eqb v u) (threads_of (members_of threads)) ∙ same_from u threads 0 ∙ sym (position_from-zero (λ t. eqb t.member.thread u) threads)
 
--- the index of the thread of a `Seat`
-pub seated : (threads : List Thread) (u k : ℕ) (seat : Seat) → IsSeatIn threads seat → seat.thread ≡ u → k ≡ seat.index → place (threads_of (members_of threads)) u ≡ Some k
+-- the index of the thread of a `ThreadRef`
+pub seated : (threads : List Thread) (u k : ℕ) (seat : ThreadRef) → IsSeatIn threads seat → seat.thread ≡ u → k ≡ seat.index → place (threads_of (members_of threads)) u ≡ Some k
 seated threads u k seat at same index = place_is_seat threads u ∙ ap (seat_in threads) (sym same) ∙ at ∙ ap Some (sym index)
 
--- the `Seat` of a thread that has this index
-pub seat_at_place : (threads : List Thread) (seat : Seat) → place (threads_of (members_of threads)) seat.thread ≡ Some seat.index → IsSeatIn threads seat
+-- the `ThreadRef` of a thread that has this index
+pub seat_at_place : (threads : List Thread) (seat : ThreadRef) → place (threads_of (members_of threads)) seat.thread ≡ Some seat.index → IsSeatIn threads seat
 seat_at_place threads seat at = sym (place_is_seat threads seat.thread) ∙ at
 
 -- a thread that isn't in the roster has no index

@@ -20,25 +20,25 @@ not_nil x xs e = let n : suc (length xs) ≡ zero = ap length e in omega arith
 
 -- ---- lists of completions
 
-pub turn_once : (once : List (List Completion)) (later : List Completion) (x : Completion) (xs : List Completion) → in_turn (once ++ (x ∷ xs) ∷ []) later ≡ in_turn once later ++ x ∷ xs
-turn_once [] later x xs = append-nil (x ∷ xs)
-turn_once ((y ∷ ys) ∷ once) later x xs = ap (λ zs. y ∷ ys ++ zs) (turn_once once later x xs) ∙ sym (append_assoc (y ∷ ys) (in_turn once later) (x ∷ xs))
-turn_once ([] ∷ once) [] x xs = turn_once once [] x xs
-turn_once ([] ∷ once) (z ∷ later) x xs = ap (λ zs. z ∷ zs) (turn_once once later x xs)
+pub scratch_once : (once : List (List Completion)) (later : List Completion) (x : Completion) (xs : List Completion) → in_turn (once ++ (x ∷ xs) ∷ []) later ≡ in_turn once later ++ x ∷ xs
+scratch_once [] later x xs = append-nil (x ∷ xs)
+scratch_once ((y ∷ ys) ∷ once) later x xs = ap (λ zs. y ∷ ys ++ zs) (scratch_once once later x xs) ∙ sym (append_assoc (y ∷ ys) (in_turn once later) (x ∷ xs))
+scratch_once ([] ∷ once) [] x xs = scratch_once once [] x xs
+scratch_once ([] ∷ once) (z ∷ later) x xs = ap (λ zs. z ∷ zs) (scratch_once once later x xs)
 
-pub turn_none : (once : List (List Completion)) (later : List Completion) → length later ≤ waits once → in_turn (once ++ [] ∷ []) later ≡ in_turn once later
-turn_none [] [] few = refl
-turn_none [] (z ∷ later) few = absurd (omega arith)
-turn_none ((y ∷ ys) ∷ once) later few = ap (λ zs. y ∷ ys ++ zs) (turn_none once later few)
-turn_none ([] ∷ once) [] few = turn_none once [] (omega arith)
-turn_none ([] ∷ once) (z ∷ later) few = ap (λ zs. z ∷ zs) (turn_none once later (omega arith))
+pub scratch_none : (once : List (List Completion)) (later : List Completion) → length later ≤ waits once → in_turn (once ++ [] ∷ []) later ≡ in_turn once later
+scratch_none [] [] few = refl
+scratch_none [] (z ∷ later) few = absurd (omega arith)
+scratch_none ((y ∷ ys) ∷ once) later few = ap (λ zs. y ∷ ys ++ zs) (scratch_none once later few)
+scratch_none ([] ∷ once) [] few = scratch_none once [] (omega arith)
+scratch_none ([] ∷ once) (z ∷ later) few = ap (λ zs. z ∷ zs) (scratch_none once later (omega arith))
 
-pub turn_later : (before : List (List Completion)) (later : List Completion) (x : Completion) → waits before ≡ length later → in_turn (before ++ [] ∷ []) (later ++ x ∷ []) ≡ in_turn (before ++ [] ∷ []) later ++ x ∷ []
-turn_later [] [] x same = refl
-turn_later [] (z ∷ later) x same = absurd (omega arith)
-turn_later ((y ∷ ys) ∷ before) later x same = ap (λ zs. y ∷ ys ++ zs) (turn_later before later x same) ∙ sym (append_assoc (y ∷ ys) (in_turn (before ++ [] ∷ []) later) (x ∷ []))
-turn_later ([] ∷ before) [] x same = absurd (omega arith)
-turn_later ([] ∷ before) (z ∷ later) x same = ap (λ zs. z ∷ zs) (turn_later before later x (omega arith))
+pub scratch_later : (before : List (List Completion)) (later : List Completion) (x : Completion) → waits before ≡ length later → in_turn (before ++ [] ∷ []) (later ++ x ∷ []) ≡ in_turn (before ++ [] ∷ []) later ++ x ∷ []
+scratch_later [] [] x same = refl
+scratch_later [] (z ∷ later) x same = absurd (omega arith)
+scratch_later ((y ∷ ys) ∷ before) later x same = ap (λ zs. y ∷ ys ++ zs) (scratch_later before later x same) ∙ sym (append_assoc (y ∷ ys) (in_turn (before ++ [] ∷ []) later) (x ∷ []))
+scratch_later ([] ∷ before) [] x same = absurd (omega arith)
+scratch_later ([] ∷ before) (z ∷ later) x same = ap (λ zs. z ∷ zs) (scratch_later before later x (omega arith))
 
 pub waits_none : (once : List (List Completion)) → waits (once ++ [] ∷ []) ≡ waits once + 1
 waits_none [] = refl
@@ -50,11 +50,11 @@ waits_once [] x xs = refl
 waits_once ([] ∷ once) x xs = ap suc (waits_once once x xs)
 waits_once ((y ∷ ys) ∷ once) x xs = waits_once once x xs
 
-turn_some : (once : List (List Completion)) (later : List Completion) → 0 < length later → length later ≤ waits once → in_turn once later ≡ [] → ⊥
-turn_some [] later some few e = absurd (omega (arith, some, few))
-turn_some ((y ∷ ys) ∷ once) later some few e = not_nil y (ys ++ in_turn once later) e
-turn_some ([] ∷ once) [] some few e = absurd (omega arith)
-turn_some ([] ∷ once) (z ∷ later) some few e = not_nil z (in_turn once later) e
+scratch_some : (once : List (List Completion)) (later : List Completion) → 0 < length later → length later ≤ waits once → in_turn once later ≡ [] → ⊥
+scratch_some [] later some few e = absurd (omega (arith, some, few))
+scratch_some ((y ∷ ys) ∷ once) later some few e = not_nil y (ys ++ in_turn once later) e
+scratch_some ([] ∷ once) [] some few e = absurd (omega arith)
+scratch_some ([] ∷ once) (z ∷ later) some few e = not_nil z (in_turn once later) e
 
 few_later : (once : List (List Completion)) (later : List Completion) (waiting : Bool) → AreLater waiting once later → length later ≤ waits once
 few_later once later true l = omega (arith, l.0)
@@ -75,12 +75,12 @@ end_open (xs ∷ ys ∷ once) = end_open (ys ∷ once)
 -- there are no later completions if there are no completions at all
 pub none_later : (once : List (List Completion)) (later : List Completion) (blocked : Bool) → AreLater blocked once later → in_turn once later ≡ [] → later ≡ []
 none_later once [] blocked l e = refl
-none_later once (z ∷ later) blocked l e = absurd (turn_some once (z ∷ later) (omega arith) (few_later once (z ∷ later) blocked l) e)
+none_later once (z ∷ later) blocked l e = absurd (scratch_some once (z ∷ later) (omega arith) (few_later once (z ∷ later) blocked l) e)
 
 -- if a call of a thread didn't complete in its own event, the thread is blocked or has a completion
 pub waited_due : (waiting : Bool) (once : List (List Completion)) (later : List Completion) → AreLater waiting once later → 0 < waits once → waiting ≡ false → in_turn once later ≡ [] → ⊥
 waited_due true once later l some free e = true≢false free
-waited_due false once later l some free e = turn_some once later (omega (arith, l.0, some)) (omega (arith, l.0)) e
+waited_due false once later l some free e = scratch_some once later (omega (arith, l.0, some)) (omega (arith, l.0)) e
 
 -- a call that blocks is one more, and the last
 pub now_waits : (once : List (List Completion)) (later : List Completion) → AreLater false once later → AreLater true (once ++ [] ∷ []) later
@@ -150,8 +150,8 @@ pub owed_own : (once : List (List Completion)) (later due ys : List Completion) 
     → AreLater blocked (once ++ ys ∷ []) (later ++ []) × (in_turn (once ++ ys ∷ []) (later ++ []) ≡ due ++ ys)
 owed_own once later due ys blocked l whole cases =
     subst (λ ls. AreLater blocked (once ++ ys ∷ []) ls × (in_turn (once ++ ys ∷ []) ls ≡ due ++ ys)) (sym (append-nil later)) (elim cases [
-      | inl none ↦ rw (none.0, none.1) (now_waits once later l, turn_none once later (omega (arith, l.0)) ∙ whole ∙ sym (append-nil due))
-      | inr some ↦ rw (some.1, some.2) (still_none once later some.0 [] l, turn_once once later some.0 [] ∙ ap (λ zs. zs ++ some.0 ∷ []) whole)
+      | inl none ↦ rw (none.0, none.1) (now_waits once later l, scratch_none once later (omega (arith, l.0)) ∙ whole ∙ sym (append-nil due))
+      | inr some ↦ rw (some.1, some.2) (still_none once later some.0 [] l, scratch_once once later some.0 [] ∙ ap (λ zs. zs ++ some.0 ∷ []) whole)
     ])
 
 -- after another thread's event
@@ -170,7 +170,7 @@ owed_other once later due ys old blocked l whole cases =
         let many : waits once ≡ waits p.0 + 1 = ap waits p.1 ∙ waits_none p.0 in
         let same : waits p.0 ≡ length later = omega (arith, many, w.0) in (
           (w.0 ∙ sym (length-append later (x ∷ [])) ∙ omega arith, λ b. absurd (true≢false (sym b))),
-          ap (λ os. in_turn os (later ++ x ∷ [])) p.1 ∙ turn_later p.0 later x same ∙ ap (λ os. in_turn os later ++ x ∷ []) (sym p.1) ∙ ap (λ zs. zs ++ x ∷ []) whole,
+          ap (λ os. in_turn os (later ++ x ∷ [])) p.1 ∙ scratch_later p.0 later x same ∙ ap (λ os. in_turn os later ++ x ∷ []) (sym p.1) ∙ ap (λ zs. zs ++ x ∷ []) whole,
         )
 
 -- ---- the completions that a port collects

@@ -6,7 +6,7 @@ use Rattle.qmodel.specs.declared.call.Completion.{Completion}
 use Rattle.qrules.specs.Lawful.{IsLawful}
 use Rattle.qrules.specs.Properties.{HasProperties}
 use Rattle.qrules.specs.Trace.{Trace}
-use Rattle.qpast.specs.History.{Extends}
+use Rattle.qshared.specs.History.{Extends}
 use Rattle.qshared.specs.Asking.{calls_of}
 use Rattle.qshared.specs.Performing.{Admits, IsEvent, IsOpen, IsOwn, IsRefused, Refuses}
 use Rattle.qshared.specs.declared.port.Called.{Called}
@@ -33,7 +33,7 @@ pub record AtPast (roster : List Member) (t : ℕ) (made : List Call) (seen : Tr
 pub record Happens (roster : List Member) (admits : Admits) (t : ℕ) (c : Call) (X : List Completion)
     (past after : Trace) : Type 0 where
   pub event : IsEvent roster admits past t c X
-  pub then : after ≡ record { thread = t; call = c; endings = X } ∷ past
+  pub then : after ≡ record { thread = t; call = c; completions = X } ∷ past
 
 -- the outcome of a call after a history, and the history afterwards. A refused call is returned with an
 -- error, and the history stays the same. Any other call is an event. A Done has the completion of the call

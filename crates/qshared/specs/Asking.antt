@@ -7,8 +7,8 @@ use Rattle.qtables.specs.declared.member.Member.{Member}
 use Rattle.qmodel.specs.declared.call.Call.{Call}
 use Rattle.qrules.specs.Facts.{threads_of}
 use Rattle.qrules.specs.Trace.{Trace}
-use Rattle.qpast.specs.declared.asking.Asked.{Asked}
-use Rattle.qpast.specs.declared.asking.Heard.{Heard}
+use Rattle.qshared.specs.declared.asking.PortCalls.{PortCalls}
+use Rattle.qshared.specs.declared.asking.KernelCalls.{KernelCalls}
 use Rattle.qshared.specs.Due.{HasWaited, place}
 
 -- the calls of thread t, in order
@@ -34,12 +34,12 @@ AreCallsOf roster lists past =
     (t i : ℕ) → place (threads_of roster) t ≡ Some i → slice_index_or lists i [] ≡ calls_of past t
 
 -- the calls that the thread at an index asked for; the list is empty if there is no such index
-abbrev pub asked_in : maybe.Option Asked → List Call
+abbrev pub asked_in : maybe.Option PortCalls → List Call
 asked_in none = []
 asked_in (some a) = a.calls
 
 -- the calls of the thread at an index that are kept with the history; the list is empty if there is no such
 -- index
-abbrev pub heard_in : maybe.Option Heard → List Call
+abbrev pub heard_in : maybe.Option KernelCalls → List Call
 heard_in none = []
 heard_in (some h) = h.calls

@@ -11,8 +11,8 @@ use Rattle.qrules.specs.Facts.{is_blocked}
 use Rattle.qrules.specs.Lawful.{facts_of}
 use Rattle.qrules.specs.Outcome.{Answers}
 use Rattle.qrules.specs.Trace.{Trace}
-use Rattle.qshared.specs.Due.{endings_due, of_thread}
-use Rattle.qshared.specs.Past.{has_ending_of, is_down}
+use Rattle.qshared.specs.Due.{completions_due, of_thread}
+use Rattle.qshared.specs.Past.{has_completion_of, is_down}
 use Rattle.qshared.specs.declared.port.Called.{Called}
 use Rattle.qshared.specs.UnderLock.{UnderLock}
 use Rattle.qshared.specs.declared.port.Called.TheVariants.{Done, Blocked, Refused}
@@ -41,7 +41,7 @@ abbrev pub IsReason : List Member → Trace → ℕ → Errno → Type 0
 IsReason roster past t NoThread = is_some (member_at roster t) ≡ false
 IsReason roster past t Down = (is_some (member_at roster t) ≡ true) × (is_down past ≡ true)
 IsReason roster past t Busy =
-    IsServed roster past t × ((is_blocked (facts_of roster past) t ≡ true) ⊎ ¬ (endings_due past t ≡ []))
+    IsServed roster past t × ((is_blocked (facts_of roster past) t ≡ true) ⊎ ¬ (completions_due past t ≡ []))
 IsReason roster past t e = ⊥
 
 -- the error of a refused call: it refuses every call of the thread, or the log refuses the call of a free
@@ -58,14 +58,14 @@ pub record IsEvent (roster : List Member) (admits : Admits) (past : Trace) (t : 
   pub answers : Answers (facts_of roster past) t c X
 
 -- x is the only one of these completions that is for thread t, and it belongs to the call of number i
-pub record IsOwn (t i : ℕ) (endings : List Completion) (x : Completion) : Type 0 where
-  pub only : of_thread t endings ≡ x ∷ []
+pub record IsOwn (t i : ℕ) (completions : List Completion) (x : Completion) : Type 0 where
+  pub only : of_thread t completions ≡ x ∷ []
   pub number : x.call ≡ i
 
 -- none of these completions is for thread t, and none belongs to the call of number i
-pub record IsOpen (t i : ℕ) (endings : List Completion) : Type 0 where
-  pub none : of_thread t endings ≡ []
-  pub unended : has_ending_of endings i ≡ false
+pub record IsOpen (t i : ℕ) (completions : List Completion) : Type 0 where
+  pub none : of_thread t completions ≡ []
+  pub unended : has_completion_of completions i ≡ false
 
 -- the outcome of an event, given the caller's own completion, if there is one
 abbrev pub outcome : Option Completion → Called
@@ -79,9 +79,9 @@ Performs roster refuses admits old t c (Refused e given) new =
     (new ≡ old) × (given ≡ c) × IsRefused roster refuses old.past t c e
 Performs roster refuses admits old t c (Done x) new =
     (X : List Completion) × IsEvent roster admits old.past t c X
-    × (new.past ≡ record { thread = t; call = c; endings = X } ∷ old.past)
+    × (new.past ≡ record { thread = t; call = c; completions = X } ∷ old.past)
     × IsOwn t (length old.past + 1) X x
 Performs roster refuses admits old t c Blocked new =
     (X : List Completion) × IsEvent roster admits old.past t c X
-    × (new.past ≡ record { thread = t; call = c; endings = X } ∷ old.past)
+    × (new.past ≡ record { thread = t; call = c; completions = X } ∷ old.past)
     × IsOpen t (length old.past + 1) X

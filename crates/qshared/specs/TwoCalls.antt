@@ -12,8 +12,8 @@ use Rattle.qshared.specs.Performing.{Admits, Refuses}
 use Rattle.qshared.specs.declared.port.Called.{Called}
 use Rattle.qshared.specs.declared.port.Called.TheVariants.{Done, Blocked}
 use Rattle.qshared.specs.declared.port.Called.TheVariants as called
-use Rattle.qshared.specs.declared.port.CalledBoth.{CalledBoth}
-use Rattle.qshared.specs.declared.port.CalledBoth.TheVariants.{Both, First}
+use Rattle.qshared.specs.declared.port.CalledPair.{CalledPair}
+use Rattle.qshared.specs.declared.port.CalledPair.TheVariants.{Both, First}
 
 -- true if a call succeeded, by its result
 abbrev pub is_ok : Mark → Bool
@@ -27,30 +27,30 @@ is_accepted Blocked = false
 is_accepted (called.Refused errno call) = false
 
 -- the number of the two calls that are events
-abbrev pub calls_in : CalledBoth → ℕ
+abbrev pub calls_in : CalledPair → ℕ
 calls_in (Both x second) = 1 + (if is_call second then 1 else 0)
 calls_in (First first given) = if is_call first then 1 else 0
 
 -- the calls of the two that are events
-abbrev pub asked_by : Call → Call → CalledBoth → List Call
+abbrev pub asked_by : Call → Call → CalledPair → List Call
 asked_by c d (Both x second) = c ∷ (if is_call second then d ∷ [] else [])
 asked_by c d (First first given) = if is_call first then c ∷ [] else []
 
 -- the completions that the port took with this outcome
-abbrev pub gives_both : CalledBoth → List Completion
+abbrev pub gives_both : CalledPair → List Completion
 gives_both (Both x second) = x ∷ gives second
 gives_both (First first given) = gives first
 
 -- true if, after this outcome, the completion of a blocked call isn't collected yet; before says whether this
 -- was true before the calls
-abbrev pub pends_both : CalledBoth → Bool → Bool
+abbrev pub pends_both : CalledPair → Bool → Bool
 pends_both (Both x second) before = pends second before
 pends_both (First first given) before = pends first before
 
 -- two calls after a history, with no event between them. The second is tried exactly if the first completed
 -- in its own event and succeeded, and then after that event. If it isn't tried, it is returned.
 abbrev pub AnsweredBoth :
-    List Member → Refuses → Admits → ℕ → Call → Call → CalledBoth → Trace → Trace → Type 0
+    List Member → Refuses → Admits → ℕ → Call → Call → CalledPair → Trace → Trace → Type 0
 AnsweredBoth roster refuses admits t c d (Both x second) past after =
     (is_ok x.mark ≡ true)
     × ((between : Trace) × Answered roster refuses admits t c (Done x) past between

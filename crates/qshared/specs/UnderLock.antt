@@ -9,19 +9,19 @@ use Rattle.qrules.specs.Properties.{HasProperties}
 use Rattle.qrules.specs.Trace.{Trace}
 use Rattle.qkernel.specs.Stands.{StandsAt}
 use Rattle.qkernel.specs.Kernel.{State}
-use Rattle.qhandoff.specs.declared.view.Desk.{Desk}
+use Rattle.qhandoff.specs.declared.view.KernelView.{KernelView}
 use Rattle.qshared.specs.Due.{IsOwed, IsTied, place}
 
 -- the value under the lock as contracts see it: the kernel, the knowledge of its token about the cells, and
 -- the history
 pub record UnderLock : Type 0 where
   pub kernel : State
-  pub desk : Desk Completion
+  pub kernel_view : KernelView Completion
   pub past : Trace
 
 -- the history is valid and has the six properties, the kernel matches it, and the later completions of the
 -- threads were put into the cells
-pub record Agrees (roster : List Member) (kernel : State) (d : Desk Completion) (past : Trace) : Type 0 where
+pub record Agrees (roster : List Member) (kernel : State) (d : KernelView Completion) (past : Trace) : Type 0 where
   pub lawful : IsLawful roster past
   pub properties : HasProperties roster past
   pub stands : StandsAt roster kernel past
@@ -30,7 +30,7 @@ pub record Agrees (roster : List Member) (kernel : State) (d : Desk Completion) 
 
 -- the invariant of the kernel of this roster while the lock is free: the condition above, and there are as
 -- many cells as threads
-pub record IsUnderLock (roster : List Member) (slots : ℕ) (kernel : State) (d : Desk Completion)
+pub record IsUnderLock (roster : List Member) (slots : ℕ) (kernel : State) (d : KernelView Completion)
     (threads : List ℕ) (past : Trace) : Type 0 where
   pub rises : IsRoster roster
   pub sized : length roster ≡ slots

@@ -4,15 +4,15 @@ ghost use Rattle.std.specs.Prelude.{◌≡◌, ◌<◌, ◌≤◌, ◌+◌, ◌�
 ghost use Rattle.qmodel.specs.declared.call.Call.TheVariants.{Shutdown};
 ghost use Rattle.qshared.specs.Private.Rooms.{HasRoomFor};
 
-use crate::copies::Copies;
-use crate::room::Room;
+use crate::logged_copy::LoggedCopy;
+use crate::preallocated::Preallocated;
 use qbase::errno::Errno;
 use qkernel::event_log::EventLog;
 use qmodel::call::Call;
 use std::alloc::Global;
 
 /// The most completions that an event can have.
-const ENDINGS: usize = 64;
+const COMPLETIONS: usize = 64;
 
 /// Returns the copy of the call and room for a copy of its buffer. Makes room in the log for the call's event
 /// and one more event. A Shutdown is always admitted, since the room for it was made before.
@@ -24,8 +24,8 @@ pub(crate) fn admit(
     log: &mut EventLog,
     limit: usize,
     call: &Call,
-    copies: Option<Copies>,
-) -> Result<(Call, Room), Errno>
+    copies: Option<LoggedCopy>,
+) -> Result<(Call, Preallocated), Errno>
     requires copies { IfSome copies (λ c. c ≡ call.now) }
     requires room { (length log.old.events < limit) × (limit ≤ 2 ^ 20) }
     ensures same { log.new ≡ record log.old { call_room = log.new.call_room; completion_room = log.new.completion_room } }
@@ -35,7 +35,7 @@ pub(crate) fn admit(
     ensures refused { IfErr result (λ e. ¬ (call.now ≡ Shutdown) × (((e ≡ Errno.TraceFull) × (length log.old.events + 1 ≡ limit)) ⊎ ((e ≡ Errno.NoMemory) × (length log.old.events + 1 < limit)))) }
 {
     if matches!(call, Call::Shutdown) {
-        return Ok((Call::Shutdown, Room::none(alloc)));
+        return Ok((Call::Shutdown, Preallocated::none(alloc)));
     }
     if log.len() + 1 == limit {
         return Err(Errno::TraceFull);
@@ -43,7 +43,7 @@ pub(crate) fn admit(
     let Some(copies) = copies else {
         return Err(Errno::NoMemory);
     };
-    if log.reserve(2, 2 * ENDINGS).is_err() {
+    if log.reserve(2, 2 * COMPLETIONS).is_err() {
         return Err(Errno::NoMemory);
     }
     Ok(copies.into_parts())

@@ -8,21 +8,21 @@ ghost use Rattle.qrules.specs.Facts.{is_blocked};
 ghost use Rattle.qrules.specs.Lawful.{facts_of, IsLawful};
 ghost use Rattle.qrules.specs.Outcome.{Answers};
 ghost use Rattle.qrules.specs.Trace.{Trace};
-ghost use Rattle.qstate.specs.Kept.{members_of};
-ghost use Rattle.qstate.specs.Threads.{IsSeatIn};
+ghost use Rattle.qkernel_state.specs.Kept.{members_of};
+ghost use Rattle.qkernel_state.specs.Threads.{IsSeatIn};
 ghost use Rattle.qshared.specs.Past.{is_down};
 ghost use Rattle.qshared.specs.Performing.{Admits, Refuses};
 
-use crate::copies::Copies;
+use crate::logged_copy::LoggedCopy;
 use qbase::errno::Errno;
-use qkernel::endings::Endings;
+use qkernel::completions::Completions;
 use qkernel::kernel::Kernel;
-use qkernel::seat::Seat;
+use qkernel::thread_ref::ThreadRef;
 use qmodel::call::Call;
 use std::alloc::Global;
 
 /// A log by which a locked kernel keeps its history. A call is noted before it is made, and the log may
-/// refuse it. After the call was made, it is an event with its completions. `Kept` keeps the events in
+/// refuse it. After the call was made, it is an event with its completions. `RecordedHistory` keeps the events in
 /// memory, and `Unkept` keeps none.
 pub trait Log: Drop {
     /// The roster of the kernel.
@@ -42,14 +42,14 @@ pub trait Log: Drop {
     /// The condition under which the log notes a call.
     ghost admits: { Admits };
 
-    /// Copies a call for `note`, before the lock is taken. Returns `None` if the log needs no copy, or if the
+    /// LoggedCopy a call for `note`, before the lock is taken. Returns `None` if the log needs no copy, or if the
     /// allocator refuses.
-    fn copies(alloc: Global, call: &Call) -> Option<Copies>
+    fn copies(alloc: Global, call: &Call) -> Option<LoggedCopy>
         ensures copied { IfSome result (λ copies. copies ≡ call.now) };
 
     /// Notes a call before it is made; `made` calls were made before it. If the call is refused, nothing
     /// changes.
-    fn note(&mut self, made: u64, call: &Call, copies: Option<Copies>) -> Result<(), Errno>
+    fn note(&mut self, made: u64, call: &Call, copies: Option<LoggedCopy>) -> Result<(), Errno>
         requires copies { IfSome copies (λ c. c ≡ call.now) }
         requires up { is_down (past self.old) ≡ false }
         requires made { made ≡ length (past self.old) }
@@ -61,14 +61,14 @@ pub trait Log: Drop {
 
     /// Adds an event: the noted call, which the thread at this index made, with these completions. The thread
     /// wasn't blocked before the call.
-    fn event(&mut self, kernel: &Kernel, seat: &Seat, endings: &Endings)
+    fn event(&mut self, kernel: &Kernel, seat: &ThreadRef, completions: &Completions)
         requires roster { members_of kernel.now.threads ≡ roster self.old }
         requires seat { IsSeatIn kernel.now.threads seat.now }
         requires ready { ready self.old ≡ true }
         requires up { is_down (past self.old) ≡ false }
         requires lawful { IsLawful (roster self.old) (past self.old) }
         requires thread { (is_some (member_at (roster self.old) seat.now.thread) ≡ true) × (is_blocked (facts_of (roster self.old) (past self.old)) seat.now.thread ≡ false) }
-        requires answers { Answers (facts_of (roster self.old) (past self.old)) seat.now.thread (noted self.old) endings.now.items }
-        ensures event { past self.new ≡ record { thread = seat.now.thread; call = noted self.old; endings = endings.now.items } ∷ past self.old }
+        requires answers { Answers (facts_of (roster self.old) (past self.old)) seat.now.thread (noted self.old) completions.now.items }
+        ensures event { past self.new ≡ record { thread = seat.now.thread; call = noted self.old; completions = completions.now.items } ∷ past self.old }
         ensures same { roster self.new ≡ roster self.old };
 }

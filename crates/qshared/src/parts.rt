@@ -3,10 +3,10 @@
 ghost use Rattle.std.specs.Prelude.{◌≡◌, ◌≤◌, ◌^◌, ◌⊎◌, ◌<◌, ℕ, [], length, map, IfOk, IfErr};
 ghost use lib.ListN.{get_elem?};
 ghost use Rattle.qrules.specs.Facts.{threads_of};
-ghost use Rattle.qstate.specs.Kept.{members_of};
+ghost use Rattle.qkernel_state.specs.Kept.{members_of};
 ghost use Rattle.qkernel.specs.Stands.{StandsAt};
-ghost use Rattle.qhandoff.specs.Steps.{seated_desk};
-ghost use Rattle.qhandoff.specs.Words.{cells_id, kernel_id, count, desk, took, IsRow};
+ghost use Rattle.qhandoff.specs.Steps.{seated_kernel_view};
+ghost use Rattle.qhandoff.specs.Words.{cells_id, kernel_id, count, kernel_view, took, IsRow};
 ghost use Rattle.qshared.specs.Asking.{asked_in, heard_in};
 
 use qbase::errno::Errno;
@@ -15,8 +15,8 @@ use qhandoff::cells::Cells;
 use qhandoff::seats::{KernelSeat, ThreadSeat};
 use qkernel::kernel::Kernel;
 use qmodel::call::Completion;
-use qpast::asking::{Asked, Heard, halves};
-use qpast::history::{History, Seen};
+use crate::asking::{PortCalls, KernelCalls, halves};
+use crate::history::{History, Prefix};
 use qtables::member::Member;
 use qtables::roster::Roster;
 use std::alloc::{AllocError, Global};
@@ -33,11 +33,11 @@ pub struct Parts {
     pub(crate) kernel: Kernel,
     pub(crate) threads: Vec<ThreadNo>,
     pub(crate) limit: usize,
-    pub(crate) asked: Vec<Asked>,
-    pub(crate) heard: Vec<Heard>,
+    pub(crate) asked: Vec<PortCalls>,
+    pub(crate) heard: Vec<KernelCalls>,
     pub(crate) history: History,
-    pub(crate) seen: Seen,
-    ghost fits: { (kernel_id seat ≡ cells_id cells) × (desk seat ≡ seated_desk (count cells) (count cells)) × (blank.parts ≡ count cells) },
+    pub(crate) seen: Prefix,
+    ghost fits: { (kernel_id seat ≡ cells_id cells) × (kernel_view seat ≡ seated_kernel_view (count cells) (count cells)) × (blank.parts ≡ count cells) },
     ghost row: { (length seats.items ≡ count cells) × IsRow (cells_id cells) seats.items × ((k : ℕ) → took (get_elem? seats.items k) ≡ []) },
     ghost stands: { StandsAt (members_of kernel.threads) kernel [] },
     ghost threads_are: { (threads.items ≡ threads_of (members_of kernel.threads)) × (length threads.items ≡ count cells) },
@@ -59,7 +59,7 @@ fn threads_in(alloc: Global, members: &[Member]) -> Result<Vec<ThreadNo>, AllocE
 }
 
 /// Returns `many` empty lists of calls, each in two halves.
-fn lists(alloc: Global, many: usize) -> Result<(Vec<Asked>, Vec<Heard>), AllocError>
+fn lists(alloc: Global, many: usize) -> Result<(Vec<PortCalls>, Vec<KernelCalls>), AllocError>
     ensures names { IfOk result (λ r. map (λ a. a.name) r.0.items ≡ map (λ h. h.name) r.1.items) }
     ensures many { IfOk result (λ r. (length r.0.items ≡ many) × (length r.1.items ≡ many)) }
     ensures empty { IfOk result (λ r. ((k : ℕ) → asked_in (get_elem? r.0.items k) ≡ []) × ((k : ℕ) → heard_in (get_elem? r.1.items k) ≡ [])) }
@@ -81,7 +81,7 @@ impl Parts {
     /// Makes the parts of a kernel for these threads, whose trace has at most `trace_limit` events. A kernel
     /// that keeps no history ignores the limit. Fails with `Inval` unless the limit is from 2 to 1,048,576,
     /// and with `NoMemory` if the allocator refuses.
-    /// `two_threads.rt` of `crates/balsaeuchre_uses` hands them to a function over `K: Tie`.
+    /// `two_threads.rt` of `crates/balsaeuchre_examples` hands them to a function over `K: Tie`.
     pub fn new(alloc: Global, roster: &Roster, trace_limit: u32) -> Result<Parts, Errno>
         ensures roster { IfOk result (λ p. members_of p.kernel.threads ≡ roster.now) }
         ensures limit { IfOk result (λ p. p.limit ≡ trace_limit) }

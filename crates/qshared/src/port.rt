@@ -3,21 +3,21 @@
 ghost use Rattle.std.specs.Prelude.{◌≡◌, ◌≤◌, ◌+◌, ◌++◌, [], ◌∷◌, true, false, IfSome, MatchOption, if◌then◌else◌, slice_index_or, Some};
 ghost use Rattle.qrules.specs.Facts.{threads_of};
 ghost use Rattle.qhandoff.specs.Words.{cells_id, thread_id, thread_of, taken, IsThreadOf};
-ghost use Rattle.qpast.specs.History.{Extends};
+ghost use Rattle.qshared.specs.History.{Extends};
 ghost use Rattle.qshared.specs.Asking.{IsSince, calls_of};
 ghost use Rattle.qshared.specs.Due.{AreLater, at_once, collected, place};
 ghost use Rattle.qshared.specs.Answered.{AtPast, IsMet, Answered};
 ghost use Rattle.qshared.specs.Counting.{is_call, gives, pends};
 ghost use Rattle.qshared.specs.TwoCalls.{AnsweredBoth, is_ok, calls_in, asked_by, gives_both, pends_both};
 
-use crate::locked::Locked;
+use crate::lock_state::LockState;
 use crate::log::Log;
-use crate::patience::Patience;
-use crate::seen::Seen;
+use crate::spin_policy::SpinPolicy;
+use crate::observed_prefix::ObservedPrefix;
 use crate::shared::Shared;
 use crate::spinning;
 use crate::tie::Tie;
-use crate::turn::Turn;
+use crate::call_scratch::CallScratch;
 use crossbeam_utils::Backoff;
 use crossbeam_utils::sync::Parker;
 use qbase::bytes::Bytes;
@@ -26,12 +26,12 @@ use qbase::ids::ThreadNo;
 use qhandoff::cells::Cells;
 use qhandoff::seats::ThreadSeat;
 use qmodel::call::{Call, Completion, Mark};
-use qpast::asking::Asked;
-use qpast::history;
+use crate::asking::PortCalls;
+use crate::history;
 use std::sync::Wait;
 use std::sync::ledger::Share;
 
-/// The outcome of a call that a port was asked to make. The calls of `crates/qcalls` read their results from
+/// The outcome of a call that a port was asked to make. The calls of `crates/balsaeuchre_calls` read their results from
 /// it.
 #[derive(Debug, Drop)]
 pub enum Called {
@@ -45,7 +45,7 @@ pub enum Called {
 
 /// The outcome of two calls that are made without freeing the lock between them.
 #[derive(Debug, Drop)]
-pub enum CalledBoth {
+pub enum CalledPair {
     /// The first call completed in its own event, with the result `Ok`, and this is its completion. The
     /// second call had this outcome.
     Both(Completion, Called),
@@ -55,34 +55,34 @@ pub enum CalledBoth {
 }
 
 /// The port by which one thread calls the kernel. There is one for each thread, and it can't be copied.
-/// `opening.rt` of `crates/qcalls` makes callers of two ports.
+/// `opening.rt` of `crates/balsaeuchre_calls` makes callers of two ports.
 #[derive(Drop)]
 pub struct Port<K: Tie> {
     pub(crate) thread: ThreadNo,
     pub(crate) seat: ThreadSeat<Completion>,
-    pub(crate) turn: Turn,
+    pub(crate) scratch: CallScratch,
     // The port's share of the count of all events.
     pub(crate) share: Share<K>,
     pub(crate) calls: u64,
     pub(crate) parker: Parker,
-    pub(crate) patience: Patience,
+    pub(crate) patience: SpinPolicy,
     // The list of its calls that are events. Only contracts read it.
-    pub(crate) asked: Asked,
+    pub(crate) asked: PortCalls,
     // The prefix of the history that it has seen. Only contracts read it.
-    pub(crate) seen: history::Seen,
+    pub(crate) seen: history::Prefix,
     // The prefix of the history that it saw at its last call. Only contracts read it.
-    pub(crate) last: history::Seen,
+    pub(crate) last: history::Prefix,
     ghost seat_is: { thread_id seat ≡ K.names.cells },
     ghost thread_is: { place (threads_of K.names.roster) thread ≡ Some (thread_of seat) },
-    ghost turn_is: { (turn.seat.thread ≡ thread) × (turn.seat.index ≡ thread_of seat) },
-    ghost idle: { turn.endings.value.items ≡ [] },
+    ghost scratch_is: { (scratch.seat.thread ≡ thread) × (scratch.seat.index ≡ thread_of seat) },
+    ghost idle: { scratch.completions.value.items ≡ [] },
     ghost counted: { share.amount ≡ calls },
     ghost part: { share.parts ≡ 1 },
     ghost asked_is: { slice_index_or K.names.lists (thread_of seat) 0 ≡ asked.name },
     ghost seen_is: { seen.name ≡ K.names.history },
     ghost since: { IsSince seen.trace last.trace },
     ghost calls_are: { calls_of last.trace thread ≡ asked.calls },
-    ghost later: { AreLater turn.pending (at_once last.trace thread) (taken seat) },
+    ghost later: { AreLater scratch.pending (at_once last.trace thread) (taken seat) },
 }
 
 /// Returns whether a call is an event.
@@ -155,7 +155,7 @@ fn look(
     seat: &mut ThreadSeat<Completion>,
     cells: &Cells<Completion>,
     pending: &mut bool,
-    patience: &mut Patience,
+    patience: &mut SpinPolicy,
 ) -> Option<Completion>
     requires { IsThreadOf cells.now seat.old }
     ensures seat { (thread_id seat.new ≡ thread_id seat.old) × (thread_of seat.new ≡ thread_of seat.old) }
@@ -177,29 +177,29 @@ fn look(
 
 impl<K: Tie> Port<K> {
     pub(crate) fn new(
-        turn: Turn,
+        scratch: CallScratch,
         seat: ThreadSeat<Completion>,
         share: Share<K>,
         parker: Parker,
-        asked: Asked,
-        seen: history::Seen,
+        asked: PortCalls,
+        seen: history::Prefix,
     ) -> Port<K>
-        requires seat { (thread_id seat ≡ K.names.cells) × (place (threads_of K.names.roster) turn.seat.thread ≡ Some (thread_of seat)) }
-        requires turn { (turn.seat.index ≡ thread_of seat) × (turn.endings.value.items ≡ []) × (turn.pending ≡ false) }
+        requires seat { (thread_id seat ≡ K.names.cells) × (place (threads_of K.names.roster) scratch.seat.thread ≡ Some (thread_of seat)) }
+        requires scratch { (scratch.seat.index ≡ thread_of seat) × (scratch.completions.value.items ≡ []) × (scratch.pending ≡ false) }
         requires taken { taken seat ≡ [] }
         requires share { (share.amount ≡ 0) × (share.parts ≡ 1) }
         requires asked { slice_index_or K.names.lists (thread_of seat) 0 ≡ asked.name }
         requires seen { (seen.name ≡ K.names.history) × (seen.trace ≡ []) × (asked.calls ≡ []) }
-        ensures { (result.seat ≡ seat) × (result.calls ≡ 0) × (result.turn.pending ≡ false) × (result.asked ≡ asked) × (result.seen ≡ seen) × (result.last.trace ≡ []) }
+        ensures { (result.seat ≡ seat) × (result.calls ≡ 0) × (result.scratch.pending ≡ false) × (result.asked ≡ asked) × (result.seen ≡ seen) × (result.last.trace ≡ []) }
     {
         Port {
-            thread: turn.seat.thread(),
+            thread: scratch.seat.thread(),
             seat,
-            turn,
+            scratch,
             share,
             calls: 0,
             parker,
-            patience: Patience::new(),
+            patience: SpinPolicy::new(),
             asked,
             last: seen.again(),
             seen,
@@ -216,49 +216,49 @@ impl<K: Tie> Port<K> {
     /// A log that keeps the history refuses with `TraceFull` if one event of the limit is left, and with
     /// `NoMemory` if there was no memory for the trace. A log that keeps none refuses with `Exhausted` if one
     /// of 2^40 events is left.
-    /// `endpoint.rt` of `crates/qcalls` calls it.
+    /// `endpoint.rt` of `crates/balsaeuchre_calls` calls it.
     pub fn call<L: Log, R: Wait>(&mut self, shared: &Shared<K, L>, rt: &R, call: Call) -> Called
         ensures came { AtPast K.names.roster self.old.thread self.old.asked.calls self.old.seen.trace (λ past. Answered K.names.roster L.refuses L.admits self.old.thread call result past self.new.seen.trace) }
         ensures calls { self.new.calls ≡ self.old.calls + (if is_call result then 1 else 0) }
         ensures asked { self.new.asked.calls ≡ self.old.asked.calls ++ (if is_call result then call ∷ [] else []) }
-        ensures pending { self.new.turn.pending ≡ pends result self.old.turn.pending }
+        ensures pending { self.new.scratch.pending ≡ pends result self.old.scratch.pending }
         ensures taken { collected self.new.last.trace self.new.thread (taken self.new.seat) ≡ collected self.old.last.trace self.old.thread (taken self.old.seat) ++ gives result }
         ensures same { (self.new.thread ≡ self.old.thread) × (thread_of self.new.seat ≡ thread_of self.old.seat) }
     {
-        self.turn.woken = 0;
-        self.turn.lent = None;
-        self.turn.copies = L::copies(self.turn.alloc, &call);
+        self.scratch.woken = 0;
+        self.scratch.lent = None;
+        self.scratch.copies = L::copies(self.scratch.alloc, &call);
         let called = {
             let mut guard = spinning::lock(&*shared.lock, shared.looks, rt);
             self.make(&shared.cells, &mut **guard, call)
         };
-        shared.wake(self.turn.woken);
-        self.turn.copies = None;
+        shared.wake(self.scratch.woken);
+        self.scratch.copies = None;
         called
     }
 
     /// Makes two calls without freeing the lock between them, so that no other thread's call comes between.
     /// The second is made only if the first completes in its own event with `Ok`, as a Reply, an Error or a
     /// Pulse does. Each is refused as by `call`.
-    /// `endpoint.rt` of `crates/qcalls` makes a reply and the next receive with it.
+    /// `endpoint.rt` of `crates/balsaeuchre_calls` makes a reply and the next receive with it.
     pub fn call_both<L: Log, R: Wait>(
         &mut self,
         shared: &Shared<K, L>,
         rt: &R,
         first: Call,
         second: Call,
-    ) -> CalledBoth
+    ) -> CalledPair
         ensures came { AtPast K.names.roster self.old.thread self.old.asked.calls self.old.seen.trace (λ past. AnsweredBoth K.names.roster L.refuses L.admits self.old.thread first second result past self.new.seen.trace) }
         ensures calls { self.new.calls ≡ self.old.calls + calls_in result }
         ensures asked { self.new.asked.calls ≡ self.old.asked.calls ++ asked_by first second result }
-        ensures pending { self.new.turn.pending ≡ pends_both result self.old.turn.pending }
+        ensures pending { self.new.scratch.pending ≡ pends_both result self.old.scratch.pending }
         ensures taken { collected self.new.last.trace self.new.thread (taken self.new.seat) ≡ collected self.old.last.trace self.old.thread (taken self.old.seat) ++ gives_both result }
         ensures same { (self.new.thread ≡ self.old.thread) × (thread_of self.new.seat ≡ thread_of self.old.seat) }
     {
-        self.turn.woken = 0;
-        self.turn.lent = None;
-        self.turn.copies = L::copies(self.turn.alloc, &first);
-        let mut copies = L::copies(self.turn.alloc, &second);
+        self.scratch.woken = 0;
+        self.scratch.lent = None;
+        self.scratch.copies = L::copies(self.scratch.alloc, &first);
+        let mut copies = L::copies(self.scratch.alloc, &second);
         let called = {
             let mut guard = spinning::lock(&*shared.lock, shared.looks, rt);
             let locked = &mut **guard;
@@ -266,22 +266,22 @@ impl<K: Tie> Port<K> {
             match first {
                 Called::Done(completion) => {
                     if is_ok(completion.mark) {
-                        self.turn.copies = copies.take();
+                        self.scratch.copies = copies.take();
                         let second = self.make(&shared.cells, locked, second);
-                        CalledBoth::Both(completion, second)
+                        CalledPair::Both(completion, second)
                     } else {
-                        CalledBoth::First(Called::Done(completion), second)
+                        CalledPair::First(Called::Done(completion), second)
                     }
                 }
-                Called::Blocked => CalledBoth::First(Called::Blocked, second),
+                Called::Blocked => CalledPair::First(Called::Blocked, second),
                 Called::Refused(errno, call) => {
                     let first = Called::Refused(errno, call);
-                    CalledBoth::First(first, second)
+                    CalledPair::First(first, second)
                 }
             }
         };
-        shared.wake(self.turn.woken);
-        self.turn.copies = None;
+        shared.wake(self.scratch.woken);
+        self.scratch.copies = None;
         called
     }
 
@@ -289,23 +289,23 @@ impl<K: Tie> Port<K> {
     fn make<L: Log>(
         &mut self,
         cells: &Cells<Completion>,
-        locked: &mut Locked<K, L>,
+        locked: &mut LockState<K, L>,
         call: Call,
     ) -> Called
         requires cells { cells_id cells.now ≡ K.names.cells }
-        requires copies { IfSome self.old.turn.copies (λ c. c ≡ call) }
+        requires copies { IfSome self.old.scratch.copies (λ c. c ≡ call) }
         ensures met { IsMet K.names.roster self.old.thread self.old.asked.calls self.old.seen.trace locked.old.traced.past }
         ensures came { Answered K.names.roster L.refuses L.admits self.old.thread call result locked.old.traced.past self.new.seen.trace }
         ensures past { locked.new.traced.past ≡ self.new.seen.trace }
         ensures calls { self.new.calls ≡ self.old.calls + (if is_call result then 1 else 0) }
         ensures asked { self.new.asked.calls ≡ self.old.asked.calls ++ (if is_call result then call ∷ [] else []) }
-        ensures pending { self.new.turn.pending ≡ pends result self.old.turn.pending }
+        ensures pending { self.new.scratch.pending ≡ pends result self.old.scratch.pending }
         ensures taken { collected self.new.last.trace self.new.thread (taken self.new.seat) ≡ collected self.old.last.trace self.old.thread (taken self.old.seat) ++ gives result }
         ensures same { (self.new.thread ≡ self.old.thread) × (thread_of self.new.seat ≡ thread_of self.old.seat) }
     {
         let called = locked.call(
             cells,
-            &mut self.turn,
+            &mut self.scratch,
             &mut self.share,
             &mut self.asked,
             &mut self.seen,
@@ -313,7 +313,7 @@ impl<K: Tie> Port<K> {
         );
         self.last = self.seen.again();
         self.calls += events(&called);
-        self.turn.pending = pends(&called, self.turn.pending);
+        self.scratch.pending = pends(&called, self.scratch.pending);
         called
     }
 
@@ -322,26 +322,26 @@ impl<K: Tie> Port<K> {
     /// `qroundtrips` of `bench/programs` polls the two ports of one thread.
     pub fn poll<L: Log>(&mut self, shared: &Shared<K, L>) -> Option<Completion>
         ensures taken { MatchOption result (collected self.new.last.trace self.new.thread (taken self.new.seat) ≡ collected self.old.last.trace self.old.thread (taken self.old.seat)) (λ x. collected self.new.last.trace self.new.thread (taken self.new.seat) ≡ collected self.old.last.trace self.old.thread (taken self.old.seat) ++ x ∷ []) }
-        ensures pending { MatchOption result (self.new.turn.pending ≡ self.old.turn.pending) (λ x. self.new.turn.pending ≡ false) }
+        ensures pending { MatchOption result (self.new.scratch.pending ≡ self.old.scratch.pending) (λ x. self.new.scratch.pending ≡ false) }
         ensures same { (self.new.thread ≡ self.old.thread) × (thread_of self.new.seat ≡ thread_of self.old.seat) × (self.new.calls ≡ self.old.calls) × (self.new.asked ≡ self.old.asked) × (self.new.seen ≡ self.old.seen) }
     {
-        take(&mut self.seat, &shared.cells, &mut self.turn.pending)
+        take(&mut self.seat, &shared.cells, &mut self.scratch.pending)
     }
 
     /// Waits for the thread's completion and takes it. Spins for some microseconds, unless there is only one
     /// processor, and then sleeps until the thread is woken.
-    /// `endpoint.rt` of `crates/qcalls` waits with it.
+    /// `endpoint.rt` of `crates/balsaeuchre_calls` waits with it.
     pub fn wait<L: Log, R: Wait>(&mut self, shared: &Shared<K, L>, rt: &R) -> Completion
-        requires { self.old.turn.pending ≡ true }
+        requires { self.old.scratch.pending ≡ true }
         ensures taken { collected self.new.last.trace self.new.thread (taken self.new.seat) ≡ collected self.old.last.trace self.old.thread (taken self.old.seat) ++ result ∷ [] }
-        ensures pending { self.new.turn.pending ≡ false }
+        ensures pending { self.new.scratch.pending ≡ false }
         ensures same { (self.new.thread ≡ self.old.thread) × (thread_of self.new.seat ≡ thread_of self.old.seat) × (self.new.calls ≡ self.old.calls) × (self.new.asked ≡ self.old.asked) × (self.new.seen ≡ self.old.seen) }
     {
         let found = if shared.looks {
             look(
                 &mut self.seat,
                 &shared.cells,
-                &mut self.turn.pending,
+                &mut self.scratch.pending,
                 &mut self.patience,
             )
         } else {
@@ -362,15 +362,15 @@ impl<K: Tie> Port<K> {
     /// Returns `None` after a wake-up without a completion.
     fn sleep<L: Log, R: Wait>(&mut self, shared: &Shared<K, L>, rt: &R) -> Option<Completion>
         ensures taken { MatchOption result (collected self.new.last.trace self.new.thread (taken self.new.seat) ≡ collected self.old.last.trace self.old.thread (taken self.old.seat)) (λ x. collected self.new.last.trace self.new.thread (taken self.new.seat) ≡ collected self.old.last.trace self.old.thread (taken self.old.seat) ++ x ∷ []) }
-        ensures pending { MatchOption result (self.new.turn.pending ≡ self.old.turn.pending) (λ x. self.new.turn.pending ≡ false) }
+        ensures pending { MatchOption result (self.new.scratch.pending ≡ self.old.scratch.pending) (λ x. self.new.scratch.pending ≡ false) }
         ensures same { (self.new.thread ≡ self.old.thread) × (thread_of self.new.seat ≡ thread_of self.old.seat) × (self.new.calls ≡ self.old.calls) × (self.new.asked ≡ self.old.asked) × (self.new.seen ≡ self.old.seen) }
     {
         let cell = self.seat.thread();
         shared.set_asleep(cell, true);
-        let mut completion = take(&mut self.seat, &shared.cells, &mut self.turn.pending);
+        let mut completion = take(&mut self.seat, &shared.cells, &mut self.scratch.pending);
         if completion.is_none() {
             self.parker.park(rt);
-            completion = take(&mut self.seat, &shared.cells, &mut self.turn.pending);
+            completion = take(&mut self.seat, &shared.cells, &mut self.scratch.pending);
         }
         shared.set_asleep(cell, false);
         completion
@@ -378,39 +378,39 @@ impl<K: Tie> Port<K> {
 
     /// Returns the bytes of the last call, if it was a Reply or a Write that wasn't refused. Their memory can
     /// serve for the bytes of the next call. Returns `None` if they were returned before.
-    /// `endpoint.rt` of `crates/qcalls` keeps them for its replies.
+    /// `endpoint.rt` of `crates/balsaeuchre_calls` keeps them for its replies.
     pub fn spare(&mut self) -> Option<Bytes>
         ensures taken { collected self.new.last.trace self.new.thread (taken self.new.seat) ≡ collected self.old.last.trace self.old.thread (taken self.old.seat) }
-        ensures pending { self.new.turn.pending ≡ self.old.turn.pending }
+        ensures pending { self.new.scratch.pending ≡ self.old.scratch.pending }
         ensures same { (self.new.thread ≡ self.old.thread) × (thread_of self.new.seat ≡ thread_of self.old.seat) × (self.new.calls ≡ self.old.calls) × (self.new.asked ≡ self.old.asked) × (self.new.seen ≡ self.old.seen) }
     {
-        let lent = self.turn.lent.take()?;
+        let lent = self.scratch.lent.take()?;
         bytes_of(lent)
     }
 
     /// Returns the prefix of the history that the port has seen. When a call of the port leaves the lock,
     /// this is the whole history.
-    pub fn seen(&self) -> Seen<K>
+    pub fn seen(&self) -> ObservedPrefix<K>
         ensures { result ≡ self.now.seen.trace }
     {
-        Seen::new(self.seen.again())
+        ObservedPrefix::new(self.seen.again())
     }
 
     /// Learns a prefix of the history that another port of the kernel has seen. The next call is then known
     /// to come after its events.
-    pub fn learn(&mut self, other: &Seen<K>)
+    pub fn learn(&mut self, other: &ObservedPrefix<K>)
         ensures own { Extends self.new.seen.trace self.old.seen.trace }
         ensures others { Extends self.new.seen.trace other.entry.now }
-        ensures same { (self.new.thread ≡ self.old.thread) × (self.new.seat ≡ self.old.seat) × (self.new.calls ≡ self.old.calls) × (self.new.turn.pending ≡ self.old.turn.pending) × (self.new.asked ≡ self.old.asked) × (self.new.last ≡ self.old.last) }
+        ensures same { (self.new.thread ≡ self.old.thread) × (self.new.seat ≡ self.old.seat) × (self.new.calls ≡ self.old.calls) × (self.new.scratch.pending ≡ self.old.scratch.pending) × (self.new.asked ≡ self.old.asked) × (self.new.last ≡ self.old.last) }
     {
         self.seen.learn(&other.beginning);
     }
 
     /// Returns whether a call was blocked and its completion isn't collected yet.
     pub fn pending(&self) -> bool
-        ensures { result ≡ self.now.turn.pending }
+        ensures { result ≡ self.now.scratch.pending }
     {
-        self.turn.pending
+        self.scratch.pending
     }
 
     /// Returns the thread that the port belongs to.

@@ -17,7 +17,7 @@ pub struct Report {
 
 /// The report of a shared kernel that keeps no history, when it is closed.
 #[derive(Debug, Drop)]
-pub struct Tally {
+pub struct EventCounts {
     /// The number of each thread's calls that are events, in ascending order of thread number.
     pub calls: Vec<u64>,
     /// The completions that weren't collected, in ascending order of thread number. Each thread has at most

@@ -8,7 +8,7 @@ ghost use Rattle.qrules.specs.Facts.{threads_of};
 ghost use Rattle.qrules.specs.Lawful.{IsLawful};
 ghost use Rattle.qrules.specs.Trace.{followed_by};
 ghost use Rattle.qrules.specs.Properties.{HasProperties};
-ghost use Rattle.qstate.specs.Kept.{members_of};
+ghost use Rattle.qkernel_state.specs.Kept.{members_of};
 ghost use Rattle.qhandoff.specs.Words.{cells_id, thread_of, taken, took, IsRow};
 ghost use Rattle.qshared.specs.Asking.{AreCallsOf, asked_in};
 ghost use Rattle.qshared.specs.Due.{AreDue, AreKnown, collected};
@@ -16,17 +16,17 @@ ghost use Rattle.qshared.specs.Naming.{AreParts, AreAll};
 ghost use Rattle.qshared.specs.Past.{AreSeen, RiseByThread};
 ghost use Rattle.qshared.specs.Unkept.{HasPast};
 
-use crate::closing_room::ClosingRoom;
-use crate::kept::Kept;
-use crate::locked::Locked;
+use crate::close_buffers::CloseBuffers;
+use crate::recorded_history::RecordedHistory;
+use crate::lock_state::LockState;
 use crate::log::Log;
 use crate::parts::Parts;
 use crate::port::Port;
-use crate::report::{Report, Tally};
+use crate::report::{Report, EventCounts};
 use crate::tie::Tie;
 use crate::traced::Traced;
-use crate::turn::Turn;
-use crate::unkept::Unkept;
+use crate::call_scratch::CallScratch;
+use crate::ghost_history::GhostHistory;
 use crate::waker::Waker;
 use crossbeam_utils::CachePadded;
 use crossbeam_utils::sync::Parker;
@@ -36,8 +36,8 @@ use qhandoff::cells::Cells;
 use qhandoff::seats::ThreadSeat;
 use qkernel::kernel::Kernel;
 use qmodel::call::Completion;
-use qpast::asking::{Asked, Heard};
-use qpast::history::{History, Seen};
+use crate::asking::{PortCalls, KernelCalls};
+use crate::history::{History, Prefix};
 use std::alloc::{AllocError, Global};
 use std::sync::Mutex;
 use std::sync::ledger::Share;
@@ -48,7 +48,7 @@ pub struct Shared<K: Tie, L: Log> {
     pub(crate) cells: Cells<Completion>,
     // It is padded, and its value is in a box. So a thread that spins for the lock reads a cache line that
     // has nothing else.
-    pub(crate) lock: CachePadded<Mutex<Box<Locked<K, L>>>>,
+    pub(crate) lock: CachePadded<Mutex<Box<LockState<K, L>>>>,
     // One for each port, by the index of its cell.
     wakers: Vec<Waker>,
     // Whether a thread spins for some microseconds before it sleeps.
@@ -82,9 +82,9 @@ fn ports_for<K: Tie>(
     kernel: &Kernel,
     threads: &[ThreadNo],
     seats: Vec<ThreadSeat<Completion>>,
-    mut asked: Vec<Asked>,
+    mut asked: Vec<PortCalls>,
     spare: &mut Share<K>,
-    seen: &Seen,
+    seen: &Prefix,
 ) -> Result<(Vec<Port<K>>, Vec<Waker>), AllocError>
     requires roster { IsRoster K.names.roster × (threads.now ≡ threads_of K.names.roster) × (members_of kernel.now.threads ≡ K.names.roster) }
     requires seats { (length seats.items ≡ length threads.now) × IsRow K.names.cells seats.items × ((k : ℕ) → took (get_elem? seats.items k) ≡ []) }
@@ -94,7 +94,7 @@ fn ports_for<K: Tie>(
     requires seen { (seen.now.name ≡ K.names.history) × (seen.now.trace ≡ []) }
     ensures spare { OnOk result ((spare.new.parts ≡ 0) × (spare.new.amount ≡ 0)) }
     ensures ports { IfOk result (λ r. AreAll (λ p. thread_of p.seat) K.names.cells.slots r.0.items) }
-    ensures new { IfOk result (λ r. (k : ℕ) (p : _) → get_elem? r.0.items k ≡ some p → (p.calls ≡ 0) × (p.turn.pending ≡ false) × (collected p.last.trace p.thread (taken p.seat) ≡ []) × (p.asked.calls ≡ []) × (p.seen.trace ≡ [])) }
+    ensures new { IfOk result (λ r. (k : ℕ) (p : _) → get_elem? r.0.items k ≡ some p → (p.calls ≡ 0) × (p.scratch.pending ≡ false) × (collected p.last.trace p.thread (taken p.seat) ≡ []) × (p.asked.calls ≡ []) × (p.seen.trace ≡ [])) }
 {
     let alloc = kernel.alloc();
     let mut ports = Vec::with_capacity(alloc, seats.len())?;
@@ -110,8 +110,8 @@ fn ports_for<K: Tie>(
         let Some(place) = kernel.seat(thread) else {
             unreachable!()
         };
-        let turn = Turn::new(alloc, place)?;
-        let port = Port::new(turn, seat, spare.split_off(1, 0), parker, own, seen.again());
+        let scratch = CallScratch::new(alloc, place)?;
+        let port = Port::new(scratch, seat, spare.split_off(1, 0), parker, own, seen.again());
         ports.push_reserved(port);
     }
     Ok((ports, wakers))
@@ -123,7 +123,7 @@ fn gather<K: Tie>(
     ports: Vec<Port<K>>,
     seats: &mut Vec<ThreadSeat<Completion>>,
     calls: &mut Vec<u64>,
-    asked: &mut Vec<Asked>,
+    asked: &mut Vec<PortCalls>,
     spare: &mut Share<K>,
     history: &mut History,
 )
@@ -156,7 +156,7 @@ fn gather<K: Tie>(
 }
 
 /// Guarantees that the two halves of each of these lists are equal.
-fn agree(mut asked: Vec<Asked>, mut heard: Vec<Heard>)
+fn agree(mut asked: Vec<PortCalls>, mut heard: Vec<KernelCalls>)
     requires { map (λ a. a.name) asked.items ≡ map (λ h. h.name) heard.items }
     ensures { map (λ a. a.calls) asked.items ≡ map (λ h. h.calls) heard.items }
 {
@@ -175,7 +175,7 @@ impl<K: Tie, L: Log> Shared<K, L> {
         requires named { AreParts K.names K.name K.parts parts }
         requires log { (L.roster log ≡ K.names.roster) × (L.past log ≡ []) }
         ensures ports { IfOk result (λ r. AreAll (λ p. thread_of p.seat) K.names.cells.slots r.1.items) }
-        ensures new { IfOk result (λ r. (k : ℕ) (p : _) → get_elem? r.1.items k ≡ some p → (p.calls ≡ 0) × (p.turn.pending ≡ false) × (collected p.last.trace p.thread (taken p.seat) ≡ []) × (p.asked.calls ≡ []) × (p.seen.trace ≡ [])) }
+        ensures new { IfOk result (λ r. (k : ℕ) (p : _) → get_elem? r.1.items k ≡ some p → (p.calls ≡ 0) × (p.scratch.pending ≡ false) × (collected p.last.trace p.thread (taken p.seat) ≡ []) × (p.asked.calls ≡ []) × (p.seen.trace ≡ [])) }
     {
         let Parts {
             cells,
@@ -193,11 +193,11 @@ impl<K: Tie, L: Log> Shared<K, L> {
         let _made = kernel.made();
         let alloc = kernel.alloc();
         let many = seats.len();
-        let room = ClosingRoom::new(alloc, many)?;
+        let room = CloseBuffers::new(alloc, many)?;
         let (book, mut spare) = blank.open::<K>();
         let (ports, wakers) = ports_for(&kernel, &threads, seats, asked, &mut spare, &seen)?;
         let traced = Traced::new(kernel, seat, log, history);
-        let locked = Locked::new(traced, book, spare, room, heard);
+        let locked = LockState::new(traced, book, spare, room, heard);
         let lock = CachePadded::new(Mutex::new(Box::new(alloc, locked)?));
         let shared = Shared {
             cells,
@@ -220,7 +220,7 @@ impl<K: Tie, L: Log> Shared<K, L> {
     }
 
     /// Returns whether these are all ports of the kernel, in ascending order of thread number.
-    /// It serves to check the ports before `finish`, as in `opening.rt` of `crates/qcalls`.
+    /// It serves to check the ports before `finish`, as in `opening.rt` of `crates/balsaeuchre_calls`.
     pub fn all(&self, ports: &[Port<K>]) -> bool
         ensures { IsTrue result ↔ AreAll (λ p. thread_of p.seat) K.names.cells.slots ports.now }
     {
@@ -271,7 +271,7 @@ impl<K: Tie, L: Log> Shared<K, L> {
         ensures due { AreDue K.names.roster (map (λ p. collected p.last.trace p.thread (taken p.seat)) ports.items) result.left.items (L.past result.log) }
     {
         let Shared { cells, lock, .. } = self;
-        let Locked {
+        let LockState {
             traced,
             mut book,
             mut spare,
@@ -279,7 +279,7 @@ impl<K: Tie, L: Log> Shared<K, L> {
             heard,
             ..
         } = Box::into_inner(lock.into_inner().into_inner());
-        let ClosingRoom {
+        let CloseBuffers {
             mut seats,
             mut calls,
             left: room,
@@ -311,19 +311,19 @@ impl<K: Tie, L: Log> Shared<K, L> {
     }
 }
 
-impl<K: Tie> Shared<K, Kept<K>> {
+impl<K: Tie> Shared<K, RecordedHistory<K>> {
     /// Opens a kernel of these parts that keeps its history in memory. Returns a port for each thread, in
     /// ascending order of thread number. The only error is `NoMemory`, which drops the parts.
-    /// `two_threads.rt` of `crates/balsaeuchre_uses` opens one.
-    pub fn open(parts: Parts) -> Result<(Shared<K, Kept<K>>, Vec<Port<K>>), Errno>
+    /// `two_threads.rt` of `crates/balsaeuchre_examples` opens one.
+    pub fn open(parts: Parts) -> Result<(Shared<K, RecordedHistory<K>>, Vec<Port<K>>), Errno>
         requires named { AreParts K.names K.name K.parts parts }
         ensures ports { IfOk result (λ r. AreAll (λ p. thread_of p.seat) K.names.cells.slots r.1.items) }
-        ensures new { IfOk result (λ r. (k : ℕ) (p : _) → get_elem? r.1.items k ≡ some p → (p.calls ≡ 0) × (p.turn.pending ≡ false) × (collected p.last.trace p.thread (taken p.seat) ≡ []) × (p.asked.calls ≡ []) × (p.seen.trace ≡ [])) }
+        ensures new { IfOk result (λ r. (k : ℕ) (p : _) → get_elem? r.1.items k ≡ some p → (p.calls ≡ 0) × (p.scratch.pending ≡ false) × (collected p.last.trace p.thread (taken p.seat) ≡ []) × (p.asked.calls ≡ []) × (p.seen.trace ≡ [])) }
         ensures error { IfErr result (λ e. e ≡ Errno.NoMemory) }
     {
         let alloc = parts.kernel.alloc();
         let _made = parts.kernel.made();
-        let log = Kept::new(alloc, parts.threads.len(), parts.limit)?;
+        let log = RecordedHistory::new(alloc, parts.threads.len(), parts.limit)?;
         Ok(Shared::with_log(parts, log)?)
     }
 
@@ -332,7 +332,7 @@ impl<K: Tie> Shared<K, Kept<K>> {
     ///
     /// A thread's completions in the history are the completions that its port took, followed by the
     /// completion that is left for it, if any.
-    /// `opening.rt` of `crates/qcalls` closes one.
+    /// `opening.rt` of `crates/balsaeuchre_calls` closes one.
     pub fn finish(self, ports: Vec<Port<K>>) -> Report
         requires all { AreAll (λ p. thread_of p.seat) K.names.cells.slots ports.items }
         ensures calls { result.calls.items ≡ map (λ p. p.calls) ports.items }
@@ -354,18 +354,18 @@ impl<K: Tie> Shared<K, Kept<K>> {
     }
 }
 
-impl<K: Tie> Shared<K, Unkept<K>> {
+impl<K: Tie> Shared<K, GhostHistory<K>> {
     /// Opens a kernel of these parts that keeps no history. Returns a port for each thread, in ascending
     /// order of thread number. The limit of the parts is ignored. The only error is `NoMemory`, which drops
     /// the parts.
     /// `course.rt` of `bench/programs/qroundtrips` opens and closes one.
-    pub fn open(parts: Parts) -> Result<(Shared<K, Unkept<K>>, Vec<Port<K>>), Errno>
+    pub fn open(parts: Parts) -> Result<(Shared<K, GhostHistory<K>>, Vec<Port<K>>), Errno>
         requires named { AreParts K.names K.name K.parts parts }
         ensures ports { IfOk result (λ r. AreAll (λ p. thread_of p.seat) K.names.cells.slots r.1.items) }
-        ensures new { IfOk result (λ r. (k : ℕ) (p : _) → get_elem? r.1.items k ≡ some p → (p.calls ≡ 0) × (p.turn.pending ≡ false) × (collected p.last.trace p.thread (taken p.seat) ≡ []) × (p.asked.calls ≡ []) × (p.seen.trace ≡ [])) }
+        ensures new { IfOk result (λ r. (k : ℕ) (p : _) → get_elem? r.1.items k ≡ some p → (p.calls ≡ 0) × (p.scratch.pending ≡ false) × (collected p.last.trace p.thread (taken p.seat) ≡ []) × (p.asked.calls ≡ []) × (p.seen.trace ≡ [])) }
         ensures error { IfErr result (λ e. e ≡ Errno.NoMemory) }
     {
-        Ok(Shared::with_log(parts, Unkept::new())?)
+        Ok(Shared::with_log(parts, GhostHistory::new())?)
     }
 
     /// Closes the kernel and takes back all its ports, in ascending order of thread number. Returns the
@@ -373,7 +373,7 @@ impl<K: Tie> Shared<K, Unkept<K>> {
     ///
     /// There is a history of the calls, although it isn't kept. A thread's completions in it are the
     /// completions that its port took, followed by the completion that is left for it, if any.
-    pub fn finish(self, ports: Vec<Port<K>>) -> Tally
+    pub fn finish(self, ports: Vec<Port<K>>) -> EventCounts
         requires all { AreAll (λ p. thread_of p.seat) K.names.cells.slots ports.items }
         ensures calls { result.calls.items ≡ map (λ p. p.calls) ports.items }
         ensures rises { RiseByThread result.left.items }
@@ -381,6 +381,6 @@ impl<K: Tie> Shared<K, Unkept<K>> {
         ensures past { HasPast K.names.roster (map (λ p. collected p.last.trace p.thread (taken p.seat)) ports.items) (map (λ p. p.asked.calls) ports.items) (map (λ p. p.seen.trace) ports.items) result.calls.items result.left.items }
     {
         let Closed { calls, left, .. } = self.close(ports);
-        Tally { calls, left }
+        EventCounts { calls, left }
     }
 }

@@ -16,7 +16,7 @@ pub const THREAD_LIMIT: usize = 64;
 
 /// The threads, each with its process and the priority that it begins with. Contracts see the members in
 /// rising thread number.
-/// `first_message.rt` of `crates/balsaeuchre_uses` makes a roster.
+/// `first_message.rt` of `crates/balsaeuchre_examples` makes a roster.
 #[derive(Drop)]
 pub struct Roster {
     members: ArrayVec<Member, THREAD_LIMIT, Global>,
@@ -48,7 +48,7 @@ impl Roster {
 
     /// Adds a thread; takes no memory. The error is `Inval` if the thread is in the roster already, and
     /// otherwise `Again` if the roster has 64 threads.
-    /// `first_message.rt` of `crates/balsaeuchre_uses` adds two.
+    /// `first_message.rt` of `crates/balsaeuchre_examples` adds two.
     pub fn add(
         &mut self,
         thread: ThreadNo,

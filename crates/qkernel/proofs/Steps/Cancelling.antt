@@ -1,6 +1,6 @@
 -- Lemmas for the calls that cancel others, by the kernel's content.
 use Rattle.qkernel.proofs.Common.{◌≡◌, ℕ, ◌+◌, ◌≤◌, List, [], refl, ap, ◌∙◌, cond, true, false, eqb, AreCancelled, LoseCancelled, completion_for, is_cancelled_among, is_cancelled_by, filter_map, eqb-true, Errno, Item, cancel_where, threads_of, Completion, pending_in, members_of, open_in, Channel, Thread, State, IsSound, all_filter, Bool, None, is_some, not}
-use Rattle.qstate.specs.declared.cancelling.CancelSet.{CancelSet}
+use Rattle.qkernel_state.specs.declared.cancelling.CancelSet.{CancelSet}
 use Rattle.qkernel.proofs.Steps.Common.{counted, sound_counted_alone}
 use Rattle.qkernel.proofs.Steps.Delivering.{sound_kept}
 use Rattle.qmodel.specs.declared.call.Mark.TheVariants as mark
@@ -10,8 +10,8 @@ abbrev pub mine : State → ℕ → Completion
 mine s t = record { call = s.made + 1; thread = t; mark = mark.Ok; buffer = [] }
 
 -- all completions of a call of thread t that cancels others
-abbrev pub endings_cancelled : State → ℕ → CancelSet → Errno → List Completion
-endings_cancelled s t cancel e = filter_map (λ u. completion_for cancel e (mine s t) u (open_in s.threads u)) (threads_of (members_of s.threads))
+abbrev pub completions_cancelled : State → ℕ → CancelSet → Errno → List Completion
+completions_cancelled s t cancel e = filter_map (λ u. completion_for cancel e (mine s t) u (open_in s.threads u)) (threads_of (members_of s.threads))
 
 -- the caller isn't blocked, so it has no open call afterwards
 pub open_after : (s : State) (t : ℕ) (cancel : CancelSet) (e : Errno) (threads : List Thread) (u : ℕ) → open_in s.threads t ≡ None → AreCancelled cancel e s.threads threads

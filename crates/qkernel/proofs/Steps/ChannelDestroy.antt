@@ -2,12 +2,12 @@
 use Rattle.qkernel.proofs.Common.{◌≡◌, ℕ, ◌+◌, ◌≤◌, List, [], ◌∷◌, refl, ap, sym, ◌∙◌, cond, arith, length, true, false, eqb, inl, owns, ChannelDestroy, ClosesIn, is_of, On, None, Some, AllByRecursion, Inval, Srch, Item, member_at, Member, refusal_completion, uncancelled_items, Completion, channel_in, pending_in, members_of, AreCancelled, LoseCancelled, open_in, Channel, Thread, State, IsSound, Steps, facts_in}
 use Rattle.std.proofs.lemmas.List.{append-nil}
 use Rattle.qkernel.proofs.Steps.Common.{counted, count_same, owned_by_member, step_refused_alone}
-use Rattle.qkernel.proofs.Steps.Cancelling.{endings_cancelled, open_after, sound_cancelled}
+use Rattle.qkernel.proofs.Steps.Cancelling.{completions_cancelled, open_after, sound_cancelled}
 
 module _ (s : State) (t chid : ℕ) (m : Member) (known : member_at (members_of s.threads) t ≡ Some m) (up : s.down ≡ false) (free : open_in s.threads t ≡ None) where
   module _ (threads : List Thread) (cancel closed : List (ℕ × Channel)) (are : AreCancelled (On chid) Srch s.threads threads) (lose : LoseCancelled (On chid) Srch s.threads s.channels cancel)
       (closes : ClosesIn chid cancel closed) where
-    pub step_destroyed : (X : List Completion) → is_of m.process (channel_in s.channels chid) ≡ true → X ≡ endings_cancelled s t (On chid) Srch
+    pub step_destroyed : (X : List Completion) → is_of m.process (channel_in s.channels chid) ≡ true → X ≡ completions_cancelled s t (On chid) Srch
         → Steps s t (ChannelDestroy chid) X (record { made = s.made + 1; down = s.down; threads = threads; channels = closed; connections = s.connections })
     step_destroyed X own is =
         let owned : owns (facts_in s) t chid ≡ true = owned_by_member (facts_in s) t m (channel_in s.channels chid) known ∙ own in

@@ -190,7 +190,7 @@ module _ (s : State) (t coid : ℕ) (m : Member) (known : member_at (members_of 
             record {
               answer = (
                 rw (up, free, own, due_is) is.room,
-                is_X ∙ ap (λ ms. with_completion_if met (filter_map g (threads_of ms))) is.members ∙ is.endings g g_own g_none
+                is_X ∙ ap (λ ms. with_completion_if met (filter_map g (threads_of ms))) is.members ∙ is.completions g g_own g_none
                     ∙ filter_map_same (λ u. option_or (g u) (ends_receiver (facts_in s) o u)) (completion_to (facts_in s) t (ConnectDetach coid)) ts completion_is,
               );
               follows = record {

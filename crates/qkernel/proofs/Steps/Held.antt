@@ -1,5 +1,5 @@
 -- Lemmas for the calls on held messages, by the kernel's content.
-use Rattle.qkernel.proofs.Common.{◌≡◌, ◌≢◌, ℕ, ◌+◌, List, [], ◌∷◌, refl, ap, sym, ◌∙◌, cond, true, false, eqb, inl, Option, None, Some, is_some, ◌||◌, ◌&&◌, refusal_completion, Finish, ends_sender, answer_completion, sender_among, refusal_unless_held, holds, is_held_for, is_held_in, is_held_of, open_in, sender_in, sent_call, SetsOpen, two_endings, filter_map, eqb-true, eq-eqb, same_Some, none-some, Srch, member_at, Member, Call, Completion, OpenCall, Thread, completion_to, row_of, channel_in, members_of, with_completion_in_place, State, IsSound, Steps, facts_in, unless, is_among, cond_same, rises, among, filter_map_same, option_map_or}
+use Rattle.qkernel.proofs.Common.{◌≡◌, ◌≢◌, ℕ, ◌+◌, List, [], ◌∷◌, refl, ap, sym, ◌∙◌, cond, true, false, eqb, inl, Option, None, Some, is_some, ◌||◌, ◌&&◌, refusal_completion, Finish, ends_sender, answer_completion, sender_among, refusal_unless_held, holds, is_held_for, is_held_in, is_held_of, open_in, sender_in, sent_call, SetsOpen, two_completions, filter_map, eqb-true, eq-eqb, same_Some, none-some, Srch, member_at, Member, Call, Completion, OpenCall, Thread, completion_to, row_of, channel_in, members_of, with_completion_in_place, State, IsSound, Steps, facts_in, unless, is_among, cond_same, rises, among, filter_map_same, option_map_or}
 use Rattle.qmodel.specs.declared.open_call.OpenCall.TheVariants.{Receive, Send}
 use Rattle.qrules.proofs.Words.Facts.{is_send, sender, threads_of}
 use Rattle.qrules.proofs.Messages.{held_same as holds_by_call}
@@ -52,7 +52,7 @@ module _ (s : State) (t : ℕ) (m : Member) (i : ℕ) (sound : IsSound s) (known
   module _ (c : Call) (own : (row_of (facts_in s) t c).own ≡ Some mine) (others : (v : ℕ) → (row_of (facts_in s) t c).others v ≡ ends_sender (facts_in s) finish (sender (facts_in s) i) v) where
     pub two_ended : (X : List Completion) → X ≡ with_completion_in_place y (mine ∷ []) → X ≡ filter_map (completion_to (facts_in s) t c) (threads_of (members_of s.threads))
     two_ended X is =
-        is ∙ two_endings mine y t u refl (finished_thread finish u (open_in s.threads u) y ended) apart (threads_of (members_of s.threads)) (rises (members_of s.threads) sound.roster) (among (members_of s.threads) t m known) (among_senders s.threads i u is_sender)
+        is ∙ two_completions mine y t u refl (finished_thread finish u (open_in s.threads u) y ended) apart (threads_of (members_of s.threads)) (rises (members_of s.threads) sound.roster) (among (members_of s.threads) t m known) (among_senders s.threads i u is_sender)
         ∙ sym (filter_map_same (completion_to (facts_in s) t c) (λ v. cond (eqb v t) (Some mine) (cond (eqb v u) (Some y) None)) (threads_of (members_of s.threads)) (λ v. rw (own, others v, is_sender)
         (ap (cond (eqb v t) (Some mine)) (elim (eqb v u) as (λ b. eqb v u ≡ b → cond b (answer_completion finish v (open_in s.threads v)) None ≡ cond b (Some y) None) [
           | true ↦ λ f. rw (eqb-true v u f) ended

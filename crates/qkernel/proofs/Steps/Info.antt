@@ -4,7 +4,7 @@ use Rattle.std.specs.Option.{option_and_then, option_map, option_map_or}
 use Rattle.qmodel.specs.declared.open_call.OpenCall.TheVariants.{Receive, Send}
 use Rattle.qmodel.specs.declared.call.Info.{Info as Told}
 use Rattle.qrules.proofs.Words.Facts.{sender, threads_of}
-use Rattle.qstate.specs.Threads.{IsRecordOf}
+use Rattle.qkernel_state.specs.Threads.{IsRecordOf}
 use Rattle.qkernel.proofs.Steps.Common.{uncancelled, counted, stays_free}
 use Rattle.qkernel.proofs.Steps.Held.{is_held}
 use Rattle.qrules.proofs.Traces.Past.Waits.{some_map}

@@ -1,7 +1,7 @@
 -- PrioritySet as a step of the kernel.
 use Rattle.qkernel.proofs.Common.{◌≡◌, ℕ, ◌+◌, ◌≤◌, List, [], ◌∷◌, ◌++◌, length, refl, ap, sym, subst, ◌∙◌, cond, arith, true, false, eqb, inl, with_priority, PrioritySet, open_in, SetsPriority, items_with_priority_set, none_cancelled, all_map, all_more, None, Some, unwrap_or, none-some, AllByRecursion, option_or, Srch, Item, member_at, Member, refusal_completion, is_in_process, is_unread_send, Completion, Channel, Thread, State, IsSound, Steps, facts_in, pending_in, thread_priority, members_of, among, only_own, rises}
 use Rattle.std.proofs.lemmas.List.{append-nil}
-use Rattle.qstate.specs.Unread.{MovesUnread}
+use Rattle.qkernel_state.specs.Unread.{MovesUnread}
 use Rattle.qkernel.proofs.Steps.Delivering.{sound_threads}
 use Rattle.qkernel.proofs.Steps.Common.{count_same, counted, stays_free, step_refused_alone}
 use Rattle.qmodel.specs.declared.call.Mark.TheVariants as mark

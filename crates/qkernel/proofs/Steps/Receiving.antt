@@ -37,7 +37,7 @@ receipt_by s t chid buffer o = receipt_when_taken (facts_in s) chid (own_of s t 
 
 -- the completions, the open calls and the items after a step for which the rule has this best item
 record Receives (s : State) (t chid : ℕ) (kind : Kind) (buffer : List ℕ) (o : Option Item) (X : List Completion) (threads : List Thread) (channels : List (ℕ × Channel)) : Type 0 where
-  endings : X ≡ filter_map (λ u. cond (eqb u t) (own_of s t buffer o) None) (threads_of (members_of s.threads))
+  completions : X ≡ filter_map (λ u. cond (eqb u t) (own_of s t buffer o) None) (threads_of (members_of s.threads))
   roster : members_of threads ≡ members_of s.threads
   open_call : (u : ℕ) → open_in threads u ≡ cond (eqb u t) (unless (is_some (own_of s t buffer o)) (after_receipt (receipt_by s t chid buffer o) u (Some (receiver chid kind buffer (s.made + 1) t))))
       (unless false (after_receipt (receipt_by s t chid buffer o) u (open_in s.threads u)))
@@ -54,7 +54,7 @@ step_of s t chid Any buffer m o X threads channels none known up free owned best
   record {
     answer = (
       rw (up, free, owned) refl,
-      r.endings ∙ sym (filter_map_same (completion_to (facts_in s) t (Receive chid buffer)) (λ u. cond (eqb u t) (own_of s t buffer o) None) (threads_of (members_of s.threads)) (λ u. rw best refl)),
+      r.completions ∙ sym (filter_map_same (completion_to (facts_in s) t (Receive chid buffer)) (λ u. cond (eqb u t) (own_of s t buffer o) None) (threads_of (members_of s.threads)) (λ u. rw best refl)),
     );
     follows = record {
       roster = r.roster;
@@ -77,7 +77,7 @@ step_of s t chid PulseOnly buffer m o X threads channels none known up free owne
     record {
       answer = (
         rw (up, free, owned) refl,
-        q.endings ∙ sym (filter_map_same (completion_to (facts_in s) t (ReceivePulse chid)) (λ u. cond (eqb u t) (own_of s t [] o) None) (threads_of (members_of s.threads)) (λ u. rw best refl)),
+        q.completions ∙ sym (filter_map_same (completion_to (facts_in s) t (ReceivePulse chid)) (λ u. cond (eqb u t) (own_of s t [] o) None) (threads_of (members_of s.threads)) (λ u. rw best refl)),
       );
       follows = record {
         roster = q.roster;
@@ -105,7 +105,7 @@ module _ (s : State) (t chid : ℕ) (kind : Kind) (buffer : List ℕ) (m : Membe
       → SetsOpen t (Some (receiver chid kind buffer (s.made + 1) t)) s.threads threads → SetsItems chid (pending_in s.channels chid) s.channels channels → X ≡ []
       → Steps s t (receive_of kind chid buffer) X (record { made = s.made + 1; down = s.down; threads = threads; channels = channels; connections = s.connections })
   step_receive_waits threads channels X none opens sets is = step_of s t chid kind buffer m None X threads channels empty known up free owned none (record {
-    endings = is ∙ sym (nothing (threads_of (members_of s.threads)) (λ u. cond (eqb u t) None None) (λ u. cond_same (eqb u t) None));
+    completions = is ∙ sym (nothing (threads_of (members_of s.threads)) (λ u. cond (eqb u t) None None) (λ u. cond_same (eqb u t) None));
     roster = opens.members;
     open_call = opens.open_call;
     items = λ k. sets.pending k ∙ kept_items s chid k;
@@ -157,7 +157,7 @@ module _ (s : State) (t chid : ℕ) (kind : Kind) (buffer : List ℕ) (m : Membe
       by : (b : Bool) → is_pulse item.what ≡ b → HandsOver b item.number kept s.threads threads_1
           → Steps s t (receive_of kind chid buffer) X (record { made = s.made + 1; down = s.down; threads = threads_2; channels = channels; connections = s.connections })
       by true pulse same = step_of s t chid kind buffer m (Some item) X threads_2 channels empty known up free owned best (record {
-        endings = rw message_is ends;
+        completions = rw message_is ends;
         roster = takes.members ∙ ap members_of same;
         open_call = λ u. takes.open_call u ∙ ap (λ ts. open_in ts u) same ∙ rw (message_is, pulse) (idle_after u);
         items = λ k. sets.pending k ∙ rw (message_is, pulse) (items_after k);
@@ -166,7 +166,7 @@ module _ (s : State) (t chid : ℕ) (kind : Kind) (buffer : List ℕ) (m : Membe
         priority = λ u. priorities u (ap (λ ts. thread_priority ts u) same) ∙ rw (message_is, pulse) refl;
       })
       by false message changes = step_of s t chid kind buffer m (Some item) X threads_2 channels empty known up free owned best (record {
-        endings = rw message_is ends;
+        completions = rw message_is ends;
         roster = takes.members ∙ changes.members;
         open_call = λ u. takes.open_call u ∙ changes.open_call u ∙ rw (message_is, message) (calls_after (held_call kept) u);
         items = λ k. sets.pending k ∙ rw (message_is, message) (items_after k);

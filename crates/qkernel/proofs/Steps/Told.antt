@@ -1,5 +1,5 @@
 -- A pulse that is sent, if one is due: the threads and channels afterwards, and the call that completes.
-use Rattle.qkernel.proofs.Common.{◌≡◌, ◌≢◌, ℕ, ◌+◌, ◌<◌, ◌≤◌, List, [], ◌++◌, length, refl, ap, sym, subst, ◌∙◌, cond, true, false, eqb, Option, None, Some, IfSome, is_some, unwrap_or, eqb_same, is_among, or_none, refusal_if_full_for, newest_receiver, ends_receiver, pulse_receipt, item_in, takes, after_receipt, priority_taken, unreceived_items, unless, ForAnItem, met_item, met_settled, IsSettled, IsLeft, IsMet, IsSentIfDue, endings_fewer, inserted_among, ended_thread, newest_receives, waits_among, AllByRecursion, filter_map, eqb-true, ne_eqb, true≢false, none-some, same_Some, option_or, is_pulse, Item, threads_of, SentItem, made_on, Completion, OpenCall, filter_map_same, rises, ids_of, channel_in, pending_in, thread_priority, members_of, with_completion_if, open_in, Channel, Thread, State, IsSound, facts_in}
+use Rattle.qkernel.proofs.Common.{◌≡◌, ◌≢◌, ℕ, ◌+◌, ◌<◌, ◌≤◌, List, [], ◌++◌, length, refl, ap, sym, subst, ◌∙◌, cond, true, false, eqb, Option, None, Some, IfSome, is_some, unwrap_or, eqb_same, is_among, or_none, refusal_if_full_for, newest_receiver, ends_receiver, pulse_receipt, item_in, takes, after_receipt, priority_taken, unreceived_items, unless, ForAnItem, met_item, met_settled, IsSettled, IsLeft, IsMet, IsSentIfDue, completions_fewer, inserted_among, ended_thread, newest_receives, waits_among, AllByRecursion, filter_map, eqb-true, ne_eqb, true≢false, none-some, same_Some, option_or, is_pulse, Item, threads_of, SentItem, made_on, Completion, OpenCall, filter_map_same, rises, ids_of, channel_in, pending_in, thread_priority, members_of, with_completion_if, open_in, Channel, Thread, State, IsSound, facts_in}
 use Rattle.std.proofs.lemmas.List.{append-nil}
 use Rattle.qmodel.specs.declared.open_call.OpenCall.TheVariants.{Receive, Send}
 use Rattle.qkernel.proofs.Steps.Delivering.{items_after, with_item}
@@ -20,7 +20,7 @@ pub record IsTold (s : State) (t : ℕ) (o : Option SentItem) (mid : List Thread
   pub ids : ids_of channels ≡ ids_of s.channels
   pub channel : (k : ℕ) → channel_in channels k ≡ channel_in s.channels k
   pub pending : (k : ℕ) → pending_in channels k ≡ unreceived_items (pulse_receipt (facts_in s) o) k (pending_in s.channels k ++ made_on k o)
-  pub endings : (g : ℕ → Option Completion) → ((u : ℕ) (x : Completion) → g u ≡ Some x → x.thread ≡ u) → ((u : ℕ) → is_some (ends_receiver (facts_in s) o u) ≡ true → g u ≡ None)
+  pub completions : (g : ℕ → Option Completion) → ((u : ℕ) (x : Completion) → g u ≡ Some x → x.thread ≡ u) → ((u : ℕ) → is_some (ends_receiver (facts_in s) o u) ≡ true → g u ≡ None)
       → with_completion_if met (filter_map g (threads_of (members_of s.threads))) ≡ filter_map (λ u. option_or (g u) (ends_receiver (facts_in s) o u)) (threads_of (members_of s.threads))
   pub few : (g : ℕ → Option Completion) → ((u : ℕ) → is_some (ends_receiver (facts_in s) o u) ≡ true → g u ≡ None) → is_some met ≡ true
       → length (filter_map g (threads_of (members_of s.threads))) + 1 ≤ length (threads_of (members_of s.threads))
@@ -38,7 +38,7 @@ untold s t = record {
   ids = refl;
   channel = λ k. refl;
   pending = λ k. sym (append-nil _);
-  endings = λ g own none. filter_map_same g (λ u. option_or (g u) None) (threads_of (members_of s.threads)) (λ u. sym (or_none (g u)));
+  completions = λ g own none. filter_map_same g (λ u. option_or (g u) None) (threads_of (members_of s.threads)) (λ u. sym (or_none (g u)));
   few = λ g none e. absurd (true≢false (sym e));
 }
 
@@ -68,7 +68,7 @@ module _ (s : State) (t h : ℕ) (item : Item) (sound : IsSound s) (free : open_
         ids = left.sets.ids;
         channel = left.sets.channel;
         pending = λ k. left.sets.pending k ∙ rw none (with_item s h item sound number k);
-        endings = λ g own nothing. filter_map_same g (λ u. option_or (g u) (ends_receiver (facts_in s) sent u)) (threads_of (members_of s.threads)) (λ u. rw none (sym (or_none (g u))));
+        completions = λ g own nothing. filter_map_same g (λ u. option_or (g u) (ends_receiver (facts_in s) sent u)) (threads_of (members_of s.threads)) (λ u. rw none (sym (or_none (g u))));
         few = λ g nothing e. absurd (true≢false (sym e));
       }
 
@@ -113,9 +113,9 @@ module _ (s : State) (t h : ℕ) (item : Item) (sound : IsSound s) (free : open_
           ids = ap ids_of met.channels_are;
           channel = λ k. ap (λ cs. channel_in cs k) met.channels_are;
           pending = λ k. ap (λ cs. pending_in cs k) met.channels_are ∙ rw (newest_is_r, met.ended, mark) (items_after s h item sound number k);
-          endings = λ g own none. inserted_among y r thread g own (none r told_r) (threads_of (members_of s.threads)) (rises (members_of s.threads) sound.roster) there
+          completions = λ g own none. inserted_among y r thread g own (none r told_r) (threads_of (members_of s.threads)) (rises (members_of s.threads) sound.roster) there
               ∙ filter_map_same (λ u. option_or (g u) (cond (eqb u r) (Some y) None)) (λ u. option_or (g u) (ends_receiver (facts_in s) sent u)) (threads_of (members_of s.threads)) (λ u. ap (option_or (g u)) (sym (told_is u)));
-          few = λ g none e. endings_fewer g r (threads_of (members_of s.threads)) (none r told_r) there;
+          few = λ g none e. completions_fewer g r (threads_of (members_of s.threads)) (none r told_r) there;
         }
 
 -- ---- a pulse, if one is due

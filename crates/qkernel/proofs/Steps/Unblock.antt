@@ -3,9 +3,9 @@ use Rattle.qkernel.proofs.Common.{unblocked_same, ◌≡◌, ℕ, ◌+◌, List,
 use Rattle.std.proofs.lemmas.List.{append-nil}
 use Rattle.qrules.specs.Rules.Unblock.{unblock_pulse, guards}
 use Rattle.qmodel.specs.declared.open_call.OpenCall.TheVariants.{Receive, Send}
-use Rattle.qstate.specs.declared.held.Held.{Held}
+use Rattle.qkernel_state.specs.declared.held.HeldMessage.{HeldMessage}
 use Rattle.qkernel.proofs.Steps.Common.{counted, stays_free, step_refused_alone, uncancelled_by}
-use Rattle.qkernel.proofs.Steps.Cancelling.{endings_cancelled, mine, open_after}
+use Rattle.qkernel.proofs.Steps.Cancelling.{completions_cancelled, mine, open_after}
 use Rattle.qkernel.proofs.Steps.Delivering.{count_kept}
 use Rattle.qkernel.proofs.Steps.Telling.{AreMarked, Tells}
 use Rattle.qkernel.proofs.Steps.Told.{IsNew}
@@ -20,7 +20,7 @@ record Unguarded (s : State) (o : Option OpenCall) : Type 0 where
   unguarded : (w : OpenCall) → o ≡ Some w → guards (facts_in s) w ≡ false
 
 -- the channel of the message guards the call, and the pulse is for that message
-record Guarded (s : State) (o : Option OpenCall) (held : Held) : Type 0 where
+record Guarded (s : State) (o : Option OpenCall) (held : HeldMessage) : Type 0 where
   due_is : due_pulse_of_open (facts_in s) o ≡ cond held.receipt.unblocked None (Some (record { item = unblock_item (s.made + 1) held.receipt.priority held.rcvid; channel = held.channel }))
   guarded : (w : OpenCall) → o ≡ Some w → guards (facts_in s) w ≡ true
 
@@ -32,7 +32,7 @@ guards_by receipt tells = is_some receipt && tells
 abbrev due_by : State → OpenSend → Option Receipt → Bool → Option SentItem
 due_by s x receipt tells = option_and_then (λ r. cond (guards_by receipt tells && not r.unblocked) (Some (record { item = unblock_item (s.made + 1) r.priority x.number; channel = x.channel })) None) receipt
 
-abbrev message_by : OpenSend → Option Receipt → Bool → Option Held
+abbrev message_by : OpenSend → Option Receipt → Bool → Option HeldMessage
 message_by x receipt tells = option_and_then (λ r. cond tells (Some (record { rcvid = x.number; channel = x.channel; receipt = r })) None) receipt
 
 none_by : (s : State) (x : OpenSend) (receipt : Option Receipt) (tells : Bool) → message_by x receipt tells ≡ None → (due_by s x receipt tells ≡ None) × (guards_by receipt tells ≡ false)
@@ -43,13 +43,13 @@ none_by s x (Some r) false e = (refl, refl)
 abbrev pulse_on : State → ℕ → ℕ → ℕ → SentItem
 pulse_on s priority i h = record { item = unblock_item (s.made + 1) priority i; channel = h }
 
-one_by : (s : State) (x : OpenSend) (receipt : Option Receipt) (tells : Bool) (g : Held) → message_by x receipt tells ≡ Some g
+one_by : (s : State) (x : OpenSend) (receipt : Option Receipt) (tells : Bool) (g : HeldMessage) → message_by x receipt tells ≡ Some g
     → (due_by s x receipt tells ≡ cond g.receipt.unblocked None (Some (pulse_on s g.receipt.priority g.rcvid g.channel))) × (guards_by receipt tells ≡ true)
 one_by s x None tells g e = absurd (none-some g e)
 one_by s x (Some r) false g e = absurd (none-some g e)
 one_by s x (Some r) true g e = (
   (elim (r.unblocked) as (λ b. cond (not b) (Some (pulse_on s r.priority x.number x.channel)) None ≡ cond b None (Some (pulse_on s r.priority x.number x.channel))) [ true ↦ refl | false ↦ refl ])
-      ∙ ap (λ (h : Held). cond h.receipt.unblocked None (Some (pulse_on s h.receipt.priority h.rcvid h.channel))) (same_Some _ g e),
+      ∙ ap (λ (h : HeldMessage). cond h.receipt.unblocked None (Some (pulse_on s h.receipt.priority h.rcvid h.channel))) (same_Some _ g e),
   refl,
 )
 
@@ -60,7 +60,7 @@ none_guards s (Some (Send x)) e =
     let k = none_by s x x.receipt (tells_unblock (channel_in s.channels x.channel)) e in
     record { none_due = k.0; unguarded = λ w is. ap (guards (facts_in s)) (sym (same_Some _ w is)) ∙ k.1 }
 
-one_guards : (s : State) (o : Option OpenCall) (g : Held) → guarded_message_in s.channels o ≡ Some g → Guarded s o g
+one_guards : (s : State) (o : Option OpenCall) (g : HeldMessage) → guarded_message_in s.channels o ≡ Some g → Guarded s o g
 one_guards s None g e = absurd (none-some g e)
 one_guards s (Some (Receive r)) g e = absurd (none-some g e)
 one_guards s (Some (Send x)) g e =
@@ -93,7 +93,7 @@ module _ (s : State) (t thread : ℕ) (m : Member) (sound : IsSound s) (known : 
       ends_same = λ i u. ends_one u i
 
       pub step_unblock_cancelled : (threads : List Thread) (channels : List (ℕ × Channel)) (X : List Completion) → AreCancelled (Of thread) Intr s.threads threads
-          → LoseCancelled (Of thread) Intr s.threads s.channels channels → X ≡ endings_cancelled s t (Of thread) Intr
+          → LoseCancelled (Of thread) Intr s.threads s.channels channels → X ≡ completions_cancelled s t (Of thread) Intr
           → Steps s t (Unblock thread) X (record { made = s.made + 1; down = s.down; threads = threads; channels = channels; connections = s.connections })
       step_unblock_cancelled threads channels X are lose is = (
         true,
@@ -123,7 +123,7 @@ module _ (s : State) (t thread : ℕ) (m : Member) (sound : IsSound s) (known : 
       )
 
     -- a channel guards the thread's message
-    module _ (g : Held) (guarded : guarded_message_in s.channels (open_in s.threads thread) ≡ Some g) where
+    module _ (g : HeldMessage) (guarded : guarded_message_in s.channels (open_in s.threads thread) ≡ Some g) where
       q : Guarded s (open_in s.threads thread) g
       q = one_guards s (open_in s.threads thread) g guarded
 

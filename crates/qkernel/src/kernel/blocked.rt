@@ -1,7 +1,7 @@
 //! The blocked threads.
 
 ghost use Rattle.std.specs.Prelude.{◌≡◌, ◌++◌, List, Some, is_some, IfOk, OnOk};
-ghost use Rattle.qstate.specs.Thread.{open_in};
+ghost use Rattle.qkernel_state.specs.Thread.{open_in};
 ghost use Rattle.std.specs.Option.{option_to_list};
 ghost use Rattle.qtables.specs.declared.member.Member.{Member};
 ghost use Rattle.qrules.specs.Records.{blocked_thread};
@@ -12,8 +12,8 @@ ghost use Rattle.qkernel.specs.Blocked.{blocked_threads};
 use super::Kernel;
 use qbase::ids::ThreadNo;
 use qmodel::open_call::Blocked;
-use qstate::thread::Thread;
-use qstate::thread_state::state_of;
+use qkernel_state::thread::Thread;
+use qkernel_state::thread_state::state_of;
 use std::alloc::{AllocError, Global};
 
 /// Adds the record of a thread to the list, if the thread is blocked.

@@ -1,11 +1,11 @@
 //! The call `Info`.
 
 use super::Kernel;
-use super::caller::Caller;
+use super::call_context::CallContext;
 use qbase::errno::Errno;
 use qbase::ids::ReceiveId;
 use qmodel::call::{Call, Info, Mark};
-use qstate::endings::{Endings, put};
+use qkernel_state::completions::{Completions, put};
 
 impl Kernel {
     ghost use Rattle.qkernel.specs.Stands.{InfoAtTraces};
@@ -26,17 +26,17 @@ impl Kernel {
     /// memory.
     pub(super) fn info(
         &mut self,
-        caller: &Caller,
+        caller: &CallContext,
         rcvid: ReceiveId,
-        endings: &mut Endings,
+        completions: &mut Completions,
     ) -> Result<(), Errno>
-        requires { MayCall self.old caller.now endings.old.items }
-        ensures { MakesOrRefuses self.old caller.now (Call.Info rcvid) result endings.new.items self.new }
+        requires { MayCall self.old caller.now completions.old.items }
+        ensures { MakesOrRefuses self.old caller.now (Call.Info rcvid) result completions.new.items self.new }
     {
         let holder = self.objects.holder(caller.process, rcvid)?;
         let told = self.objects.threads.record(&holder).info();
         let info = told.ok_or(Errno::Srch)?;
-        put(endings, caller.completion(Mark::Info(info)));
+        put(completions, caller.completion(Mark::Info(info)));
         Ok(())
     }
 }

@@ -2,15 +2,15 @@
 
 ghost use Rattle.std.specs.Prelude.{◌≡◌};
 ghost use Rattle.qrules.specs.Records.{error_mark};
-ghost use Rattle.qbase.specs.Laying.{laid_count, lay_over};
+ghost use Rattle.qbase.specs.Copying.{laid_count, lay_over};
 
 use super::Kernel;
-use super::caller::Caller;
+use super::call_context::CallContext;
 use qbase::errno::Errno;
 use qbase::ids::ReceiveId;
 use qmodel::call::{Call, Completion, Mark};
 use qmodel::open_call::OpenSend;
-use qstate::endings::{Endings, put};
+use qkernel_state::completions::{Completions, put};
 
 /// Returns the completion of a Send that gets a reply: the bytes are copied to the front of its reply buffer.
 fn reply_completion(sent: OpenSend, status: i64, bytes: &[u8]) -> Completion
@@ -42,18 +42,18 @@ impl Kernel {
     /// Replies to a held message, which completes its sender's Send. Never blocks, and takes no memory.
     pub(super) fn reply(
         &mut self,
-        caller: &Caller,
+        caller: &CallContext,
         rcvid: ReceiveId,
         status: i64,
         bytes: &[u8],
-        endings: &mut Endings,
+        completions: &mut Completions,
     ) -> Result<(), Errno>
-        requires { MayCall self.old caller.now endings.old.items }
-        ensures { MakesOrRefuses self.old caller.now (Call.Reply rcvid status bytes.now) result endings.new.items self.new }
+        requires { MayCall self.old caller.now completions.old.items }
+        ensures { MakesOrRefuses self.old caller.now (Call.Reply rcvid status bytes.now) result completions.new.items self.new }
     {
         let mut sent = self.objects.take_held(caller.process, rcvid)?;
-        put(endings, caller.completion_taking(&mut sent.message));
-        put(endings, reply_completion(sent, status, bytes));
+        put(completions, caller.completion_taking(&mut sent.message));
+        put(completions, reply_completion(sent, status, bytes));
         Ok(())
     }
 
@@ -61,17 +61,17 @@ impl Kernel {
     /// blocks, and takes no memory.
     pub(super) fn error(
         &mut self,
-        caller: &Caller,
+        caller: &CallContext,
         rcvid: ReceiveId,
         code: i32,
-        endings: &mut Endings,
+        completions: &mut Completions,
     ) -> Result<(), Errno>
-        requires { MayCall self.old caller.now endings.old.items }
-        ensures { MakesOrRefuses self.old caller.now (Call.Error rcvid code) result endings.new.items self.new }
+        requires { MayCall self.old caller.now completions.old.items }
+        ensures { MakesOrRefuses self.old caller.now (Call.Error rcvid code) result completions.new.items self.new }
     {
         let mut sent = self.objects.take_held(caller.process, rcvid)?;
-        put(endings, caller.completion_taking(&mut sent.message));
-        put(endings, sent.completion(error_mark(code)));
+        put(completions, caller.completion_taking(&mut sent.message));
+        put(completions, sent.completion(error_mark(code)));
         Ok(())
     }
 }

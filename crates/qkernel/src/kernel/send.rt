@@ -6,14 +6,14 @@ ghost use Rattle.qrules.specs.Past.{item_in};
 ghost use Rattle.qrules.specs.Delivery.{receipt_completion};
 
 use super::Kernel;
-use super::caller::Caller;
+use super::call_context::CallContext;
 use qbase::bytes::Bytes;
 use qbase::errno::Errno;
 use qbase::ids::{ConnectionId, ReceiveId};
 use qmodel::call::{Call, Completion, Mark};
 use qmodel::open_call::{OpenCall, OpenReceive, OpenSend, Receipt};
 use qqueue::item::{Item, What};
-use qstate::endings::{Endings, put};
+use qkernel_state::completions::{Completions, put};
 
 /// Hands the message to a receive and completes it. Returns the receive's completion, and the receipt for the
 /// sender's open call.
@@ -41,30 +41,30 @@ impl Kernel {
     /// memory. The caller is blocked until the reply.
     pub(super) fn send(
         &mut self,
-        caller: &Caller,
+        caller: &CallContext,
         coid: ConnectionId,
         message: Bytes,
         reply_buffer: Bytes,
-        endings: &mut Endings,
+        completions: &mut Completions,
     )
-        requires { MayCall self.old caller.now endings.old.items }
-        ensures { Makes self.old caller.now (Call.Send coid message reply_buffer) endings.new.items self.new }
+        requires { MayCall self.old caller.now completions.old.items }
+        ensures { Makes self.old caller.now (Call.Send coid message reply_buffer) completions.new.items self.new }
     {
         let objects = &mut self.objects;
         let priority = objects.threads.priority(&caller.seat);
         let item = caller.item(priority, What::Message);
         let Some(chid) = objects.own_connection(caller.process, coid) else {
-            return caller.refuse(endings, Errno::Badf, reply_buffer);
+            return caller.refuse(completions, Errno::Badf, reply_buffer);
         };
         let Some(channel) = objects.channels.get_mut(chid) else {
-            return caller.refuse(endings, Errno::Badf, reply_buffer);
+            return caller.refuse(completions, Errno::Badf, reply_buffer);
         };
         let carried = channel.carried(item.priority);
         let mut key = 0;
         let receipt = match objects.threads.wake_newest(chid, &item, carried) {
             Some(receive) => {
                 let (ended, receipt) = deliver(receive, &item, &message);
-                put(endings, ended);
+                put(completions, ended);
                 Some(receipt)
             }
             None => match channel.enqueue(item) {
@@ -72,7 +72,7 @@ impl Kernel {
                     key = place;
                     None
                 }
-                Err(errno) => return caller.refuse(endings, errno, reply_buffer),
+                Err(errno) => return caller.refuse(completions, errno, reply_buffer),
             },
         };
         let call = OpenCall::Send(OpenSend {

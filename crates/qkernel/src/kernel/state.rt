@@ -1,11 +1,11 @@
 //! The call `State`.
 
 use super::Kernel;
-use super::caller::Caller;
+use super::call_context::CallContext;
 use qbase::errno::Errno;
 use qbase::ids::ThreadNo;
 use qmodel::call::{Call, Mark};
-use qstate::endings::{Endings, put};
+use qkernel_state::completions::{Completions, put};
 
 impl Kernel {
     ghost use Rattle.qkernel.specs.Private.Caller.{MayCall, MakesOrRefuses};
@@ -14,19 +14,19 @@ impl Kernel {
     /// and takes no memory.
     pub(super) fn state(
         &mut self,
-        caller: &Caller,
+        caller: &CallContext,
         target: ThreadNo,
-        endings: &mut Endings,
+        completions: &mut Completions,
     ) -> Result<(), Errno>
-        requires { MayCall self.old caller.now endings.old.items }
-        ensures { MakesOrRefuses self.old caller.now (Call.State target) result endings.new.items self.new }
+        requires { MayCall self.old caller.now completions.old.items }
+        ensures { MakesOrRefuses self.old caller.now (Call.State target) result completions.new.items self.new }
     {
         let seat = self.seat(target).ok_or(Errno::Srch)?;
         let mark = Mark::State {
             state: self.objects.state(&seat),
             priority: self.objects.threads.priority(&seat),
         };
-        put(endings, caller.completion(mark));
+        put(completions, caller.completion(mark));
         Ok(())
     }
 }

@@ -1,13 +1,13 @@
 //! The call `Unblock`.
 
 use super::Kernel;
-use super::caller::Caller;
+use super::call_context::CallContext;
 use qbase::errno::Errno;
 use qbase::ids::ThreadNo;
 use qmodel::call::{Call, Mark};
 use qqueue::item::What;
-use qstate::cancelling::CancelSet;
-use qstate::endings::{Endings, put, put_if};
+use qkernel_state::cancelling::CancelSet;
+use qkernel_state::completions::{Completions, put, put_if};
 
 impl Kernel {
     ghost use Rattle.qkernel.specs.Private.Caller.{MayCall, MakesOrRefuses};
@@ -19,29 +19,29 @@ impl Kernel {
     /// queued.
     pub(super) fn unblock(
         &mut self,
-        caller: &Caller,
+        caller: &CallContext,
         target: ThreadNo,
-        endings: &mut Endings,
+        completions: &mut Completions,
     ) -> Result<(), Errno>
-        requires { MayCall self.old caller.now endings.old.items }
-        ensures { MakesOrRefuses self.old caller.now (Call.Unblock target) result endings.new.items self.new }
+        requires { MayCall self.old caller.now completions.old.items }
+        ensures { MakesOrRefuses self.old caller.now (Call.Unblock target) result completions.new.items self.new }
     {
         let fellow = self.objects.fellow(caller.process, target)?;
         let Some(held) = self.objects.guarded_message(&fellow) else {
             let own = caller.completion(Mark::Ok);
             self.objects
-                .cancel(CancelSet::Of(target), Errno::Intr, own, endings);
+                .cancel(CancelSet::Of(target), Errno::Intr, own, completions);
             return Ok(());
         };
         if held.receipt.unblocked {
-            put(endings, caller.completion(Mark::Ok));
+            put(completions, caller.completion(Mark::Ok));
             return Ok(());
         }
         let pulse = caller.item(held.receipt.priority, What::Unblock(held.rcvid));
         let met = self.objects.send_pulse(held.channel, pulse)?;
         self.objects.threads.mark_unblocked(&fellow);
-        put(endings, caller.completion(Mark::Ok));
-        put_if(endings, met);
+        put(completions, caller.completion(Mark::Ok));
+        put_if(completions, met);
         Ok(())
     }
 }

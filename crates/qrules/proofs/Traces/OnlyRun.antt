@@ -15,8 +15,8 @@ lawful_past : (roster : List Member) (past : Trace) (events : List Event) → Is
 lawful_past roster past [] l = l
 lawful_past roster past (e ∷ events) l = (lawful_past roster (e ∷ past) events l).0
 
-same_event : (t : ℕ) (c : Call) (X : List Completion) (o : Event) → o.thread ≡ t → o.call ≡ c → o.endings ≡ X → o ≡ record { thread = t; call = c; endings = X }
-same_event t c X o thread call endings = rw (sym thread, sym call, sym endings) refl
+same_event : (t : ℕ) (c : Call) (X : List Completion) (o : Event) → o.thread ≡ t → o.call ≡ c → o.completions ≡ X → o ≡ record { thread = t; call = c; completions = X }
+same_event t c X o thread call completions = rw (sym thread, sym call, sym completions) refl
 
 only_run-by : (roster : List Member) (past : Trace) (events : List Event) → IsLawful roster (followed_by past events) → HadMemory events → (others : List Event)
     → map event_call others ≡ map event_call events → IsLawful roster (followed_by past others) → HadMemory others → others ≡ events
@@ -30,9 +30,9 @@ only_run-by roster past (e ∷ events) l h (o ∷ others) same m g =
     let thread : o.thread ≡ e.thread = ap (λ p. p.0) told in
     let call : o.call ≡ e.call = ap (λ p. p.1) told in
     let rest : map event_call others ≡ map event_call events = cc in
-    let answers : Answers (facts_of roster past) e.thread e.call o.endings = subst (λ p. Answers (facts_of roster past) p.0 p.1 o.endings) told other.1.1 in
-    let endings : o.endings ≡ e.endings = one_answer (facts_of roster past) e.thread e.call o.endings e.endings answers first.1.1 g.0 h.0 in
-    let event : o ≡ e = same_event e.thread e.call e.endings o thread call endings in
+    let answers : Answers (facts_of roster past) e.thread e.call o.completions = subst (λ p. Answers (facts_of roster past) p.0 p.1 o.completions) told other.1.1 in
+    let completions : o.completions ≡ e.completions = one_answer (facts_of roster past) e.thread e.call o.completions e.completions answers first.1.1 g.0 h.0 in
+    let event : o ≡ e = same_event e.thread e.call e.completions o thread call completions in
     let after : others ≡ events = only_run-by roster (e ∷ past) events l h.1 others rest (subst (λ x. IsLawful roster (followed_by (x ∷ past) others)) event m) g.1 in
     cc
 

@@ -1,6 +1,6 @@
 -- The meaning of the definitions of the history.
 pub mod Unended
-pub mod Ending
+pub mod Completion
 pub mod Refused
 pub mod Held
 pub mod Blocked

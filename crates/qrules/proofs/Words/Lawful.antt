@@ -5,4 +5,4 @@ pub use Rattle.qrules.specs.Trace.{followed_by}
 
 -- the history with one more event
 abbrev pub with_event : ThreadNo → Call → List Completion → Trace → Trace
-with_event t c endings past = record { thread = t; call = c; endings = endings } ∷ past
+with_event t c completions past = record { thread = t; call = c; completions = completions } ∷ past

@@ -15,11 +15,11 @@ pub use Rattle.qrules.specs.Properties.{items, priority_before}
 
 -- call n fails in these completions: one of them is of call n, and is a failure
 abbrev pub refuses : List Completion → CallNo → Bool
-refuses endings n = list_any (λ x. (x.call == n) && is_failure x.mark) endings
+refuses completions n = list_any (λ x. (x.call == n) && is_failure x.mark) completions
 
 -- one of these completions is of call i
 abbrev pub has_completion_of : List Completion → CallNo → Bool
-has_completion_of endings i = list_any (λ x. x.call == i) endings
+has_completion_of completions i = list_any (λ x. x.call == i) completions
 
 -- ---- channels and connections
 
@@ -43,7 +43,7 @@ copied_count_in i received = option_and_then (λ r. if r.number == i then Some r
 
 -- how many bytes of item i were copied, if one of these completions receives it
 abbrev pub copied_count_among : List Completion → CallNo → Option ℕ
-copied_count_among endings i = first_among (λ x. copied_count_in i (item_in x.mark)) endings
+copied_count_among completions i = first_among (λ x. copied_count_in i (item_in x.mark)) completions
 
 -- the call, unless it has completed
 abbrev pub unless_ended : Trace → Option OpenCall → Option OpenCall

@@ -18,13 +18,13 @@ same_event run more event (x ∷ xs) h = rw (same_call run more event x.call h, 
 
 pub same_texts : (run : Run) (more : List Event) (n : ℕ) (es : List Event) → n + length es ≤ run.first + length run.events → texts_from (with_more run more) n es ≡ texts_from run n es
 same_texts run more n [] h = refl
-same_texts run more n (e ∷ es) h = rw (same_event run more n e.endings (omega arith), same_texts run more (n + 1) es (omega arith)) refl
+same_texts run more n (e ∷ es) h = rw (same_event run more n e.completions (omega arith), same_texts run more (n + 1) es (omega arith)) refl
 
 pub texts_both : (run : Run) (n : ℕ) (es more : List Event) → texts_from run n (es ++ more) ≡ texts_from run n es ++ texts_from run (n + length es) more
 texts_both run n [] more = ap (λ m. texts_from run m more) (omega arith)
 texts_both run n (e ∷ es) more =
     let place : n + 1 + length es ≡ n + length (e ∷ es) = omega arith in
-    rw (texts_both run (n + 1) es more, place) (sym (append_assoc (event_text run n e.endings) (texts_from run (n + 1) es) (texts_from run (n + length (e ∷ es)) more)))
+    rw (texts_both run (n + 1) es more, place) (sym (append_assoc (event_text run n e.completions) (texts_from run (n + 1) es) (texts_from run (n + length (e ∷ es)) more)))
 
 pub goes_on : GoesOn
 unfolding printed

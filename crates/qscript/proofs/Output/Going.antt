@@ -24,20 +24,20 @@ event_same run event (x ∷ xs) h = rw (shows_same run event x.call h, event_sam
 
 -- the lines of a run with one more event
 texts_next : (run : Run) (e : Event)
-    → texts_from (with_more run (e ∷ [])) run.first (run.events ++ e ∷ []) ≡ texts_from run run.first run.events ++ event_text (with_more run (e ∷ [])) (run.first + length run.events) e.endings
+    → texts_from (with_more run (e ∷ [])) run.first (run.events ++ e ∷ []) ≡ texts_from run run.first run.events ++ event_text (with_more run (e ∷ [])) (run.first + length run.events) e.completions
 texts_next run e =
     rw (texts_both (with_more run (e ∷ [])) run.first run.events (e ∷ []), same_texts run (e ∷ []) run.first run.events (omega arith), append-nil) refl
 
-pub printed_more : (run : Run) (e : Event) (p q : Printer) (shows : Bool) (endings : List Completion) (event : ℕ) (told : List Bool) → HasPrinted run p → event ≡ run.first + length run.events → shows_buffer e.call ≡ shows → e.endings ≡ endings
+pub printed_more : (run : Run) (e : Event) (p q : Printer) (shows : Bool) (completions : List Completion) (event : ℕ) (told : List Bool) → HasPrinted run p → event ≡ run.first + length run.events → shows_buffer e.call ≡ shows → e.completions ≡ completions
     → q.first ≡ p.first → q.shown.items ≡ p.shown.items ++ shows ∷ [] → told ≡ q.shown.items
-    → string_bytes q.text ≡ string_bytes p.text ++ flat_map (λ x. ended_text event x (shows_at p.first told x.call)) endings
+    → string_bytes q.text ≡ string_bytes p.text ++ flat_map (λ x. ended_text event x (shows_at p.first told x.call)) completions
     → HasPrinted (with_more run (e ∷ [])) q
-printed_more run e p q shows endings event told h number own ended first shown all text =
+printed_more run e p q shows completions event told h number own ended first shown all text =
     let more = with_more run (e ∷ []) in
     let here : map shows_own (run.events ++ e ∷ []) ≡ q.shown.items = map-append shows_own run.events (e ∷ []) ∙ sym (rw (shown, h.shown, own) refl) in
     let newest : (run.first + length run.events) + 1 ≡ run.first + length (run.events ++ e ∷ []) = omega (arith, length-append run.events (e ∷ [])) in
-    let line : event_text more (run.first + length run.events) e.endings ≡ flat_map (λ x. ended_text event x (shows_at p.first told x.call)) endings =
-    event_same more (run.first + length run.events) e.endings newest ∙ rw (here, number, h.first, ended, all) refl in
+    let line : event_text more (run.first + length run.events) e.completions ≡ flat_map (λ x. ended_text event x (shows_at p.first told x.call)) completions =
+    event_same more (run.first + length run.events) e.completions newest ∙ rw (here, number, h.first, ended, all) refl in
     record {
       first = first ∙ h.first;
       shown = sym here;
@@ -47,9 +47,9 @@ printed_more run e p q shows endings event told h number own ended first shown a
 -- ---- the events of a trace
 
 -- the event at a place, with its call and its completions
-pub next_taken : (es : List Event) (k : ℕ) (call : Call) (endings : List Completion) → option_map (λ (e : Event). e.call) (slice_get es k) ≡ Some call → option_map (λ (e : Event). e.endings) (slice_get es k) ≡ Some endings
-    → (e : Event) × (take (k + 1) es ≡ take k es ++ e ∷ []) × (e.call ≡ call) × (e.endings ≡ endings)
-next_taken es k call endings h i = elim (slice_get_cases es k).1 [
+pub next_taken : (es : List Event) (k : ℕ) (call : Call) (completions : List Completion) → option_map (λ (e : Event). e.call) (slice_get es k) ≡ Some call → option_map (λ (e : Event). e.completions) (slice_get es k) ≡ Some completions
+    → (e : Event) × (take (k + 1) es ≡ take k es ++ e ∷ []) × (e.call ≡ call) × (e.completions ≡ completions)
+next_taken es k call completions h i = elim (slice_get_cases es k).1 [
   | inl x ↦ (x.0, rw (take_more es k x.0 x.1, x.3) refl, grind (arith, x.2), grind (arith, x.2))
   | inr past ↦ absurd (grind (arith, past.1))
 ]

@@ -1,5 +1,5 @@
 -- Printed lines have no newline inside.
-use Rattle.qscript.proofs.Common.{Blocked, Bool, Completion, Event, HasLines, IsLines, IsOneLine, List, Run, [], ap, arith, call_by, codes, decimal, endings_in, false, flat_map, get_or, is_shown, length, length-append, list_all, negsuc, not, pos, refl, suc, sym, texts_from, true, with_newline, words_with_spaces, zero, ℕ, ℤ, ◌%◌, ◌++◌, ◌+◌, ◌/◌, ◌==◌, ◌∷◌, ◌≡◌}
+use Rattle.qscript.proofs.Common.{Blocked, Bool, Completion, Event, HasLines, IsLines, IsOneLine, List, Run, [], ap, arith, call_by, codes, decimal, completions_in, false, flat_map, get_or, is_shown, length, length-append, list_all, negsuc, not, pos, refl, suc, sym, texts_from, true, with_newline, words_with_spaces, zero, ℕ, ℤ, ◌%◌, ◌++◌, ◌+◌, ◌/◌, ◌==◌, ◌∷◌, ◌≡◌}
 use Rattle.std.specs.Fmt.{digit_glyph, digits_onto, digits, signed_decimal}
 use Rattle.std.proofs.lemmas.Bool.Decides.{nat_tests}
 use Rattle.std.proofs.lemmas.Grind.{flat_map-append}
@@ -83,10 +83,10 @@ both a b n m first then_more = record {
   text_is = rw (first.text_is, then_more.text_is) (sym (flat_map-append with_newline first.lines then_more.lines));
 }
 
-texts_lines : (run : Run) (n : ℕ) (es : List Event) → IsLines (texts_from run n es) (endings_in es)
+texts_lines : (run : Run) (n : ℕ) (es : List Event) → IsLines (texts_from run n es) (completions_in es)
 texts_lines run n [] = record { lines = []; as_many = refl; each = tt; text_is = refl }
-texts_lines run n (e ∷ es) = both _ _ (length e.endings) (endings_in es) (each_line _ (λ x. ended_line n x (is_shown (call_by run n x.call))) e.endings) (texts_lines run (n + 1) es)
+texts_lines run n (e ∷ es) = both _ _ (length e.completions) (completions_in es) (each_line _ (λ x. ended_line n x (is_shown (call_by run n x.call))) e.completions) (texts_lines run (n + 1) es)
 
 pub has_lines : HasLines
 unfolding printed
-has_lines run blocked = both _ _ (endings_in run.events) (length blocked) (texts_lines run run.first run.events) (each_line open_front open_line blocked)
+has_lines run blocked = both _ _ (completions_in run.events) (length blocked) (texts_lines run run.first run.events) (each_line open_front open_line blocked)

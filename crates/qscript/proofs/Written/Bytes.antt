@@ -2,7 +2,7 @@
 use Rattle.qscript.proofs.Common.{IsBytes, List, Ok, [], arith, buffer_word, encode_lower, is_hex_digit, length, list_all, list_all-from_AllPass, position_or_len, refl, true, ℕ, ◌*◌, ◌∷◌, ◌≡◌}
 use Rattle.std.proofs.lemmas.Bool.Decides.{nat_tests}
 use Rattle.hex.proofs.HexLemmas.{decode_of-encode_lower, decode_of-ok}
-use Rattle.qreading.specs.Reading.Operand.{plain_of, bytes_of, is_cross}
+use Rattle.qscript_text.specs.Reading.Operand.{plain_of, bytes_of, is_cross}
 use Rattle.qscript.proofs.Written.Words.{prints, is_word}
 
 -- hexadecimal digits print, and there is no `x` among them

@@ -1,7 +1,7 @@
 -- Written numbers are read back.
 use Rattle.qscript.proofs.Common.{Ok, Some, arith, decimal, decimal_nonempty, digits_decimal, digits_value-decimal, le-leb, length, length-decimal-le, lt-ltb, ltb-true, negsuc, own, pos, refl, suc, true, ℕ, ℤ, ◌<◌, ◌^◌, ◌≡◌, ◌≤◌}
 use Rattle.std.specs.Fmt.{signed_decimal}
-use Rattle.qreading.specs.Reading.Number.{digits_of, number_of, priority_of, signed_of, is_within, integer_of}
+use Rattle.qscript_text.specs.Reading.Number.{digits_of, number_of, priority_of, signed_of, is_within, integer_of}
 use Rattle.qscript.proofs.Written.Words.{is_word, number_word, first_digit_not}
 
 -- the digits of a number

@@ -3,20 +3,20 @@ use Rattle.qscript.proofs.Common.{AllByRecursion, Bool, Call, IsSmall, IsTyped, 
 use Rattle.std.proofs.lemmas.Bool.{false_from_ne_true}
 use Rattle.std.proofs.lemmas.Slice.Eq.{bytes_eq-Decides}
 use Rattle.qmodel.specs.declared.call.Call.TheVariants as calls
-use Rattle.qreading.specs.declared.reading.line.Line.TheVariants as lines
+use Rattle.qscript_text.specs.declared.reading.line.ScriptLine.TheVariants as lines
 use Rattle.qmodel.specs.declared.kind.CallKind.{CallKind}
 use Rattle.qmodel.specs.declared.kind.CallKind.TheVariants as kind
-use Rattle.qmodel.specs.declared.operands.Operand.{Operand}
-use Rattle.qmodel.specs.declared.operands.Operand.TheVariants as sort
+use Rattle.qmodel.specs.declared.operands.OperandKind.{OperandKind}
+use Rattle.qmodel.specs.declared.operands.OperandKind.TheVariants as sort
 use Rattle.qmodel.specs.Buffers.{buffer_of, bytes_of}
 use Rattle.qmodel.specs.Kinds.{call_with, kind_named, kind_of, operands_of, script_word, sorts_of}
-use Rattle.qreading.specs.declared.reading.forms.Values.{Values}
-use Rattle.qreading.specs.Reading.Call.{call_by, call_of}
-use Rattle.qreading.specs.Reading.Counts.{first_of}
-use Rattle.qreading.specs.Reading.Forms.{member_of, no_values, value_of, values_of}
-use Rattle.qreading.specs.Reading.Line.{is_text, call_line_of, roster_line_of, said_of, line_of}
-use Rattle.qreading.specs.Reading.Number.{number_of}
-use Rattle.qreading.specs.Reading.Steps.{◌>>=◌}
+use Rattle.qscript_text.specs.declared.reading.forms.Values.{Values}
+use Rattle.qscript_text.specs.Reading.Call.{call_by, call_of}
+use Rattle.qscript_text.specs.Reading.Counts.{first_of}
+use Rattle.qscript_text.specs.Reading.Forms.{member_of, no_values, value_of, values_of}
+use Rattle.qscript_text.specs.Reading.Line.{is_text, call_line_of, roster_line_of, said_of, line_of}
+use Rattle.qscript_text.specs.Reading.Number.{number_of}
+use Rattle.qscript_text.specs.Reading.Steps.{◌>>=◌}
 use Rattle.qscript.specs.Writing.Line.{call_words, call_line, member_line, operand_word}
 use Rattle.qscript.proofs.Written.Bytes.{bytes_word, bytes_back}
 use Rattle.qscript.proofs.Written.Numbers.{number_back, priority_back, signed_word, integer_back}
@@ -29,7 +29,7 @@ small : (n : ℕ) → IsSmall n → (is_word (decimal n) ≡ true) × (number_of
 small n h = (number_word n (omega (arith, h)), number_back 256 n h (omega (arith, h)))
 
 -- the values with a call's operand of this sort
-abbrev put : Call → Operand → Values → Values
+abbrev put : Call → OperandKind → Values → Values
 put c sort.Thread v = record v { numbers = record v.numbers { thread = (operands_of c).thread } }
 put c sort.Process v = record v { numbers = record v.numbers { process = (operands_of c).process } }
 put c sort.Priority v = record v { numbers = record v.numbers { priority = (operands_of c).priority } }
@@ -47,15 +47,15 @@ put c sort.Data v = record v { bytes = bytes_of c }
 put c sort.ReplyBuffer v = record v { buffer = buffer_of c }
 put c sort.Buffer v = record v { buffer = buffer_of c }
 
-abbrev puts : Call → List Operand → Values → Values
+abbrev puts : Call → List OperandKind → Values → Values
 puts c [] v = v
 puts c (s ∷ sorts) v = puts c sorts (put c s v)
 
 -- the word of an operand is a valid word, and is read back as the operand
-operand_back : (c : Call) (s : Operand) (v : Values) → IsTypedOperand c s → (is_word (operand_word c s) ≡ true) × (value_of s (operand_word c s) v ≡ Ok (put c s v))
+operand_back : (c : Call) (s : OperandKind) (v : Values) → IsTypedOperand c s → (is_word (operand_word c s) ≡ true) × (value_of s (operand_word c s) v ≡ Ok (put c s v))
 operand_back c s v h = grind (arith, small, number_word, number_back, priority_back, signed_word, integer_back, bytes_word, bytes_back)
 
-operands_back : (c : Call) (sorts : List Operand) (v : Values) → AllByRecursion (IsTypedOperand c) sorts
+operands_back : (c : Call) (sorts : List OperandKind) (v : Values) → AllByRecursion (IsTypedOperand c) sorts
     → (list_all is_word (map (operand_word c) sorts) ≡ true) × (values_of sorts (map (operand_word c) sorts) (Ok v) ≡ Ok (puts c sorts v))
 operands_back c [] v h = (refl, refl)
 operands_back c (s ∷ sorts) v h =

@@ -1,12 +1,12 @@
 -- Written scripts are read back.
 use Rattle.qscript.proofs.Common.{All, All-cons, All-nil, AllByRecursion, Call, Event, IsTypedMember, IsWritable, List, MayStand, Member, Ok, ScriptsAreRead, Stands, [], add-zero, ap, append-nil, append_assoc, arith, call_line, cons_option, event_call, false, flat_map, is_text, length, length-append, list_all, lt-leb, map, member_line, nat_lt, not_long, refl, slice_index, stands_first, stands_last, stands_more, suc, true, zero, ℕ, ◌++◌, ◌+◌, ◌-◌, ◌<◌, ◌==◌, ◌∙◌, ◌∷◌, ◌≡◌}
 use Rattle.std.proofs.lemmas.Bool.Decides.{nat_tests}
-use Rattle.qreading.specs.declared.reading.line.Line.{Line}
-use Rattle.qreading.specs.declared.reading.line.Line.TheVariants as lines
-use Rattle.qreading.specs.Reading.Lines.{lines_of, is_newline, without_return}
-use Rattle.qreading.specs.Reading.Meaning.{call_in, is_in, line_behind, line_with, member_in}
+use Rattle.qscript_text.specs.declared.reading.line.ScriptLine.{ScriptLine}
+use Rattle.qscript_text.specs.declared.reading.line.ScriptLine.TheVariants as lines
+use Rattle.qscript_text.specs.Reading.Lines.{lines_of, is_newline, without_return}
+use Rattle.qscript_text.specs.Reading.Meaning.{call_in, is_in, line_behind, line_with, member_in}
 use Rattle.qscript.specs.Writing.Text.{member_text, call_text, script_text}
-use Rattle.qreading.proofs.Texts.Lines.{lines_at, lines_none}
+use Rattle.qscript_text.proofs.Texts.Lines.{lines_at, lines_none}
 use Rattle.qscript.proofs.Written.Reading.{call_read, call_line_text, member_read, member_line_text}
 
 -- ---- a line of text, and its end
@@ -23,7 +23,7 @@ no_return_at (x ∷ xs) zero h = grind (arith, nat_tests)
 no_return_at (x ∷ xs) (suc k) h = grind (arith, no_return_at xs k)
 
 -- the rest of a text after a line with this content has been read
-line_stands : (text line after : List ℕ) (n : ℕ) (roster : List Member) (cs : List (ℕ × Call)) (l : Line) → list_all is_text line ≡ true → line_with roster cs line ≡ Ok l
+line_stands : (text line after : List ℕ) (n : ℕ) (roster : List Member) (cs : List (ℕ × Call)) (l : ScriptLine) → list_all is_text line ≡ true → line_with roster cs line ≡ Ok l
     → Stands text ((line ++ 10 ∷ []) ++ after) n roster cs → Stands text after (n + 1) (roster ++ cons_option (member_in (Ok l)) []) (cs ++ cons_option (call_in (Ok l)) [])
 line_stands text line after n roster cs l h said s =
     let whole : without_return line ≡ line = rw (no_return_at line (length line - 1) h) refl in

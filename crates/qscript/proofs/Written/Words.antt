@@ -3,8 +3,8 @@ use Rattle.qscript.proofs.Common.{All, All-cons, All-nil, Bool, List, [], all_as
 use Rattle.std.proofs.lemmas.Bool.Decides.{nat_tests}
 use Rattle.std.proofs.lemmas.List.Folds.{list_all-append}
 use Rattle.std.proofs.lemmas.Str.Parse.{tells_all_ascii_digits}
-use Rattle.qreading.specs.Reading.Words.{words_of, is_blank}
-use Rattle.qreading.proofs.Texts.Words.{word_kept}
+use Rattle.qscript_text.specs.Reading.Words.{words_of, is_blank}
+use Rattle.qscript_text.proofs.Texts.Words.{word_kept}
 
 -- a printable byte that isn't a blank
 abbrev pub prints : ℕ → Bool

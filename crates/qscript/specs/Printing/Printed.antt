@@ -43,17 +43,17 @@ ended_text event e shows =
     ++ words_with_spaces (mark_words e.mark) ++ words_with_spaces (ended_words e shows) ++ 10 ∷ []
 
 -- the line of a completion in a run
-abbrev pub ending_text : Run → ℕ → Completion → List ℕ
-ending_text run event e = ended_text event e (is_shown (call_by run event e.call))
+abbrev pub completion_text : Run → ℕ → Completion → List ℕ
+completion_text run event e = ended_text event e (is_shown (call_by run event e.call))
 
 -- a line for each completion of an event
 abbrev pub event_text : Run → ℕ → List Completion → List ℕ
-event_text run event endings = flat_map (ending_text run event) endings
+event_text run event completions = flat_map (completion_text run event) completions
 
 -- the lines of these events of a run; the first of them has the number `event`
 abbrev pub texts_from : Run → ℕ → List Event → List ℕ
 texts_from run event [] = []
-texts_from run event (e ∷ events) = event_text run event e.endings ++ texts_from run (event + 1) events
+texts_from run event (e ∷ events) = event_text run event e.completions ++ texts_from run (event + 1) events
 
 -- the lines of a run's events, and then a line for each thread that is blocked after it
 unfoldable pub printed : Run → List Blocked → List ℕ

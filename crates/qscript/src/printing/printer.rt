@@ -3,12 +3,12 @@
 ghost use Rattle.std.specs.Prelude.{◌≡◌, ◌+◌, [], ◌∷◌, ◌++◌, length, IfOk, OnOk, string_bytes};
 ghost use Rattle.std.specs.List.{flat_map};
 ghost use Rattle.qmodel.specs.Trace.{Event, Run};
-ghost use Rattle.qscript.specs.Printing.Laws.{with_more};
+ghost use Rattle.qscript.specs.Printing.PrintingLaws.{with_more};
 ghost use Rattle.qscript.specs.Printing.OpenLine.{open_text};
 ghost use Rattle.qscript.specs.Printing.Printed.{shows_buffer, printed};
 ghost use Rattle.qscript.specs.Printing.Printer.{HasPrinted};
 
-use crate::printing::ended_line::push_endings;
+use crate::printing::ended_line::push_completions;
 use crate::printing::open_line::push_open;
 use qkernel::call::Completion;
 use qkernel::open_call::Blocked;
@@ -45,17 +45,17 @@ impl Printer {
         &mut self,
         event: u64,
         shows: bool,
-        endings: &[Completion],
+        completions: &[Completion],
     ) -> Result<(), AllocError>
-        ensures { OnOk result ((run : Run) (e : Event) → HasPrinted run self.old → event ≡ run.first + length run.events → shows_buffer e.call ≡ shows → e.endings ≡ endings.now → HasPrinted (with_more run (e ∷ [])) self.new) }
+        ensures { OnOk result ((run : Run) (e : Event) → HasPrinted run self.old → event ≡ run.first + length run.events → shows_buffer e.call ≡ shows → e.completions ≡ completions.now → HasPrinted (with_more run (e ∷ [])) self.new) }
     {
         self.shown.push(shows)?;
-        push_endings(
+        push_completions(
             &mut self.text,
             self.first,
             self.shown.as_slice(),
             event,
-            endings,
+            completions,
         )?;
         Ok(())
     }

@@ -1,4 +1,4 @@
--- Room for copies of the buffers of a history that is kept.
+-- Preallocated for copies of the buffers of a history that is kept.
 use Rattle.std.specs.Prelude.{◌≡◌, ℕ, ◌+◌, ◌<◌, ◌≤◌, ◌⊎◌, ◌^◌, Bool, true, false, List, [], length, Some}
 use Rattle.std.specs.Prelude.{slice_index_or}
 use Rattle.qtables.specs.declared.member.Member.{Member}
@@ -46,7 +46,7 @@ pub record IsKept (roster : List Member) (limit : ℕ) (threads rooms : List ℕ
   pub rises : IsRoster roster
   pub threads_are : threads ≡ threads_of roster
   pub sized : length rooms ≡ length threads
-  pub settled : (log.noted ≡ []) × (log.endings ≡ [])
+  pub settled : (log.noted ≡ []) × (log.completions ≡ [])
   pub has_rooms : HasRooms roster rooms (followed_by [] log.events)
   pub within : length log.events ≤ limit
   pub spare : is_down (followed_by [] log.events) ≡ false → (length log.events < limit)

@@ -5,7 +5,7 @@ use Rattle.qkernel.proofs.run.run_all.Goals as goal
 pub loop-next-init : goal.loop-next-init
 loop-next-init c = record {
   running = rw (c.reverse.ensures.items, reverse-reverse) (running_at_start c.args.kernel.now c.args.calls.items c.args.log.now c.requires.known c.requires.limit c.requires.noted c.requires.none.0 c.requires.none.1 c.requires.room);
-  emptied = c.new_in-endings.ensures;
+  emptied = c.new_in-completions.ensures;
 }
 
 pub step-requires-clause-known : goal.step-requires-clause-known

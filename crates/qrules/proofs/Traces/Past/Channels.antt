@@ -29,20 +29,20 @@ IsOpenAt roster past h = IsLive roster creates (λ f. f.destroys) past h
 pub open_at : (roster : List Member) (past : Trace) (h : ℕ) → is_some (channel_at roster past h) ≡ true → IsOpenAt roster past h
 open_at roster past h e = live_parts roster creates (λ f. f.destroys) past h e
 
-pub closed_refused : (roster : List Member) (e : Event) (past : Trace) (h : ℕ) → refuses e.endings (length past + 1) ≡ true → is_destroyed (e ∷ past) h ≡ is_destroyed past h
+pub closed_refused : (roster : List Member) (e : Event) (past : Trace) (h : ℕ) → refuses e.completions (length past + 1) ≡ true → is_destroyed (e ∷ past) h ≡ is_destroyed past h
 closed_refused roster e past h r = gone_refused roster creates (λ f. f.destroys) e past h r
 
-pub closed_accepted : (roster : List Member) (e : Event) (past : Trace) (h : ℕ) → refuses e.endings (length past + 1) ≡ false → is_destroyed (e ∷ past) h ≡ (names (closes e.call) h || is_destroyed past h)
+pub closed_accepted : (roster : List Member) (e : Event) (past : Trace) (h : ℕ) → refuses e.completions (length past + 1) ≡ false → is_destroyed (e ∷ past) h ≡ (names (closes e.call) h || is_destroyed past h)
 closed_accepted roster e past h r = gone_accepted roster creates (λ f. f.destroys) e past h r
 
-pub channel_refused : (roster : List Member) (e : Event) (past : Trace) (h : ℕ) → refuses e.endings (length past + 1) ≡ true → channel_at roster (e ∷ past) h ≡ channel_at roster past h
+pub channel_refused : (roster : List Member) (e : Event) (past : Trace) (h : ℕ) → refuses e.completions (length past + 1) ≡ true → channel_at roster (e ∷ past) h ≡ channel_at roster past h
 channel_refused roster e past h r = live_refused roster creates (λ f. f.destroys) e past h r
 
 pub channel_accepted : (roster : List Member) (past : Trace) (t : ℕ) (c : Call) (X : List Completion) (h : ℕ) → IsLawful roster past → Outcome true (facts_of roster past) t c X
     → channel_at roster (with_event t c X past) h ≡ channel_after (facts_of roster past) t c h
 channel_accepted roster past t c X h l a = live_accepted roster creates (λ f. f.destroys) (closes_live roster) closes_alone past t c X h l a
 
-pub open_channels_refused : (roster : List Member) (e : Event) (past : Trace) → refuses e.endings (length past + 1) ≡ true → open_channels roster (e ∷ past) ≡ open_channels roster past
+pub open_channels_refused : (roster : List Member) (e : Event) (past : Trace) → refuses e.completions (length past + 1) ≡ true → open_channels roster (e ∷ past) ≡ open_channels roster past
 open_channels_refused roster e past r = count_live_refused roster creates (λ f. f.destroys) e past r
 
 pub open_channels_accepted : (roster : List Member) (past : Trace) (t : ℕ) (c : Call) (X : List Completion) → IsLawful roster past → Outcome true (facts_of roster past) t c X

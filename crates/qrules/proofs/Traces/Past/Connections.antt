@@ -18,14 +18,14 @@ detaches_alone m c k e = grind arith
 detaches_live : (roster : List Member) (past : Trace) (t : ℕ) (c : Call) (X : List Completion) → Outcome true (facts_of roster past) t c X → (k : ℕ) → names (detaches c) k ≡ true → is_some (connection_at roster past k) ≡ true
 detaches_live roster past t c X a k e = detaches_one (facts_of roster past) t c k (passes_of (facts_of roster past) t c X a).row e
 
-pub connection_refused : (roster : List Member) (e : Event) (past : Trace) (k : ℕ) → refuses e.endings (length past + 1) ≡ true → connection_at roster (e ∷ past) k ≡ connection_at roster past k
+pub connection_refused : (roster : List Member) (e : Event) (past : Trace) (k : ℕ) → refuses e.completions (length past + 1) ≡ true → connection_at roster (e ∷ past) k ≡ connection_at roster past k
 connection_refused roster e past k r = live_refused roster attaches (λ f. f.detaches) e past k r
 
 pub connection_accepted : (roster : List Member) (past : Trace) (t : ℕ) (c : Call) (X : List Completion) (k : ℕ) → IsLawful roster past → Outcome true (facts_of roster past) t c X
     → connection_at roster (with_event t c X past) k ≡ connection_after (facts_of roster past) t c k
 connection_accepted roster past t c X k l a = live_accepted roster attaches (λ f. f.detaches) (detaches_live roster) detaches_alone past t c X k l a
 
-pub live_connections_refused : (roster : List Member) (e : Event) (past : Trace) → refuses e.endings (length past + 1) ≡ true → live_connections roster (e ∷ past) ≡ live_connections roster past
+pub live_connections_refused : (roster : List Member) (e : Event) (past : Trace) → refuses e.completions (length past + 1) ≡ true → live_connections roster (e ∷ past) ≡ live_connections roster past
 live_connections_refused roster e past r = count_live_refused roster attaches (λ f. f.detaches) e past r
 
 pub live_connections_accepted : (roster : List Member) (past : Trace) (t : ℕ) (c : Call) (X : List Completion) → IsLawful roster past → Outcome true (facts_of roster past) t c X

@@ -63,7 +63,7 @@ names_below roster past t c X i a l = elim a [
 
 pub ended_below : (roster : List Member) (past : Trace) (i : ℕ) → IsLawful roster past → length past < i → is_ended past i ≡ false
 ended_below roster [] i l h = refl
-ended_below roster (e ∷ past) i l h = rw (names_below roster past e.thread e.call e.endings i l.1.1 (omega arith), ended_below roster past i l.0 (omega arith)) refl
+ended_below roster (e ∷ past) i l h = rw (names_below roster past e.thread e.call e.completions i l.1.1 (omega arith), ended_below roster past i l.0 (omega arith)) refl
 
 -- ---- threads of the roster
 

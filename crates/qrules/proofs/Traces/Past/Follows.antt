@@ -14,6 +14,6 @@ past_follows true roster past t c X rising l member a =
     let r : refuses X (length past + 1) ≡ false = accepted roster past t c X a in
     grind (arith, r, channel_accepted roster past t c X, open_channels_accepted roster past t c X l a, connection_accepted roster past t c X, live_connections_accepted roster past t c X l a, open_accepted roster past t c X, pending_accepted roster past t c X, priority_accepted roster past t c X)
 past_follows false roster past t c X rising l member a =
-    let e : Event = record { thread = t; call = c; endings = X } in
+    let e : Event = record { thread = t; call = c; completions = X } in
     let r : refuses X (length past + 1) ≡ true = refused roster past t c X a in
     grind (arith, r, channel_refused roster e past, open_channels_refused roster e past r, connection_refused roster e past, live_connections_refused roster e past r, open_refused roster past t c X, pending_refused roster past t c X, priority_refused roster past t c X)

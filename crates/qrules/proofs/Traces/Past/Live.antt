@@ -13,7 +13,7 @@ late : {A : Type 0} (make : Event → Option A) (past : Trace) (i : ℕ) → con
 late make past i = grind (arith, made_beyond make past i)
 
 -- a call that fails makes nothing
-pub made_refused : {A : Type 0} (make : Event → Option A) (e : Event) (past : Trace) (i : ℕ) → refuses e.endings (length past + 1) ≡ true → accepted_at make (e ∷ past) i ≡ accepted_at make past i
+pub made_refused : {A : Type 0} (make : Event → Option A) (e : Event) (past : Trace) (i : ℕ) → refuses e.completions (length past + 1) ≡ true → accepted_at make (e ∷ past) i ≡ accepted_at make past i
 made_refused make e past i r = rw (r, late make past i) refl
 
 -- ---- counts
@@ -57,10 +57,10 @@ module _ {A : Type 0} (roster : List Member) (make : Option Member → Call → 
   abbrev pub live : Trace → ℕ → Option A
   live past i = cond (is_gone past i) None (made past i)
 
-  pub gone_refused : (e : Event) (past : Trace) (i : ℕ) → refuses e.endings (length past + 1) ≡ true → is_gone (e ∷ past) i ≡ is_gone past i
+  pub gone_refused : (e : Event) (past : Trace) (i : ℕ) → refuses e.completions (length past + 1) ≡ true → is_gone (e ∷ past) i ≡ is_gone past i
   gone_refused e past i r = rw r refl
 
-  pub gone_accepted : (e : Event) (past : Trace) (i : ℕ) → refuses e.endings (length past + 1) ≡ false → is_gone (e ∷ past) i ≡ (names (ends (effect_of e.call)) i || is_gone past i)
+  pub gone_accepted : (e : Event) (past : Trace) (i : ℕ) → refuses e.completions (length past + 1) ≡ false → is_gone (e ∷ past) i ≡ (names (ends (effect_of e.call)) i || is_gone past i)
   gone_accepted e past i r = rw r refl
 
   -- a live thing was made, and hasn't been ended
@@ -76,11 +76,11 @@ module _ {A : Type 0} (roster : List Member) (make : Option Member → Call → 
   live_beyond : (past : Trace) → live past (length past + 1) ≡ None
   live_beyond past = ap (cond (is_gone past (length past + 1)) None) (made_beyond (λ e. make (member_at roster e.thread) e.call) past (length past + 1) (omega arith)) ∙ cond_same (is_gone past (length past + 1)) None
 
-  pub live_refused : (e : Event) (past : Trace) (i : ℕ) → refuses e.endings (length past + 1) ≡ true → live (e ∷ past) i ≡ live past i
+  pub live_refused : (e : Event) (past : Trace) (i : ℕ) → refuses e.completions (length past + 1) ≡ true → live (e ∷ past) i ≡ live past i
   live_refused e past i r =
       ap (λ b. cond b None (made (e ∷ past) i)) (gone_refused e past i r) ∙ ap (cond (is_gone past i) None) (made_refused (λ e. make (member_at roster e.thread) e.call) e past i r)
 
-  pub count_live_refused : (e : Event) (past : Trace) → refuses e.endings (length past + 1) ≡ true → count_to (live (e ∷ past)) (length (e ∷ past)) ≡ count_to (live past) (length past)
+  pub count_live_refused : (e : Event) (past : Trace) → refuses e.completions (length past + 1) ≡ true → count_to (live (e ∷ past)) (length (e ∷ past)) ≡ count_to (live past) (length past)
   count_live_refused e past r = grind (arith, live_refused e past (length past + 1) r, live_beyond past, count_same (live (e ∷ past)) (live past) (length past), live_refused e past)
 
   -- an accepted call that ends a thing ends a live one, and makes none
@@ -91,14 +91,14 @@ module _ {A : Type 0} (roster : List Member) (make : Option Member → Call → 
     gone_below [] i l e = absurd (true≢false (sym e))
     gone_below (e ∷ past) i l is = elim (l.1.1) [
       | inl a ↦
-          elim (or_cases (names (ends (effect_of e.call)) i) (is_gone past i) (sym (gone_accepted e past i (accepted roster past e.thread e.call e.endings a)) ∙ is)) [
+          elim (or_cases (names (ends (effect_of e.call)) i) (is_gone past i) (sym (gone_accepted e past i (accepted roster past e.thread e.call e.completions a)) ∙ is)) [
             | inl now ↦
-                let o = live_parts past i (ends_live past e.thread e.call e.endings a i now) in
+                let o = live_parts past i (ends_live past e.thread e.call e.completions a i now) in
                 let below : i ≤ length past = made_below _ past i o.it o.is_made in
                 omega arith
             | inr before ↦ let below : i ≤ length past = gone_below past i l.0 before in omega arith
           ]
-      | inr a ↦ let below : i ≤ length past = gone_below past i l.0 (sym (gone_refused e past i (refused roster past e.thread e.call e.endings a)) ∙ is) in omega arith
+      | inr a ↦ let below : i ≤ length past = gone_below past i l.0 (sym (gone_refused e past i (refused roster past e.thread e.call e.completions a)) ∙ is) in omega arith
     ]
 
     -- a thing that is made under a new number hasn't been ended
@@ -108,7 +108,7 @@ module _ {A : Type 0} (roster : List Member) (make : Option Member → Call → 
     pub live_accepted : (past : Trace) (t : ℕ) (c : Call) (X : List Completion) (i : ℕ) → IsLawful roster past → Outcome true (facts_of roster past) t c X
         → live (with_event t c X past) i ≡ cond (names (ends (effect_of c)) i) None (put_at (make (member_at roster t) c) (length past + 1) (live past) i)
     live_accepted past t c X i l a =
-        let e : Event = record { thread = t; call = c; endings = X } in
+        let e : Event = record { thread = t; call = c; completions = X } in
         let r : refuses X (length past + 1) ≡ false = accepted roster past t c X a in
         grind (arith, gone_accepted e past i r, late, unended past i l (make (member_at roster t) c))
 

@@ -67,11 +67,11 @@ pub live_over : (roster : List Member) (past : Trace) → IsLawful roster past �
 live_over roster [] l u o is answer = absurd (none-some o is)
 live_over roster (e ∷ past) l u o is answer = elim (l.1.1) [
   | inl a ↦
-      ap is_some (connection_accepted roster past e.thread e.call e.endings (over o) l.0 a)
-      ∙ live_after (facts_of roster past) e.thread e.call (passes_of (facts_of roster past) e.thread e.call e.endings a) (live_over roster past l.0) u o (sym (open_accepted roster past e.thread e.call e.endings u l.0 l.1.0 a) ∙ is) answer
+      ap is_some (connection_accepted roster past e.thread e.call e.completions (over o) l.0 a)
+      ∙ live_after (facts_of roster past) e.thread e.call (passes_of (facts_of roster past) e.thread e.call e.completions a) (live_over roster past l.0) u o (sym (open_accepted roster past e.thread e.call e.completions u l.0 l.1.0 a) ∙ is) answer
   | inr a ↦
-      ap is_some (connection_refused roster e past (over o) (refused roster past e.thread e.call e.endings a))
-      ∙ live_over roster past l.0 u o (sym (open_refused roster past e.thread e.call e.endings u a) ∙ is) answer
+      ap is_some (connection_refused roster e past (over o) (refused roster past e.thread e.call e.completions a))
+      ∙ live_over roster past l.0 u o (sym (open_refused roster past e.thread e.call e.completions u a) ∙ is) answer
 ]
 
 -- the connection of an open Send is as it was attached

@@ -50,7 +50,7 @@ all_moved P f h s items any all = grind (arith, all_map, all_more)
 moved_one : (roster : List Member) (past : Trace) (t : ℕ) (c : Call) (X : List Completion) (h : ℕ) (s : PriorityChange) (item : Item) → IsLawful roster past → Outcome true (facts_of roster past) t c X → sets c ≡ Some s
     → Stands roster past h item → is_gone past item ≡ false → now (with_event t c X past) item ≡ mover (facts_of roster past) h s (now past item)
 moved_one roster past t c X h s item l a set at stays =
-    let e : Event = record { thread = t; call = c; endings = X } in
+    let e : Event = record { thread = t; call = c; completions = X } in
     let p = standing_is roster past h item at stays in
     grind (arith, pulse_unread roster past h item s.thread p, sent_by roster past h item l p, item_below roster past item.number, worth_set e past item, accepted roster past t c X a, unread_elsewhere roster past h item.number)
 
@@ -72,7 +72,7 @@ pub moved_now : (roster : List Member) (past : Trace) (t : ℕ) (c : Call) (X : 
     → AllByRecursion (λ item. Stands roster past h item × (is_gone past item ≡ false)) items → map (now (with_event t c X past)) items ≡ items_with_priority_set (facts_of roster past) h (sets c) (map (now past) items)
 moved_now roster past t c X h items l a all =
     let f = facts_of roster past in
-    let e : Event = record { thread = t; call = c; endings = X } in
+    let e : Event = record { thread = t; call = c; completions = X } in
     elim (sets c) as (λ o. sets c ≡ o → map (now (e ∷ past)) items ≡ items_with_priority_set f h o (map (now past) items)) [
       | None ↦ λ none. same_now roster e past h items all (λ item at. worth_stays e past item (item_below roster past item.number _ at) (sets_none e past item.number none))
       | Some s ↦ λ set.

@@ -98,12 +98,12 @@ own_holds roster past t h c X o r l a asked k =
     elim (k.source) [
       | inl new ↦
           let number : k.item.number ≡ length past + 1 = ((call_laws c).makes_one f t _ new.made).number in
-          let made : item_of roster (record { thread = t; call = c; endings = X }) past ≡ Some (record { item = k.item; channel = r.channel }) = rw (accepted roster past t c X a) (new.made) in
+          let made : item_of roster (record { thread = t; call = c; completions = X }) past ≡ Some (record { item = k.item; channel = r.channel }) = rw (accepted roster past t c X a) (new.made) in
           inl (record {
             item = eq-eqb _ _ (sym k.number ∙ number);
             sender = rw (new.sender_is ∙ asks_same (length past + 1) t r.channel h c, asked) (eqb_same t);
             first = refl;
-            priority_is = sym k.priority ∙ sym (priority_newest roster (record { thread = t; call = c; endings = X }) past _ made);
+            priority_is = sym k.priority ∙ sym (priority_newest roster (record { thread = t; call = c; completions = X }) past _ made);
             unblocked_is = k.fresh;
           })
       | inr old ↦
@@ -140,12 +140,12 @@ open_refused roster past t c X u a =
       | Some b ↦ λ e.
           let below : (number_of b) ≤ length past = block_below roster past u b e in
           let priority : priority_of_item roster (with_event t c X past) (number_of b) ≡ priority_of_item roster past (number_of b) =
-          priority_earlier roster (record { thread = t; call = c; endings = X }) past (number_of b) below (refused_sets_none (record { thread = t; call = c; endings = X }) past (number_of b) (ap not (refused roster past t c X a))) in
+          priority_earlier roster (record { thread = t; call = c; completions = X }) past (number_of b) below (refused_sets_none (record { thread = t; call = c; completions = X }) past (number_of b) (ap not (refused roster past t c X a))) in
           let receipt : copied_count_of (with_event t c X past) (number_of b) ≡ copied_count_of past (number_of b) = rw (refused_receipts (facts_of roster past) t c X (number_of b) a) refl in
           let ended : is_ended (with_event t c X past) (number_of b) ≡ is_ended past (number_of b) = rw (refused_ends roster past t c X (number_of b) a (λ s. omega arith)) refl in
-          let written : filled (with_event t c X past) b ≡ filled past b = filled_refused (record { thread = t; call = c; endings = X }) past b (refused roster past t c X a) in
+          let written : filled (with_event t c X past) b ≡ filled past b = filled_refused (record { thread = t; call = c; completions = X }) past b (refused roster past t c X a) in
           let unblocked : is_unblocked roster (with_event t c X past) (number_of b) ≡ is_unblocked roster past (number_of b) =
-          unblocked_by roster (record { thread = t; call = c; endings = X }) past (number_of b) ∙ rw (refused roster past t c X a) (or-false (is_unblocked roster past (number_of b))) in
+          unblocked_by roster (record { thread = t; call = c; completions = X }) past (number_of b) ∙ rw (refused roster past t c X a) (or-false (is_unblocked roster past (number_of b))) in
           let same : now b ≡ kept roster past b =
           ap (λ p. with_receipt p (is_unblocked roster (with_event t c X past) (number_of b)) (copied_count_of (with_event t c X past) (number_of b)) (filled (with_event t c X past) b)) priority
           ∙ ap (λ x. with_receipt (priority_of_item roster past (number_of b)) x (copied_count_of (with_event t c X past) (number_of b)) (filled (with_event t c X past) b)) unblocked
@@ -189,7 +189,7 @@ received_before roster past t c i copied is = grind arith
 held_priority : (roster : List Member) (past : Trace) (t : ℕ) (c : Call) (X : List Completion) (i : ℕ) → i ≤ length past → (is_received past i ≡ true) ⊎ (is_some (receipt_of (facts_of roster past) t c) ≡ true)
     → priority_of_item roster (with_event t c X past) i ≡ priority_of_item roster past i
 held_priority roster past t c X i below received =
-    let e : Event = record { thread = t; call = c; endings = X } in
+    let e : Event = record { thread = t; call = c; completions = X } in
     priority_earlier roster e past i below (grind (arith, sets_none e past i, sets_alone c))
 
 -- the open call of another thread
@@ -215,14 +215,14 @@ open_other roster past t c X u l member a other =
                 let waits = open_from roster past u b e going in
                 let old : Bool = is_unblocked roster past (number_of b) in
                 let new : Bool = unblocked_among (option_to_list M) (number_of b) in
-                let unblocked : is_unblocked roster (with_event t c X past) (number_of b) ≡ (old || new) = unblocked_by roster (record { thread = t; call = c; endings = X }) past (number_of b) ∙ rw (accepted roster past t c X a) refl in
+                let unblocked : is_unblocked roster (with_event t c X past) (number_of b) ≡ (old || new) = unblocked_by roster (record { thread = t; call = c; completions = X }) past (number_of b) ∙ rw (accepted roster past t c X a) refl in
                 let marked : new ≡ marks M (unblocks c) u = ap (unblocked_among (option_to_list M)) (sym (kept_number roster past b)) ∙ marks_it roster past t c u (kept roster past b) waits in
                 let now : Some (kept roster (with_event t c X past) b) ≡ other_after (facts_of roster past) t c u (Some (kept roster past b)) =
                 ap Some (receipt_priority (priority_of_item roster (with_event t c X past) (number_of b)) (priority_of_item roster past (number_of b)) (is_unblocked roster (with_event t c X past) (number_of b)) (copied_count_of (with_event t c X past) (number_of b)) (filled (with_event t c X past) b)
                 (λ copied some. held_priority roster past t c X (number_of b) below (received_before roster past t c (number_of b) copied (sym receipt ∙ some))))
                 ∙ ap (λ x. Some (with_receipt (priority_of_item roster past (number_of b)) x (copied_count_of (with_event t c X past) (number_of b)) (filled (with_event t c X past) b))) unblocked
                 ∙ ap (λ r. Some (with_receipt (priority_of_item roster past (number_of b)) (old || new) r (filled (with_event t c X past) b))) receipt
-                ∙ ap (λ w. Some (with_receipt (priority_of_item roster past (number_of b)) (old || new) (option_or (copied_by (receipt_of (facts_of roster past) t c) (number_of b)) (copied_count_of past (number_of b))) w)) (filled_accepted (record { thread = t; call = c; endings = X }) past b (accepted roster past t c X a))
+                ∙ ap (λ w. Some (with_receipt (priority_of_item roster past (number_of b)) (old || new) (option_or (copied_by (receipt_of (facts_of roster past) t c) (number_of b)) (copied_count_of past (number_of b))) w)) (filled_accepted (record { thread = t; call = c; completions = X }) past b (accepted roster past t c X a))
                 ∙ unblocked_after M (unblocks c) u old new (priority_of_item roster past (number_of b)) (option_or (copied_by (receipt_of (facts_of roster past) t c) (number_of b)) (copied_count_of past (number_of b))) (changed (buffer_after_write (writes c) (number_of b)) (filled past b)) marked
                 (λ is. some_later (copied_by (receipt_of (facts_of roster past) t c) (number_of b)) (copied_count_of past (number_of b)) (unblocked_now roster past t c (number_of b) is).taken)
                 ∙ ap (after_unblock M (unblocks c) u) (kept_after (receipt_of (facts_of roster past) t c) u (number_of b) (priority_of_item roster past (number_of b)) old (copied_count_of past (number_of b)) (changed (buffer_after_write (writes c) (number_of b)) (filled past b))
@@ -247,7 +247,7 @@ caller_after roster past t c X l member a =
     let n = length past + 1 in
     elim (asked_by roster past t c) as (λ z. asked_by roster past t c ≡ z
     → option_map (kept roster (with_event t c X past)) (unless_ended (with_event t c X past) (cond (is_some z) z (block roster past t))) ≡ unless (is_some R.own) (after_receipt (receipt_of (facts_of roster past) t c) t z)) [
-      | None ↦ λ e. still roster (record { thread = t; call = c; endings = X }) past (block roster past t) (sym (open_is roster past t) ∙ (passes_of (facts_of roster past) t c X a).idle)
+      | None ↦ λ e. still roster (record { thread = t; call = c; completions = X }) past (block roster past t) (sym (open_is roster past t) ∙ (passes_of (facts_of roster past) t c X a).idle)
           ∙ sym (ap (unless (is_some R.own)) (after_none (receipt_of (facts_of roster past) t c) t) ∙ unless_none (is_some R.own))
       | Some o ↦ λ e.
           let number : (number_of o) ≡ length past + 1 = ((call_laws c).asks_one (length past + 1) t (channel_of (makes (facts_of roster past) t c)) o e).number in
@@ -256,7 +256,7 @@ caller_after roster past t c X l member a =
           let receipt : copied_count_of (with_event t c X past) (length past + 1) ≡ option_or (copied_by (receipt_of (facts_of roster past) t c) (length past + 1)) None =
           rw (accepted_receipts roster past t c X (length past + 1) l member a, receipt_beyond roster past (length past + 1) l (omega arith)) refl in
           let unblocked : is_unblocked roster (with_event t c X past) (length past + 1) ≡ false =
-          unblocked_by roster (record { thread = t; call = c; endings = X }) past (length past + 1) ∙ rw (unblocked_beyond roster past (length past + 1) (omega arith), accepted roster past t c X a) (fresh_unblocked roster past t c) in
+          unblocked_by roster (record { thread = t; call = c; completions = X }) past (length past + 1) ∙ rw (unblocked_beyond roster past (length past + 1) (omega arith), accepted roster past t c X a) (fresh_unblocked roster past t c) in
           let now : Some (kept roster (with_event t c X past) o) ≡ after_receipt (receipt_of (facts_of roster past) t c) t (Some o) =
           ap (λ w. Some (with_receipt (priority_of_item roster (with_event t c X past) (number_of o)) (is_unblocked roster (with_event t c X past) (number_of o)) (copied_count_of (with_event t c X past) (number_of o)) w)) (filled_fresh roster past t (channel_of (makes (facts_of roster past) t c)) c X o l (accepted roster past t c X a) e number)
           ∙ ap (λ i. Some (with_receipt (priority_of_item roster (with_event t c X past) i) (is_unblocked roster (with_event t c X past) i) (copied_count_of (with_event t c X past) i) o)) number

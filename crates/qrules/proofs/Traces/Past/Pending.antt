@@ -28,7 +28,7 @@ made_all P h o all = grind arith
 
 pub pending_refused : (roster : List Member) (past : Trace) (t : ℕ) (c : Call) (X : List Completion) (h : ℕ) → Outcome false (facts_of roster past) t c X → pending_items roster (with_event t c X past) h ≡ pending_items roster past h
 pending_refused roster past t c X h a =
-    let e : Event = record { thread = t; call = c; endings = X } in
+    let e : Event = record { thread = t; call = c; completions = X } in
     let none : item_of roster e past ≡ None = rw (refused roster past t c X a) refl in
     let stays = λ (item : Item). not (is_gone (e ∷ past) item) in
     let same : items_on roster (e ∷ past) h ≡ items_on roster past h = items_more roster e past h ∙ ap (λ o. items_on roster past h ++ made_on h o) none ∙ append-nil (items_on roster past h) in
@@ -156,7 +156,7 @@ staying_accepted : (roster : List Member) (past : Trace) (t : ℕ) (c : Call) (X
     ≡ unreceived_items (receipt_of (facts_of roster past) t c) h (uncancelled_items (facts_of roster past) t c h (staying roster past h ++ made_on h (makes (facts_of roster past) t c)))
 staying_accepted roster past t c X h l member a =
     let f = facts_of roster past in
-    let e : Event = record { thread = t; call = c; endings = X } in
+    let e : Event = record { thread = t; call = c; completions = X } in
     let R = row_of (facts_of roster past) t c in
     let M = made_on h (makes f t c) in
     let L = uncancelled_items (facts_of roster past) t c h (staying roster past h) in
@@ -178,7 +178,7 @@ now_accepted : (roster : List Member) (past : Trace) (t : ℕ) (c : Call) (X : L
     ≡ items_with_priority_set (facts_of roster past) h (sets c) (unreceived_items (receipt_of (facts_of roster past) t c) h (uncancelled_items (facts_of roster past) t c h (map (now past) (staying roster past h) ++ made_on h (makes (facts_of roster past) t c))))
 now_accepted roster past t c X h l member a =
     let f = facts_of roster past in
-    let e : Event = record { thread = t; call = c; endings = X } in
+    let e : Event = record { thread = t; call = c; completions = X } in
     let r = (receipt_of (facts_of roster past) t c) in
     let M = made_on h (makes (facts_of roster past) t c) in
     let S = staying roster past h in
@@ -205,5 +205,5 @@ pub pending_accepted : (roster : List Member) (past : Trace) (t : ℕ) (c : Call
     → pending_items roster (with_event t c X past) h ≡ pending_after (facts_of roster past) t c h
 pending_accepted roster past t c X h l member a =
     let f = facts_of roster past in
-    let closed = closed_accepted roster (record { thread = t; call = c; endings = X }) past h (accepted roster past t c X a) in
+    let closed = closed_accepted roster (record { thread = t; call = c; completions = X }) past h (accepted roster past t c X a) in
     grind (arith, pending_is roster past h, pending_is roster (with_event t c X past) h, closed, closed_makes roster past t c X h a, none_out (receipt_of f t c) h, moved_nothing f h (sets c), now_accepted roster past t c X h l member a)

@@ -11,9 +11,9 @@ record IsReceivedAt (roster : List Member) (past : Trace) (e : Event) (r : Recei
   pub is_worth : current_priority past first ≡ item.priority
 
 received_at : (roster : List Member) (past : Trace) (t : ℕ) (c : Call) (X : List Completion) (r : Received) (k : IsReceived (facts_of roster past) t c r) → Outcome true (facts_of roster past) t c X
-    → IsReceivedAt roster past (record { thread = t; call = c; endings = X }) r k.item
+    → IsReceivedAt roster past (record { thread = t; call = c; completions = X }) r k.item
 received_at roster past t c X r k a =
-    let e : Event = record { thread = t; call = c; endings = X } in
+    let e : Event = record { thread = t; call = c; completions = X } in
     elim (k.source) [
       | inl new ↦
           let number : k.item.number ≡ length past + 1 = ((call_laws c).makes_one (facts_of roster past) t _ new.made).number in

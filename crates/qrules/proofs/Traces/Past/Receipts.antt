@@ -103,4 +103,4 @@ receipts_below roster past t c X i l member a above = elim a [
 -- no later item has been received
 pub receipt_beyond : (roster : List Member) (past : Trace) (i : ℕ) → IsLawful roster past → length past < i → copied_count_of past i ≡ None
 receipt_beyond roster [] i l h = refl
-receipt_beyond roster (e ∷ past) i l h = rw (receipts_below roster past e.thread e.call e.endings i l.0 l.1.0 l.1.1 (omega arith)) (receipt_beyond roster past i l.0 (omega arith))
+receipt_beyond roster (e ∷ past) i l h = rw (receipts_below roster past e.thread e.call e.completions i l.0 l.1.0 l.1.1 (omega arith)) (receipt_beyond roster past i l.0 (omega arith))

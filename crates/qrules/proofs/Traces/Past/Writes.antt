@@ -4,10 +4,10 @@ use Rattle.qrules.proofs.Basics.{Facts, sender, threads_of, number_of, facts_of,
 
 -- ---- a reply buffer
 
-pub writes_refused : (e : Event) (past : Trace) (i : ℕ) (b : List ℕ) → refuses e.endings (length past + 1) ≡ true → with_writes (e ∷ past) i b ≡ with_writes past i b
+pub writes_refused : (e : Event) (past : Trace) (i : ℕ) (b : List ℕ) → refuses e.completions (length past + 1) ≡ true → with_writes (e ∷ past) i b ≡ with_writes past i b
 writes_refused e past i b r = rw r refl
 
-pub writes_accepted : (e : Event) (past : Trace) (i : ℕ) (b : List ℕ) → refuses e.endings (length past + 1) ≡ false → with_writes (e ∷ past) i b ≡ buffer_after_write (writes e.call) i (with_writes past i b)
+pub writes_accepted : (e : Event) (past : Trace) (i : ℕ) (b : List ℕ) → refuses e.completions (length past + 1) ≡ false → with_writes (e ∷ past) i b ≡ buffer_after_write (writes e.call) i (with_writes past i b)
 writes_accepted e past i b r = rw r refl
 
 -- a call that writes nothing doesn't change the buffer
@@ -23,10 +23,10 @@ changed f o = with_buffer f o
 change_same : (f g : List ℕ → List ℕ) (o : OpenCall) → ((b : List ℕ) → f b ≡ g b) → changed f o ≡ changed g o
 change_same f g o h = grind arith
 
-pub filled_refused : (e : Event) (past : Trace) (o : OpenCall) → refuses e.endings (length past + 1) ≡ true → filled (e ∷ past) o ≡ filled past o
+pub filled_refused : (e : Event) (past : Trace) (o : OpenCall) → refuses e.completions (length past + 1) ≡ true → filled (e ∷ past) o ≡ filled past o
 filled_refused e past o r = change_same (with_writes (e ∷ past) (number_of o)) (with_writes past (number_of o)) o (λ b. writes_refused e past (number_of o) b r)
 
-pub filled_accepted : (e : Event) (past : Trace) (o : OpenCall) → refuses e.endings (length past + 1) ≡ false → filled (e ∷ past) o ≡ changed (buffer_after_write (writes e.call) (number_of o)) (filled past o)
+pub filled_accepted : (e : Event) (past : Trace) (o : OpenCall) → refuses e.completions (length past + 1) ≡ false → filled (e ∷ past) o ≡ changed (buffer_after_write (writes e.call) (number_of o)) (filled past o)
 filled_accepted e past o r = grind arith
 
 -- ---- with a receipt
@@ -49,18 +49,18 @@ writes_beyond roster [] i b l h = refl
 writes_beyond roster (e ∷ past) i b l h = elim l.1.1 [
   | inl a ↦
       let rest : with_writes past i b ≡ b = writes_beyond roster past i b l.0 (omega arith) in
-      writes_accepted e past i b (accepted roster past e.thread e.call e.endings a) ∙ (elim (writes e.call) as (λ w. writes e.call ≡ w → buffer_after_write w i (with_writes past i b) ≡ b) [
+      writes_accepted e past i b (accepted roster past e.thread e.call e.completions a) ∙ (elim (writes e.call) as (λ w. writes e.call ≡ w → buffer_after_write w i (with_writes past i b) ≡ b) [
         | None ↦ λ is. rest
         | Some x ↦ λ is.
-            let s = (laws_of (facts_of roster past) e.thread e.call e.endings a).writes_sent x is in
+            let s = (laws_of (facts_of roster past) e.thread e.call e.completions a).writes_sent x is in
             let k = sender_sends (open_call roster past) x.rcvid (threads_of roster) s.0 s.1 in
             let below : (number_of k.waiting) ≤ length past = open_below roster past s.0 k.waiting k.is in
             rw (ne_eqb x.rcvid i (λ same. omega (arith, k.number))) rest
       ] refl)
-  | inr a ↦ writes_refused e past i b (refused roster past e.thread e.call e.endings a) ∙ writes_beyond roster past i b l.0 (omega arith)
+  | inr a ↦ writes_refused e past i b (refused roster past e.thread e.call e.completions a) ∙ writes_beyond roster past i b l.0 (omega arith)
 ]
 
 -- nothing has been written over the buffer of a call that just blocked its thread
 pub filled_fresh : (roster : List Member) (past : Trace) (t h : ℕ) (c : Call) (X : List Completion) (o : OpenCall) → IsLawful roster past → refuses X (length past + 1) ≡ false → asks (length past + 1) t h c ≡ Some o → (number_of o) ≡ length past + 1
     → filled (with_event t c X past) o ≡ o
-filled_fresh roster past t h c X o l r asked number = grind (arith, writes_accepted (record { thread = t; call = c; endings = X }) past (number_of o), call_laws c, writes_beyond roster past (number_of o))
+filled_fresh roster past t h c X o l r asked number = grind (arith, writes_accepted (record { thread = t; call = c; completions = X }) past (number_of o), call_laws c, writes_beyond roster past (number_of o))

@@ -11,7 +11,7 @@ use Rattle.qmodel.specs.declared.open_call.OpenCall.TheVariants.{Send as InSend}
 
 -- ---- each reply is to the message that the call names
 
-answers_its : (roster : List Member) (past : Trace) (e : Event) (u : ℕ) (y : Completion) → IsLawful roster past → Outcome true (facts_of roster past) e.thread e.call e.endings
+answers_its : (roster : List Member) (past : Trace) (e : Event) (u : ℕ) (y : Completion) → IsLawful roster past → Outcome true (facts_of roster past) e.thread e.call e.completions
     → AnswersHeld (facts_of roster past) e.thread e.call u y → AnswersIts roster past e y
 answers_its roster past e u y l a h =
     let f = facts_of roster past in
@@ -34,11 +34,11 @@ answers_its roster past e u y l a h =
       sender = subst (λ i. sender_of past i ≡ Some y.thread) number (block_sender roster past u k.block k.is began ∙ ap (λ t. Some t) (sym h.thread));
     }
 
-each_answers_its : (roster : List Member) (past : Trace) (e : Event) → IsLawful roster past → Answers (facts_of roster past) e.thread e.call e.endings
-    → AllByRecursion (λ x. is_answer x.mark ≡ true → AnswersIts roster past e x) e.endings
+each_answers_its : (roster : List Member) (past : Trace) (e : Event) → IsLawful roster past → Answers (facts_of roster past) e.thread e.call e.completions
+    → AllByRecursion (λ x. is_answer x.mark ≡ true → AnswersIts roster past e x) e.completions
 each_answers_its roster past e l a = elim a [
   | inl a ↦ subst (AllByRecursion (λ x. is_answer x.mark ≡ true → AnswersIts roster past e x)) (sym a.1) (all_filter_map (λ x. is_answer x.mark ≡ true → AnswersIts roster past e x) (completion_to (facts_of roster past) e.thread e.call) (threads_of roster) (λ u y is answers.
-      answers_its roster past e u y l a (answers_held (facts_of roster past) e.thread e.call u y (passes_of (facts_of roster past) e.thread e.call e.endings a) is answers)))
+      answers_its roster past e u y l a (answers_held (facts_of roster past) e.thread e.call u y (passes_of (facts_of roster past) e.thread e.call e.completions a) is answers)))
   | inr a ↦ subst (AllByRecursion (λ x. is_answer x.mark ≡ true → AnswersIts roster past e x)) (sym a.2) ((λ answers. absurd (true≢false (sym answers))), tt)
 ]
 
@@ -75,11 +75,11 @@ count_one {Y} p g (m ∷ roster) u y r among is passes others =
           ] refl
     ]
 
-answers_once : (roster : List Member) (past : Trace) (e : Event) → IsRoster roster → IsLawful roster past → Answers (facts_of roster past) e.thread e.call e.endings → AnswersOnce past e
+answers_once : (roster : List Member) (past : Trace) (e : Event) → IsRoster roster → IsLawful roster past → Answers (facts_of roster past) e.thread e.call e.completions → AnswersOnce past e
 answers_once roster past e r l a i answered was =
     let f = facts_of roster past in
     let o = outcome_of roster e past a was in
-    let p = passes_of (facts_of roster past) e.thread e.call e.endings o in
+    let p = passes_of (facts_of roster past) e.thread e.call e.completions o in
     let k = answers_one (facts_of roster past) e.thread e.call i p answered in
     let other : eqb k.thread e.thread ≡ false = ne_eqb k.thread e.thread (λ same. none-some k.waiting (sym p.idle ∙ ap (λ t. f.open_call t) (sym same) ∙ k.is_open)) in
     let given : completion_to f e.thread e.call k.thread ≡ Some k.given = rw other k.is in
@@ -87,7 +87,7 @@ answers_once roster past e r l a i answered was =
     (known roster k.thread (open_known roster past k.thread k.waiting l k.is_open))
     given
     (eq-eqb k.given.call i k.call)
-    (λ v z apart is. subst (λ j. eqb z.call j ≡ false) k.call (different_calls roster past e.thread e.call e.endings o v k.thread z k.given apart is given)))
+    (λ v z apart is. subst (λ j. eqb z.call j ≡ false) k.call (different_calls roster past e.thread e.call e.completions o v k.thread z k.given apart is given)))
 
 pub answered_to_sender : (roster : List Member) (past : Trace) → IsRoster roster → IsLawful roster past → AnsweredToSender roster past
 answered_to_sender roster [] r l = tt

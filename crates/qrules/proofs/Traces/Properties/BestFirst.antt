@@ -42,7 +42,7 @@ best_behind : (kind : Kind) (items : List Item) (x : Item) → AllByRecursion (�
 best_behind kind [] x none may = rw may refl
 best_behind kind (y ∷ items) x none may = rw (none.0) (best_behind kind items x none.1 may)
 
-takes_made : (roster : List Member) (past : Trace) (e : Event) (u : ℕ) (y : Completion) (i : ℕ) → IsRoster roster → IsLawful roster past → Outcome true (facts_of roster past) e.thread e.call e.endings
+takes_made : (roster : List Member) (past : Trace) (e : Event) (u : ℕ) (y : Completion) (i : ℕ) → IsRoster roster → IsLawful roster past → Outcome true (facts_of roster past) e.thread e.call e.completions
     → TakesMade (facts_of roster past) e.thread e.call u y i → TakesBest roster past e y i
 takes_made roster past e u y i r l a k =
     let b = open_parts roster past u k.waiting k.is_open in
@@ -59,7 +59,7 @@ pub best_first : (roster : List Member) (past : Trace) → IsRoster roster → I
 best_first roster [] r l = tt
 best_first roster (e ∷ past) r l = (
   best_first roster past r l.0,
-  each_received (λ x i. TakesBest roster past e x i) roster past e.thread e.call e.endings l.1.1 (λ u y i a k.
+  each_received (λ x i. TakesBest roster past e x i) roster past e.thread e.call e.completions l.1.1 (λ u y i a k.
       elim k as (λ _. TakesBest roster past e y i) [
         | inl k ↦ takes_pending roster past e u y i k
         | inr k ↦ takes_made roster past e u y i r l.0 a k

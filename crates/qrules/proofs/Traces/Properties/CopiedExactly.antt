@@ -20,7 +20,7 @@ use Rattle.qrules.proofs.Traces.Calls.ConnectDetach as detaching
 use Rattle.qrules.proofs.Traces.Calls.Unblock as unblocking
 
 abbrev event : ℕ → Call → List Completion → Event
-event t c X = record { thread = t; call = c; endings = X }
+event t c X = record { thread = t; call = c; completions = X }
 
 -- ---- buffers and messages of the newest event and of earlier ones
 
@@ -181,4 +181,4 @@ all_copied roster past t c X l a = elim a [
 
 pub copied_exactly : (roster : List Member) (past : Trace) → IsLawful roster past → CopiedExactly past
 copied_exactly roster [] l = tt
-copied_exactly roster (e ∷ past) l = (copied_exactly roster past l.0, all_copied roster past e.thread e.call e.endings l.0 l.1.1)
+copied_exactly roster (e ∷ past) l = (copied_exactly roster past l.0, all_copied roster past e.thread e.call e.completions l.0 l.1.1)

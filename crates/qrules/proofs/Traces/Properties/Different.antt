@@ -19,8 +19,8 @@ filter_map_twice {X} {Y} {Z} k g (x ∷ xs) =
       | Some y ↦ ap (λ rest. cons_option (k y) rest) (filter_map_twice k g xs)
     ]
 
-pub calls_as : (endings : List Completion) → map (λ x. x.call) endings ≡ filter_map (λ x. Some x.call) endings
-calls_as endings = grind arith
+pub calls_as : (completions : List Completion) → map (λ x. x.call) completions ≡ filter_map (λ x. Some x.call) completions
+calls_as completions = grind arith
 
 -- two threads have different numbers by the function
 abbrev pub GivesDifferent : (ℕ → Option ℕ) → Type 0

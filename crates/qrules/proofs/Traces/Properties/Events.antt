@@ -4,19 +4,19 @@ use Rattle.qrules.proofs.Common.{arith, ◌≡◌, ℕ, List, ap, subst, true, f
 use Rattle.qrules.proofs.Basics.{Facts, threads_of, facts_of, is_accepted, item_of, makes, accepted, passes_of, refused}
 use Rattle.qrules.proofs.Traces.Properties.Receipts.{TakesOne, receives_it, takes_one}
 
-pub is_accepted_by : (roster : List Member) (e : Event) (past : Trace) → Outcome true (facts_of roster past) e.thread e.call e.endings → is_accepted e past ≡ true
-is_accepted_by roster e past a = ap not (accepted roster past e.thread e.call e.endings a)
+pub is_accepted_by : (roster : List Member) (e : Event) (past : Trace) → Outcome true (facts_of roster past) e.thread e.call e.completions → is_accepted e past ≡ true
+is_accepted_by roster e past a = ap not (accepted roster past e.thread e.call e.completions a)
 
-pub is_refused_by : (roster : List Member) (e : Event) (past : Trace) → Outcome false (facts_of roster past) e.thread e.call e.endings → is_accepted e past ≡ false
-is_refused_by roster e past a = ap not (refused roster past e.thread e.call e.endings a)
+pub is_refused_by : (roster : List Member) (e : Event) (past : Trace) → Outcome false (facts_of roster past) e.thread e.call e.completions → is_accepted e past ≡ false
+is_refused_by roster e past a = ap not (refused roster past e.thread e.call e.completions a)
 
 -- an accepted event has the outcome of an accepted call
-pub outcome_of : (roster : List Member) (e : Event) (past : Trace) → Answers (facts_of roster past) e.thread e.call e.endings → is_accepted e past ≡ true
-    → Outcome true (facts_of roster past) e.thread e.call e.endings
+pub outcome_of : (roster : List Member) (e : Event) (past : Trace) → Answers (facts_of roster past) e.thread e.call e.completions → is_accepted e past ≡ true
+    → Outcome true (facts_of roster past) e.thread e.call e.completions
 outcome_of roster e past a is = grind arith
 
 -- an accepted event made what its call makes
-pub made_now : (roster : List Member) (e : Event) (past : Trace) (m : SentItem) → Outcome true (facts_of roster past) e.thread e.call e.endings
+pub made_now : (roster : List Member) (e : Event) (past : Trace) (m : SentItem) → Outcome true (facts_of roster past) e.thread e.call e.completions
     → makes (facts_of roster past) e.thread e.call ≡ Some m → item_of roster e past ≡ Some m
 made_now roster e past m a is = rw (is_accepted_by roster e past a) is
 

@@ -83,7 +83,7 @@ block_stays roster e past u b l is going =
     elim (blocks roster e past u) as (λ t. blocks roster e past u ≡ t → cond t (asks (length past + 1) u (channel_of (item_of roster e past)) e.call) (block roster past u) ≡ Some b) [
       | true ↦ λ h.
           let a = outcome_of roster e past l.1.1 (and_parts _ _ (and_parts _ _ h).0).1 in
-          let idle : open_call roster past e.thread ≡ None = (passes_of (facts_of roster past) e.thread e.call e.endings a).idle in
+          let idle : open_call roster past e.thread ≡ None = (passes_of (facts_of roster past) e.thread e.call e.completions a).idle in
           absurd (none-some _ (sym idle ∙ ap (open_call roster past) (blocks_thread roster e past u h) ∙ open_from roster past u b is going))
       | false ↦ λ h. is
     ] refl
@@ -103,7 +103,7 @@ item_waits roster (e ∷ past) i m l is message going =
             answer = w.answer;
           }
       | false ↦ λ other at.
-          let before : is_ended past i ≡ false = (or_parts (has_completion_of e.endings i) (is_ended past i) going).1 in
+          let before : is_ended past i ≡ false = (or_parts (has_completion_of e.completions i) (is_ended past i) going).1 in
           let k = item_waits roster past i m l.0 at message before in
           record {
             thread = k.thread;

@@ -1,5 +1,5 @@
 -- No item is received twice, none before it was made, and no call completes twice.
-use Rattle.qrules.proofs.Common.{◌≡◌, ◌≢◌, ◌∙◌, ℕ, ◌+◌, ◌≤◌, List, [], ◌∷◌, ◌++◌, length, map, refl, ap, sym, subst, arith, eqb, true, false, inl, inr, option_or, filter_map-append, same_Some, option_and_then_some, AllDifferent, ReceivedOnce, items, number_received, InEachEvent, endings_of, AllByRecursion, filter_map, cons_option, map-append, Member, IsRoster, completion_to, Answers, Outcome, item_among, SentItem, Event, Trace, Call, Completion, all_append, all_map, all_more, Option, None, Some, is_some}
+use Rattle.qrules.proofs.Common.{◌≡◌, ◌≢◌, ◌∙◌, ℕ, ◌+◌, ◌≤◌, List, [], ◌∷◌, ◌++◌, length, map, refl, ap, sym, subst, arith, eqb, true, false, inl, inr, option_or, filter_map-append, same_Some, option_and_then_some, AllDifferent, ReceivedOnce, items, number_received, InEachEvent, completions_of, AllByRecursion, filter_map, cons_option, map-append, Member, IsRoster, completion_to, Answers, Outcome, item_among, SentItem, Event, Trace, Call, Completion, all_append, all_map, all_more, Option, None, Some, is_some}
 use Rattle.std.proofs.lemmas.Bool.{or_parts, ne_eqb, eqb-false, true≢false}
 use Rattle.qrules.proofs.Basics.{Facts, threads_of, facts_of, IsLawful, has_completion_of, is_ended, is_received, copied_count_among, copied_count_of, completion_names, laws_of, not_ended, other_below, IsPending, item_at, item_below, item_earlier, item_found, item_newest, call_laws, open_thread}
 use Rattle.qrules.proofs.Traces.Past.Receipts.{best_pending, completion_receives, receipt_beyond}
@@ -47,23 +47,23 @@ none_ends [] i e = tt
 none_ends (x ∷ X) i e = let p = or_parts _ _ e in (eqb_flip x.call i p.0, none_ends X i p.1)
 
 -- a call that hasn't completed isn't among the completed calls
-unended : (past : Trace) (i : ℕ) → is_ended past i ≡ false → IsNoneOf i (map (λ x. x.call) (endings_of past))
+unended : (past : Trace) (i : ℕ) → is_ended past i ≡ false → IsNoneOf i (map (λ x. x.call) (completions_of past))
 unended [] i e = tt
 unended (e ∷ past) i is =
-    let p = or_parts (has_completion_of e.endings i) (is_ended past i) is in
-    rw (map-append (λ (x : Completion). x.call) e.endings (endings_of past))
-    (all_append (λ m. eqb i m ≡ false) (map (λ x. x.call) e.endings) (map (λ x. x.call) (endings_of past)) (none_ends e.endings i p.0) (unended past i p.1))
+    let p = or_parts (has_completion_of e.completions i) (is_ended past i) is in
+    rw (map-append (λ (x : Completion). x.call) e.completions (completions_of past))
+    (all_append (λ m. eqb i m ≡ false) (map (λ x. x.call) e.completions) (map (λ x. x.call) (completions_of past)) (none_ends e.completions i p.0) (unended past i p.1))
 
-pub each_call : (roster : List Member) (past : Trace) → IsRoster roster → IsLawful roster past → AllDifferent (map (λ x. x.call) (endings_of past))
+pub each_call : (roster : List Member) (past : Trace) → IsRoster roster → IsLawful roster past → AllDifferent (map (λ x. x.call) (completions_of past))
 each_call roster [] r l = tt
 each_call roster (e ∷ past) r l =
-    rw (map-append (λ (x : Completion). x.call) e.endings (endings_of past))
-    (different_append (map (λ x. x.call) e.endings) (map (λ x. x.call) (endings_of past))
-    (event_calls roster past e.thread e.call e.endings r l.1.1)
+    rw (map-append (λ (x : Completion). x.call) e.completions (completions_of past))
+    (different_append (map (λ x. x.call) e.completions) (map (λ x. x.call) (completions_of past))
+    (event_calls roster past e.thread e.call e.completions r l.1.1)
     (each_call roster past r l.0)
-    (all_map (λ i. IsNoneOf i (map (λ x. x.call) (endings_of past))) (λ x. x.call) e.endings
-    (all_more (λ x. is_ended past x.call ≡ false) (λ x. IsNoneOf x.call (map (λ x. x.call) (endings_of past))) e.endings
-    (not_ended roster past e.thread e.call e.endings l.0 l.1.1) (λ x is. unended past x.call is))))
+    (all_map (λ i. IsNoneOf i (map (λ x. x.call) (completions_of past))) (λ x. x.call) e.completions
+    (all_more (λ x. is_ended past x.call ≡ false) (λ x. IsNoneOf x.call (map (λ x. x.call) (completions_of past))) e.completions
+    (not_ended roster past e.thread e.call e.completions l.0 l.1.1) (λ x is. unended past x.call is))))
 
 -- ---- no item is received twice
 
@@ -112,24 +112,24 @@ none_received [] i e = tt
 none_received (x ∷ X) i e = grind (arith, none_received X)
 
 -- an item that hasn't been received isn't among the received items
-untaken : (past : Trace) (i : ℕ) → is_received past i ≡ false → IsNoneOf i (filter_map number_received (endings_of past))
+untaken : (past : Trace) (i : ℕ) → is_received past i ≡ false → IsNoneOf i (filter_map number_received (completions_of past))
 untaken [] i e = tt
 untaken (e ∷ past) i is =
-    elim (copied_count_among e.endings i) as (λ o. copied_count_among e.endings i ≡ o → is_some (option_or o (copied_count_of past i)) ≡ false → IsNoneOf i (filter_map number_received (e.endings ++ endings_of past))) [
-      | None ↦ λ none s. rw (filter_map-append number_received e.endings (endings_of past))
-          (all_append (λ m. eqb i m ≡ false) (filter_map number_received e.endings) (filter_map number_received (endings_of past)) (none_received e.endings i (ap is_some none)) (untaken past i s))
+    elim (copied_count_among e.completions i) as (λ o. copied_count_among e.completions i ≡ o → is_some (option_or o (copied_count_of past i)) ≡ false → IsNoneOf i (filter_map number_received (e.completions ++ completions_of past))) [
+      | None ↦ λ none s. rw (filter_map-append number_received e.completions (completions_of past))
+          (all_append (λ m. eqb i m ≡ false) (filter_map number_received e.completions) (filter_map number_received (completions_of past)) (none_received e.completions i (ap is_some none)) (untaken past i s))
       | Some copied ↦ λ some s. absurd (true≢false s)
     ] refl is
 
-pub each_item : (roster : List Member) (past : Trace) → IsRoster roster → IsLawful roster past → AllDifferent (filter_map number_received (endings_of past))
+pub each_item : (roster : List Member) (past : Trace) → IsRoster roster → IsLawful roster past → AllDifferent (filter_map number_received (completions_of past))
 each_item roster [] r l = tt
 each_item roster (e ∷ past) r l =
-    rw (filter_map-append number_received e.endings (endings_of past))
-    (different_append (filter_map number_received e.endings) (filter_map number_received (endings_of past))
-    (event_items roster past e.thread e.call e.endings r l.1.1)
+    rw (filter_map-append number_received e.completions (completions_of past))
+    (different_append (filter_map number_received e.completions) (filter_map number_received (completions_of past))
+    (event_items roster past e.thread e.call e.completions r l.1.1)
     (each_item roster past r l.0)
-    (all_more (λ i. is_received past i ≡ false) (λ i. IsNoneOf i (filter_map number_received (endings_of past))) (filter_map number_received e.endings)
-    (untaken_yet roster past e.thread e.call e.endings l.0 l.1.1) (λ i is. untaken past i is)))
+    (all_more (λ i. is_received past i ≡ false) (λ i. IsNoneOf i (filter_map number_received (completions_of past))) (filter_map number_received e.completions)
+    (untaken_yet roster past e.thread e.call e.completions l.0 l.1.1) (λ i is. untaken past i is)))
 
 -- ---- no item is received before it was made
 
@@ -138,11 +138,11 @@ is_made_at : (roster : List Member) (past : Trace) (i : ℕ) (m : SentItem) → 
 is_made_at roster past i m is = ap is_some (item_found roster past i m is)
 
 -- an item that an event receives has been made by then
-early : (roster : List Member) (past : Trace) (e : Event) → Answers (facts_of roster past) e.thread e.call e.endings
-    → AllByRecursion (λ i. is_some (item_among (items roster (e ∷ past)) i) ≡ true) (filter_map number_received e.endings)
+early : (roster : List Member) (past : Trace) (e : Event) → Answers (facts_of roster past) e.thread e.call e.completions
+    → AllByRecursion (λ i. is_some (item_among (items roster (e ∷ past)) i) ≡ true) (filter_map number_received e.completions)
 early roster past e a =
     let Made = λ (i : ℕ). is_some (item_among (items roster (e ∷ past)) i) ≡ true in
-    all_kept Made number_received e.endings (each_received (λ x i. Made i) roster past e.thread e.call e.endings a (λ u y i o k.
+    all_kept Made number_received e.completions (each_received (λ x i. Made i) roster past e.thread e.call e.completions a (λ u y i o k.
     elim k as (λ _. Made i) [
       | inl k ↦
           let b = pending_taken roster past e.thread e.call u y i k in
@@ -156,7 +156,7 @@ early roster past e a =
     ]))
 
 none_early : (roster : List Member) (past : Trace) → IsLawful roster past
-    → InEachEvent (λ past e. AllByRecursion (λ i. is_some (item_among (items roster (e ∷ past)) i) ≡ true) (filter_map number_received e.endings)) past
+    → InEachEvent (λ past e. AllByRecursion (λ i. is_some (item_among (items roster (e ∷ past)) i) ≡ true) (filter_map number_received e.completions)) past
 none_early roster [] l = tt
 none_early roster (e ∷ past) l = (none_early roster past l.0, early roster past e l.1.1)
 

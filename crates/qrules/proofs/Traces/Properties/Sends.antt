@@ -55,7 +55,7 @@ block_over roster [] u b l is w = absurd (none-some b is)
 block_over roster (e ∷ past) u b l is w = elim (begins_now roster e past u b is) [
   | inl h ↦
       let a = outcome_of roster e past l.1.1 h.accepted in
-      let s = sends_over (facts_of roster past) e.thread (channel_of (item_of roster e past)) e.call b (passes_of (facts_of roster past) e.thread e.call e.endings a) (subst (λ v. asks (length past + 1) v (channel_of (item_of roster e past)) e.call ≡ Some b) (sym h.thread) h.asked) w in
+      let s = sends_over (facts_of roster past) e.thread (channel_of (item_of roster e past)) e.call b (passes_of (facts_of roster past) e.thread e.call e.completions a) (subst (λ v. asks (length past + 1) v (channel_of (item_of roster e past)) e.call ≡ Some b) (sym h.thread) h.asked) w in
       record {
         connection = s.connection;
         is_connection = made_stays _ e past (over b) s.connection (sym (live_attached roster past (over b) (ap is_some s.is_connection)) ∙ s.is_connection);

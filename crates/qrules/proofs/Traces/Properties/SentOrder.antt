@@ -50,7 +50,7 @@ order_from roster [] b = tt
 order_from roster (e ∷ past) b = (
   order_from roster past b.0,
   all_more (λ x. (i : ℕ) → number_received x ≡ Some i → TakesBest roster past e x i)
-      (λ x. (j k : ℕ) → TakesSent (e ∷ past) x j k → IsEarliest roster past e j k) e.endings b.1
+      (λ x. (j k : ℕ) → TakesSent (e ∷ past) x j k → IsEarliest roster past e j k) e.completions b.1
       (λ x takes j k sent. is_earliest roster past e x j k sent (takes j sent.item)),
 )
 

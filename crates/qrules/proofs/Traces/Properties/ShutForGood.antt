@@ -72,17 +72,17 @@ waits_on_open roster (e ∷ past) r l u o h is on =
     let f = facts_of roster past in
     elim (l.1.1) as (λ _. is_some ((facts_of roster (e ∷ past)).channel h) ≡ true) [
       | inl a ↦
-          let k = past_follows true roster past e.thread e.call e.endings r l.0 l.1.0 a in
-          ap is_some (k.channel h) ∙ waits_after f e.thread e.call (passes_of f e.thread e.call e.endings a) (waits_on_open roster past r l.0) u o h (sym (k.open_call u) ∙ is) on
+          let k = past_follows true roster past e.thread e.call e.completions r l.0 l.1.0 a in
+          ap is_some (k.channel h) ∙ waits_after f e.thread e.call (passes_of f e.thread e.call e.completions a) (waits_on_open roster past r l.0) u o h (sym (k.open_call u) ∙ is) on
       | inr a ↦
-          let k = past_follows false roster past e.thread e.call e.endings r l.0 l.1.0 a in
+          let k = past_follows false roster past e.thread e.call e.completions r l.0 l.1.0 a in
           ap is_some (k.channel h) ∙ waits_on_open roster past r l.0 u o h (sym (k.open_call u) ∙ is) on
     ]
 
 -- ---- received items
 
 -- an item that an accepted call's completions receive is of a channel that isn't destroyed
-taken_is_open : (roster : List Member) (e : Event) (past : Trace) (u i h : ℕ) (y : Completion) → Outcome true (facts_of roster past) e.thread e.call e.endings → TakesOne (facts_of roster past) e.thread e.call u y i
+taken_is_open : (roster : List Member) (e : Event) (past : Trace) (u i h : ℕ) (y : Completion) → Outcome true (facts_of roster past) e.thread e.call e.completions → TakesOne (facts_of roster past) e.thread e.call u y i
     → option_map (λ m. m.channel) (item_among (items roster (e ∷ past)) i) ≡ Some h → (names (closes e.call) h || is_destroyed past h) ≡ true → ⊥
 taken_is_open roster e past u i h y a k is closed =
     let f = facts_of roster past in
@@ -99,7 +99,7 @@ taken_is_open roster e past u i h y a k is closed =
           ]
       | inr m ↦
           let now = made_now roster e past m.made a m.is_made in
-          let number = ((laws_of f e.thread e.call e.endings a).makes_open m.made m.is_made) in
+          let number = ((laws_of f e.thread e.call e.completions a).makes_open m.made m.is_made) in
           let open_there = open_at roster past m.made.channel number in
           let newest : item_at roster (e ∷ past) (length past + 1) ≡ Some m.made = item_newest roster e past ∙ now in
           let made = subst (λ j. item_at roster (e ∷ past) j ≡ Some m.made) (sym ((made_by roster e past m.made now).number) ∙ m.number) newest in
@@ -111,10 +111,10 @@ taken_is_open roster e past u i h y a k is closed =
     ]
 
 none_received : (roster : List Member) (e : Event) (past : Trace) (h : ℕ) → IsLawful roster (e ∷ past) → is_destroyed (e ∷ past) h ≡ true
-    → AllByRecursion (λ x. (i : ℕ) → number_received x ≡ Some i → option_map (λ m. m.channel) (item_among (items roster (e ∷ past)) i) ≡ Some h → ⊥) e.endings
+    → AllByRecursion (λ x. (i : ℕ) → number_received x ≡ Some i → option_map (λ m. m.channel) (item_among (items roster (e ∷ past)) i) ≡ Some h → ⊥) e.completions
 none_received roster e past h l closed =
-    each_received (λ x i. option_map (λ m. m.channel) (item_among (items roster (e ∷ past)) i) ≡ Some h → ⊥) roster past e.thread e.call e.endings l.1.1
-    (λ u y i a k is. taken_is_open roster e past u i h y a k is (sym (closed_accepted roster e past h (accepted roster past e.thread e.call e.endings a)) ∙ closed))
+    each_received (λ x i. option_map (λ m. m.channel) (item_among (items roster (e ∷ past)) i) ≡ Some h → ⊥) roster past e.thread e.call e.completions l.1.1
+    (λ u y i a k is. taken_is_open roster e past u i h y a k is (sym (closed_accepted roster e past h (accepted roster past e.thread e.call e.completions a)) ∙ closed))
 
 -- ---- open calls
 
@@ -139,7 +139,7 @@ module _ (roster : List Member) (past : Trace) (h : ℕ) where
     no_receive : (u : ℕ) (r : OpenReceive) (o : Option OpenCall) → open_call roster past u ≡ o → option_and_then receive_in o ≡ Some r → r.channel ≡ h → ⊥
     no_receive u r o is e on = grind (arith, none_on)
 
-is_shut : (roster : List Member) (e : Event) (past : Trace) (h : ℕ) → IsRoster roster → IsLawful roster (e ∷ past) → is_destroyed (e ∷ past) h ≡ true → IsShut roster (e ∷ past) e.endings h
+is_shut : (roster : List Member) (e : Event) (past : Trace) (h : ℕ) → IsRoster roster → IsLawful roster (e ∷ past) → is_destroyed (e ∷ past) h ≡ true → IsShut roster (e ∷ past) e.completions h
 is_shut roster e past h r l closed =
     let f = facts_of roster (e ∷ past) in
     record {

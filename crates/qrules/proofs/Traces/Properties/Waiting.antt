@@ -164,11 +164,11 @@ nothing_for roster (e ∷ past) r l u o h kind is waits =
     let f = facts_of roster past in
     elim (l.1.1) as (λ _. AllByRecursion (λ w. may_take kind w ≡ false) ((facts_of roster (e ∷ past)).pending h)) [
       | inl a ↦
-          let k = past_follows true roster past e.thread e.call e.endings r l.0 l.1.0 a in
+          let k = past_follows true roster past e.thread e.call e.completions r l.0 l.1.0 a in
           subst (AllByRecursion (λ w. may_take kind w ≡ false)) (sym (k.pending h))
-          (nothing_after (facts_of roster past) e.thread e.call (passes_of (facts_of roster past) e.thread e.call e.endings a) (nothing_for roster past r l.0)
+          (nothing_after (facts_of roster past) e.thread e.call (passes_of (facts_of roster past) e.thread e.call e.completions a) (nothing_for roster past r l.0)
           (λ v x open_v. known roster v (open_known roster past v x l.0 open_v)) u o h kind (sym (k.open_call u) ∙ is) waits)
       | inr a ↦
-          let k = past_follows false roster past e.thread e.call e.endings r l.0 l.1.0 a in
+          let k = past_follows false roster past e.thread e.call e.completions r l.0 l.1.0 a in
           subst (AllByRecursion (λ w. may_take kind w ≡ false)) (sym (k.pending h)) (nothing_for roster past r l.0 u o h kind (sym (k.open_call u) ∙ is) waits)
     ]

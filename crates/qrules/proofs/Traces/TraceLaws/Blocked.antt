@@ -3,7 +3,7 @@ use Rattle.qrules.proofs.Common.{arith, ◌≡◌, ◌∙◌, ℕ, ◌+◌, List
 use Rattle.std.proofs.lemmas.Bool.{cases_Bool, eqb-true, ne_eqb, true≢false}
 use Rattle.qrules.proofs.Basics.{receipt_of, Received, Facts, threads_of, asks, makes, facts_of, IsLawful, has_completion_of, open_call, after_receipt, after_unblock, after_write, open_call_after, unless, completion_names, ends_own, laws_of, open_known, passes_of, Passes, waits_or_ends, Rises, rises, not_among, known}
 use Rattle.qrules.proofs.Traces.Past.OpenCalls.{open_accepted, open_refused}
-use Rattle.qrules.proofs.Traces.TraceLaws.Ending.{completion_thread}
+use Rattle.qrules.proofs.Traces.TraceLaws.Completion.{completion_thread}
 
 -- ---- completions by thread
 
@@ -22,11 +22,11 @@ module _ (g : ℕ → Option Completion) (names : (u : ℕ) (y : Completion) →
   gets_by ts u among = grind (arith, any_filter_map, any_filter_map_at)
 
 -- each completion of an event goes to a different thread
-pub endings_are_apart : (roster : List Member) (past : Trace) (e : Event) → IsRoster roster → IsLawful roster (e ∷ past) → AreApart e.endings
-endings_are_apart roster past e r l =
+pub completions_are_apart : (roster : List Member) (past : Trace) (e : Event) → IsRoster roster → IsLawful roster (e ∷ past) → AreApart e.completions
+completions_are_apart roster past e r l =
     let f = facts_of roster past in
     elim (l.1.1) [
-      | inl a ↦ subst AreApart (sym a.1) (apart_by (completion_to f e.thread e.call) (completion_thread f e.thread e.call (laws_of f e.thread e.call e.endings a)) (threads_of roster) (rises roster r))
+      | inl a ↦ subst AreApart (sym a.1) (apart_by (completion_to f e.thread e.call) (completion_thread f e.thread e.call (laws_of f e.thread e.call e.completions a)) (threads_of roster) (rises roster r))
       | inr a ↦ subst AreApart (sym a.2) (refl, tt)
     ]
 
@@ -43,12 +43,12 @@ pub record GoesToBlocked (roster : List Member) (past : Trace) (t : ℕ) (x : Co
 own_due : (roster : List Member) (past : Trace) (t : ℕ) (y : Completion) → is_some (member_at roster t) ≡ true → y.thread ≡ t → GoesToBlocked roster past t y
 own_due roster past t y member e = record { known = subst (λ u. is_some (member_at roster u) ≡ true) (sym e) member; may = rw (e, eqb_same t) refl }
 
-pub endings_go_to_blocked : (roster : List Member) (past : Trace) (e : Event) → IsRoster roster → IsLawful roster (e ∷ past) → AllByRecursion (GoesToBlocked roster past e.thread) e.endings
-endings_go_to_blocked roster past e r l =
+pub completions_go_to_blocked : (roster : List Member) (past : Trace) (e : Event) → IsRoster roster → IsLawful roster (e ∷ past) → AllByRecursion (GoesToBlocked roster past e.thread) e.completions
+completions_go_to_blocked roster past e r l =
     let f = facts_of roster past in
     elim (l.1.1) [
       | inl a ↦ subst (AllByRecursion (GoesToBlocked roster past e.thread)) (sym a.1) (all_filter_map (GoesToBlocked roster past e.thread) (completion_to f e.thread e.call) (threads_of roster) (λ v y is.
-          elim (completion_names f e.thread e.call v y (laws_of f e.thread e.call e.endings a) is) [
+          elim (completion_names f e.thread e.call v y (laws_of f e.thread e.call e.completions a) is) [
             | inl own ↦ own_due roster past e.thread y l.1.0 own.names.thread
             | inr other ↦ record {
               known = subst (λ u. is_some (member_at roster u) ≡ true) (sym other.names.thread) (open_known roster past v other.names.waiting l.0 other.names.is);
@@ -90,38 +90,38 @@ stranger_free roster past u l none = grind (arith, open_known)
 
 -- the state of a thread of the roster
 member_blocked : (roster : List Member) (past : Trace) (e : Event) → IsLawful roster (e ∷ past) → is_some (open_call roster past e.thread) ≡ false → (u : ℕ) → is_some (member_at roster u) ≡ true
-    → is_some (open_call roster (e ∷ past) u) ≡ cond (gets e.endings u) false (may_end roster past e.thread u)
+    → is_some (open_call roster (e ∷ past) u) ≡ cond (gets e.completions u) false (may_end roster past e.thread u)
 member_blocked roster past e l idle u member =
     let f = facts_of roster past in
     let t = e.thread in
     let c = e.call in
     elim (l.1.1) [
       | inl a ↦
-          let got : gets e.endings u ≡ is_some (completion_to f t c u) = rw (a.1) (gets_by (completion_to f t c) (completion_thread f t c (laws_of f t c e.endings a)) (threads_of roster) u (known roster u member)) in
-          ap is_some (open_accepted roster past t c e.endings u l.0 l.1.0 a) ∙ accepted_blocked f t c u (passes_of f t c e.endings a) ∙ ap (λ b. cond b false (may_end roster past t u)) (sym got)
-      | inr a ↦ ap is_some (open_refused roster past t c e.endings u a) ∙ rw (a.2) (refused_blocked (open_call roster past u) (open_call roster past t) t u (λ s. ap (open_call roster past) (eqb-true u t s)) idle)
+          let got : gets e.completions u ≡ is_some (completion_to f t c u) = rw (a.1) (gets_by (completion_to f t c) (completion_thread f t c (laws_of f t c e.completions a)) (threads_of roster) u (known roster u member)) in
+          ap is_some (open_accepted roster past t c e.completions u l.0 l.1.0 a) ∙ accepted_blocked f t c u (passes_of f t c e.completions a) ∙ ap (λ b. cond b false (may_end roster past t u)) (sym got)
+      | inr a ↦ ap is_some (open_refused roster past t c e.completions u a) ∙ rw (a.2) (refused_blocked (open_call roster past u) (open_call roster past t) t u (λ s. ap (open_call roster past) (eqb-true u t s)) idle)
     ]
 
 pub blocked_unless_ended : (roster : List Member) (past : Trace) (e : Event) → IsRoster roster → IsLawful roster (e ∷ past) → is_some (open_call roster past e.thread) ≡ false
-    → (u : ℕ) → is_some (open_call roster (e ∷ past) u) ≡ cond (gets e.endings u) false (may_end roster past e.thread u)
+    → (u : ℕ) → is_some (open_call roster (e ∷ past) u) ≡ cond (gets e.completions u) false (may_end roster past e.thread u)
 blocked_unless_ended roster past e r l idle u = elim (cases_Bool (is_some (member_at roster u))) [
   | inl member ↦ member_blocked roster past e l idle u member
   | inr none ↦
       let caller : eqb u e.thread ≡ false = ne_eqb u e.thread (λ s. true≢false (sym (subst (λ v. is_some (member_at roster v) ≡ true) (sym s) l.1.0) ∙ none)) in
       let free : may_end roster past e.thread u ≡ false = rw caller (stranger_free roster past u l.0 none) in
-      stranger_free roster (e ∷ past) u l none ∙ sym (ap (cond (gets e.endings u) false) free ∙ cond_same (gets e.endings u) false)
+      stranger_free roster (e ∷ past) u l none ∙ sym (ap (cond (gets e.completions u) false) free ∙ cond_same (gets e.completions u) false)
 ]
 
 -- ---- the event's own call
 
-pub caller_gets_its_own : (roster : List Member) (past : Trace) (e : Event) → IsRoster roster → IsLawful roster (e ∷ past) → gets e.endings e.thread ≡ has_completion_of e.endings (length past + 1)
+pub caller_gets_its_own : (roster : List Member) (past : Trace) (e : Event) → IsRoster roster → IsLawful roster (e ∷ past) → gets e.completions e.thread ≡ has_completion_of e.completions (length past + 1)
 caller_gets_its_own roster past e r l =
     let f = facts_of roster past in
     let t = e.thread in
     let c = e.call in
     elim (l.1.1) [
       | inl a ↦
-          let got : gets e.endings t ≡ is_some (completion_to f t c t) = rw (a.1) (gets_by (completion_to f t c) (completion_thread f t c (laws_of f t c e.endings a)) (threads_of roster) t (known roster t l.1.0)) in
-          got ∙ rw (eqb_same t) refl ∙ sym (ends_own roster past t c e.endings l.1.0 a)
+          let got : gets e.completions t ≡ is_some (completion_to f t c t) = rw (a.1) (gets_by (completion_to f t c) (completion_thread f t c (laws_of f t c e.completions a)) (threads_of roster) t (known roster t l.1.0)) in
+          got ∙ rw (eqb_same t) refl ∙ sym (ends_own roster past t c e.completions l.1.0 a)
       | inr a ↦ rw (a.2, eqb_same t, eqb_same (length past + 1)) refl
     ]

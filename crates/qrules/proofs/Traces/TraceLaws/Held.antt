@@ -31,11 +31,11 @@ of_received P (x ∷ X) i copied all e = grind (arith, of_received P X)
 taken_made : (roster : List Member) (past : Trace) (i : ℕ) → IsRoster roster → IsLawful roster past → is_received past i ≡ true → (m : SentItem) × (item_at roster past i ≡ Some m)
 taken_made roster [] i r l e = absurd (true≢false (sym e))
 taken_made roster (e ∷ past) i r l taken =
-    elim (copied_count_among e.endings i) as (λ o. copied_count_among e.endings i ≡ o → is_some (option_or o (copied_count_of past i)) ≡ true → (m : SentItem) × (item_at roster (e ∷ past) i ≡ Some m)) [
+    elim (copied_count_among e.completions i) as (λ o. copied_count_among e.completions i ≡ o → is_some (option_or o (copied_count_of past i)) ≡ true → (m : SentItem) × (item_at roster (e ∷ past) i ≡ Some m)) [
       | None ↦ λ none s. let k = taken_made roster past i r l.0 s in (k.0, item_earlier roster e past i (item_below roster past i k.0 k.1) ∙ k.1)
       | Some copied ↦ λ some s.
-          of_received (λ j. (m : SentItem) × (item_at roster (e ∷ past) j ≡ Some m)) e.endings i copied
-          (all_of e.endings (best_first roster (e ∷ past) r l).1) some
+          of_received (λ j. (m : SentItem) × (item_at roster (e ∷ past) j ≡ Some m)) e.completions i copied
+          (all_of e.completions (best_first roster (e ∷ past) r l).1) some
     ] refl taken
   where
     all_of : (X : List Completion) → AllByRecursion (λ x. (j : ℕ) → number_received x ≡ Some j → TakesBest roster past e x j) X
@@ -51,19 +51,19 @@ no_own o h = grind arith
 made_waits : (roster : List Member) (past : Trace) (i : ℕ) (m : SentItem) → IsLawful roster past → item_at roster past i ≡ Some m → is_ended past i ≡ false → (t : ℕ) × (accepted_at waiter past i ≡ Some t)
 made_waits roster [] i m l is going = absurd (none-some m is)
 made_waits roster (e ∷ past) i m l is going =
-    let p = or_parts (has_completion_of e.endings i) (is_ended past i) going in
+    let p = or_parts (has_completion_of e.completions i) (is_ended past i) going in
     elim (eqb i (length past + 1)) as (λ b. eqb i (length past + 1) ≡ b → cond b (item_of roster e past) (item_at roster past i) ≡ Some m → (t : ℕ) × (accepted_at waiter (e ∷ past) i ≡ Some t)) [
-      | true ↦ λ same at. let number : i ≡ length past + 1 = eqb-true _ _ same in now number at (subst (λ j. has_completion_of e.endings j ≡ false) number p.0)
+      | true ↦ λ same at. let number : i ≡ length past + 1 = eqb-true _ _ same in now number at (subst (λ j. has_completion_of e.completions j ≡ false) number p.0)
       | false ↦ λ other at. let k = made_waits roster past i m l.0 at p.1 in (k.0, made_stays waiter e past i k.0 k.1)
     ] refl is
   where
-    now : i ≡ length past + 1 → item_of roster e past ≡ Some m → has_completion_of e.endings (length past + 1) ≡ false → (t : ℕ) × (accepted_at waiter (e ∷ past) i ≡ Some t)
+    now : i ≡ length past + 1 → item_of roster e past ≡ Some m → has_completion_of e.completions (length past + 1) ≡ false → (t : ℕ) × (accepted_at waiter (e ∷ past) i ≡ Some t)
     now number at unended =
         let f = facts_of roster past in
         let a = item_accepted roster e past m at in
         let o = outcome_of roster e past l.1.1 a.0 in
-        let none : (row_of f e.thread e.call).own ≡ None = no_own ((row_of f e.thread e.call).own) (sym (ends_own roster past e.thread e.call e.endings l.1.0 o) ∙ unended) in
-        let waits : may_wait e.call ≡ true = waits_or_ends f e.thread e.call (passes_of f e.thread e.call e.endings o) none in
+        let none : (row_of f e.thread e.call).own ≡ None = no_own ((row_of f e.thread e.call).own) (sym (ends_own roster past e.thread e.call e.completions l.1.0 o) ∙ unended) in
+        let waits : may_wait e.call ≡ true = waits_or_ends f e.thread e.call (passes_of f e.thread e.call e.completions o) none in
         (e.thread, subst (λ j. accepted_at waiter (e ∷ past) j ≡ Some e.thread) (sym number) (made_newest waiter e past a.0 ∙ rw waits refl))
 
 -- ---- the law

@@ -43,15 +43,15 @@ ends_length f t c u y p e = grind arith
 abbrev pub buffer_brought : List Member → Trace → ℕ → Call → ℕ → List ℕ
 buffer_brought roster past t c u = cond (eqb u t) (buffer_of c) (buffer_of_open (open_call roster past u))
 
-pub endings_keep_length : (roster : List Member) (past : Trace) (e : Event) → IsRoster roster → IsLawful roster (e ∷ past) → AllByRecursion (λ x. length x.buffer ≡ length (buffer_brought roster past e.thread e.call x.thread)) e.endings
-endings_keep_length roster past e r l =
+pub completions_keep_length : (roster : List Member) (past : Trace) (e : Event) → IsRoster roster → IsLawful roster (e ∷ past) → AllByRecursion (λ x. length x.buffer ≡ length (buffer_brought roster past e.thread e.call x.thread)) e.completions
+completions_keep_length roster past e r l =
     let f = facts_of roster past in
     let P = λ (x : Completion). length x.buffer ≡ length (buffer_brought roster past e.thread e.call x.thread) in
     elim (l.1.1) [
       | inl a ↦ subst (AllByRecursion P) (sym a.1) (all_filter_map P (completion_to f e.thread e.call) (threads_of roster) (λ v y is.
-          elim (completion_names f e.thread e.call v y (laws_of f e.thread e.call e.endings a) is) [
+          elim (completion_names f e.thread e.call v y (laws_of f e.thread e.call e.completions a) is) [
             | inl own ↦ rw (own.names.thread, eqb_same e.thread) (own_length f e.thread e.call y own.is)
-            | inr other ↦ rw (other.names.thread, other.thread) (ends_length f e.thread e.call v y (passes_of f e.thread e.call e.endings a) other.is)
+            | inr other ↦ rw (other.names.thread, other.thread) (ends_length f e.thread e.call v y (passes_of f e.thread e.call e.completions a) other.is)
           ]))
       | inr a ↦ subst (AllByRecursion P) (sym a.2) (rw (eqb_same e.thread) refl, tt)
     ]
@@ -98,9 +98,9 @@ after_length f t c u x e =
 open_keeps_length : (roster : List Member) (past : Trace) (e : Event) → IsLawful roster (e ∷ past) → is_some (open_call roster past e.thread) ≡ false
     → (u : ℕ) (x : OpenCall) → open_call roster (e ∷ past) u ≡ Some x → length (buffer_in x) ≡ length (buffer_brought roster past e.thread e.call u)
 open_keeps_length roster past e l idle u x is = elim (l.1.1) [
-  | inl a ↦ after_length (facts_of roster past) e.thread e.call u x (sym (open_accepted roster past e.thread e.call e.endings u l.0 l.1.0 a) ∙ is)
+  | inl a ↦ after_length (facts_of roster past) e.thread e.call u x (sym (open_accepted roster past e.thread e.call e.completions u l.0 l.1.0 a) ∙ is)
   | inr a ↦
-      let before : open_call roster past u ≡ Some x = sym (open_refused roster past e.thread e.call e.endings u a) ∙ is in
+      let before : open_call roster past u ≡ Some x = sym (open_refused roster past e.thread e.call e.completions u a) ∙ is in
       let other : eqb u e.thread ≡ false = ne_eqb u e.thread (λ s. true≢false (sym (ap is_some before) ∙ ap (λ v. is_some (open_call roster past v)) s ∙ idle)) in
       rw (other, before) refl
 ]
@@ -135,8 +135,8 @@ open_calls_keep_length roster past u o is =
 
 -- a thread's passed buffer has enough room for its completion, and for its open call afterwards
 pub completion_fits : (roster : List Member) (past : Trace) (e : Event) → IsRoster roster → IsLawful roster (e ∷ past)
-    → AllByRecursion (λ x. length x.buffer ≤ length (buffer_brought roster past e.thread e.call x.thread)) e.endings
-completion_fits roster past e r l = all_more _ _ e.endings (endings_keep_length roster past e r l) (λ x same. omega (arith, same))
+    → AllByRecursion (λ x. length x.buffer ≤ length (buffer_brought roster past e.thread e.call x.thread)) e.completions
+completion_fits roster past e r l = all_more _ _ e.completions (completions_keep_length roster past e r l) (λ x same. omega (arith, same))
 
 pub after_fits : (roster : List Member) (past : Trace) (e : Event) → IsLawful roster (e ∷ past) → is_some (open_call roster past e.thread) ≡ false
     → (u : ℕ) → length (buffer_of_open (open_call roster (e ∷ past) u)) ≤ length (buffer_brought roster past e.thread e.call u)

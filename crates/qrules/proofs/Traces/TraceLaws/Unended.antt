@@ -54,7 +54,7 @@ unended_newest roster (e ∷ past) t i l is going =
           let k = begins roster e past t at in
           record { block = k.block; is = begun_newest roster e past t k; number = ((call_laws e.call).asks_one (length past + 1) t (channel_of (item_of roster e past)) k.block k.asked).number ∙ sym (eqb-true _ _ same) }
       | false ↦ λ other at.
-          let before : is_ended past i ≡ false = (or_parts (has_completion_of e.endings i) (is_ended past i) going).1 in
+          let before : is_ended past i ≡ false = (or_parts (has_completion_of e.completions i) (is_ended past i) going).1 in
           let k = unended_newest roster past t i l.0 at before in
           record { block = k.block; is = block_stays roster e past t k.block l k.is (subst (λ j. is_ended past j ≡ false) (sym k.number) before); number = k.number }
     ] refl is

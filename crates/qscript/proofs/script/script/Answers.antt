@@ -1,6 +1,6 @@
 use Rattle.qscript.proofs.Common.{length, not_too_long, ◌≡◌, ◌≤◌}
 use Rattle.std.proofs.lemmas.Result.{err_from_is_err_and}
-use Rattle.qreading.specs.declared.fault.ScriptFault.TheVariants.{TooLong}
+use Rattle.qscript_text.specs.declared.fault.ScriptFault.TheVariants.{TooLong}
 use Rattle.qscript.proofs.Runnable.{can_run}
 use Rattle.qscript.proofs.script.script.Goals as goal
 

@@ -10,5 +10,5 @@ invariant_of-self c =
 pub returns : goal.returns
 returns c =
     let may = rw (← c.self.view_is) at c.requires in
-    let ended = rw c.completion-own.ensures at c.cancel.ensures.endings in
+    let ended = rw c.completion-own.ensures at c.cancel.ensures.completions in
     rw (← c.self.view_is, may.counted, c.close.ensures.threads, c.close.ensures.connections, c.cancel.ensures.connections) (step_destroyed _ c.args.caller.now.seat.thread c.args.chid _ may.among.known may.up may.free _ _ _ c.cancel.ensures.threads c.cancel.ensures.channels c.close.ensures.channels _ (sym c.if-not-owns.ensures) ended)

@@ -15,7 +15,7 @@ put_if-requires c =
     let due = due_is _ c.args.caller.now.seat.thread c.args.coid _ may.among.known may.up may.free c.in-Some.chid of c.tells_detached-last.result may.sound c.tells_detached-last.ensures ∙ ap (made_for c.in-Some.chid) (sym pulsed) in
     let new = new_pulse (c.args.caller.now.made + 1) c.priority-priority.result c.args.caller.now.process c.tells_detached-last.result d c.pulse_for-due.ensures in
     let told = is_told _ c.args.caller.now.seat.thread c.in-Some.chid d _ _ c.in_ok-met.met may.sound may.free new c.in_ok-met.ensures.ok in
-    rw (rw c.completion-own.ensures at c.cancel.ensures.endings) (room_for_one _ c.args.caller.now.seat.thread c.args.coid _ may.among.known may.up may.free c.in-Some.chid of d due may.sound _ _ c.in_ok-met.met told may.sound.few)
+    rw (rw c.completion-own.ensures at c.cancel.ensures.completions) (room_for_one _ c.args.caller.now.seat.thread c.args.coid _ may.among.known may.up may.free c.in-Some.chid of d due may.sound _ _ c.in_ok-met.met told may.sound.few)
 
 pub invariant_of-self-2 : goal.invariant_of-self-2
 invariant_of-self-2 c =
@@ -43,7 +43,7 @@ returns c =
     let there = rw (c.cancel.ensures.connections, c.in_ok-met.ensures.connections) at c.remove.ensures.value ∙ of.is in
     let fewer = rw (there, c.cancel.ensures.connections, c.in_ok-met.ensures.connections) at c.remove.ensures.fewer in
     rw (← c.self.view_is, may.counted, c.remove.ensures.after, c.cancel.ensures.connections, c.in_ok-met.ensures.connections) (step_detached _ c.args.caller.now.seat.thread c.args.coid _ may.among.known may.up may.free c.in-Some.chid of d due may.sound _ _ c.in_ok-met.met told _ _ c.cancel.ensures.threads c.cancel.ensures.channels
-    _ (rw (c.remove.ensures.after, c.cancel.ensures.connections, c.in_ok-met.ensures.connections) at fewer) (c.put_if.ensures ∙ ap (with_completion_if c.in_ok-met.met) (rw c.completion-own.ensures at c.cancel.ensures.endings)))
+    _ (rw (c.remove.ensures.after, c.cancel.ensures.connections, c.in_ok-met.ensures.connections) at fewer) (c.put_if.ensures ∙ ap (with_completion_if c.in_ok-met.met) (rw c.completion-own.ensures at c.cancel.ensures.completions)))
 
 pub returns-in_err-met : goal.returns-in_err-met
 returns-in_err-met c =

@@ -1,5 +1,5 @@
 use Rattle.qkernel.proofs.Common.{cond, ◌++◌, ◌∷◌, [], refl, ap, sym, ◌∙◌, option_copied_mut, option_map, sets_items, newest_receives, taken_by, waits_among, None, Some, seat_kept, items_waiting_on, open_channel_of, is_fixed}
-use Rattle.qstate.proofs.Routes.{routed, unowned, unrouted}
+use Rattle.qkernel_state.proofs.Routes.{routed, unowned, unrouted}
 use Rattle.qkernel.proofs.Steps.Delivering.{sound_with_item, sound_threads}
 use Rattle.qkernel.proofs.Steps.Receiving.{sound_kept}
 use Rattle.qkernel.proofs.Steps.Send.{step_send_no_memory, step_send_nowhere, step_send_waits, step_send_met}
@@ -72,7 +72,7 @@ returns c =
           let opens = rw (w.receipt-is, w.objects-is, w.in-None.ensures.unchanged, c.number.ensures, c.thread.ensures) at c.block.ensures in
           let sets = rw (item, prio) at (sets_items c.self.inside.objects.channels c.in-Some.chid c.in-Some-get_mut.channel.now w.enqueue.new.self _ there w.enqueue.ensures.owner w.enqueue.ensures.flags
           (w.in-Ok.ensures.ok ∙ ap (λ xs. xs ++ c.item-item.result ∷ []) (sym (ap items_waiting_on there)))) in
-          rw (w.objects-is, w.endings-is, ← c.self.view_is, may.counted)
+          rw (w.objects-is, w.completions-is, ← c.self.view_is, may.counted)
           (step_send_waits _ c.args.caller.now.seat.thread c.args.coid c.args.message c.args.reply_buffer _ c.in-Some.chid may.sound may.among.known may.up may.free found _ _ _ nobody opens sets c.requires.none)
       | in-Some-wake_newest w ↦
           let opens = rw (w.receipt-is, w.objects-is, w.deliver-ended.ensures.receipt, item, c.number.ensures, c.thread.ensures) at c.block.ensures in
@@ -86,7 +86,7 @@ returns c =
           let sets = rw prio at opens in
           let carried = c.carried-carried.ensures ∙ ap (λ o. cond (is_fixed o) None (Some c.item-item.result.priority)) (sym (ap (option_map open_channel_of) there)) in
           let wakes = rw (carried, item, prio) at w.in-Some-wake_newest.ensures.after in
-          rw (w.objects-is, c.in-Some-get_mut.ensures.unwritten, w.endings-is, ← c.self.view_is, may.counted)
+          rw (w.objects-is, c.in-Some-get_mut.ensures.unwritten, w.completions-is, ← c.self.view_is, may.counted)
           (step_send_met _ c.args.caller.now.seat.thread c.args.coid c.args.message c.args.reply_buffer _ c.in-Some.chid may.sound may.among.known may.up may.free found
           receiver w.deliver-ended.result.0 w.deliver-ended.result.1.copied newest (waits_among c.in-Some.chid _ waits.0 _ receiver waits.1) ended copied
           c.wake_newest.new.self _ _ wakes sets (rw may.none at w.put.ensures))

@@ -11,5 +11,5 @@ invariant_of-self c =
 pub returns : goal.returns
 returns c =
     let may = rw (← c.self.view_is) at c.requires in
-    let ended = rw c.completion-own.ensures at c.cancel.ensures.endings in
+    let ended = rw c.completion-own.ensures at c.cancel.ensures.completions in
     rw (← c.self.view_is, may.counted, c.cancel.ensures.connections) (step_shut _ c.args.caller.now.seat.thread _ _ _ _ may.among.known may.up may.free c.cancel.ensures.threads c.cancel.ensures.channels ended)

@@ -20,7 +20,7 @@ returns-in_default c =
     let fellow = c.in_ok-fellow.ensures.fellow in
     let none = rw c.in_ok-fellow.ensures.thread at (sym c.guarded_message.ensures ∙ c.in_default.is) in
     rw (← c.self.view_is, may.counted, c.cancel.ensures.connections) (step_unblock_cancelled _ c.args.caller.now.seat.thread c.args.target _ may.sound may.among.known may.up may.free fellow none _ _ _ c.cancel.ensures.threads c.cancel.ensures.channels
-    (rw c.completion-own.ensures at c.cancel.ensures.endings))
+    (rw c.completion-own.ensures at c.cancel.ensures.completions))
 
 -- ---- its message had its unblock pulse before
 

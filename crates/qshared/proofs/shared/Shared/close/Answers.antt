@@ -73,7 +73,7 @@ returns-clause-due g c =
     let extends = subst (λ q. AreSeen q (map (λ p. p.seen.trace) ports)) c.traced.invariant.3.1 c.gather.ensures.seen k p.seen.trace (at_map (λ q. q.seen.trace) ports k p at) in
     let now = sym (returns-clause-asked g c t k is) ∙ at_port (λ q. q.seat) (λ q. []) g.K.Tie.names.roster past left (λ q. q.asked.calls) ports k p [] at in
     let o = h.told.owed t k is in
-    port_due past p.seen.trace p.last.trace p.asked.calls p.thread t (taken p.seat) (of_thread t left) p.turn.pending _ same extends p.since now p.calls_are p.later o.later o.whole mine) cells)
+    port_due past p.seen.trace p.last.trace p.asked.calls p.thread t (taken p.seat) (of_thread t left) p.scratch.pending _ same extends p.since now p.calls_are p.later o.later o.whole mine) cells)
 
 pub returns-clause-seen : goal.returns-clause-seen
 returns-clause-seen g c = subst (λ past. AreSeen past (map (λ p. p.seen.trace) c.args.ports.items)) c.traced.invariant.3.1 c.gather.ensures.seen

@@ -1,6 +1,0 @@
-//! The laws of every valid history, and of the prefixes that threads see. The functions do nothing: their
-//! contracts are the laws.
-
-pub use crate::fitting::results_fit_calls;
-pub use qlaws::{endings, ids, open_calls, pending};
-pub use qshared::laws::{in_real_time, is_beginning, taken_is_due};

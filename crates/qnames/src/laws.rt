@@ -1,8 +1,0 @@
-//! A law about plain scripts. It is the contract of a function with an empty body.
-
-ghost use Rattle.qnames.specs.Laws.{CallsAreReplaced};
-
-/// The calls of the plain script are the calls of the lines, with each name replaced by its number.
-pub fn calls_are_replaced()
-    ensures { CallsAreReplaced }
-{}
