@@ -5,7 +5,8 @@ use Rattle.qrules.specs.Words.calls
 use Rattle.qrules.specs.Words.mark
 use Rattle.qrules.specs.Trace.{call_at, Bytes}
 use Rattle.qrules_laws.specs.Completions.{OfEachCompletion}
-use Rattle.balsaeuchre_calls.specs.Results.{answer_in, bytes_in, channel_in, connection_in, count_in, done_in, info_in}
+use Rattle.balsaeuchre_calls.specs.Results.{answer_in, bytes_in, channel_in, connection_in, count_in, done_in}
+use Rattle.balsaeuchre_calls.specs.Results.{info_in}
 use Rattle.balsaeuchre_calls.specs.Results.{pulse_in, received_in, state_in, Reading}
 use Rattle.balsaeuchre_calls.specs.declared.error.CallError.TheVariants.{Unexpected}
 use Rattle.balsaeuchre_calls.specs.declared.results.Reply.{Reply}

@@ -10,4 +10,4 @@ pub use balsaeuchre_calls::calls::Calls;
 pub use balsaeuchre_calls::endpoint::{Endpoint, KernelPort, LastOutcome};
 pub use balsaeuchre_calls::error::CallError;
 pub use balsaeuchre_calls::opening::{PortCaller, callers, close, two_callers};
-pub use balsaeuchre_calls::results::{Reply, Pulse, Received, Request, ThreadStatus};
+pub use balsaeuchre_calls::results::{Pulse, Received, Reply, Request, ThreadStatus};

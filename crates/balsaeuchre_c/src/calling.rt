@@ -23,10 +23,14 @@ pub fn make_call(
     rows: &mut [Row],
     bytes: &mut [u8],
 ) -> Result<EventCounts, Errno>
-    ensures event { IfOk result (λ done. IsEvent session.old request.now sent.now room.now session.new rows.old rows.new bytes.old bytes.new done) }
+    ensures event { IfOk result
+        (λ done. IsEvent session.old request.now sent.now room.now session.new rows.old rows.new bytes.old
+        bytes.new done) }
     ensures roster { members_of session.new.kernel.threads ≡ members_of session.old.kernel.threads }
-    ensures error { IfErr result (λ errno. CallError session.old request.now sent.now room.now (length rows.old) errno) }
-    ensures unchanged { IfErr result (λ _. (session.new ≡ session.old) × (rows.new ≡ rows.old) × (bytes.new ≡ bytes.old)) }
+    ensures error { IfErr result
+        (λ errno. CallError session.old request.now sent.now room.now (length rows.old) errno) }
+    ensures unchanged { IfErr result
+        (λ _. (session.new ≡ session.old) × (rows.new ≡ rows.old) × (bytes.new ≡ bytes.old)) }
 {
     if rows.len() < ROW_LIMIT {
         return Err(Errno::Inval);

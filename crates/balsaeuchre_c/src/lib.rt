@@ -49,7 +49,8 @@ pub extern "C" fn balsaeuchre_version() -> u32
 #[unsafe(no_mangle)]
 pub extern "C" fn balsaeuchre_new(alloc: Global, threads: &[RosterThread], out: &mut *mut u8) -> u32
     ensures made { result ≡ 0 → (session : Session) × IsNewOf threads.now session }
-    ensures refused { 1 ≤ result → (errno : Errno) × (numbered ERRNOS result ≡ Some errno) × NewError threads.now errno }
+    ensures refused { 1 ≤ result → (errno : Errno) × (numbered ERRNOS result ≡ Some errno)
+        × NewError threads.now errno }
 {
     match opening::new_session(alloc, threads) {
         Ok(session) => {
@@ -78,12 +79,17 @@ pub extern "C" fn balsaeuchre_make_call(
     bytes: &mut [u8],
     done: &mut EventCounts,
 ) -> u32
-    ensures event { result ≡ 0 → IsEvent kernel.old.session request.now sent.now room.now kernel.new.session rows.old rows.new bytes.old bytes.new done.new }
-    ensures refused { 1 ≤ result → (errno : Errno) × (numbered ERRNOS result ≡ Some errno) × CallError kernel.old.session request.now sent.now room.now (length rows.old) errno }
+    ensures event { result ≡ 0
+        → IsEvent kernel.old.session request.now sent.now room.now kernel.new.session rows.old rows.new
+        bytes.old bytes.new done.new }
+    ensures refused { 1 ≤ result → (errno : Errno) × (numbered ERRNOS result ≡ Some errno)
+        × CallError kernel.old.session request.now sent.now room.now (length rows.old) errno }
 
     // On an error everything is unchanged. The roster never changes.
-    ensures unchanged { 1 ≤ result → (kernel.new.session ≡ kernel.old.session) × (rows.new ≡ rows.old) × (bytes.new ≡ bytes.old) × (done.new ≡ done.old) }
-    ensures roster { members_of kernel.new.session.kernel.threads ≡ members_of kernel.old.session.kernel.threads }
+    ensures unchanged { 1 ≤ result → (kernel.new.session ≡ kernel.old.session) × (rows.new ≡ rows.old)
+        × (bytes.new ≡ bytes.old) × (done.new ≡ done.old) }
+    ensures roster { members_of kernel.new.session.kernel.threads
+        ≡ members_of kernel.old.session.kernel.threads }
 {
     let session = kernel.get_mut();
     match calling::make_call(session, request, sent, room, rows, bytes) {

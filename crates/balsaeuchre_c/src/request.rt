@@ -83,7 +83,8 @@ impl CallRequest {
     /// Returns the call of the request if this kind borrows its bytes, otherwise `None`.
     pub fn lent<'a>(&self, kind: CallKind, sent: &'a [u8]) -> Option<LentCall<'a>>
         ensures none { IfNone result (borrows kind ≡ false) }
-        ensures some { IfSome result (λ call. (room : List ℕ) → call_as kind self.now sent.now room ≡ Some (call_lent call)) }
+        ensures some { IfSome result
+            (λ call. (room : List ℕ) → call_as kind self.now sent.now room ≡ Some (call_lent call)) }
     {
         match kind {
             CallKind::Reply => Some(LentCall::Reply {

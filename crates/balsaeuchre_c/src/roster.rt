@@ -24,7 +24,8 @@ pub struct RosterThread {
 
 fn add(roster: &mut Roster, thread: &RosterThread) -> Result<(), Errno>
     ensures { MatchResult result
-        (λ _. (thread_refusal roster.old thread.now ≡ None) × (roster.new ≡ with_member (member_of thread.now) roster.old))
+        (λ _. (thread_refusal roster.old thread.now ≡ None)
+        × (roster.new ≡ with_member (member_of thread.now) roster.old))
         (λ errno. thread_refusal roster.old thread.now ≡ Some errno) }
 {
     let priority = Priority::new(thread.priority).ok_or(Errno::Inval)?;

@@ -89,7 +89,8 @@ impl Row {
 
     fn errno(self, errno: Errno) -> Row
         ensures mark { mark_of result ≡ Some (Mark.Failed errno) }
-        ensures same { (completion : Completion) → (start written : ℕ) → IsOf self completion start written → IsOf result completion start written }
+        ensures same { (completion : Completion) → (start written : ℕ) → IsOf self completion start written
+            → IsOf result completion start written }
     {
         Row {
             mark: 2,
@@ -100,7 +101,8 @@ impl Row {
 
     fn replied(self, status: i64, copied: usize) -> Row
         ensures mark { mark_of result ≡ Some (Mark.Replied status copied) }
-        ensures same { (completion : Completion) → (start written : ℕ) → IsOf self completion start written → IsOf result completion start written }
+        ensures same { (completion : Completion) → (start written : ℕ) → IsOf self completion start written
+            → IsOf result completion start written }
     {
         Row {
             mark: 5,
@@ -112,7 +114,8 @@ impl Row {
 
     fn info(self, info: Info) -> Row
         ensures mark { mark_of result ≡ Some (Mark.Info info) }
-        ensures same { (completion : Completion) → (start written : ℕ) → IsOf self completion start written → IsOf result completion start written }
+        ensures same { (completion : Completion) → (start written : ℕ) → IsOf self completion start written
+            → IsOf result completion start written }
     {
         Row {
             mark: 9,
@@ -129,7 +132,8 @@ impl Row {
 
     fn pulse(self, item: u64, priority: Priority, what: What) -> Row
         ensures mark { mark_of result ≡ Some (Mark.Pulse item priority what) }
-        ensures same { (completion : Completion) → (start written : ℕ) → IsOf self completion start written → IsOf result completion start written }
+        ensures same { (completion : Completion) → (start written : ℕ) → IsOf self completion start written
+            → IsOf result completion start written }
     {
         let row = Row {
             mark: 10,
@@ -160,7 +164,8 @@ impl Row {
 
     fn state(self, state: ThreadState, priority: Priority) -> Row
         ensures mark { mark_of result ≡ Some (Mark.State state priority) }
-        ensures same { (completion : Completion) → (start written : ℕ) → IsOf self completion start written → IsOf result completion start written }
+        ensures same { (completion : Completion) → (start written : ℕ) → IsOf self completion start written
+            → IsOf result completion start written }
     {
         let (number, chid) = match state {
             ThreadState::Ready => (1, 0),
@@ -181,7 +186,8 @@ impl Row {
         ensures mark { mark_of result ≡ Some (Mark.Message rcvid copied) }
         ensures count { result.count ≡ copied }
         ensures info { Fills result info }
-        ensures same { (completion : Completion) → (start written : ℕ) → IsOf self completion start written → IsOf result completion start written }
+        ensures same { (completion : Completion) → (start written : ℕ) → IsOf self completion start written
+            → IsOf result completion start written }
     {
         let row = Row {
             mark: 6,
@@ -205,8 +211,10 @@ impl Row {
 
     fn with_mark(self, mark: Mark, info: Option<Info>) -> Row
         ensures mark { mark_of result ≡ Some mark }
-        ensures message { (rcvid copied : ℕ) → mark ≡ Mark.Message rcvid copied → (result.count ≡ copied) × Fills result info }
-        ensures same { (completion : Completion) → (start written : ℕ) → IsOf self completion start written → IsOf result completion start written }
+        ensures message { (rcvid copied : ℕ) → mark ≡ Mark.Message rcvid copied → (result.count ≡ copied)
+            × Fills result info }
+        ensures same { (completion : Completion) → (start written : ℕ) → IsOf self completion start written
+            → IsOf result completion start written }
     {
         match mark {
             Mark::Ok => Row { mark: 1, ..self },

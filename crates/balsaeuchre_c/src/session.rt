@@ -33,10 +33,12 @@ impl Session {
     fn begin(&mut self, thread: ThreadNo) -> Result<ThreadRef, Errno>
         ensures seat { IfOk result (λ seat. IsSeatIn self.old.kernel.threads seat) }
         ensures thread { IfOk result (λ seat. seat.thread ≡ thread) }
-        ensures known { IfOk result (λ seat. is_some (member_at (members_of self.old.kernel.threads) thread) ≡ true) }
+        ensures known { IfOk result
+            (λ seat. is_some (member_at (members_of self.old.kernel.threads) thread) ≡ true) }
         ensures limit { IfOk result (λ seat. self.old.kernel.made < 2 ^ 40) }
         ensures sound { IfOk result (λ seat. IsSound self.old.kernel) }
-        ensures empty { IfOk result (λ seat. (self.new.kernel ≡ self.old.kernel) × (self.new.completions.items ≡ [])) }
+        ensures empty { IfOk result
+            (λ seat. (self.new.kernel ≡ self.old.kernel) × (self.new.completions.items ≡ [])) }
         ensures error { IfErr result (λ errno. DispatchError self.old.kernel thread errno) }
         ensures unchanged { IfErr result (λ _. self.new ≡ self.old) }
     {
@@ -51,8 +53,10 @@ impl Session {
     /// Makes a call. `Ok` is an event: its completions are in the list, by rising thread number. On an error
     /// no call is made.
     fn call(&mut self, thread: ThreadNo, call: Call) -> Result<(), Errno>
-        ensures event { IfOk result (λ _. AnswersAtTraces self.old.kernel thread call self.new.completions.items self.new.kernel) }
-        ensures known { IfOk result (λ _. is_some (member_at (members_of self.old.kernel.threads) thread) ≡ true) }
+        ensures event { IfOk result
+            (λ _. AnswersAtTraces self.old.kernel thread call self.new.completions.items self.new.kernel) }
+        ensures known { IfOk result
+            (λ _. is_some (member_at (members_of self.old.kernel.threads) thread) ≡ true) }
         ensures sound { IfOk result (λ _. IsSound self.old.kernel) }
         ensures roster { members_of self.new.kernel.threads ≡ members_of self.old.kernel.threads }
         ensures error { IfErr result (λ errno. DispatchError self.old.kernel thread errno) }
@@ -66,8 +70,11 @@ impl Session {
 
     /// Makes a call whose bytes are borrowed, like `call`.
     fn call_lent(&mut self, thread: ThreadNo, call: &LentCall) -> Result<(), Errno>
-        ensures event { IfOk result (λ _. AnswersAtTraces self.old.kernel thread (call_lent call.now) self.new.completions.items self.new.kernel) }
-        ensures known { IfOk result (λ _. is_some (member_at (members_of self.old.kernel.threads) thread) ≡ true) }
+        ensures event { IfOk result
+            (λ _. AnswersAtTraces self.old.kernel thread
+            (call_lent call.now) self.new.completions.items self.new.kernel) }
+        ensures known { IfOk result
+            (λ _. is_some (member_at (members_of self.old.kernel.threads) thread) ≡ true) }
         ensures sound { IfOk result (λ _. IsSound self.old.kernel) }
         ensures roster { members_of self.new.kernel.threads ≡ members_of self.old.kernel.threads }
         ensures error { IfErr result (λ errno. DispatchError self.old.kernel thread errno) }
@@ -83,7 +90,8 @@ impl Session {
     pub fn make(&mut self, request: &CallRequest, sent: &[u8], room: &[u8]) -> Result<(), Errno>
         ensures made { IfOk result (λ _. IsMade self.old request.now sent.now room.now self.new) }
         ensures roster { members_of self.new.kernel.threads ≡ members_of self.old.kernel.threads }
-        ensures error { IfErr result (λ errno. IsRefusedAs (call_of request.now sent.now room.now) errno ⊎ DispatchError self.old.kernel request.now.thread errno) }
+        ensures error { IfErr result (λ errno. IsRefusedAs (call_of request.now sent.now room.now) errno
+            ⊎ DispatchError self.old.kernel request.now.thread errno) }
         ensures unchanged { IfErr result (λ _. self.new ≡ self.old) }
     {
         let Some(kind) = kind_of(request.kind) else {

@@ -42,7 +42,12 @@ fn told_front(completion: &Completion) -> &[u8]
 
 /// Writes the completions of a kernel's last event into the first rows. Writes the bytes of their buffers
 /// into `bytes`, one after another, as far as there is room.
-pub fn tell(kernel: &Kernel, completions: &[Completion], rows: &mut [Row], bytes: &mut [u8]) -> EventCounts
+pub fn tell(
+    kernel: &Kernel,
+    completions: &[Completion],
+    rows: &mut [Row],
+    bytes: &mut [u8],
+) -> EventCounts
     requires { length completions.now ≤ length rows.old }
     ensures { IsTold kernel.now completions.now rows.old rows.new bytes.old bytes.new result }
 {

@@ -5,7 +5,8 @@ use Rattle.qbase.specs.declared.errno.Errno.TheVariants as errno
 use Rattle.qmodel.specs.declared.call.Mark.{Mark}
 use Rattle.qmodel.specs.declared.call.Mark.TheVariants.{Failed, Errored}
 use Rattle.balsaeuchre_calls.specs.declared.error.CallError.{CallError}
-use Rattle.balsaeuchre_calls.specs.declared.error.CallError.TheVariants.{Refused, Cancelled, Code, NoMemory, Unexpected}
+use Rattle.balsaeuchre_calls.specs.declared.error.CallError.TheVariants.{Refused, Cancelled, Code, NoMemory}
+use Rattle.balsaeuchre_calls.specs.declared.error.CallError.TheVariants.{Unexpected}
 
 -- the error of a call that was refused with this errno
 abbrev pub refusal : Errno → CallError

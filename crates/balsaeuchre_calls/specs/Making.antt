@@ -22,7 +22,8 @@ Ends read waited call before after result =
 
 -- the effect of a call by the kind of its outcome. A refused call makes no event and collects nothing. Any
 -- other completes, at once or after a wait
-abbrev pub Comes : {A : Type 0} → Reading A → Call → History → History → Result A CallError → LastOutcome → Type 0
+abbrev pub Comes : {A : Type 0} → Reading A → Call → History → History → Result A CallError → LastOutcome
+    → Type 0
 Comes read call before after result (Refused errno) =
     (after.asked ≡ before.asked) × (after.taken ≡ before.taken) × (result ≡ Err (refusal errno))
 Comes read call before after result Done = Ends read false call before after result
@@ -83,7 +84,8 @@ MakesBothOfBytes read first second before after result =
     MakesBoth read first second before after result ⊎ ((after ≡ before) × (result ≡ Err NoMemory))
 
 -- `said` holds of a call's completion or error, and the result is read from it
-abbrev pub Reads : {A : Type 0} → Reading A → (Result Completed CallError → Type 0) → Result A CallError → Type 0
+abbrev pub Reads : {A : Type 0} → Reading A → (Result Completed CallError → Type 0) → Result A CallError
+    → Type 0
 Reads read said result =
     (completed : Result Completed CallError) × said completed × (result ≡ read_off read completed)
 

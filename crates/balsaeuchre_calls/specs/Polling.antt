@@ -22,7 +22,8 @@ option_in read waited mark buffer = option_of (read waited mark buffer)
 -- the effect of starting a call, by the kind of its outcome. A call that blocked was made and is pending,
 -- with nothing collected. A call with any other outcome has the effect `Comes`, and leaves `pending` as it
 -- was
-abbrev pub Begins : {A : Type 0} → Reading A → Call → History → History → Result (Option A) CallError → LastOutcome
+abbrev pub Begins : {A : Type 0} → Reading A → Call → History → History → Result (Option A) CallError
+    → LastOutcome
     → Type 0
 Begins read call before after result Blocked =
     (after.asked ≡ before.asked ++ call ∷ []) × (after.taken ≡ before.taken) × (after.pending ≡ true)

@@ -68,7 +68,9 @@ impl<'a, E: Endpoint, R: Wait> Caller<'a, E, R> {
         work: F,
     ) -> Result<T, X>
         requires { F.IsAlwaysCallable work }
-        ensures { MatchResult result (λ _. ⊤) (λ _. (e : _) × ShutsDown (λ e. E.history e) E.came e (E.history self.new.endpoint) (E.seen self.new.endpoint)) }
+        ensures { MatchResult result (λ _. ⊤)
+            (λ _. (e : _) × ShutsDown (λ e. E.history e) E.came e (E.history self.new.endpoint)
+            (E.seen self.new.endpoint)) }
     {
         let done = work(self);
         self.or_shutdown(done)
@@ -78,7 +80,11 @@ impl<'a, E: Endpoint, R: Wait> Caller<'a, E, R> {
     /// the result of the work. An error of the shutdown is dropped.
     pub fn or_shutdown<T, F>(&mut self, work: Result<T, F>) -> Result<T, F>
         ensures same { result ≡ work }
-        ensures made { MatchResult work (λ _. (E.history self.new.endpoint ≡ E.history self.old.endpoint) × (E.seen self.new.endpoint ≡ E.seen self.old.endpoint)) (λ _. ShutsDown (λ e. E.history e) E.came self.old.endpoint (E.history self.new.endpoint) (E.seen self.new.endpoint)) }
+        ensures made { MatchResult work
+            (λ _. (E.history self.new.endpoint ≡ E.history self.old.endpoint)
+            × (E.seen self.new.endpoint ≡ E.seen self.old.endpoint))
+            (λ _. ShutsDown (λ e. E.history e) E.came self.old.endpoint (E.history self.new.endpoint)
+            (E.seen self.new.endpoint)) }
     {
         if work.is_err() {
             let _ = self.make(Call::Shutdown);
@@ -108,8 +114,10 @@ impl<'a, E: Endpoint, R: Wait> Caller<'a, E, R> {
 
     /// Makes a call, and waits for its completion.
     pub(crate) fn make(&mut self, call: Call) -> Result<Completed, CallError>
-        ensures makes { Makes completed_in call (E.history self.old.endpoint) (E.history self.new.endpoint) result }
-        ensures came { ComesOf (λ e. E.history e) E.came self.old.endpoint call (E.seen self.new.endpoint) (E.history self.new.endpoint) }
+        ensures makes { Makes completed_in call (E.history self.old.endpoint)
+            (E.history self.new.endpoint) result }
+        ensures came { ComesOf (λ e. E.history e) E.came self.old.endpoint call (E.seen self.new.endpoint)
+            (E.history self.new.endpoint) }
     {
         let called = self.endpoint.call(self.rt, call);
         self.completed_of(called)
@@ -118,8 +126,11 @@ impl<'a, E: Endpoint, R: Wait> Caller<'a, E, R> {
     /// Makes two calls in turn, and waits for the completion of the second. The second is made only if the
     /// first succeeded; otherwise the first's error is returned.
     pub(crate) fn make_both(&mut self, first: Call, second: Call) -> Result<Completed, CallError>
-        ensures makes { MakesBoth completed_in first second (E.history self.old.endpoint) (E.history self.new.endpoint) result }
-        ensures came { ComesOfBoth (λ e. E.history e) (λ e. E.seen e) E.came E.came_both self.old.endpoint first second (E.seen self.new.endpoint) (E.history self.new.endpoint) }
+        ensures makes { MakesBoth completed_in first second (E.history self.old.endpoint)
+            (E.history self.new.endpoint) result }
+        ensures came { ComesOfBoth (λ e. E.history e)
+            (λ e. E.seen e) E.came E.came_both self.old.endpoint first second (E.seen self.new.endpoint)
+            (E.history self.new.endpoint) }
     {
         match self.endpoint.call_both(self.rt, first, second) {
             CalledPair::Both(_, called) => self.completed_of(called),
@@ -132,7 +143,10 @@ impl<'a, E: Endpoint, R: Wait> Caller<'a, E, R> {
 }
 
 impl<'a, E: Endpoint, R: Wait> Calls for Caller<'a, E, R> {
-    ghost made = { λ before call after completed. Makes completed_in call (E.history before.endpoint) (E.history after.endpoint) completed × ComesOf (λ e. E.history e) E.came before.endpoint call (E.seen after.endpoint) (E.history after.endpoint) };
+    ghost made = { λ before call after completed. (
+        Makes completed_in call (E.history before.endpoint) (E.history after.endpoint) completed
+        × ComesOf (λ e. E.history e) E.came before.endpoint call (E.seen after.endpoint)
+        (E.history after.endpoint)) };
 
     fn alloc(&self) -> Global {
         self.alloc

@@ -3,7 +3,8 @@
 ghost use Rattle.std.specs.Prelude.{◌≡◌, replicate, Result};
 ghost use Rattle.qmodel.specs.declared.call.Call.{Call as Asking};
 ghost use Rattle.balsaeuchre_calls.specs.Making.{Reads, ReadsOfBytes};
-ghost use Rattle.balsaeuchre_calls.specs.Results.{bytes_in, channel_in, connection_in, count_in, done_in, info_in, state_in};
+ghost use Rattle.balsaeuchre_calls.specs.Results.{bytes_in, channel_in, connection_in, count_in, done_in};
+ghost use Rattle.balsaeuchre_calls.specs.Results.{info_in, state_in};
 ghost use Rattle.balsaeuchre_calls.specs.declared.completed.Completed.{Completed as Came};
 ghost use Rattle.balsaeuchre_calls.specs.declared.error.CallError.{CallError as Failed};
 
@@ -76,7 +77,8 @@ pub trait Calls {
     /// Replies to a held message with a status and bytes (`MsgReply`). Refused with `Srch` if the message
     /// isn't held, or its channel is another process's.
     fn msg_reply(&mut self, rcvid: ReceiveId, status: i64, bytes: &[u8]) -> Result<(), CallError>
-        ensures { ReadsOfBytes done_in (made self.old (Call.Reply rcvid status bytes.now) self.new) self.old self.new result }
+        ensures { ReadsOfBytes done_in (made self.old (Call.Reply rcvid status bytes.now) self.new) self.old
+            self.new result }
     {
         let reply = with_bytes::reply(self.spare(), rcvid, status, bytes)?;
         self.complete(reply)?.done()
@@ -93,7 +95,8 @@ pub trait Calls {
     /// Reads at most `len` bytes of a held message, starting at the offset (`MsgRead`). Refused like
     /// `msg_reply`.
     fn msg_read(&mut self, rcvid: ReceiveId, offset: usize, len: usize) -> Result<Bytes, CallError>
-        ensures { ReadsOfBytes bytes_in (made self.old (Call.Read rcvid offset (replicate len 0)) self.new) self.old self.new result }
+        ensures { ReadsOfBytes bytes_in (made self.old (Call.Read rcvid offset (replicate len 0)) self.new)
+            self.old self.new result }
     {
         let read = with_bytes::read(self.alloc(), rcvid, offset, len)?;
         self.complete(read)?.bytes()
@@ -107,7 +110,8 @@ pub trait Calls {
         offset: usize,
         bytes: &[u8],
     ) -> Result<usize, CallError>
-        ensures { ReadsOfBytes count_in (made self.old (Call.Write rcvid offset bytes.now) self.new) self.old self.new result }
+        ensures { ReadsOfBytes count_in (made self.old (Call.Write rcvid offset bytes.now) self.new) self.old
+            self.new result }
     {
         let write = with_bytes::write(self.spare(), rcvid, offset, bytes)?;
         self.complete(write)?.count()

@@ -1,10 +1,11 @@
 //! The completion of a call, and the results that are read from it.
 
 ghost use Rattle.std.specs.Prelude.{◌≡◌};
-ghost use Rattle.balsaeuchre_calls.specs.Results.{answer_in, bytes_in, channel_in, connection_in, count_in, done_in, info_in, pulse_in, received_in, state_in};
+ghost use Rattle.balsaeuchre_calls.specs.Results.{answer_in, bytes_in, channel_in, connection_in, count_in};
+ghost use Rattle.balsaeuchre_calls.specs.Results.{done_in, info_in, pulse_in, received_in, state_in};
 
 use crate::error::{CallError, error_in};
-use crate::results::{Reply, Pulse, Received, Request, ThreadStatus};
+use crate::results::{Pulse, Received, Reply, Request, ThreadStatus};
 use qbase::bytes::Bytes;
 use qbase::ids::{ChannelId, ConnectionId};
 use qmodel::call::{Info, Mark};

@@ -17,8 +17,8 @@ use qbase::errno::Errno;
 use qbase::ids::ThreadNo;
 use qmodel::call::{Call, Completion};
 use qshared::log::Log;
-use qshared::port::{Called, CalledPair, Port};
 use qshared::observed_prefix::ObservedPrefix;
+use qshared::port::{Called, CalledPair, Port};
 use qshared::shared::Shared;
 use qshared::tie::Tie;
 use std::sync::Wait;
@@ -56,7 +56,8 @@ pub trait Endpoint {
     /// Makes a call. It may wait while other threads are in the kernel, but not for the completion of a
     /// blocked call.
     fn call<R: Wait>(&mut self, rt: &R, call: Call) -> Called
-        ensures asked { (history self.new).asked ≡ (history self.old).asked ++ (if is_call result then call ∷ [] else []) }
+        ensures asked { (history self.new).asked ≡ (history self.old).asked
+            ++ (if is_call result then call ∷ [] else []) }
         ensures taken { (history self.new).taken ≡ (history self.old).taken ++ gives result }
         ensures pending { (history self.new).pending ≡ pends result (history self.old).pending }
         ensures told { (history self.new).told ≡ told_by result }
@@ -81,16 +82,20 @@ pub trait Endpoint {
 
     /// Collects the completion of the blocked call if it has arrived. It never waits.
     fn poll(&mut self) -> Option<Completion>
-        ensures taken { MatchOption result ((history self.new).taken ≡ (history self.old).taken) (λ x. (history self.new).taken ≡ (history self.old).taken ++ x ∷ []) }
-        ensures pending { MatchOption result ((history self.new).pending ≡ (history self.old).pending) (λ x. (history self.new).pending ≡ false) }
-        ensures same { ((history self.new).asked ≡ (history self.old).asked) × ((history self.new).told ≡ (history self.old).told) × (seen self.new ≡ seen self.old) };
+        ensures taken { MatchOption result ((history self.new).taken ≡ (history self.old).taken)
+            (λ x. (history self.new).taken ≡ (history self.old).taken ++ x ∷ []) }
+        ensures pending { MatchOption result ((history self.new).pending ≡ (history self.old).pending)
+            (λ x. (history self.new).pending ≡ false) }
+        ensures same { ((history self.new).asked ≡ (history self.old).asked)
+            × ((history self.new).told ≡ (history self.old).told) × (seen self.new ≡ seen self.old) };
 
     /// Waits for the completion of the blocked call, and collects it.
     fn wait<R: Wait>(&mut self, rt: &R) -> Completion
         requires { (history self.old).pending ≡ true }
         ensures taken { (history self.new).taken ≡ (history self.old).taken ++ result ∷ [] }
         ensures pending { (history self.new).pending ≡ false }
-        ensures same { ((history self.new).asked ≡ (history self.old).asked) × ((history self.new).told ≡ (history self.old).told) × (seen self.new ≡ seen self.old) };
+        ensures same { ((history self.new).asked ≡ (history self.old).asked)
+            × ((history self.new).told ≡ (history self.old).told) × (seen self.new ≡ seen self.old) };
 }
 
 /// The endpoint of a port: the port with its shared kernel.
@@ -134,7 +139,10 @@ impl<'a, K: Tie, L: Log> KernelPort<'a, K, L> {
     pub(crate) fn learn(&mut self, other: &ObservedPrefix<K>)
         ensures own { Extends self.new.port.seen.trace self.old.port.seen.trace }
         ensures others { Extends self.new.port.seen.trace other.entry.now }
-        ensures same { (self.new.port.thread ≡ self.old.port.thread) × (self.new.port.asked ≡ self.old.port.asked) × (self.new.port.seat ≡ self.old.port.seat) × (self.new.port.turn.pending ≡ self.old.port.turn.pending) × (self.new.port.last ≡ self.old.port.last) × (self.new.told ≡ self.old.told) }
+        ensures same { (self.new.port.thread ≡ self.old.port.thread)
+            × (self.new.port.asked ≡ self.old.port.asked) × (self.new.port.seat ≡ self.old.port.seat)
+            × (self.new.port.turn.pending ≡ self.old.port.turn.pending)
+            × (self.new.port.last ≡ self.old.port.last) × (self.new.told ≡ self.old.told) }
     {
         self.port.learn(other);
     }
@@ -163,13 +171,22 @@ impl<'a, K: Tie, L: Log> Endpoint for KernelPort<'a, K, L> {
     ghost use Rattle.qshared.specs.Due.{collected};
     ghost use Rattle.qshared.specs.TwoCalls.{AnsweredBoth};
 
-    ghost history = { λ p. record { asked = p.port.asked.calls; taken = collected p.port.last.trace p.port.thread (taken p.port.seat); pending = p.port.turn.pending; told = p.told } };
+    ghost history = { λ p. record {
+      asked = p.port.asked.calls;
+      taken = collected p.port.last.trace p.port.thread (taken p.port.seat);
+      pending = p.port.turn.pending;
+      told = p.told;
+    } };
 
     ghost seen = { λ p. p.port.seen.trace };
 
-    ghost came = { λ p c a after. AtPast K.names.roster p.port.thread p.port.asked.calls p.port.seen.trace (λ past. Answered K.names.roster L.refuses L.admits p.port.thread c a past after) };
+    ghost came = { λ p c a after. (
+        AtPast K.names.roster p.port.thread p.port.asked.calls p.port.seen.trace
+        (λ past. Answered K.names.roster L.refuses L.admits p.port.thread c a past after)) };
 
-    ghost came_both = { λ p c d a after. AtPast K.names.roster p.port.thread p.port.asked.calls p.port.seen.trace (λ past. AnsweredBoth K.names.roster L.refuses L.admits p.port.thread c d a past after) };
+    ghost came_both = { λ p c d a after. (
+        AtPast K.names.roster p.port.thread p.port.asked.calls p.port.seen.trace
+        (λ past. AnsweredBoth K.names.roster L.refuses L.admits p.port.thread c d a past after)) };
 
     fn thread(&self) -> ThreadNo {
         self.port.thread()

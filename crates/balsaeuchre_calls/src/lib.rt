@@ -10,12 +10,12 @@ pub mod endpoint;
 pub mod error;
 mod messages;
 pub mod opening;
+mod reply_memory;
 pub mod results;
 pub mod simulator;
-mod reply_memory;
 mod timekeeper;
-mod with_bytes;
 mod timeouts;
+mod with_bytes;
 
 /// The result of a call, or its error.
 pub type Result<T> = std::result::Result<T, error::CallError>;

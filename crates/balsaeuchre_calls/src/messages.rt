@@ -11,7 +11,7 @@ use crate::calls::Calls;
 use crate::completed::Completed;
 use crate::endpoint::Endpoint;
 use crate::error::{CallError, refusal};
-use crate::results::{Reply, Pulse, Received};
+use crate::results::{Pulse, Received, Reply};
 use crate::with_bytes;
 use qbase::ids::{ChannelId, ConnectionId, ReceiveId};
 use qmodel::call::{Call, Completion};
@@ -28,8 +28,11 @@ impl<'a, E: Endpoint, R: Wait> Caller<'a, E, R> {
         message: &[u8],
         reply_len: usize,
     ) -> Result<Reply, CallError>
-        ensures makes { MakesOfBytes answer_in (Call.Send coid message.now (replicate reply_len 0)) (E.history self.old.endpoint) (E.history self.new.endpoint) result }
-        ensures came { ComesOfBytes (λ e. E.history e) E.came self.old.endpoint (Call.Send coid message.now (replicate reply_len 0)) (E.seen self.old.endpoint) (E.seen self.new.endpoint) (E.history self.new.endpoint) result }
+        ensures makes { MakesOfBytes answer_in (Call.Send coid message.now (replicate reply_len 0))
+            (E.history self.old.endpoint) (E.history self.new.endpoint) result }
+        ensures came { ComesOfBytes (λ e. E.history e) E.came self.old.endpoint
+            (Call.Send coid message.now (replicate reply_len 0)) (E.seen self.old.endpoint)
+            (E.seen self.new.endpoint) (E.history self.new.endpoint) result }
     {
         let send = with_bytes::send(self.alloc, coid, message, reply_len)?;
         self.make(send)?.answer()
@@ -38,8 +41,11 @@ impl<'a, E: Endpoint, R: Wait> Caller<'a, E, R> {
     /// Receives a message, into a buffer of `len` bytes, or a pulse from a channel, and waits if there is
     /// none (`MsgReceive`). Refused with `Srch` if the channel isn't open or is another process's.
     pub fn msg_receive(&mut self, chid: ChannelId, len: usize) -> Result<Received, CallError>
-        ensures makes { MakesOfBytes received_in (Call.Receive chid (replicate len 0)) (E.history self.old.endpoint) (E.history self.new.endpoint) result }
-        ensures came { ComesOfBytes (λ e. E.history e) E.came self.old.endpoint (Call.Receive chid (replicate len 0)) (E.seen self.old.endpoint) (E.seen self.new.endpoint) (E.history self.new.endpoint) result }
+        ensures makes { MakesOfBytes received_in (Call.Receive chid (replicate len 0))
+            (E.history self.old.endpoint) (E.history self.new.endpoint) result }
+        ensures came { ComesOfBytes (λ e. E.history e) E.came self.old.endpoint
+            (Call.Receive chid (replicate len 0)) (E.seen self.old.endpoint) (E.seen self.new.endpoint)
+            (E.history self.new.endpoint) result }
     {
         let receive = with_bytes::receive(self.alloc, chid, len)?;
         self.make(receive)?.received()
@@ -48,8 +54,10 @@ impl<'a, E: Endpoint, R: Wait> Caller<'a, E, R> {
     /// Receives a pulse from a channel, and waits if there is none; messages stay queued (`MsgReceivePulse`).
     /// Refused with `Srch` if the channel isn't open or is another process's.
     pub fn msg_receive_pulse(&mut self, chid: ChannelId) -> Result<Pulse, CallError>
-        ensures makes { Makes pulse_in (Call.ReceivePulse chid) (E.history self.old.endpoint) (E.history self.new.endpoint) result }
-        ensures came { ComesOf (λ e. E.history e) E.came self.old.endpoint (Call.ReceivePulse chid) (E.seen self.new.endpoint) (E.history self.new.endpoint) }
+        ensures makes { Makes pulse_in (Call.ReceivePulse chid) (E.history self.old.endpoint)
+            (E.history self.new.endpoint) result }
+        ensures came { ComesOf (λ e. E.history e) E.came self.old.endpoint (Call.ReceivePulse chid)
+            (E.seen self.new.endpoint) (E.history self.new.endpoint) }
     {
         self.make(Call::ReceivePulse(chid))?.pulse()
     }
@@ -66,8 +74,13 @@ impl<'a, E: Endpoint, R: Wait> Caller<'a, E, R> {
         chid: ChannelId,
         len: usize,
     ) -> Result<Received, CallError>
-        ensures makes { MakesBothOfBytes received_in (Call.Reply rcvid status bytes.now) (Call.Receive chid (replicate len 0)) (E.history self.old.endpoint) (E.history self.new.endpoint) result }
-        ensures came { ComesOfBothBytes (λ e. E.history e) (λ e. E.seen e) E.came E.came_both self.old.endpoint (Call.Reply rcvid status bytes.now) (Call.Receive chid (replicate len 0)) (E.seen self.new.endpoint) (E.history self.new.endpoint) result }
+        ensures makes { MakesBothOfBytes received_in (Call.Reply rcvid status bytes.now)
+            (Call.Receive chid (replicate len 0)) (E.history self.old.endpoint)
+            (E.history self.new.endpoint) result }
+        ensures came { ComesOfBothBytes (λ e. E.history e)
+            (λ e. E.seen e) E.came E.came_both self.old.endpoint (Call.Reply rcvid status bytes.now)
+            (Call.Receive chid (replicate len 0)) (E.seen self.new.endpoint)
+            (E.history self.new.endpoint) result }
     {
         let reply = with_bytes::reply(self.spare(), rcvid, status, bytes)?;
         let receive = with_bytes::receive(self.alloc, chid, len)?;
@@ -82,8 +95,11 @@ impl<'a, E: Endpoint, R: Wait> Caller<'a, E, R> {
         chid: ChannelId,
         len: usize,
     ) -> Result<Option<Received>, CallError>
-        ensures starts { StartsOfBytes received_in (Call.Receive chid (replicate len 0)) (E.history self.old.endpoint) (E.history self.new.endpoint) result }
-        ensures came { ComesOfBytes (λ e. E.history e) E.came self.old.endpoint (Call.Receive chid (replicate len 0)) (E.seen self.old.endpoint) (E.seen self.new.endpoint) (E.history self.new.endpoint) result }
+        ensures starts { StartsOfBytes received_in (Call.Receive chid (replicate len 0))
+            (E.history self.old.endpoint) (E.history self.new.endpoint) result }
+        ensures came { ComesOfBytes (λ e. E.history e) E.came self.old.endpoint
+            (Call.Receive chid (replicate len 0)) (E.seen self.old.endpoint) (E.seen self.new.endpoint)
+            (E.history self.new.endpoint) result }
     {
         let receive = with_bytes::receive(self.alloc, chid, len)?;
         match self.endpoint.call(self.rt, receive) {

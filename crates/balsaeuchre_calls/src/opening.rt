@@ -16,10 +16,10 @@ use crate::caller::Caller;
 use crate::endpoint::KernelPort;
 use crate::error::CallError;
 use qkernel::trace::Trace;
-use qshared::recorded_history::RecordedHistory;
 use qshared::log::Log;
-use qshared::port::Port;
 use qshared::observed_prefix::ObservedPrefix;
+use qshared::port::Port;
+use qshared::recorded_history::RecordedHistory;
 use qshared::shared::Shared;
 use qshared::tie::Tie;
 use std::alloc::Global;
@@ -61,7 +61,12 @@ impl<'a, 'p, K: Tie, L: Log, R: Wait> Caller<'a, KernelPort<'p, K, L>, R> {
     pub fn learn(&mut self, other: &ObservedPrefix<K>)
         ensures own { Extends self.new.endpoint.port.seen.trace self.old.endpoint.port.seen.trace }
         ensures others { Extends self.new.endpoint.port.seen.trace other.entry.now }
-        ensures same { (self.new.endpoint.port.thread ≡ self.old.endpoint.port.thread) × (self.new.endpoint.port.asked ≡ self.old.endpoint.port.asked) × (self.new.endpoint.port.seat ≡ self.old.endpoint.port.seat) × (self.new.endpoint.port.turn.pending ≡ self.old.endpoint.port.turn.pending) × (self.new.endpoint.port.last ≡ self.old.endpoint.port.last) × (self.new.endpoint.told ≡ self.old.endpoint.told) }
+        ensures same { (self.new.endpoint.port.thread ≡ self.old.endpoint.port.thread)
+            × (self.new.endpoint.port.asked ≡ self.old.endpoint.port.asked)
+            × (self.new.endpoint.port.seat ≡ self.old.endpoint.port.seat)
+            × (self.new.endpoint.port.turn.pending ≡ self.old.endpoint.port.turn.pending)
+            × (self.new.endpoint.port.last ≡ self.old.endpoint.port.last)
+            × (self.new.endpoint.told ≡ self.old.endpoint.told) }
     {
         self.endpoint.learn(other);
     }
@@ -107,14 +112,24 @@ pub fn callers<'a, 'p, K: Tie, L: Log, R: Wait>(
 
 /// Closes a kernel that keeps its history, and returns the history. `Unexpected` if these aren't all its
 /// ports, by rising thread number.
-pub fn close<K: Tie>(shared: Shared<K, RecordedHistory<K>>, ports: Vec<Port<K>>) -> Result<Trace, CallError>
+pub fn close<K: Tie>(
+    shared: Shared<K, RecordedHistory<K>>,
+    ports: Vec<Port<K>>,
+) -> Result<Trace, CallError>
     ensures past { IfOk result (λ trace. IsPast K.names.roster trace) }
     ensures within { IfOk result (λ trace. length trace.events ≤ K.names.limit) }
     ensures sum { IfOk result (λ trace. sum (map (λ p. p.calls) ports.items) ≡ length trace.events) }
-    ensures asked { IfOk result (λ trace. AreCallsOf K.names.roster (map (λ p. p.asked.calls) ports.items) (followed_by [] trace.events)) }
-    ensures seen { IfOk result (λ trace. AreSeen (followed_by [] trace.events) (map (λ p. p.seen.trace) ports.items)) }
-    ensures due { IfOk result (λ trace. IsDue K.names.roster (map (λ p. collected p.last.trace p.thread (taken p.seat)) ports.items) (followed_by [] trace.events)) }
-    ensures error { IfErr result (λ e. (e ≡ error.Unexpected) × ¬ (AreAll (λ p. thread_of p.seat) K.names.cells.slots ports.items)) }
+    ensures asked { IfOk result
+        (λ trace. AreCallsOf K.names.roster (map (λ p. p.asked.calls) ports.items)
+        (followed_by [] trace.events)) }
+    ensures seen { IfOk result
+        (λ trace. AreSeen (followed_by [] trace.events) (map (λ p. p.seen.trace) ports.items)) }
+    ensures due { IfOk result
+        (λ trace. IsDue K.names.roster
+        (map (λ p. collected p.last.trace p.thread (taken p.seat)) ports.items)
+        (followed_by [] trace.events)) }
+    ensures error { IfErr result
+        (λ e. (e ≡ error.Unexpected) × ¬ (AreAll (λ p. thread_of p.seat) K.names.cells.slots ports.items)) }
 {
     if !shared.all(ports.as_slice()) {
         return Err(CallError::Unexpected);

@@ -17,8 +17,8 @@ use kept::{append, take_of, take_oldest, take_own};
 use qbase::errno::Errno;
 use qbase::ids::ThreadNo;
 use qkernel::kernel::{CALL_LIMIT, Kernel};
-use qmodel::call::{Call, Completion};
 use qkernel_state::completions::Completions;
+use qmodel::call::{Call, Completion};
 use qtables::roster::{Roster, THREAD_LIMIT};
 use std::alloc::Global;
 use std::marker::Model;
@@ -73,7 +73,9 @@ fn done<T>(came: Result<T, CallError>) -> Result<Outcome<T>, CallError>
 }
 
 impl Simulator {
-    ghost use Rattle.balsaeuchre_calls.specs.Simulating.{Simulates, at_once, unless_blocked, unmade, completed_of, without, completed_after_wait, oldest, later};
+    ghost use Rattle.balsaeuchre_calls.specs.Simulating.{Simulates, at_once, unless_blocked, unmade};
+    ghost use Rattle.balsaeuchre_calls.specs.Simulating.{completed_of, without, completed_after_wait, oldest};
+    ghost use Rattle.balsaeuchre_calls.specs.Simulating.{later};
 
     /// Makes a simulator of a kernel without channels, in which all threads of the roster are ready. It
     /// allocates the kernel and room for completions; `NoMemory` is the only error.
@@ -131,8 +133,8 @@ impl Simulator {
     }
 
     /// Takes the completion of a thread's blocked call. It is `None` if the call hasn't completed or its
-    /// completion was taken. `Completed::answer` reads the result of a `msg_send` from it, `received` the result
-    /// of a `msg_receive`, and `pulse` the result of a `msg_receive_pulse`.
+    /// completion was taken. `Completed::answer` reads the result of a `msg_send` from it, `received` the
+    /// result of a `msg_receive`, and `pulse` the result of a `msg_receive_pulse`.
     pub fn take(&mut self, thread: ThreadNo) -> Option<Completed>
         ensures completed { result ≡ option_map completed_after_wait (completed_of thread self.old.kept) }
         ensures rest { self.new ≡ record self.old { kept = without thread self.old.kept } }

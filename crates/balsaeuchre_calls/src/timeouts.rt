@@ -10,7 +10,7 @@ use crate::alarms::Alarms;
 use crate::caller::Caller;
 use crate::endpoint::Endpoint;
 use crate::error::CallError;
-use crate::results::{Reply, Pulse, Received};
+use crate::results::{Pulse, Received, Reply};
 use qbase::errno::Errno;
 use qbase::ids::{ChannelId, ConnectionId};
 use std::sync::Wait;
@@ -29,8 +29,11 @@ impl<'a, E: Endpoint, R: Wait + Clock> Caller<'a, E, R> {
         reply_len: usize,
         time: Duration,
     ) -> Result<Reply, CallError>
-        ensures makes { MakesWithin answer_in (Call.Send coid message.now (replicate reply_len 0)) (E.history self.old.endpoint) (E.history self.new.endpoint) result }
-        ensures came { ComesWithin (λ e. E.history e) E.came self.old.endpoint (Call.Send coid message.now (replicate reply_len 0)) (E.seen self.old.endpoint) (E.seen self.new.endpoint) (E.history self.new.endpoint) result }
+        ensures makes { MakesWithin answer_in (Call.Send coid message.now (replicate reply_len 0))
+            (E.history self.old.endpoint) (E.history self.new.endpoint) result }
+        ensures came { ComesWithin (λ e. E.history e) E.came self.old.endpoint
+            (Call.Send coid message.now (replicate reply_len 0)) (E.seen self.old.endpoint)
+            (E.seen self.new.endpoint) (E.history self.new.endpoint) result }
     {
         alarms.set(self.rt, self.thread(), time)?;
         let answer = self.msg_send(coid, message, reply_len);
@@ -46,8 +49,11 @@ impl<'a, E: Endpoint, R: Wait + Clock> Caller<'a, E, R> {
         len: usize,
         time: Duration,
     ) -> Result<Received, CallError>
-        ensures makes { MakesWithin received_in (Call.Receive chid (replicate len 0)) (E.history self.old.endpoint) (E.history self.new.endpoint) result }
-        ensures came { ComesWithin (λ e. E.history e) E.came self.old.endpoint (Call.Receive chid (replicate len 0)) (E.seen self.old.endpoint) (E.seen self.new.endpoint) (E.history self.new.endpoint) result }
+        ensures makes { MakesWithin received_in (Call.Receive chid (replicate len 0))
+            (E.history self.old.endpoint) (E.history self.new.endpoint) result }
+        ensures came { ComesWithin (λ e. E.history e) E.came self.old.endpoint
+            (Call.Receive chid (replicate len 0)) (E.seen self.old.endpoint) (E.seen self.new.endpoint)
+            (E.history self.new.endpoint) result }
     {
         alarms.set(self.rt, self.thread(), time)?;
         let received = self.msg_receive(chid, len);
@@ -62,8 +68,10 @@ impl<'a, E: Endpoint, R: Wait + Clock> Caller<'a, E, R> {
         chid: ChannelId,
         time: Duration,
     ) -> Result<Pulse, CallError>
-        ensures makes { MakesWithin pulse_in (Call.ReceivePulse chid) (E.history self.old.endpoint) (E.history self.new.endpoint) result }
-        ensures came { ComesWithin (λ e. E.history e) E.came self.old.endpoint (Call.ReceivePulse chid) (E.seen self.old.endpoint) (E.seen self.new.endpoint) (E.history self.new.endpoint) result }
+        ensures makes { MakesWithin pulse_in (Call.ReceivePulse chid) (E.history self.old.endpoint)
+            (E.history self.new.endpoint) result }
+        ensures came { ComesWithin (λ e. E.history e) E.came self.old.endpoint (Call.ReceivePulse chid)
+            (E.seen self.old.endpoint) (E.seen self.new.endpoint) (E.history self.new.endpoint) result }
     {
         alarms.set(self.rt, self.thread(), time)?;
         let pulse = self.msg_receive_pulse(chid);

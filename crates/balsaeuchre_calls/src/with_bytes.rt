@@ -16,7 +16,8 @@ pub(crate) fn send(
     message: &[u8],
     reply_len: usize,
 ) -> Result<Call, CallError>
-    ensures { MatchResult result (λ call. call ≡ Call.Send coid message.now (replicate reply_len 0)) (λ e. e ≡ error.NoMemory) }
+    ensures { MatchResult result (λ call. call ≡ Call.Send coid message.now (replicate reply_len 0))
+        (λ e. e ≡ error.NoMemory) }
 {
     Ok(Call::Send {
         coid,
@@ -27,7 +28,8 @@ pub(crate) fn send(
 
 /// Returns a `Receive` into a buffer of `len` bytes.
 pub(crate) fn receive(alloc: Global, chid: ChannelId, len: usize) -> Result<Call, CallError>
-    ensures { MatchResult result (λ call. call ≡ Call.Receive chid (replicate len 0)) (λ e. e ≡ error.NoMemory) }
+    ensures { MatchResult result (λ call. call ≡ Call.Receive chid (replicate len 0))
+        (λ e. e ≡ error.NoMemory) }
 {
     let buffer = Bytes::filled(alloc, 0, len)?;
     Ok(Call::Receive { chid, buffer })
@@ -50,7 +52,8 @@ pub(crate) fn reply(
     status: i64,
     bytes: &[u8],
 ) -> Result<Call, CallError>
-    ensures { MatchResult result (λ call. call ≡ Call.Reply rcvid status bytes.now) (λ e. e ≡ error.NoMemory) }
+    ensures { MatchResult result (λ call. call ≡ Call.Reply rcvid status bytes.now)
+        (λ e. e ≡ error.NoMemory) }
 {
     let bytes = copied(others, bytes)?;
     Ok(Call::Reply {
@@ -67,7 +70,8 @@ pub(crate) fn read(
     offset: usize,
     len: usize,
 ) -> Result<Call, CallError>
-    ensures { MatchResult result (λ call. call ≡ Call.Read rcvid offset (replicate len 0)) (λ e. e ≡ error.NoMemory) }
+    ensures { MatchResult result (λ call. call ≡ Call.Read rcvid offset (replicate len 0))
+        (λ e. e ≡ error.NoMemory) }
 {
     let buffer = Bytes::filled(alloc, 0, len)?;
     Ok(Call::Read {
@@ -85,7 +89,8 @@ pub(crate) fn write(
     offset: usize,
     bytes: &[u8],
 ) -> Result<Call, CallError>
-    ensures { MatchResult result (λ call. call ≡ Call.Write rcvid offset bytes.now) (λ e. e ≡ error.NoMemory) }
+    ensures { MatchResult result (λ call. call ≡ Call.Write rcvid offset bytes.now)
+        (λ e. e ≡ error.NoMemory) }
 {
     let bytes = copied(others, bytes)?;
     Ok(Call::Write {

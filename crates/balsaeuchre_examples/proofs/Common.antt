@@ -7,4 +7,5 @@ pub use Rattle.balsaeuchre_examples.specs.ThreeThreads.{roster}
 pub use Rattle.balsaeuchre_examples.specs.Timeout.{cut_events, told_events}
 pub use Rattle.qtables.specs.declared.member.Member.{Member}
 pub use Rattle.qrules_worked.specs.Runs.{flags_of}
-pub use Rattle.std.proofs.Common.{List, [], ap, arith, inl, inr, length, map, refl, subst, sym, true, ℕ, ◌++◌, ◌+◌, ◌∙◌, ◌∷◌, ◌≡◌}
+pub use Rattle.std.proofs.Common.{List, [], ap, arith, inl, inr, length, map, refl, subst, sym, true, ℕ, ◌++◌, ◌+◌, ◌∙◌}
+pub use Rattle.std.proofs.Common.{◌∷◌, ◌≡◌}

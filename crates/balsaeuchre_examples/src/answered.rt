@@ -14,10 +14,10 @@ ghost use Rattle.balsaeuchre_examples.specs.Answered.{is_sent, ToldAfterAnswer};
 use crate::three_callers::three_callers;
 use crate::two_threads::serve;
 use balsaeuchre::calls::{
-    Reply, CallError, Calls, Endpoint, KernelPort, PortCaller, Result, ThreadStatus,
+    CallError, Calls, Endpoint, KernelPort, PortCaller, Reply, Result, ThreadStatus,
 };
 use balsaeuchre::history_laws::in_real_time;
-use balsaeuchre::shared::{RecordedHistory, Log, Parts, ObservedPrefix, Shared, Tie};
+use balsaeuchre::shared::{Log, ObservedPrefix, Parts, RecordedHistory, Shared, Tie};
 use balsaeuchre::{ChannelFlags, ChannelId, ConnectionId, Priority, ProcessNo, Roster, ThreadNo};
 use crossbeam_channel::{Receiver, Sender, bounded};
 use std::alloc::Global;
@@ -40,8 +40,13 @@ fn ask<'a, 'p, K: Tie, L: Log, R: Wait>(
     coid: ConnectionId,
     message: &[u8],
 ) -> Result<Note<K>>
-    ensures answered { IfOk result (λ note. MakesOfBytes answer_in (calls.Send coid message.now (replicate 8 0)) (⟦<KernelPort<'p, K, L> as Endpoint>⟧.history client.old.endpoint) (⟦<KernelPort<'p, K, L> as Endpoint>⟧.history client.new.endpoint) (Ok note.answer)) }
-    ensures sent { IfOk result (λ note. option_map event_call (slice_get note.seen 0) ≡ Some (client.old.endpoint.port.thread, calls.Send coid message.now (replicate 8 0))) }
+    ensures answered { IfOk result
+        (λ note. MakesOfBytes answer_in (calls.Send coid message.now (replicate 8 0))
+        (⟦<KernelPort<'p, K, L> as Endpoint>⟧.history client.old.endpoint)
+        (⟦<KernelPort<'p, K, L> as Endpoint>⟧.history client.new.endpoint) (Ok note.answer)) }
+    ensures sent { IfOk result
+        (λ note. option_map event_call (slice_get note.seen 0)
+        ≡ Some (client.old.endpoint.port.thread, calls.Send coid message.now (replicate 8 0))) }
 {
     let answer = client.msg_send(coid, message, 8)?;
     Ok(Note {
@@ -56,7 +61,12 @@ fn look<'a, 'p, K: Tie, L: Log, R: Wait>(
     note: &Note<K>,
     thread: ThreadNo,
 ) -> Result<ThreadStatus>
-    ensures { ComesOf (λ e. ⟦<KernelPort<'p, K, L> as Endpoint>⟧.history e) (λ e c a after. AtPast K.names.roster e.port.thread e.port.asked.calls e.port.seen.trace (ToldAfterAnswer note.now.seen (λ past. Answered K.names.roster L.refuses L.admits e.port.thread c a past after))) other.old.endpoint (calls.State thread) other.new.endpoint.port.seen.trace (⟦<KernelPort<'p, K, L> as Endpoint>⟧.history other.new.endpoint) }
+    ensures { ComesOf (λ e. ⟦<KernelPort<'p, K, L> as Endpoint>⟧.history e)
+        (λ e c a after. AtPast K.names.roster e.port.thread e.port.asked.calls e.port.seen.trace
+        (ToldAfterAnswer note.now.seen
+        (λ past. Answered K.names.roster L.refuses L.admits e.port.thread c a past after)))
+        other.old.endpoint (calls.State thread) other.new.endpoint.port.seen.trace
+        (⟦<KernelPort<'p, K, L> as Endpoint>⟧.history other.new.endpoint) }
 {
     other.learn(&note.seen);
     in_real_time();

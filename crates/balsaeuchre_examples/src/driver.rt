@@ -5,7 +5,7 @@ ghost use Rattle.balsaeuchre.specs.Naming.{AreParts};
 
 use crate::three_callers::three_callers;
 use balsaeuchre::calls::{CallError, Caller, Calls, Endpoint, Received, Result};
-use balsaeuchre::shared::{RecordedHistory, Parts, Shared, Tie};
+use balsaeuchre::shared::{Parts, RecordedHistory, Shared, Tie};
 use balsaeuchre::{ChannelFlags, ChannelId, Priority, ProcessNo, Roster, ThreadNo, What};
 use std::alloc::Global;
 use std::marker::Brand;

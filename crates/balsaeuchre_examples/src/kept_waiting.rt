@@ -1,7 +1,8 @@
 //! A server of one resource that keeps clients waiting. It holds the message of a client that asks while the
 //! resource is taken, and replies once the resource is given back. The client makes only one Send.
 
-ghost use Rattle.std.specs.Prelude.{◌≡◌, ◌++◌, [], ◌∷◌, true, false, IfOk, IfSome, IfNone, OnErr, Some, None, if◌then◌else◌};
+ghost use Rattle.std.specs.Prelude.{◌≡◌, ◌++◌, [], ◌∷◌, true, false, IfOk, IfSome, IfNone, OnErr, Some, None};
+ghost use Rattle.std.specs.Prelude.{if◌then◌else◌};
 
 use crate::reply::ClientReply;
 use balsaeuchre::calls::{CallError, Calls, Received};
@@ -45,9 +46,12 @@ impl Resource {
     /// Otherwise it keeps the message until the resource is given back.
     pub fn ask(&mut self, rcvid: ReceiveId) -> Result<Option<ReceiveId>, AllocError>
         ensures answer { IfOk result (λ next. next ≡ (if self.old.taken then None else Some rcvid)) }
-        ensures kept { IfOk result (λ next. self.new.waiting.items ≡ (if self.old.taken then self.old.waiting.items ++ rcvid ∷ [] else self.old.waiting.items)) }
+        ensures kept { IfOk result
+            (λ next. self.new.waiting.items
+            ≡ (if self.old.taken then self.old.waiting.items ++ rcvid ∷ [] else self.old.waiting.items)) }
         ensures taken { IfOk result (λ next. self.new.taken ≡ true) }
-        ensures err { OnErr result ((self.new.taken ≡ self.old.taken) × (self.new.waiting.items ≡ self.old.waiting.items)) }
+        ensures err { OnErr result
+            ((self.new.taken ≡ self.old.taken) × (self.new.waiting.items ≡ self.old.waiting.items)) }
     {
         if self.taken {
             self.waiting.push_back(rcvid)?;
@@ -60,8 +64,10 @@ impl Resource {
     /// Gives the resource back. Returns the message of the client that gets it next, to which the server has
     /// to reply now.
     pub fn give_back(&mut self) -> Option<ReceiveId>
-        ensures next { IfSome result (λ rcvid. (self.old.waiting.items ≡ rcvid ∷ self.new.waiting.items) × (self.new.taken ≡ true)) }
-        ensures free { IfNone result ((self.old.waiting.items ≡ []) × (self.new.waiting.items ≡ []) × (self.new.taken ≡ false)) }
+        ensures next { IfSome result (λ rcvid. (self.old.waiting.items ≡ rcvid ∷ self.new.waiting.items)
+            × (self.new.taken ≡ true)) }
+        ensures free { IfNone result
+            ((self.old.waiting.items ≡ []) × (self.new.waiting.items ≡ []) × (self.new.taken ≡ false)) }
     {
         let next = self.waiting.pop_front();
         self.taken = next.is_some();

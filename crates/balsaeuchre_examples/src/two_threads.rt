@@ -8,7 +8,7 @@ ghost use Rattle.balsaeuchre.specs.Naming.{AreParts};
 use balsaeuchre::calls::{
     CallError, Caller, Calls, Endpoint, Received, Result, close, two_callers,
 };
-use balsaeuchre::shared::{RecordedHistory, Parts, Shared, Tie};
+use balsaeuchre::shared::{Parts, RecordedHistory, Shared, Tie};
 use balsaeuchre::{ChannelFlags, ChannelId, Priority, ProcessNo, Roster, ThreadNo, Trace};
 use std::alloc::Global;
 use std::marker::Brand;

@@ -1,5 +1,6 @@
 -- Words of bits: one bit of one word changed, and the greatest bit of a word.
-use Rattle.std.proofs.Common.{◌≡◌, ◌≢◌, ℕ, suc, ◌+◌, ◌-◌, ◌*◌, ◌/◌, ◌%◌, ◌^◌, ◌<◌, ◌≤◌, List, length, get_or, ap, ◌∙◌, arith, inl, inr}
+use Rattle.std.proofs.Common.{◌≡◌, ◌≢◌, ℕ, suc, ◌+◌, ◌-◌, ◌*◌, ◌/◌, ◌%◌, ◌^◌, ◌<◌, ◌≤◌, List, length, get_or, ap, ◌∙◌}
+use Rattle.std.proofs.Common.{arith, inl, inr}
 use Rattle.std.proofs.Math.ListN.{set}
 use Rattle.std.proofs.Math.Nat.{pow-suc}
 use Rattle.std.proofs.lemmas.Bool.{cases_eq}
@@ -11,7 +12,10 @@ use Rattle.std.specs.Int.Count.{count_leading_zeros}
 
 -- writing a word that differs from the old one at most in the bit of one number keeps the bits of all other
 -- numbers
-pub other-kept : (words : List ℕ) (number other word : ℕ) → number / 64 < length words → other ≢ number → (other % 64 ≢ number % 64 → bit_at word (other % 64) ≡ bit_at (get_or words (number / 64) 0) (other % 64)) → bit_at (get_or (set words (number / 64) word) (other / 64) 0) (other % 64) ≡ bit_at (get_or words (other / 64) 0) (other % 64)
+pub other-kept : (words : List ℕ) (number other word : ℕ) → number / 64 < length words → other ≢ number
+    → (other % 64 ≢ number % 64 → bit_at word (other % 64) ≡ bit_at (get_or words (number / 64) 0) (other % 64))
+    → bit_at (get_or (set words (number / 64) word) (other / 64) 0) (other % 64) ≡ bit_at (get_or words (other / 64) 0)
+    (other % 64)
 other-kept words number other word within different same =
     elim (cases_eq (other / 64) (number / 64)) [
       | inl here ↦
@@ -21,7 +25,8 @@ other-kept words number other word within different same =
     ]
 
 -- after a write the number's bit is the bit of the word that was written
-pub bit-written : (words : List ℕ) (number word : ℕ) → number / 64 < length words → bit_at (get_or (set words (number / 64) word) (number / 64) 0) (number % 64) ≡ bit_at word (number % 64)
+pub bit-written : (words : List ℕ) (number word : ℕ) → number / 64 < length words
+    → bit_at (get_or (set words (number / 64) word) (number / 64) 0) (number % 64) ≡ bit_at word (number % 64)
 bit-written words number word within = rw get_or-set_same
 
 -- a number from a power of two up to the next has the bit of that power

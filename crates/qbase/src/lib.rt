@@ -4,9 +4,9 @@
 
 pub mod byte_set;
 pub mod bytes;
+pub mod copying;
 pub mod errno;
 pub mod flags;
 pub mod ids;
-pub mod copying;
 pub mod priority;
 pub mod state;

@@ -5,14 +5,17 @@ use crate::completion::{ExitResult, end_unread, end_with, print_text, text_of};
 use crate::names::{is_named, named_of};
 use crate::remarks::FaultSource;
 use qscript_chart::drawing::{drawing, drawing_of};
-use qscript_chart::view::{Style, ChartView};
+use qscript_chart::view::{ChartView, Style};
 use qscript_names::NamedScript;
 use std::fs;
 use std::process::ExitCode;
 use std::rt::Files;
 
 /// Draws the run of a script, from a file or from standard input. A drawing is never written over its script.
-pub fn run_chart<R: Files + Input + Print + Eprint + AllocGlobal>(rt: &R, run: &ChartRun) -> ExitResult {
+pub fn run_chart<R: Files + Input + Print + Eprint + AllocGlobal>(
+    rt: &R,
+    run: &ChartRun,
+) -> ExitResult {
     let file = run.file.as_deref();
     if let (Some(file), Some(output)) = (file, run.output.as_deref())
         && is_same(rt, file, output)

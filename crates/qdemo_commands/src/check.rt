@@ -1,27 +1,27 @@
 //! Unproved: words and layout. Compares the output of scripts with their traces.
 
-mod places;
 mod counts;
+mod places;
 
 use crate::colours::{Mood, marks};
 use crate::command::CheckRun;
+use crate::completion::{end_unwritten, tell_unread};
 use crate::designs::{is_design, words_of};
 use crate::difference::{Difference, difference_of, without_returns};
-use crate::completion::{end_unwritten, tell_unread};
 use crate::example::{ExampleOutcome, outcome_of, printed};
 use crate::json::quoted;
 use crate::names::{faults_of, is_named};
+use counts::CheckCounts;
 use places::Example;
+use qscript::fault::ScriptFault;
 use qscript_explain::faults::faults;
 use qscript_text::parts::{Lines, call_lines};
 use qscript_text::place::Fault;
-use qscript::fault::ScriptFault;
 use std::fmt::Display;
 use std::path::Path;
 use std::process::ExitCode;
 use std::rt::Files;
 use std::{fs, io};
-use counts::CheckCounts;
 
 /// The most bytes of a line of a script that are shown.
 const MOST_SHOWN: usize = 72;

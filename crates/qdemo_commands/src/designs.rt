@@ -5,12 +5,12 @@ use crate::command::ExploreRun;
 use crate::completion::{end_failed, end_unwritten, print_text, text_of};
 use crate::json::quoted;
 use crate::remarks;
-use qexplore_design::verdict::words::{DesignSource, found_script};
-use qexplore_design::{DesignReading, read};
 use qexplore::explore::{Observer, explore};
 use qexplore::fault::Counterexample;
 use qexplore::random::try_some;
 use qexplore::verdict::Verdict;
+use qexplore_design::verdict::words::{DesignSource, found_script};
+use qexplore_design::{DesignReading, read};
 use qexplore_listing::listing::listing;
 use qexplore_programs::design::Design;
 use qscript_text::place::Fault;
@@ -135,7 +135,9 @@ fn explore_source<R: Print + Eprint + AllocGlobal>(
     let DesignSource { file, text, .. } = source;
     if run.screen.errors {
         let colours = run.screen.colours.errors;
-        let _ = remarks::FaultSource::new(run.file.as_deref(), text, true, colours).tell_oddities(rt);
+        let _ = remarks::FaultSource::new(run.file.as_deref(), text, true, colours).tell_oddities(
+            rt,
+        );
     }
     let told = search_shown(rt, run, source);
     let (words, status) = told.map_err(|_| end_failed(rt, "out of memory"))?;

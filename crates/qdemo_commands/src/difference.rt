@@ -29,13 +29,21 @@ fn call_of(line: &str) -> Option<u64> {
 /// The two lines.
 impl fmt::Display for Difference {
     fn fmt<W: fmt::Write>(&self, f: &mut fmt::Formatter<W>) -> fmt::Result {
-        let Difference { found, expected, .. } = self;
+        let Difference {
+            found,
+            expected,
+            ..
+        } = self;
         write!(f, "  found:    {found}\n  expected: {expected}")
     }
 }
 
 /// Returns the first line in which two texts differ.
-pub fn difference_of(alloc: Global, found: &[u8], expected: &[u8]) -> Result<Difference, AllocError> {
+pub fn difference_of(
+    alloc: Global,
+    found: &[u8],
+    expected: &[u8],
+) -> Result<Difference, AllocError> {
     let same = found.iter().zip(expected).take_while(|(a, b)| a == b);
     let ends = same.filter(|(a, _)| **a == b'\n').count();
     let line = ends.saturating_add(1);

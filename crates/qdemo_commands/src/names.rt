@@ -4,8 +4,8 @@ use crate::command::ScriptRun;
 use crate::completion::{ExitResult, end_failed, print_text, text_of};
 use crate::remarks::FaultSource;
 use crate::scripts::print_trace;
-use qscript_explain::report::{RunReport, ReportedRun};
-use qscript_names::{NamedScript, NamedReading, read};
+use qscript_explain::report::{ReportedRun, RunReport};
+use qscript_names::{NamedReading, NamedScript, read};
 use qscript_text::place::Fault;
 use std::alloc::{AllocError, Global};
 use std::mem;
@@ -18,7 +18,10 @@ pub fn is_named(file: &str) -> bool {
 }
 
 /// Returns the script with names of a source; the program ends if it is faulty.
-pub fn named_of<R: Eprint + AllocGlobal>(rt: &R, source: FaultSource<'_>) -> Result<NamedScript, ExitCode> {
+pub fn named_of<R: Eprint + AllocGlobal>(
+    rt: &R,
+    source: FaultSource<'_>,
+) -> Result<NamedScript, ExitCode> {
     match read(rt.alloc(), source.text) {
         Ok(NamedReading::Good(named)) => Ok(named),
         Ok(NamedReading::Faulty(faults)) => Err(source.end_faulty(rt, faults.as_slice())),
@@ -28,7 +31,10 @@ pub fn named_of<R: Eprint + AllocGlobal>(rt: &R, source: FaultSource<'_>) -> Res
 
 /// Runs the script with names in a file or in standard input. Prints its trace, and reports the differences
 /// from its expectations. With `--plain` it prints the plain script and runs nothing.
-pub fn run_named<R: Files + Input + Print + Eprint + AllocGlobal>(rt: &R, run: &ScriptRun) -> ExitResult {
+pub fn run_named<R: Files + Input + Print + Eprint + AllocGlobal>(
+    rt: &R,
+    run: &ScriptRun,
+) -> ExitResult {
     let file = run.file.as_deref();
     let text = text_of(rt, file)?;
     let shows = run.explain || run.screen.errors;
@@ -65,7 +71,11 @@ fn print_outcome<R: Print + Eprint + AllocGlobal>(
 type NamedOutcome = (String, RunReport, Vec<Fault>);
 
 /// Runs a script with names once, and returns its outcome. The trace has the names if `in_names` is set.
-fn outcome_of(alloc: Global, named: &mut NamedScript, in_names: bool) -> Result<NamedOutcome, AllocError> {
+fn outcome_of(
+    alloc: Global,
+    named: &mut NamedScript,
+    in_names: bool,
+) -> Result<NamedOutcome, AllocError> {
     let calls = named.check.calls.iter();
     let lines = calls.map(|call| call.place.line as usize).collect(alloc)?;
     let mut run = ReportedRun::new(alloc, &named.script, lines)?;

@@ -9,16 +9,16 @@ use crate::completion::{end_failed, end_unwritten, tell_failed, tell_fault, tell
 use crate::names::is_named;
 use crate::remarks::FaultSource;
 use command::{PlayCommand, order_of};
+use qscript::fault::{LineFault, ScriptFault};
 use qscript_explain::explain;
 use qscript_explain::faults::oddities;
 use qscript_text::place::Fault;
-use qscript::fault::{LineFault, ScriptFault};
-use transcript::{Transcript, Accepted};
 use std::alloc::AllocError;
 use std::io::{BufRead, BufReader, Write};
 use std::process::ExitCode;
 use std::rt::Files;
 use std::{fs, io, str};
+use transcript::{Accepted, Transcript};
 
 /// The text of `help`.
 const HELP: &str = "  \

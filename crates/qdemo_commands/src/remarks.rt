@@ -23,7 +23,12 @@ pub struct FaultSource<'a> {
 
 impl<'a> FaultSource<'a> {
     /// Returns the source with these parts.
-    pub fn new(file: Option<&'a str>, text: &'a [u8], shows: bool, colours: bool) -> FaultSource<'a> {
+    pub fn new(
+        file: Option<&'a str>,
+        text: &'a [u8],
+        shows: bool,
+        colours: bool,
+    ) -> FaultSource<'a> {
         FaultSource {
             file,
             text,
@@ -85,7 +90,11 @@ impl<'a> FaultSource<'a> {
     }
 
     /// Prints the oddities of a script, why its calls failed, and who is blocked on whom at its end.
-    pub fn tell_report<R: Eprint + AllocGlobal>(self, rt: &R, report: &RunReport) -> io::Result<()> {
+    pub fn tell_report<R: Eprint + AllocGlobal>(
+        self,
+        rt: &R,
+        report: &RunReport,
+    ) -> io::Result<()> {
         self.tell_oddities(rt)?;
         for (line, refusal) in &report.refusals {
             match self.file {

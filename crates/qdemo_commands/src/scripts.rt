@@ -6,12 +6,12 @@ use crate::json::trace_json;
 use crate::names::{is_named, run_named};
 use crate::remarks;
 use crate::remarks::tell_faults;
-use crate::streams::{Outlet, KeptReader};
-use qscript_explain::report::explained;
+use crate::streams::{KeptReader, Outlet};
 use qscript::fault::ScriptFault;
 use qscript::script::script;
 use qscript::transfer::read_all;
 use qscript::watched::Watched;
+use qscript_explain::report::explained;
 use std::io::Read;
 use std::process::ExitCode;
 use std::rt::Files;
@@ -20,7 +20,10 @@ use std::{fs, io};
 /// Runs a script, from a file or from standard input. It is a script with names if its file is called
 /// `NAME.names` or `names_in` is set, and a plain script otherwise. A faulty line is explained on a terminal,
 /// or if explanations are requested.
-pub fn run_script<R: Files + Input + Print + Eprint + AllocGlobal>(rt: &R, run: &ScriptRun) -> ExitResult {
+pub fn run_script<R: Files + Input + Print + Eprint + AllocGlobal>(
+    rt: &R,
+    run: &ScriptRun,
+) -> ExitResult {
     let file = run.file.as_deref();
     match file {
         _ if run.names_in || file.is_some_and(is_named) => run_named(rt, run),

@@ -4,11 +4,11 @@ use crate::fault::WorkerFault;
 use crate::protocol::{CLIENT_LEVEL, COUNT, MESSAGE_LENGTH, REPLY_LENGTH, priority};
 use crate::services::{ECHO, SUM};
 use crate::work_counts::WorkCounts;
-use qbase::ids::ChannelId;
 use balsaeuchre_calls::caller::Caller;
 use balsaeuchre_calls::calls::Calls;
 use balsaeuchre_calls::endpoint::Endpoint;
 use balsaeuchre_calls::results::Reply;
+use qbase::ids::ChannelId;
 use std::sync::Wait;
 
 /// The last byte of each message.

@@ -5,12 +5,12 @@ use crate::fault::WorkerFault;
 use crate::protocol::{COUNT, REQUEST_LENGTH};
 use crate::server::{answer, serve_all};
 use crate::work_counts::WorkCounts;
-use crossbeam_utils::Backoff;
-use qbase::ids::ChannelId;
 use balsaeuchre_calls::caller::Caller;
 use balsaeuchre_calls::calls::Calls;
 use balsaeuchre_calls::endpoint::Endpoint;
 use balsaeuchre_calls::results::{Received, Request};
+use crossbeam_utils::Backoff;
+use qbase::ids::ChannelId;
 use qqueue::item::What;
 use std::sync::Wait;
 

@@ -14,7 +14,7 @@ pub mod server;
 pub mod services;
 pub mod settings;
 mod stage;
-pub mod work_counts;
 pub mod texts;
 pub mod timed;
 pub mod timing;
+pub mod work_counts;

@@ -41,8 +41,11 @@ impl RecordStore for Forget {
 /// Returns the recording of a run of these threads, after which no thread is blocked.
 pub fn recording_of(alloc: Global, roster: &[Member], run: &Trace) -> Result<Recording, ServeFault>
     requires { run.now.first ≡ 1 }
-    ensures ok { IfOk result (λ r. Records roster.now run.now (string_bytes r.script) (string_bytes r.trace)) }
-    ensures err { IfErr result (λ e. (e ≡ ServeFault.NoMemory) ⊎ ((e ≡ ServeFault.LongRecord) × (most_text < length (script_text roster.now run.now.events)))) }
+    ensures ok { IfOk result
+        (λ r. Records roster.now run.now (string_bytes r.script) (string_bytes r.trace)) }
+    ensures err { IfErr result
+        (λ e. (e ≡ ServeFault.NoMemory)
+        ⊎ ((e ≡ ServeFault.LongRecord) × (most_text < length (script_text roster.now run.now.events)))) }
 {
     let script = script_of(alloc, roster, run)?;
     if script.len() > MOST_TEXT {

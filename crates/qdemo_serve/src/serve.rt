@@ -8,7 +8,7 @@ use crate::fault::ServeFault;
 use crate::protocol::{
     CLIENT_LEVEL, FIRST_CLIENT, FIRST_SERVER, MAIN_LEVEL, SERVER_LEVEL, priority,
 };
-use crate::recording::{Recording, RecordStore, recording_of};
+use crate::recording::{RecordStore, Recording, recording_of};
 use crate::run::{Finished, run};
 use crate::settings::{Settings, Stacks};
 use crate::texts::{Totals, text_of, write_all};
@@ -110,7 +110,8 @@ pub fn outcome_of<R: Threads + Wait + Clock + Eprint + Sync>(
     stacks: Stacks,
 ) -> Result<RunOutcome, ServeFault>
     requires { Fit settings }
-    ensures { IfOk result (λ o. IfSome o.recording (λ r. IsRecording (string_bytes r.script) (string_bytes r.trace))) }
+    ensures { IfOk result
+        (λ o. IfSome o.recording (λ r. IsRecording (string_bytes r.script) (string_bytes r.trace))) }
 {
     if settings.hold && (settings.clients < 2 || settings.servers > 1) {
         return Err(ServeFault::Hold);

@@ -5,12 +5,12 @@ use crate::fault::WorkerFault;
 use crate::protocol::{COUNT, REQUEST_LENGTH, STOP};
 use crate::services::{ServiceOutcome, serve_one};
 use crate::work_counts::WorkCounts;
-use qbase::ids::ChannelId;
 use balsaeuchre_calls::caller::Caller;
 use balsaeuchre_calls::calls::Calls;
 use balsaeuchre_calls::endpoint::Endpoint;
 use balsaeuchre_calls::error::CallError;
 use balsaeuchre_calls::results::{Received, Request};
+use qbase::ids::ChannelId;
 use qqueue::item::What;
 use std::sync::Wait;
 

@@ -1,8 +1,8 @@
 //! The texts that a demonstration prints.
 
 use crate::fault::ServeFault;
-use crate::work_counts::WorkCounts;
 use crate::timing::Timing;
+use crate::work_counts::WorkCounts;
 use qscript::watched::Watched;
 use std::alloc::{AllocError, Global};
 use std::io::Write;

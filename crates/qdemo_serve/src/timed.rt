@@ -3,10 +3,10 @@
 use crate::fault::WorkerFault;
 use crate::progress::Progress;
 use crate::work_counts::WorkCounts;
-use qbase::bytes::Bytes;
-use qbase::ids::ThreadNo;
 use balsaeuchre_calls::endpoint::Endpoint;
 use balsaeuchre_calls::error::CallError;
+use qbase::bytes::Bytes;
+use qbase::ids::ThreadNo;
 use qmodel::call::{Call, Completion};
 use qshared::port::{Called, CalledPair};
 use std::alloc::Global;

@@ -9,7 +9,8 @@ use Rattle.qhandoff.specs.Steps.{kernel_view_in, hand_in}
 module _ {T : Type 0} where
   -- it is the kernel's token; it holds no slot, has a line for each cell, and isn't putting anything
   abbrev pub IsKernel : Seat (Option T) (View T) → Type 0
-  IsKernel s = (s.me ≡ (Kernel (kernel_view_in s.me.0), [])) × (length (kernel_view_in s.me.0).lines ≡ s.table_id.slots)
+  IsKernel s = (s.me ≡ (Kernel (kernel_view_in s.me.0), []))
+      × (length (kernel_view_in s.me.0).lines ≡ s.table_id.slots)
       × ((t : ℕ) → (line (kernel_view_in s.me.0) t).putting ≡ false)
 
   -- it is the token of thread t, which has a cell; it holds no slot and isn't taking anything

@@ -5,7 +5,8 @@ ghost use Rattle.std.specs.Prelude.{◌≡◌, ◌<◌, ◌++◌, [], ◌∷◌,
 ghost use Rattle.std.specs.Bool.{OnTrue};
 ghost use Rattle.qhandoff.specs.Rule.{line};
 ghost use Rattle.qhandoff.specs.Steps.{opened_kernel_view, cancelled_kernel_view, put_kernel_view, IsBusy};
-ghost use Rattle.qhandoff.specs.Words.{count, kernel_view, taken, kernel_id, thread_id, thread_of, IsKernelOf, IsThreadOf};
+ghost use Rattle.qhandoff.specs.Words.{count, kernel_view, taken, kernel_id, thread_id, thread_of};
+ghost use Rattle.qhandoff.specs.Words.{IsKernelOf, IsThreadOf};
 
 use crate::cells::{Cells, word_of};
 use crate::seats::{KernelSeat, ThreadSeat};
@@ -28,7 +29,10 @@ impl<T: Drop> KernelSeat<T> {
         requires thread { thread < count cells.now }
         ensures cells { kernel_id self.new ≡ kernel_id self.old }
         ensures won { OnTrue result ((line (kernel_view self.new) thread).opened ≡ true) }
-        ensures kernel_view { MatchBool result ((kernel_view self.new ≡ opened_kernel_view (kernel_view self.old) thread) × ((line (kernel_view self.old) thread).opened ≡ false)) ((kernel_view self.new ≡ kernel_view self.old) × IsBusy (line (kernel_view self.old) thread)) }
+        ensures kernel_view { MatchBool result
+            ((kernel_view self.new ≡ opened_kernel_view (kernel_view self.old) thread)
+            × ((line (kernel_view self.old) thread).opened ≡ false))
+            ((kernel_view self.new ≡ kernel_view self.old) × IsBusy (line (kernel_view self.old) thread)) }
     {
         // This is SeqCst. Acquire is enough: it synchronizes with the release of the thread's last
         // `GiveBack`, which emptied the slot.
@@ -61,7 +65,8 @@ impl<T: Drop> KernelSeat<T> {
         requires thread { thread < count cells.now }
         requires opened { (line (kernel_view self.old) thread).opened ≡ true }
         ensures cells { kernel_id self.new ≡ kernel_id self.old }
-        ensures kernel_view { kernel_view self.new ≡ put_kernel_view (kernel_view self.old) thread completion }
+        ensures kernel_view { kernel_view self.new ≡ put_kernel_view
+            (kernel_view self.old) thread completion }
     {
         let shared = &cells.table.shared;
         let word = word_of(thread);
@@ -90,7 +95,8 @@ impl<T: Drop> ThreadSeat<T> {
         requires cells { IsThreadOf cells.now self.old }
         ensures cells { thread_id self.new ≡ thread_id self.old }
         ensures thread { thread_of self.new ≡ thread_of self.old }
-        ensures taken { MatchOption result (taken self.new ≡ taken self.old) (λ x. taken self.new ≡ taken self.old ++ x ∷ []) }
+        ensures taken { MatchOption result (taken self.new ≡ taken self.old)
+            (λ x. taken self.new ≡ taken self.old ++ x ∷ []) }
     {
         let shared = &cells.table.shared;
         let thread = self.thread;

@@ -7,7 +7,8 @@ ghost use lib.ListN.{get_elem?};
 ghost use Rattle.qhandoff.specs.declared.view.View.TheVariants.{Kernel};
 ghost use Rattle.qhandoff.specs.Rule.{line};
 ghost use Rattle.qhandoff.specs.Steps.{kernel_view_in, joined_at};
-ghost use Rattle.qhandoff.specs.Words.{cells_id, count, kernel_view, taken, took, one, tagged, left_for, thread_id, thread_of, Rises, AreBelow, IsKernelOf, IsRow};
+ghost use Rattle.qhandoff.specs.Words.{cells_id, count, kernel_view, taken, took, one, tagged, left_for};
+ghost use Rattle.qhandoff.specs.Words.{thread_id, thread_of, Rises, AreBelow, IsKernelOf, IsRow};
 
 use crate::cells::Cells;
 use crate::seats::{KernelSeat, ThreadSeat};
@@ -22,10 +23,14 @@ fn join_one<T: Drop>(
     seat: &mut Seat<Option<T>, View<T>>,
     other: ThreadSeat<T>,
 )
-    requires sized { (shared.now.key ≡ shared.now.table_id.slots) × (shared.now.table_id.words ≡ shared.now.table_id.slots * 8) }
-    requires seat { (seat.old.table_id ≡ shared.now.table_id) × (seat.old.me ≡ (Kernel (kernel_view_in seat.old.me.0), [])) }
+    requires sized { (shared.now.key ≡ shared.now.table_id.slots)
+        × (shared.now.table_id.words ≡ shared.now.table_id.slots * 8) }
+    requires seat { (seat.old.table_id ≡ shared.now.table_id)
+        × (seat.old.me ≡ (Kernel (kernel_view_in seat.old.me.0), [])) }
     requires other { thread_id other ≡ shared.now.table_id }
-    ensures { (seat.new.table_id ≡ seat.old.table_id) × (seat.new.me ≡ (Kernel (joined_at (kernel_view_in seat.old.me.0) (thread_of other) (taken other)), [])) }
+    ensures { (seat.new.table_id ≡ seat.old.table_id)
+        × (seat.new.me
+        ≡ (Kernel (joined_at (kernel_view_in seat.old.me.0) (thread_of other) (taken other)), [])) }
 {
     let ThreadSeat {
         thread: _,
@@ -42,11 +47,18 @@ fn join_all<T: Drop>(
     seat: &mut Seat<Option<T>, View<T>>,
     mut threads: Vec<ThreadSeat<T>>,
 )
-    requires sized { (shared.now.key ≡ shared.now.table_id.slots) × (shared.now.table_id.words ≡ shared.now.table_id.slots * 8) }
-    requires seat { (seat.old.table_id ≡ shared.now.table_id) × (seat.old.me ≡ (Kernel (kernel_view_in seat.old.me.0), [])) × (length (kernel_view_in seat.old.me.0).lines ≡ shared.now.table_id.slots) }
-    requires threads { (length threads.items ≡ shared.now.table_id.slots) × IsRow shared.now.table_id threads.items }
-    ensures seat { (seat.new.table_id ≡ seat.old.table_id) × (seat.new.me ≡ (Kernel (kernel_view_in seat.new.me.0), [])) }
-    ensures lines { (t : ℕ) → t < shared.entry.now.table_id.slots → line (kernel_view_in seat.new.me.0) t ≡ record (line (kernel_view_in seat.old.me.0) t) { taken = Some (took (get_elem? threads.items t)) } }
+    requires sized { (shared.now.key ≡ shared.now.table_id.slots)
+        × (shared.now.table_id.words ≡ shared.now.table_id.slots * 8) }
+    requires seat { (seat.old.table_id ≡ shared.now.table_id)
+        × (seat.old.me ≡ (Kernel (kernel_view_in seat.old.me.0), []))
+        × (length (kernel_view_in seat.old.me.0).lines ≡ shared.now.table_id.slots) }
+    requires threads { (length threads.items ≡ shared.now.table_id.slots)
+        × IsRow shared.now.table_id threads.items }
+    ensures seat { (seat.new.table_id ≡ seat.old.table_id)
+        × (seat.new.me ≡ (Kernel (kernel_view_in seat.new.me.0), [])) }
+    ensures lines { (t : ℕ) → t < shared.entry.now.table_id.slots
+        → line (kernel_view_in seat.new.me.0) t
+        ≡ record (line (kernel_view_in seat.old.me.0) t) { taken = Some (took (get_elem? threads.items t)) } }
 {
     while let Some(other) = threads.pop() {
         join_one(shared, seat, other);
@@ -56,7 +68,8 @@ fn join_all<T: Drop>(
 /// Appends the value of one slot with its thread, if the slot has a value.
 fn keep<T: Drop>(room: &mut Vec<(usize, T)>, thread: usize, value: Option<T>)
     requires { length room.old.items < vec_capacity room.old }
-    ensures { (room.new.items ≡ room.old.items ++ tagged thread value) × (vec_capacity room.new ≡ vec_capacity room.old) }
+    ensures { (room.new.items ≡ room.old.items ++ tagged thread value)
+        × (vec_capacity room.new ≡ vec_capacity room.old) }
 {
     if let Some(value) = value {
         room.push_reserved((thread, value));
@@ -72,7 +85,8 @@ fn collect<T: Drop>(
     requires room { (room.items ≡ []) × (slots_len closed.slots ≤ vec_capacity room) }
     ensures rises { Rises result.items }
     ensures within { AreBelow (slots_len closed.slots) result.items }
-    ensures all { (t : ℕ) (o : _) → get_elem? (slots_items closed.slots) t ≡ some o → left_for t result.items ≡ one o }
+    ensures all { (t : ℕ) (o : _) → get_elem? (slots_items closed.slots) t ≡ some o
+        → left_for t result.items ≡ one o }
 {
     let mut i = 0;
     while i < closed.slot_count() {
@@ -101,7 +115,9 @@ impl<T: Drop> Cells<T> {
         requires threads { (length threads.items ≡ count self) × IsRow (cells_id self) threads.items }
         ensures rises { Rises result.items }
         ensures within { AreBelow (count self) result.items }
-        ensures told { (t : ℕ) → t < count self → took (get_elem? threads.items t) ++ left_for t result.items ≡ (line (kernel_view kernel) t).put }
+        ensures told { (t : ℕ) → t < count self
+            → took (get_elem? threads.items t) ++ left_for t result.items
+            ≡ (line (kernel_view kernel) t).put }
     {
         let Cells { table, room } = self;
         let KernelSeat { mut seat } = kernel;

@@ -5,7 +5,8 @@ ghost use lib.ListN.{get_elem?};
 ghost use Rattle.qbase.specs.declared.errno.Errno.TheVariants.{Inval, NoMemory};
 ghost use Rattle.qhandoff.specs.declared.view.View.TheVariants.{Kernel};
 ghost use Rattle.qhandoff.specs.Steps.{seated_kernel_view};
-ghost use Rattle.qhandoff.specs.Words.{cells_id, count, kernel_view, taken, took, thread_id, thread_of, IsKernelOf, IsRow};
+ghost use Rattle.qhandoff.specs.Words.{cells_id, count, kernel_view, taken, took, thread_id, thread_of};
+ghost use Rattle.qhandoff.specs.Words.{IsKernelOf, IsRow};
 
 use crate::cells::{Cells, STRIDE};
 use crate::seats::{KernelSeat, ThreadSeat};
@@ -27,10 +28,14 @@ fn next_seat<T: Drop>(
     seat: &mut Seat<Option<T>, View<T>>,
     thread: usize,
 ) -> ThreadSeat<T>
-    requires sized { (shared.now.key ≡ shared.now.table_id.slots) × (shared.now.table_id.words ≡ shared.now.table_id.slots * 8) × (thread < shared.now.table_id.slots) }
-    requires seat { (seat.old.table_id ≡ shared.now.table_id) × (seat.old.me ≡ (Kernel (seated_kernel_view thread shared.now.table_id.slots), [])) }
-    ensures seat { (seat.new.table_id ≡ seat.old.table_id) × (seat.new.me ≡ (Kernel (seated_kernel_view (thread + 1) shared.now.table_id.slots), [])) }
-    ensures next { (thread_id result ≡ seat.old.table_id) × (thread_of result ≡ thread) × (taken result ≡ []) }
+    requires sized { (shared.now.key ≡ shared.now.table_id.slots)
+        × (shared.now.table_id.words ≡ shared.now.table_id.slots * 8) × (thread < shared.now.table_id.slots) }
+    requires seat { (seat.old.table_id ≡ shared.now.table_id)
+        × (seat.old.me ≡ (Kernel (seated_kernel_view thread shared.now.table_id.slots), [])) }
+    ensures seat { (seat.new.table_id ≡ seat.old.table_id)
+        × (seat.new.me ≡ (Kernel (seated_kernel_view (thread + 1) shared.now.table_id.slots), [])) }
+    ensures next { (thread_id result ≡ seat.old.table_id) × (thread_of result ≡ thread)
+        × (taken result ≡ []) }
 {
     // This is a SeqCst load. Relaxed is enough: no other thread has a token yet.
     let seat = shared.split_seat::<SeatOne>(seat);
@@ -40,8 +45,11 @@ fn next_seat<T: Drop>(
 /// Makes `threads` idle cells and their tokens, with the memory that `close` needs.
 fn make_cells<T: Drop>(alloc: Global, threads: usize) -> Result<Made<T>, AllocError>
     requires { threads ≤ 64 }
-    ensures cells { IfOk result (λ r. (count r.0 ≡ threads) × IsKernelOf r.0 r.1 × (kernel_view r.1 ≡ seated_kernel_view threads threads)) }
-    ensures seats { IfOk result (λ r. (length r.2.items ≡ threads) × IsRow (cells_id r.0) r.2.items × ((k : ℕ) → took (get_elem? r.2.items k) ≡ [])) }
+    ensures cells { IfOk result
+        (λ r. (count r.0 ≡ threads) × IsKernelOf r.0 r.1
+        × (kernel_view r.1 ≡ seated_kernel_view threads threads)) }
+    ensures seats { IfOk result (λ r. (length r.2.items ≡ threads) × IsRow (cells_id r.0) r.2.items
+        × ((k : ℕ) → took (get_elem? r.2.items k) ≡ [])) }
 {
     let words = Vec::from_elem(alloc, 0u64, threads * STRIDE)?;
     let room = Vec::with_capacity(alloc, threads)?;
@@ -62,8 +70,11 @@ impl<T: Drop> Cells<T> {
         alloc: Global,
         threads: usize,
     ) -> Result<(Cells<T>, KernelSeat<T>, Vec<ThreadSeat<T>>), Errno>
-        ensures cells { IfOk result (λ r. (count r.0 ≡ threads) × IsKernelOf r.0 r.1 × (kernel_view r.1 ≡ seated_kernel_view threads threads)) }
-        ensures seats { IfOk result (λ r. (length r.2.items ≡ threads) × IsRow (cells_id r.0) r.2.items × ((k : ℕ) → took (get_elem? r.2.items k) ≡ [])) }
+        ensures cells { IfOk result
+            (λ r. (count r.0 ≡ threads) × IsKernelOf r.0 r.1
+            × (kernel_view r.1 ≡ seated_kernel_view threads threads)) }
+        ensures seats { IfOk result (λ r. (length r.2.items ≡ threads) × IsRow (cells_id r.0) r.2.items
+            × ((k : ℕ) → took (get_elem? r.2.items k) ≡ [])) }
         ensures within { IfOk result (λ r. threads ≤ 64) }
         ensures inval { 64 < threads → IfErr result (λ e. e ≡ Inval) }
         ensures memory { threads ≤ 64 → IfErr result (λ e. e ≡ NoMemory) }

@@ -2,7 +2,8 @@
 //! define them.
 
 ghost use Rattle.qhandoff.specs.Rule.{KeepsRule};
-ghost use Rattle.qhandoff.specs.Steps.{first_view, seats_one_more, next_hand, joined_views, OpenTells, CancelTells, BeginPutTells, EndPutTells, TakeTells, GiveBackTells};
+ghost use Rattle.qhandoff.specs.Steps.{first_view, seats_one_more, next_hand, joined_views, OpenTells};
+ghost use Rattle.qhandoff.specs.Steps.{CancelTells, BeginPutTells, EndPutTells, TakeTells, GiveBackTells};
 ghost use Rattle.qhandoff.specs.declared.view.View.TheVariants.{Joined};
 
 use crate::view::View;

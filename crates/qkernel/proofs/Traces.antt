@@ -1,5 +1,6 @@
 -- Statements of the rules about a history and a kernel that matches it, in the terms of the laws of `qmodel`.
-use Rattle.qkernel.proofs.Common.{◌≡◌, ◌+◌, ℕ, List, [], ◌∷◌, ◌++◌, arith, length, refl, ap, open_call, is_blocked, facts_of, IsLawful, is_some, IsRoster, Member, members_of, State, StandsAt}
+use Rattle.qkernel.proofs.Common.{◌≡◌, ◌+◌, ℕ, List, [], ◌∷◌, ◌++◌, arith, length, refl, ap, open_call, is_blocked}
+use Rattle.qkernel.proofs.Common.{facts_of, IsLawful, is_some, IsRoster, Member, members_of, State, StandsAt}
 use Rattle.qrules.proofs.Traces.Properties.All.{has_properties}
 use Rattle.qrules.specs.Past.{was_done}
 use Rattle.qrules.specs.Properties.{HasProperties}
@@ -14,13 +15,17 @@ module _ (roster : List Member) (past : Trace) (lawful : IsLawful roster past) w
   pub properties_of : IsRoster roster → HasProperties roster past
   properties_of rises = has_properties roster past rises lawful
 
-pub followed_push : (past : Trace) (events : List Event) (e : Event) → followed_by past (events ++ e ∷ []) ≡ e ∷ followed_by past events
+pub followed_push : (past : Trace) (events : List Event) (e : Event)
+    → followed_by past (events ++ e ∷ []) ≡ e ∷ followed_by past events
 followed_push past [] e = refl
 followed_push past (x ∷ events) e = followed_push (x ∷ past) events e
 
-pub followed_length : (past : Trace) (events : List Event) → length (followed_by past events) ≡ length past + length events
+pub followed_length : (past : Trace) (events : List Event)
+    → length (followed_by past events) ≡ length past + length events
 followed_length past [] = omega arith
-followed_length past (e ∷ events) = let rest : length (followed_by (e ∷ past) events) ≡ length (e ∷ past) + length events = followed_length (e ∷ past) events in omega arith
+followed_length past (e ∷ events) =
+    let rest : length (followed_by (e ∷ past) events) ≡ length (e ∷ past) + length events =
+    followed_length (e ∷ past) events in omega arith
 
 -- ---- a kernel that matches it
 

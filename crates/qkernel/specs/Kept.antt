@@ -9,7 +9,8 @@ use Rattle.qmodel.specs.Trace.{Event}
 
 -- the event of an entry; its completions are a range of the list of all completions
 abbrev pub event_of : List Completion → Entry → Event
-event_of completions e = record { thread = e.thread; call = e.call; completions = slice_range completions e.start e.end }
+event_of completions e =
+    record { thread = e.thread; call = e.call; completions = slice_range completions e.start e.end }
 
 -- the events of the entries
 abbrev pub events_of : List Completion → List Entry → List Event

@@ -1,13 +1,14 @@
 //! A log of events.
 
-ghost use Rattle.std.specs.Prelude.{◌≡◌, ◌+◌, ◌-◌, ◌<◌, ◌≤◌, ◌++◌, [], ◌∷◌, length, IfOk, IsOk, OnOk, vec_len, vec_capacity};
+ghost use Rattle.std.specs.Prelude.{◌≡◌, ◌+◌, ◌-◌, ◌<◌, ◌≤◌, ◌++◌, [], ◌∷◌, length, IfOk, IsOk, OnOk};
+ghost use Rattle.std.specs.Prelude.{vec_len, vec_capacity};
 ghost use Rattle.arrayvec.specs.ArrayVec.{array_vec_len};
 ghost use Rattle.qkernel.specs.EventLog.{with_next};
 
 use crate::trace::{Entry, Trace};
 use qbase::ids::ThreadNo;
-use qmodel::call::{Call, Completion};
 use qkernel_state::completions::Completions;
+use qmodel::call::{Call, Completion};
 use std::alloc::{AllocError, Global};
 use std::marker::Model;
 
@@ -37,7 +38,9 @@ impl Model for EventLog {
 
     ghost use Rattle.qkernel.specs.Kept.{logged_by, IsKept};
 
-    ghost view = { λ l. logged_by l.entries.items l.completions.items l.made l.start (vec_capacity l.entries - vec_len l.entries) (vec_capacity l.completions - vec_len l.completions) };
+    ghost view = { λ l. (
+        logged_by l.entries.items l.completions.items l.made l.start
+        (vec_capacity l.entries - vec_len l.entries) (vec_capacity l.completions - vec_len l.completions)) };
 
     ghost invariant = { λ l. IsKept l.entries.items l.completions.items l.made l.start };
 }
@@ -65,7 +68,11 @@ fn place(entry: &mut Entry, start: usize, end: usize)
 
 impl EventLog {
     /// Makes an empty log with room for these numbers of calls and completions.
-    pub fn with_room(alloc: Global, calls: usize, completions: usize) -> Result<EventLog, AllocError>
+    pub fn with_room(
+        alloc: Global,
+        calls: usize,
+        completions: usize,
+    ) -> Result<EventLog, AllocError>
         ensures empty { IfOk result (λ log. (log.events ≡ []) × (log.noted ≡ []) × (log.completions ≡ [])) }
         ensures room { IfOk result (λ log. (log.call_room ≡ calls) × (log.completion_room ≡ completions)) }
     {
@@ -81,10 +88,15 @@ impl EventLog {
 
     /// Makes room for these numbers of further calls and completions.
     pub fn reserve(&mut self, calls: usize, completions: usize) -> Result<(), AllocError>
-        ensures same { self.new ≡ record self.old { call_room = self.new.call_room; completion_room = self.new.completion_room } }
-        ensures kept { (self.old.call_room ≤ self.new.call_room) × (self.old.completion_room ≤ self.new.completion_room) }
+        ensures same { self.new ≡ record self.old {
+          call_room = self.new.call_room;
+          completion_room = self.new.completion_room;
+        } }
+        ensures kept { (self.old.call_room ≤ self.new.call_room)
+            × (self.old.completion_room ≤ self.new.completion_room) }
         ensures room { OnOk result ((calls ≤ self.new.call_room) × (completions ≤ self.new.completion_room)) }
-        ensures succeeds { (calls ≤ self.old.call_room) × (completions ≤ self.old.completion_room) → IsOk result }
+        ensures succeeds { (calls ≤ self.old.call_room) × (completions ≤ self.old.completion_room)
+            → IsOk result }
     {
         self.entries.reserve(calls)?;
         self.completions.reserve(completions)
@@ -93,7 +105,10 @@ impl EventLog {
     /// Notes a call, which is made after all calls that were noted before. There must be room for it.
     pub fn note(&mut self, thread: ThreadNo, call: Call)
         requires { 0 < self.old.call_room }
-        ensures { self.new ≡ record self.old { noted = self.old.noted ++ (thread, call) ∷ []; call_room = self.old.call_room - 1 } }
+        ensures { self.new ≡ record self.old {
+          noted = self.old.noted ++ (thread, call) ∷ [];
+          call_room = self.old.call_room - 1;
+        } }
     {
         self.entries.push_reserved(Entry {
             thread,
@@ -106,7 +121,10 @@ impl EventLog {
     /// Adds a completion to the next call. There must be room for it.
     pub fn push_completion(&mut self, completion: Completion)
         requires { 0 < self.old.completion_room }
-        ensures { self.new ≡ record self.old { completions = self.old.completions ++ completion ∷ []; completion_room = self.old.completion_room - 1 } }
+        ensures { self.new ≡ record self.old {
+          completions = self.old.completions ++ completion ∷ [];
+          completion_room = self.old.completion_room - 1;
+        } }
     {
         self.completions.push_reserved(completion);
     }
@@ -115,7 +133,10 @@ impl EventLog {
     /// them.
     pub fn append(&mut self, completions: &mut Completions)
         requires { length completions.old.items ≤ self.old.completion_room }
-        ensures logged { self.new ≡ record self.old { completions = self.old.completions ++ completions.old.items; completion_room = self.old.completion_room - length completions.old.items } }
+        ensures logged { self.new ≡ record self.old {
+          completions = self.old.completions ++ completions.old.items;
+          completion_room = self.old.completion_room - length completions.old.items;
+        } }
         ensures emptied { completions.new.items ≡ [] }
     {
         append(&mut self.completions, completions);

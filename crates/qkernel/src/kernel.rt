@@ -1,6 +1,7 @@
 //! The kernel: it makes the calls of its threads, one at a time.
 
-ghost use Rattle.std.specs.Prelude.{◌≡◌, ◌+◌, ◌<◌, ◌≤◌, ◌^◌, ◌↔◌, [], length, None, Some, is_some, true, false, IsTrue, if◌then◌else◌, IfOk, IfErr, IfSome, OnOk};
+ghost use Rattle.std.specs.Prelude.{◌≡◌, ◌+◌, ◌<◌, ◌≤◌, ◌^◌, ◌↔◌, [], length, None, Some, is_some, true};
+ghost use Rattle.std.specs.Prelude.{false, IsTrue, if◌then◌else◌, IfOk, IfErr, IfSome, OnOk};
 ghost use Rattle.qtables.specs.Members.{member_at};
 ghost use Rattle.qkernel_state.specs.Thread.{open_in, blocked_count};
 ghost use Rattle.qkernel_state.specs.Threads.{IsSeatIn};
@@ -30,14 +31,14 @@ use call_context::CallContext;
 use qbase::bytes::Bytes;
 use qbase::errno::Errno;
 use qbase::ids::ThreadNo;
-use qmodel::call::Call;
-use qqueue::item::Kind;
 use qkernel_state::channel::Channel;
 use qkernel_state::completions::Completions;
 use qkernel_state::objects::Objects;
-use qkernel_state::thread_ref::ThreadRef;
 use qkernel_state::thread::Thread;
+use qkernel_state::thread_ref::ThreadRef;
 use qkernel_state::threads::Threads;
+use qmodel::call::Call;
+use qqueue::item::Kind;
 use qtables::channels::Channels;
 use qtables::connections::Connections;
 use qtables::roster::Roster;
@@ -63,9 +64,23 @@ impl Model for Kernel {
 
     ghost Value = { State };
 
-    ghost view = { λ k. record { made = k.made; down = k.down; threads = k.objects.threads; channels = k.objects.channels; connections = k.objects.connections } };
+    ghost view = { λ k. record {
+      made = k.made;
+      down = k.down;
+      threads = k.objects.threads;
+      channels = k.objects.channels;
+      connections = k.objects.connections;
+    } };
 
-    ghost invariant = { λ k. IsSound (record { made = k.made; down = k.down; threads = k.objects.threads; channels = k.objects.channels; connections = k.objects.connections }) };
+    ghost invariant = { λ k. (
+        IsSound
+        (record {
+          made = k.made;
+          down = k.down;
+          threads = k.objects.threads;
+          channels = k.objects.channels;
+          connections = k.objects.connections;
+        })) };
 }
 
 impl Kernel {
@@ -102,7 +117,9 @@ impl Kernel {
     /// call.
     fn refusal(&self, seat: &ThreadRef) -> Option<Errno>
         requires { IsSeatIn self.now.threads seat.now }
-        ensures { result ≡ (if self.now.down then Some Errno.Down else (if is_some (open_in self.now.threads seat.now.thread) then Some Errno.Busy else None)) }
+        ensures { result
+            ≡ (if self.now.down then Some Errno.Down else
+            (if is_some (open_in self.now.threads seat.now.thread) then Some Errno.Busy else None)) }
     {
         if self.down {
             Some(Errno::Down)
@@ -132,7 +149,12 @@ impl Kernel {
     /// Makes a call by its own method, after `refusal` found no error and the call was counted. On an `Err`
     /// the call fails with this error, and its completion isn't in the list yet.
     #[inline(always)]
-    fn make(&mut self, caller: &CallContext, call: Call, completions: &mut Completions) -> Result<(), Errno>
+    fn make(
+        &mut self,
+        caller: &CallContext,
+        call: Call,
+        completions: &mut Completions,
+    ) -> Result<(), Errno>
         requires { MayCall self.old caller.now completions.old.items }
         ensures { MakesOrRefuses self.old caller.now call result completions.new.items self.new }
     {
@@ -251,16 +273,21 @@ impl Kernel {
     ) -> Result<(), (Errno, Call)>
         requires seat { IsSeatIn self.old.threads seat.now }
         requires none { completions.old.items ≡ [] }
-        ensures event { OnOk result (AnswersAtTraces self.old seat.now.thread call completions.new.items self.new) }
-        ensures refused { OnOk result (LeavesIfRefused self.old seat.now.thread call completions.new.items self.new) }
+        ensures event { OnOk result
+            (AnswersAtTraces self.old seat.now.thread call completions.new.items self.new) }
+        ensures refused { OnOk result
+            (LeavesIfRefused self.old seat.now.thread call completions.new.items self.new) }
         ensures roster { members_of self.new.threads ≡ members_of self.old.threads }
         ensures ok { OnOk result ((self.old.made < 2 ^ 40) × (self.new.made ≡ self.old.made + 1)) }
 
         // An event completes at most its own call and calls that were open.
-        ensures room { OnOk result (length completions.new.items + blocked_count self.new.threads ≤ blocked_count self.old.threads + 1) }
+        ensures room { OnOk result
+            (length completions.new.items + blocked_count self.new.threads
+            ≤ blocked_count self.old.threads + 1) }
 
         // On an error nothing changes.
-        ensures unchanged { IfErr result (λ refused. (self.new ≡ self.old) × (refused.1 ≡ call) × (completions.new.items ≡ [])) }
+        ensures unchanged { IfErr result
+            (λ refused. (self.new ≡ self.old) × (refused.1 ≡ call) × (completions.new.items ≡ [])) }
         ensures error { IfErr result (λ refused. (2 ^ 40 ≤ self.old.made) × (refused.0 ≡ Errno.Exhausted)) }
     {
         if self.made >= CALL_LIMIT {
@@ -284,7 +311,8 @@ impl Kernel {
         ensures refused { LeavesIfRefused self.old thread call completions.new.items self.new }
 
         // An event completes at most its own call and calls that were open.
-        ensures room { length completions.new.items + blocked_count self.new.threads ≤ blocked_count self.old.threads + 1 }
+        ensures room { length completions.new.items + blocked_count self.new.threads
+            ≤ blocked_count self.old.threads + 1 }
     {
         let seat = self.known_seat(thread);
         self.perform(&seat, call, completions);
@@ -296,10 +324,13 @@ impl Kernel {
     /// `Exhausted`, after 2^40 calls.
     /// `dispatching.rt.txt` of `tests/unproved/kernel_tests` uses it.
     pub fn dispatch(&mut self, thread: ThreadNo, call: Call) -> Result<Completions, (Errno, Call)>
-        ensures event { IfOk result (λ completions. AnswersAtTraces self.old thread call completions.items self.new) }
-        ensures refused { IfOk result (λ completions. LeavesIfRefused self.old thread call completions.items self.new) }
+        ensures event { IfOk result
+            (λ completions. AnswersAtTraces self.old thread call completions.items self.new) }
+        ensures refused { IfOk result
+            (λ completions. LeavesIfRefused self.old thread call completions.items self.new) }
         ensures roster { members_of self.new.threads ≡ members_of self.old.threads }
-        ensures ok { OnOk result ((is_some (member_at (members_of self.old.threads) thread) ≡ true) × (self.old.made < 2 ^ 40) × (self.new.made ≡ self.old.made + 1)) }
+        ensures ok { OnOk result ((is_some (member_at (members_of self.old.threads) thread) ≡ true)
+            × (self.old.made < 2 ^ 40) × (self.new.made ≡ self.old.made + 1)) }
 
         // On an error nothing changes.
         ensures unchanged { IfErr result (λ refused. (self.new ≡ self.old) × (refused.1 ≡ call)) }

@@ -8,5 +8,5 @@ pub mod lent_call;
 pub mod run;
 pub mod trace;
 
-pub use qmodel::{call, open_call};
 pub use qkernel_state::{completions, thread_ref};
+pub use qmodel::{call, open_call};

@@ -1,6 +1,7 @@
 //! A run of many calls.
 
-ghost use Rattle.std.specs.Prelude.{◌≡◌, ◌+◌, ◌<◌, ◌≤◌, ◌^◌, [], length, map, true, IfOk, IfErr, OnOk, OnErr, vec_len};
+ghost use Rattle.std.specs.Prelude.{◌≡◌, ◌+◌, ◌<◌, ◌≤◌, ◌^◌, [], length, map, true, IfOk, IfErr, OnOk, OnErr};
+ghost use Rattle.std.specs.Prelude.{vec_len};
 ghost use Rattle.std.specs.List.{AllByRecursion};
 ghost use Rattle.qkernel.specs.Run.{Headline, RunsAtTraces, AllKnown, RunError};
 ghost use Rattle.qrules.specs.Lawful.{event_call};
@@ -13,8 +14,8 @@ use crate::trace::Trace;
 use arrayvec::ArrayVec;
 use qbase::errno::Errno;
 use qbase::ids::ThreadNo;
-use qmodel::call::Call;
 use qkernel_state::completions::Completions;
+use qmodel::call::Call;
 use qtables::roster::THREAD_LIMIT;
 use std::alloc::{AllocError, Global};
 
@@ -87,7 +88,9 @@ fn run_all(kernel: &mut Kernel, log: &mut EventLog, mut calls: Vec<(ThreadNo, Ca
 /// `first_message.rt` of `crates/balsaeuchre_examples` is a complete use of it.
 pub fn run(kernel: &mut Kernel, calls: Vec<(ThreadNo, Call)>) -> Result<Trace, Errno>
     ensures headline { IfOk result (λ trace. Headline kernel.old trace kernel.new) }
-    ensures ok { OnOk result (AllKnown (members_of kernel.old.threads) calls.items × (kernel.old.made + length calls.items ≤ 2 ^ 40)) }
+    ensures ok { OnOk result
+        (AllKnown (members_of kernel.old.threads) calls.items
+        × (kernel.old.made + length calls.items ≤ 2 ^ 40)) }
     ensures told { IfOk result (λ trace. map event_call trace.events ≡ calls.items) }
 
     // On an error nothing changes.

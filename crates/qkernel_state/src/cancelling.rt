@@ -1,12 +1,16 @@
 //! Cancels open calls: they complete with an error because of another thread's call.
 
-ghost use Rattle.std.specs.Prelude.{◌≡◌, ◌==◌, ◌&&◌, ◌≤◌, ◌<◌, [], true, Some, None, is_some, length, filter_map, map, if◌then◌else◌};
+ghost use Rattle.std.specs.Prelude.{◌≡◌, ◌==◌, ◌&&◌, ◌≤◌, ◌<◌, [], true, Some, None, is_some, length};
+ghost use Rattle.std.specs.Prelude.{filter_map, map, if◌then◌else◌};
 ghost use Rattle.qtables.specs.Members.{IsRoster};
 ghost use Rattle.qrules.specs.Delivery.{is_on, cancel_call};
 ghost use Rattle.qrules.specs.Records.{cancel_where};
 ghost use Rattle.qrules.specs.Records.{is_unread_send};
 ghost use Rattle.qrules.specs.Facts.{threads_of};
-ghost use Rattle.qkernel_state.specs.Cancelling.{is_cancelled_by, completion_for, with_completion, thread_after_cancelled, thread_unless_cancelled, unread_on_by, call_if_cancelled, is_taken_from, Lose, AreCancelled, LoseCancelled};
+ghost use Rattle.qkernel_state.specs.Cancelling.{is_cancelled_by, completion_for, with_completion};
+ghost use Rattle.qkernel_state.specs.Cancelling.{thread_after_cancelled, thread_unless_cancelled};
+ghost use Rattle.qkernel_state.specs.Cancelling.{unread_on_by, call_if_cancelled, is_taken_from, Lose};
+ghost use Rattle.qkernel_state.specs.Cancelling.{AreCancelled, LoseCancelled};
 ghost use Rattle.qkernel_state.specs.Thread.{open_in};
 ghost use Rattle.qkernel_state.specs.Kept.{members_of};
 
@@ -107,8 +111,10 @@ fn cancel_completion(call: OpenCall, thread: ThreadNo, errno: Errno) -> Completi
 
 /// Takes the thread's open call and returns it, if the call is in the set.
 fn take_cancelled(thread: &mut Thread, cancel: &CancelSet) -> Option<OpenCall>
-    ensures had { result ≡ call_if_cancelled (is_cancelled_by cancel.now thread.old.member.thread) thread.old.open_call }
-    ensures after { thread.new ≡ thread_unless_cancelled (is_cancelled_by cancel.now thread.old.member.thread) thread.old }
+    ensures had { result ≡ call_if_cancelled
+        (is_cancelled_by cancel.now thread.old.member.thread) thread.old.open_call }
+    ensures after { thread.new ≡ thread_unless_cancelled
+        (is_cancelled_by cancel.now thread.old.member.thread) thread.old }
 {
     match &thread.open_call {
         Some(call) if is_cancelled(cancel, thread.member.thread, call) => {
@@ -124,8 +130,10 @@ fn cancel_thread(
     channels: &mut Channels<Channel>,
     cancel: &Cancellation,
 ) -> Option<Completion>
-    ensures completion { result ≡ cancel_where (is_cancelled_by cancel.now.set thread.old.member.thread) cancel.now.errno thread.old.member.thread thread.old.open_call }
-    ensures thread { thread.new ≡ thread_unless_cancelled (is_cancelled_by cancel.now.set thread.old.member.thread) thread.old }
+    ensures completion { result ≡ cancel_where (is_cancelled_by cancel.now.set thread.old.member.thread)
+        cancel.now.errno thread.old.member.thread thread.old.open_call }
+    ensures thread { thread.new ≡ thread_unless_cancelled
+        (is_cancelled_by cancel.now.set thread.old.member.thread) thread.old }
     ensures channels { Lose (is_taken_from (is_cancelled_by cancel.now.set thread.old.member.thread) thread.old.open_call) channels.old channels.new }
 {
     let call = take_cancelled(thread, &cancel.set)?;
@@ -143,9 +151,13 @@ fn end_thread(
     own: &mut Option<Completion>,
 ) -> Option<Completion>
     requires idle { (thread.old.member.thread == caller) ≡ true → thread.old.open_call ≡ None }
-    ensures completion { result ≡ (if thread.old.member.thread == caller then own.old else cancel_where (is_cancelled_by cancel.now.set thread.old.member.thread) cancel.now.errno thread.old.member.thread thread.old.open_call) }
+    ensures completion { result
+        ≡ (if thread.old.member.thread == caller then own.old else cancel_where
+        (is_cancelled_by cancel.now.set thread.old.member.thread) cancel.now.errno thread.old.member.thread
+        thread.old.open_call) }
     ensures own { own.new ≡ (if thread.old.member.thread == caller then None else own.old) }
-    ensures thread { thread.new ≡ thread_unless_cancelled (is_cancelled_by cancel.now.set thread.old.member.thread) thread.old }
+    ensures thread { thread.new ≡ thread_unless_cancelled
+        (is_cancelled_by cancel.now.set thread.old.member.thread) thread.old }
     ensures channels { Lose (is_taken_from (is_cancelled_by cancel.now.set thread.old.member.thread) thread.old.open_call) channels.old channels.new }
 {
     if thread.member.thread == caller {
@@ -178,7 +190,9 @@ fn cancel_each(
     requires few { length threads.old.items ≤ 64 }
     requires idle { open_in threads.old.items own.thread ≡ None }
     requires none { completions.old.items ≡ [] }
-    ensures completions { completions.new.items ≡ filter_map (λ u. completion_for cancel.set cancel.errno own u (open_in threads.old.items u)) (threads_of (members_of threads.old.items)) }
+    ensures completions { completions.new.items ≡ filter_map
+        (λ u. completion_for cancel.set cancel.errno own u (open_in threads.old.items u))
+        (threads_of (members_of threads.old.items)) }
     ensures threads { threads.new.items ≡ map (thread_after_cancelled cancel.set) threads.old.items }
     ensures channels { LoseCancelled cancel.set cancel.errno threads.old.items channels.old channels.new }
 {
@@ -194,10 +208,18 @@ impl Objects {
     /// Cancels each open call of a set with this error. The list gets the completions in ascending order of
     /// thread number, with `own`, the completion of the caller's call, among them. A message that isn't
     /// received when its Send is cancelled leaves its channel's queue.
-    pub fn cancel(&mut self, set: CancelSet, errno: Errno, own: Completion, completions: &mut Completions)
+    pub fn cancel(
+        &mut self,
+        set: CancelSet,
+        errno: Errno,
+        own: Completion,
+        completions: &mut Completions,
+    )
         requires idle { open_in self.old.threads own.thread ≡ None }
         requires none { completions.old.items ≡ [] }
-        ensures completions { completions.new.items ≡ filter_map (λ u. completion_for set errno own u (open_in self.old.threads u)) (threads_of (members_of self.old.threads)) }
+        ensures completions { completions.new.items ≡ filter_map
+            (λ u. completion_for set errno own u (open_in self.old.threads u))
+            (threads_of (members_of self.old.threads)) }
         ensures threads { AreCancelled set errno self.old.threads self.new.threads }
         ensures channels { LoseCancelled set errno self.old.threads self.old.channels self.new.channels }
         ensures connections { self.new.connections ≡ self.old.connections }

@@ -1,6 +1,7 @@
 //! The record of an open channel, and look-ups of channels and connections.
 
-ghost use Rattle.std.specs.Prelude.{◌≡◌, ◌==◌, ◌+◌, ◌<◌, ◌++◌, ◌∷◌, ◌&&◌, [], count_by, is_some, true, None, Some, if◌then◌else◌, IsOk, OnOk, OnErr, IfErr};
+ghost use Rattle.std.specs.Prelude.{◌≡◌, ◌==◌, ◌+◌, ◌<◌, ◌++◌, ◌∷◌, ◌&&◌, [], count_by, is_some, true, None};
+ghost use Rattle.std.specs.Prelude.{Some, if◌then◌else◌, IsOk, OnOk, OnErr, IfErr};
 ghost use Rattle.std.specs.List.{AllByRecursion};
 ghost use Rattle.qrules.specs.Records.{is_fixed, tells_disconnect, tells_unblock};
 ghost use Rattle.qkernel_state.specs.Channel.{is_of, route_in, ClosesIn};
@@ -89,7 +90,9 @@ impl Objects {
     /// Returns whether a channel has the disconnect flag, and the process has exactly one live connection to
     /// it. A detach of this connection has to send the disconnect pulse.
     pub fn tells_detached(&self, process: ProcessNo, chid: ChannelId) -> bool
-        ensures { result ≡ (tells_disconnect (channel_in self.now.channels chid) && (count_by (λ e. (e.1.process == process) && (e.1.channel == chid)) self.now.connections == 1)) }
+        ensures { result
+            ≡ (tells_disconnect (channel_in self.now.channels chid) &&
+            (count_by (λ e. (e.1.process == process) && (e.1.channel == chid)) self.now.connections == 1)) }
     {
         match self.channels.get(chid) {
             None => false,

@@ -1,16 +1,18 @@
 //! HeldMessage messages: received, and without a reply yet.
 
-ghost use Rattle.std.specs.Prelude.{◌≡◌, None, Some, true, false, option_and_then, option_map, IfOk, IfErr, OnErr};
+ghost use Rattle.std.specs.Prelude.{◌≡◌, None, Some, true, false, option_and_then, option_map, IfOk, IfErr};
+ghost use Rattle.std.specs.Prelude.{OnErr};
 ghost use Rattle.qbase.specs.Copying.{laid_count};
 ghost use Rattle.qmodel.specs.OpenCalls.{send_in};
 ghost use Rattle.qrules.specs.Records.{info_of_open, reply_buffer_in, unblocked_call, written_call};
 ghost use Rattle.qkernel_state.specs.Held.{guarded_message_in, is_held_in};
-ghost use Rattle.qkernel_state.specs.Thread.{is_sending, message_from, open_in, sender_in, ChangesOpen, SetsOpen};
+ghost use Rattle.qkernel_state.specs.Thread.{is_sending, message_from, open_in, sender_in, ChangesOpen};
+ghost use Rattle.qkernel_state.specs.Thread.{SetsOpen};
 ghost use Rattle.qkernel_state.specs.Threads.{IsSeatIn};
 
 use crate::objects::Objects;
-use crate::thread_ref::ThreadRef;
 use crate::thread::Thread;
+use crate::thread_ref::ThreadRef;
 use crate::threads::Threads;
 use qbase::errno::Errno;
 use qbase::ids::{ChannelId, ProcessNo, ReceiveId};
@@ -50,11 +52,13 @@ impl Objects {
     /// this process. Fails with `Srch` if there is no such message.
     #[inline(always)]
     pub fn holder(&self, process: ProcessNo, rcvid: ReceiveId) -> Result<ThreadRef, Errno>
-        ensures held { IfOk result (λ seat. is_held_in self.now.threads self.now.channels process rcvid ≡ true) }
+        ensures held { IfOk result
+            (λ seat. is_held_in self.now.threads self.now.channels process rcvid ≡ true) }
         ensures seat { IfOk result (λ seat. IsSeatIn self.now.threads seat) }
         ensures sender { IfOk result (λ seat. sender_in self.now.threads rcvid ≡ Some seat.thread) }
         ensures sends { IfOk result (λ seat. is_sending (open_in self.now.threads seat.thread) ≡ true) }
-        ensures none { IfErr result (λ e. is_held_in self.now.threads self.now.channels process rcvid ≡ false) }
+        ensures none { IfErr result
+            (λ e. is_held_in self.now.threads self.now.channels process rcvid ≡ false) }
         ensures error { IfErr result (λ e. e ≡ Errno.Srch) }
     {
         let seat = self.threads.sender(rcvid.0).ok_or(Errno::Srch)?;
@@ -69,9 +73,11 @@ impl Objects {
     /// Returns the message that is held under this receive id, on a channel of this process. Fails with
     /// `Srch` if there is none.
     pub fn held_message(&self, process: ProcessNo, rcvid: ReceiveId) -> Result<&[u8], Errno>
-        ensures held { IfOk result (λ message. is_held_in self.now.threads self.now.channels process rcvid ≡ true) }
+        ensures held { IfOk result
+            (λ message. is_held_in self.now.threads self.now.channels process rcvid ≡ true) }
         ensures message { IfOk result (λ message. message.now ≡ message_from self.now.threads rcvid) }
-        ensures none { IfErr result (λ e. is_held_in self.now.threads self.now.channels process rcvid ≡ false) }
+        ensures none { IfErr result
+            (λ e. is_held_in self.now.threads self.now.channels process rcvid ≡ false) }
         ensures error { IfErr result (λ e. e ≡ Errno.Srch) }
     {
         let holder = self.holder(process, rcvid)?;
@@ -85,15 +91,18 @@ impl Objects {
     /// there is no such thread, fails with `Srch` and changes nothing.
     #[inline(always)]
     pub fn take_held(&mut self, process: ProcessNo, rcvid: ReceiveId) -> Result<OpenSend, Errno>
-        ensures held { IfOk result (λ sent. is_held_in self.old.threads self.old.channels process rcvid ≡ true) }
+        ensures held { IfOk result
+            (λ sent. is_held_in self.old.threads self.old.channels process rcvid ≡ true) }
         ensures sender { IfOk result (λ sent. sender_in self.old.threads rcvid ≡ Some sent.thread) }
-        ensures had { IfOk result (λ sent. option_and_then send_in (open_in self.old.threads sent.thread) ≡ Some sent) }
+        ensures had { IfOk result
+            (λ sent. option_and_then send_in (open_in self.old.threads sent.thread) ≡ Some sent) }
         ensures after { IfOk result (λ sent. SetsOpen sent.thread None self.old.threads self.new.threads) }
         ensures channels { self.new.channels ≡ self.old.channels }
         ensures connections { self.new.connections ≡ self.old.connections }
 
         // On an error nothing changes.
-        ensures none { IfErr result (λ e. is_held_in self.old.threads self.old.channels process rcvid ≡ false) }
+        ensures none { IfErr result
+            (λ e. is_held_in self.old.threads self.old.channels process rcvid ≡ false) }
         ensures unchanged { OnErr result (self.new ≡ self.old) }
         ensures error { IfErr result (λ e. e ≡ Errno.Srch) }
     {
@@ -119,7 +128,8 @@ impl Threads {
         requires seat { IsSeatIn self.old seat.now }
         requires sends { is_sending (open_in self.old seat.now.thread) ≡ true }
         ensures after { ChangesOpen seat.now.thread (written_call offset bytes.now) self.old self.new }
-        ensures count { result ≡ laid_count (reply_buffer_in (open_in self.old seat.now.thread)) offset bytes.now }
+        ensures count { result ≡ laid_count (reply_buffer_in (open_in self.old seat.now.thread)) offset
+            bytes.now }
     {
         let sender = &mut self.records[seat.index];
         sender.write(offset, bytes)

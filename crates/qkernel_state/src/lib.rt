@@ -3,16 +3,16 @@
 
 pub mod cancelling;
 pub mod channel;
-pub mod copies;
 pub mod completions;
+pub mod copies;
 pub mod held;
 pub mod index;
 pub mod objects;
 pub mod pulses;
 pub mod receiver;
-pub mod thread_ref;
 pub mod sender;
 pub mod thread;
+pub mod thread_ref;
 pub mod thread_state;
 pub mod threads;
 pub mod unread;

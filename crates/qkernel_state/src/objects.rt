@@ -30,8 +30,10 @@ impl Objects {
     pub fn fellow(&self, process: ProcessNo, thread: ThreadNo) -> Result<ThreadRef, Errno>
         ensures seat { IfOk result (λ seat. IsSeatIn self.now.threads seat) }
         ensures thread { IfOk result (λ seat. seat.thread ≡ thread) }
-        ensures fellow { IfOk result (λ seat. is_in_process process (member_at (members_of self.now.threads) thread) ≡ true) }
-        ensures none { IfErr result (λ e. is_in_process process (member_at (members_of self.now.threads) thread) ≡ false) }
+        ensures fellow { IfOk result
+            (λ seat. is_in_process process (member_at (members_of self.now.threads) thread) ≡ true) }
+        ensures none { IfErr result
+            (λ e. is_in_process process (member_at (members_of self.now.threads) thread) ≡ false) }
         ensures error { IfErr result (λ e. e ≡ Errno.Srch) }
     {
         let seat = self.threads.seat(thread).ok_or(Errno::Srch)?;

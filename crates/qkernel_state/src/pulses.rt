@@ -37,8 +37,12 @@ impl Objects {
         requires pulse { is_pulse item.what ≡ true }
         requires there { is_some (channel_in self.old.channels chid) ≡ true }
         requires newest { AllByRecursion (λ x. x.number < item.number) (pending_in self.old.channels chid) }
-        ensures ok { IfOk result (λ met. IsSent chid item self.old.threads self.old.channels self.new.threads self.new.channels met) }
-        ensures err { IfErr result (λ e. IsTurnedAway chid item self.old.threads self.old.channels self.new.threads self.new.channels e) }
+        ensures ok { IfOk result
+            (λ met. IsSent chid item self.old.threads self.old.channels self.new.threads self.new.channels
+            met) }
+        ensures err { IfErr result
+            (λ e. IsTurnedAway chid item self.old.threads self.old.channels self.new.threads
+            self.new.channels e) }
         ensures connections { self.new.connections ≡ self.old.connections }
     {
         let Some(channel) = self.channels.get_mut(chid) else {
@@ -65,9 +69,13 @@ impl Objects {
     ) -> Result<Option<Completion>, Errno>
         requires pulse { IfSome due (λ item. is_pulse item.what ≡ true) }
         requires there { is_some due ≡ true → is_some (channel_in self.old.channels chid) ≡ true }
-        requires newest { IfSome due (λ item. AllByRecursion (λ x. x.number < item.number) (pending_in self.old.channels chid)) }
-        ensures ok { IfOk result (λ met. IsSentIfDue chid due self.old.threads self.old.channels self.new.threads self.new.channels met) }
-        ensures err { IfErr result (λ e. IsUnsent chid due self.old.threads self.old.channels self.new.threads self.new.channels e) }
+        requires newest { IfSome due
+            (λ item. AllByRecursion (λ x. x.number < item.number) (pending_in self.old.channels chid)) }
+        ensures ok { IfOk result
+            (λ met. IsSentIfDue chid due self.old.threads self.old.channels self.new.threads
+            self.new.channels met) }
+        ensures err { IfErr result
+            (λ e. IsUnsent chid due self.old.threads self.old.channels self.new.threads self.new.channels e) }
         ensures connections { self.new.connections ≡ self.old.connections }
     {
         match due {

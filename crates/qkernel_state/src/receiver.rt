@@ -1,6 +1,7 @@
 //! The receivers of a channel.
 
-ghost use Rattle.std.specs.Prelude.{option_and_then, ◌≡◌, ◌+◌, ℕ, true, None, Some, drop, option_map, IfNone, IfSome};
+ghost use Rattle.std.specs.Prelude.{option_and_then, ◌≡◌, ◌+◌, ℕ, true, None, Some, drop, option_map, IfNone};
+ghost use Rattle.std.specs.Prelude.{IfSome};
 ghost use Rattle.qqueue.specs.declared.item.Item.{Item};
 ghost use Rattle.qtables.specs.Members.{IsRoster};
 ghost use Rattle.qkernel_state.specs.Kept.{members_of};
@@ -8,8 +9,8 @@ ghost use Rattle.qmodel.specs.OpenCalls.{receive_in};
 ghost use Rattle.qkernel_state.specs.Thread.{newest_in, open_in, Wakes};
 ghost use Rattle.qkernel_state.specs.Threads.{IsSeatIn, newest_of, number_and_thread};
 
-use crate::thread_ref::ThreadRef;
 use crate::thread::Thread;
+use crate::thread_ref::ThreadRef;
 use crate::threads::Threads;
 use qbase::ids::ChannelId;
 use qbase::priority::Priority;
@@ -123,8 +124,10 @@ impl Threads {
     ) -> Option<OpenReceive>
         ensures nobody { IfNone result (newest_in channel item.now self.old ≡ None) }
         ensures unchanged { IfNone result (self.new ≡ self.old) }
-        ensures newest { IfSome result (λ receive. newest_in channel item.now self.old ≡ Some receive.thread) }
-        ensures had { IfSome result (λ receive. option_and_then receive_in (open_in self.old receive.thread) ≡ Some receive) }
+        ensures newest { IfSome result
+            (λ receive. newest_in channel item.now self.old ≡ Some receive.thread) }
+        ensures had { IfSome result
+            (λ receive. option_and_then receive_in (open_in self.old receive.thread) ≡ Some receive) }
         ensures after { IfSome result (λ receive. Wakes receive.thread priority self.old self.new) }
     {
         if self.has_no_receiver() {

@@ -10,8 +10,8 @@ ghost use Rattle.qkernel_state.specs.Thread.{sender_in, message_from, ChangesSen
 ghost use Rattle.qkernel_state.specs.Threads.{IsSeatIn};
 
 use crate::pulses::pulse_mark;
-use crate::thread_ref::ThreadRef;
 use crate::thread::Thread;
+use crate::thread_ref::ThreadRef;
 use crate::threads::Threads;
 use qbase::bytes::Bytes;
 use qbase::ids::ReceiveId;
@@ -57,7 +57,11 @@ impl Threads {
     /// Copies the message of this number to the front of a buffer and records the receipt in its Send.
     /// Returns the number of bytes copied, which is 0 if there is no such message.
     fn hand_over(&mut self, number: u64, priority: Priority, buffer: &mut Bytes) -> usize
-        ensures kept { ChangesSender number (held_call (record { priority = priority; copied = result; unblocked = false })) self.old self.new }
+        ensures kept { ChangesSender number (held_call (record {
+          priority = priority;
+          copied = result;
+          unblocked = false;
+        })) self.old self.new }
         ensures buffer { buffer.new ≡ lay_over buffer.old 0 (message_from self.old number) }
         ensures count { result ≡ laid_count buffer.old 0 (message_from self.old number) }
     {
@@ -73,7 +77,11 @@ impl Threads {
     /// Hands an item to a receive, and returns the result of the receive's completion. A message is copied to
     /// the front of the buffer, and its Send records the receipt. A pulse changes neither.
     pub fn hand_item(&mut self, item: Item, buffer: &mut Bytes) -> Mark
-        ensures kept { HandsOver (is_pulse item.what) item.number (record { priority = item.priority; copied = laid_count buffer.old 0 (message_from self.old item.number); unblocked = false }) self.old self.new }
+        ensures kept { HandsOver (is_pulse item.what) item.number (record {
+          priority = item.priority;
+          copied = laid_count buffer.old 0 (message_from self.old item.number);
+          unblocked = false;
+        }) self.old self.new }
         ensures mark { result ≡ (delivery_of item (message_from self.old item.number) buffer.old).0 }
         ensures buffer { buffer.new ≡ (delivery_of item (message_from self.old item.number) buffer.old).1 }
     {

@@ -71,7 +71,11 @@ impl Thread {
         requires { is_sending self.old.open_call ≡ true }
         ensures member { self.new.member ≡ self.old.member }
         ensures priority { self.new.priority ≡ self.old.priority }
-        ensures kept { self.new.open_call ≡ option_map (held_call (record { priority = priority; copied = result; unblocked = false })) self.old.open_call }
+        ensures kept { self.new.open_call ≡ option_map (held_call (record {
+          priority = priority;
+          copied = result;
+          unblocked = false;
+        })) self.old.open_call }
         ensures buffer { buffer.new ≡ lay_over buffer.old 0 (message_in self.old.open_call) }
         ensures count { result ≡ laid_count buffer.old 0 (message_in self.old.open_call) }
     {

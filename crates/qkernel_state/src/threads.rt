@@ -1,6 +1,7 @@
 //! The threads of a kernel.
 
-ghost use Rattle.std.specs.Prelude.{option_and_then, ◌≡◌, ◌<◌, ◌≤◌, None, Some, true, is_some, length, map, IfOk, IfSome};
+ghost use Rattle.std.specs.Prelude.{option_and_then, ◌≡◌, ◌<◌, ◌≤◌, None, Some, true, is_some, length, map};
+ghost use Rattle.std.specs.Prelude.{IfOk, IfSome};
 ghost use Rattle.qtables.specs.Members.{member_at, IsRoster};
 ghost use Rattle.qkernel_state.specs.Kept.{members_of, thread_priority};
 ghost use Rattle.qmodel.specs.OpenCalls.{receive_in, send_in, thread_of};
@@ -8,8 +9,8 @@ ghost use Rattle.qkernel_state.specs.Thread.{ready_thread, open_in, seat_in, Set
 ghost use Rattle.qkernel_state.specs.Threads.{IsSeatIn, IsRecordOf};
 
 use crate::index::IndexGuesses;
-use crate::thread_ref::ThreadRef;
 use crate::thread::Thread;
+use crate::thread_ref::ThreadRef;
 use qbase::ids::ThreadNo;
 use qbase::priority::Priority;
 use qmodel::open_call::{OpenCall, OpenReceive, OpenSend};
@@ -181,7 +182,11 @@ impl Threads {
     /// Takes the call that the thread at this index is blocked in, and returns it if it is a receive. The
     /// thread then isn't blocked. It gets this priority, or keeps its own if `priority` is `None`.
     #[inline(always)]
-    pub(crate) fn wake(&mut self, seat: &ThreadRef, priority: Option<Priority>) -> Option<OpenReceive>
+    pub(crate) fn wake(
+        &mut self,
+        seat: &ThreadRef,
+        priority: Option<Priority>,
+    ) -> Option<OpenReceive>
         requires { IsSeatIn self.old seat.now }
         ensures had { result ≡ option_and_then receive_in (open_in self.old seat.now.thread) }
         ensures own { IfSome result (λ receive. receive.thread ≡ seat.now.thread) }

@@ -6,8 +6,8 @@ ghost use Rattle.qkernel_state.specs.Threads.{IsSeatIn};
 ghost use Rattle.qkernel_state.specs.Unread.{unread_in, MovesUnread};
 
 use crate::objects::Objects;
-use crate::thread_ref::ThreadRef;
 use crate::thread::Thread;
+use crate::thread_ref::ThreadRef;
 use qbase::ids::ChannelId;
 use qbase::priority::Priority;
 
@@ -42,7 +42,8 @@ impl Objects {
     pub fn requeue_unread(&mut self, seat: &ThreadRef, priority: Priority)
         requires { IsSeatIn self.old.threads seat.now }
         ensures threads { self.new.threads ≡ self.old.threads }
-        ensures channels { MovesUnread (open_in self.old.threads seat.now.thread) priority self.old.channels self.new.channels }
+        ensures channels { MovesUnread (open_in self.old.threads seat.now.thread) priority self.old.channels
+            self.new.channels }
         ensures connections { self.new.connections ≡ self.old.connections }
     {
         let there = self.threads.record(seat);

@@ -71,7 +71,12 @@ pub struct Blocked {
 impl OpenSend {
     /// Returns the completion of the Send, with its reply buffer.
     pub fn completion(self, mark: Mark) -> Completion
-        ensures { result ≡ record { call = self.number; thread = self.thread; mark = mark; buffer = self.reply_buffer } }
+        ensures { result ≡ record {
+          call = self.number;
+          thread = self.thread;
+          mark = mark;
+          buffer = self.reply_buffer;
+        } }
     {
         Completion {
             call: self.number,
@@ -85,7 +90,12 @@ impl OpenSend {
 impl OpenReceive {
     /// Returns the completion of the receive, with its buffer.
     pub fn completion(self, mark: Mark) -> Completion
-        ensures { result ≡ record { call = self.number; thread = self.thread; mark = mark; buffer = self.buffer } }
+        ensures { result ≡ record {
+          call = self.number;
+          thread = self.thread;
+          mark = mark;
+          buffer = self.buffer;
+        } }
     {
         Completion {
             call: self.number,

@@ -1,5 +1,6 @@
 -- LevelRings that are padded with zeros.
-use Rattle.qqueue.proofs.Common.{◌≡◌, ℕ, zero, suc, ◌≤◌, List, [], ◌∷◌, ◌++◌, length, get_or, take, replicate, cond, Bool, true, false, refl, ap, ◌∙◌, take_all}
+use Rattle.qqueue.proofs.Common.{◌≡◌, ℕ, zero, suc, ◌≤◌, List, [], ◌∷◌, ◌++◌, length, get_or, take, replicate, cond}
+use Rattle.qqueue.proofs.Common.{Bool, true, false, refl, ap, ◌∙◌, take_all}
 
 zeros : (n k : ℕ) → let zeroes : List ℕ = replicate n 0 in get_or zeroes k 0 ≡ 0
 zeros zero k = refl
@@ -12,6 +13,8 @@ padded (x ∷ xs) n zero = refl
 padded (x ∷ xs) n (suc k) = padded xs n k
 
 -- padding with zeros changes no element, because a read past the end of a list returns zero
-pub resized : (ok : Bool) (old new : List ℕ) (n more : ℕ) → length old ≤ n → new ≡ cond ok (take n old ++ replicate more 0) old → (k : ℕ) → get_or new k 0 ≡ get_or old k 0
-resized true old new n more short is k = ap (λ l. get_or l k 0) (is ∙ ap (λ l. l ++ replicate more 0) (take_all n old short)) ∙ padded old more k
+pub resized : (ok : Bool) (old new : List ℕ) (n more : ℕ) → length old ≤ n
+    → new ≡ cond ok (take n old ++ replicate more 0) old → (k : ℕ) → get_or new k 0 ≡ get_or old k 0
+resized true old new n more short is k =
+    ap (λ l. get_or l k 0) (is ∙ ap (λ l. l ++ replicate more 0) (take_all n old short)) ∙ padded old more k
 resized false old new n more short is k = ap (λ l. get_or l k 0) is

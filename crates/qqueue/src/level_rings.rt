@@ -1,12 +1,14 @@
 //! The nodes and rings of a queue: adds items, removes them, changes their priority, and finds the best one.
 
-ghost use Rattle.std.specs.Prelude.{◌≡◌, ◌≢◌, ◌+◌, ◌<◌, ◌≤◌, ℕ, [], ◌∷◌, ◌++◌, None, Some, IfSome, IfNone, IsSome, OnOk, OnErr, IsOk, if◌then◌else◌, unwrap_or};
+ghost use Rattle.std.specs.Prelude.{◌≡◌, ◌≢◌, ◌+◌, ◌<◌, ◌≤◌, ℕ, [], ◌∷◌, ◌++◌, None, Some, IfSome, IfNone};
+ghost use Rattle.std.specs.Prelude.{IsSome, OnOk, OnErr, IsOk, if◌then◌else◌, unwrap_or};
 ghost use Rattle.std.specs.List.{AllByRecursion};
 ghost use Rattle.std.specs.Vec.{vec_len, vec_capacity};
 ghost use Rattle.slab.specs.Slab.{slab_len};
 ghost use Rattle.qqueue.specs.Best.{best_of, is_pulse, without_item, with_item_priority, with_priority};
 ghost use Rattle.qqueue.specs.LevelHeads.{first_in, IsEarlier, IsForemost};
-ghost use Rattle.qqueue.specs.Rings.{put_place, places_after, places_of, items_at, pulses_of, Rises, keys_on, Ring, first_of, after_of, before_of, item_of, item_at, Linked};
+ghost use Rattle.qqueue.specs.Rings.{put_place, places_after, places_of, items_at, pulses_of, Rises, keys_on};
+ghost use Rattle.qqueue.specs.Rings.{Ring, first_of, after_of, before_of, item_of, item_at, Linked};
 ghost use Rattle.qqueue.specs.Joins.{Joined, ClosedUp};
 
 use crate::item::{Item, Kind};
@@ -43,8 +45,11 @@ fn room_of(nodes: &Slab<Node>) -> usize
 fn join(lane: &mut LevelHeads, nodes: &mut Slab<Node>, level: u8, key: usize, next: Option<usize>)
     requires made { vec_len lane.old.firsts ≡ 256 }
     requires there { IsSome (item_of nodes.old key) }
-    requires next_there { (first : ℕ) → first_in lane.old level ≡ Some first → IsSome (item_of nodes.old (unwrap_or next first)) × (unwrap_or next first ≢ key) }
-    requires prior_there { (first prior : ℕ) → first_in lane.old level ≡ Some first → before_of nodes.old (unwrap_or next first) ≡ Some prior → IsSome (item_of nodes.old prior) × (prior ≢ key) }
+    requires next_there { (first : ℕ) → first_in lane.old level ≡ Some first
+        → IsSome (item_of nodes.old (unwrap_or next first)) × (unwrap_or next first ≢ key) }
+    requires prior_there { (first prior : ℕ) → first_in lane.old level ≡ Some first
+        → before_of nodes.old (unwrap_or next first) ≡ Some prior → IsSome (item_of nodes.old prior)
+        × (prior ≢ key) }
     ensures joined { Joined (first_in lane.old) (first_in lane.new) nodes.old nodes.new level key next }
     ensures firsts { vec_len lane.new.firsts ≡ vec_len lane.old.firsts }
     ensures len { slab_len nodes.new ≡ slab_len nodes.old }
@@ -93,9 +98,13 @@ fn close_up(lane: &mut LevelHeads, nodes: &mut Slab<Node>, key: usize, node: Nod
 /// The ring of the item's kind and level begins at the key `first`.
 fn next_from(nodes: &Slab<Node>, first: usize, item: &Item) -> Option<usize>
     requires rises { Rises (places_of nodes.now) }
-    requires first { first_of (keys_on (is_pulse item.now.what) item.now.priority (places_of nodes.now)) ≡ Some first }
-    requires ring { Ring nodes.now (keys_on (is_pulse item.now.what) item.now.priority (places_of nodes.now)) }
-    ensures { result ≡ first_of (keys_on (is_pulse item.now.what) item.now.priority (places_after item.now.number (places_of nodes.now))) }
+    requires first { first_of (keys_on (is_pulse item.now.what) item.now.priority (places_of nodes.now))
+        ≡ Some first }
+    requires ring { Ring nodes.now
+        (keys_on (is_pulse item.now.what) item.now.priority (places_of nodes.now)) }
+    ensures { result ≡ first_of
+        (keys_on (is_pulse item.now.what) item.now.priority
+        (places_after item.now.number (places_of nodes.now))) }
 {
     // The numbers rise. If the last one isn't greater than the item's, none is, and no walk is needed.
     let last = nodes[first].before;
@@ -116,7 +125,8 @@ fn earlier(nodes: &Slab<Node>, message: (u8, usize), pulse: (u8, usize)) -> usiz
     requires message_there { IsSome (item_of nodes.now message.1) }
     requires pulse_there { IsSome (item_of nodes.now pulse.1) }
     ensures there { IsSome (item_of nodes.now result) }
-    ensures first { IfSome (item_of nodes.now message.1) (λ m. IfSome (item_of nodes.now pulse.1) (λ p. IsEarlier message m pulse p result)) }
+    ensures first { IfSome (item_of nodes.now message.1)
+        (λ m. IfSome (item_of nodes.now pulse.1) (λ p. IsEarlier message m pulse p result)) }
 {
     if message.0 != pulse.0 {
         return if message.0 > pulse.0 {
@@ -179,7 +189,8 @@ impl LevelRings {
         requires room { 0 < self.old.room }
         requires newest { AllByRecursion (λ place. place.0.number < item.number) (places_of self.old.nodes) }
         ensures kept { IsKept self.new }
-        ensures items { items_at (places_of self.new.nodes) ≡ items_at (places_of self.old.nodes) ++ item ∷ [] }
+        ensures items { items_at (places_of self.new.nodes) ≡ items_at (places_of self.old.nodes)
+            ++ item ∷ [] }
         ensures len { slab_len self.new.nodes ≡ slab_len self.old.nodes + 1 }
         ensures room { self.new.room + 1 ≡ self.old.room }
     {
@@ -206,7 +217,9 @@ impl LevelRings {
         requires kept { IsKept self.old }
         requires room { 0 < self.old.room }
         requires apart { AllByRecursion (λ place. place.0.number ≢ item.number) (places_of self.old.nodes) }
-        requires next { next ≡ first_of (keys_on (is_pulse item.what) item.priority (places_after item.number (places_of self.old.nodes))) }
+        requires next { next ≡ first_of
+            (keys_on (is_pulse item.what) item.priority
+            (places_after item.number (places_of self.old.nodes))) }
         ensures kept { IsKept self.new }
         ensures key { result ≡ self.old.nodes.vacant_key }
         ensures places { places_of self.new.nodes ≡ put_place (item, result) (places_of self.old.nodes) }
@@ -229,7 +242,9 @@ impl LevelRings {
     fn next_of(&self, item: &Item) -> Option<usize>
         requires kept { IsKept self.now }
         requires room { 0 < self.now.room }
-        ensures { result ≡ first_of (keys_on (is_pulse item.now.what) item.now.priority (places_after item.now.number (places_of self.now.nodes))) }
+        ensures { result ≡ first_of
+            (keys_on (is_pulse item.now.what) item.now.priority
+            (places_after item.now.number (places_of self.now.nodes))) }
     {
         let level = item.priority.get();
         let first = if item.what.is_pulse() {
@@ -246,8 +261,10 @@ impl LevelRings {
         requires there { IsSome (item_of self.old.nodes key) }
         ensures item { item_of self.old.nodes key ≡ Some result }
         ensures places { places_of self.old.nodes ≡ put_place (result, key) (places_of self.new.nodes) }
-        ensures rest { items_at (places_of self.new.nodes) ≡ without_item result.number (items_at (places_of self.old.nodes)) }
-        ensures counts { pulses_of (items_at (places_of self.old.nodes)) ≡ pulses_of (items_at (places_of self.new.nodes)) + (if is_pulse result.what then 1 else 0) }
+        ensures rest { items_at (places_of self.new.nodes) ≡ without_item result.number
+            (items_at (places_of self.old.nodes)) }
+        ensures counts { pulses_of (items_at (places_of self.old.nodes)) ≡ pulses_of
+            (items_at (places_of self.new.nodes)) + (if is_pulse result.what then 1 else 0) }
         ensures vacant { self.new.nodes.vacant_key ≡ key }
         ensures kept { IsKept self.new }
         ensures room { self.old.room < self.new.room }
@@ -267,9 +284,13 @@ impl LevelRings {
     pub fn requeue(&mut self, key: usize, priority: Priority)
         requires kept { IsKept self.old }
         requires there { IsSome (item_of self.old.nodes key) }
-        ensures items { IfSome (item_of self.old.nodes key) (λ item. items_at (places_of self.new.nodes) ≡ with_item_priority item.number priority (items_at (places_of self.old.nodes))) }
-        ensures same_key { IfSome (item_of self.old.nodes key) (λ item. item_of self.new.nodes key ≡ Some (with_priority priority item)) }
-        ensures counts { pulses_of (items_at (places_of self.new.nodes)) ≡ pulses_of (items_at (places_of self.old.nodes)) }
+        ensures items { IfSome (item_of self.old.nodes key)
+            (λ item. items_at (places_of self.new.nodes) ≡ with_item_priority item.number priority
+            (items_at (places_of self.old.nodes))) }
+        ensures same_key { IfSome (item_of self.old.nodes key)
+            (λ item. item_of self.new.nodes key ≡ Some (with_priority priority item)) }
+        ensures counts { pulses_of (items_at (places_of self.new.nodes)) ≡ pulses_of
+            (items_at (places_of self.old.nodes)) }
         ensures kept { IsKept self.new }
         ensures room { self.new.room ≡ self.old.room }
     {
@@ -300,7 +321,8 @@ impl LevelRings {
         requires kept { IsKept self.now }
         requires some { IfSome pulse (λ found. IsForemost (first_in self.now.pulses) found) }
         requires none { IfNone pulse ((level : ℕ) → first_in self.now.pulses level ≡ None) }
-        ensures best { item_at self.now.nodes result ≡ best_of Kind.Any (items_at (places_of self.now.nodes)) }
+        ensures best { item_at self.now.nodes result ≡ best_of Kind.Any
+            (items_at (places_of self.now.nodes)) }
         ensures there { IfSome result (λ key. IsSome (item_of self.now.nodes key)) }
     {
         match (self.messages.foremost(), pulse) {

@@ -3,9 +3,9 @@
 
 pub mod item;
 mod level_heads;
-pub mod queue_laws;
-mod links;
 mod level_rings;
+mod links;
 mod node;
 mod order;
 pub mod queue;
+pub mod queue_laws;

@@ -78,7 +78,8 @@ pub fn add(nodes: &mut Slab<Node>, item: Item) -> usize
 fn search(nodes: &Slab<Node>, number: u64) -> Option<usize>
     ensures found { IfSome result (λ key. IfSome (item_of nodes.now key) (λ item. item.number ≡ number)) }
     ensures there { IfSome result (λ key. IsSome (item_of nodes.now key)) }
-    ensures absent { IfNone result ((key : ℕ) → IfSome (item_of nodes.now key) (λ item. item.number ≢ number)) }
+    ensures absent { IfNone result
+        ((key : ℕ) → IfSome (item_of nodes.now key) (λ item. item.number ≢ number)) }
 {
     for (key, node) in nodes.iter() {
         if node.item.number == number {
@@ -93,7 +94,8 @@ fn search(nodes: &Slab<Node>, number: u64) -> Option<usize>
 pub fn key_of(nodes: &Slab<Node>, number: u64, key: usize) -> Option<usize>
     ensures found { IfSome result (λ key. IfSome (item_of nodes.now key) (λ item. item.number ≡ number)) }
     ensures there { IfSome result (λ key. IsSome (item_of nodes.now key)) }
-    ensures absent { IfNone result ((key : ℕ) → IfSome (item_of nodes.now key) (λ item. item.number ≢ number)) }
+    ensures absent { IfNone result
+        ((key : ℕ) → IfSome (item_of nodes.now key) (λ item. item.number ≢ number)) }
 {
     match nodes.get(key) {
         Some(node) if node.item.number == number => Some(key),

@@ -1,6 +1,8 @@
 //! The queue of one channel.
 
-ghost use Rattle.std.specs.Prelude.{◌≡◌, ◌==◌, ◌+◌, ◌<◌, ◌≤◌, [], ◌∷◌, ◌++◌, length, count_by, IsOk, OnOk, OnErr, IfErr, IfSome, IfNone, IsSome, IsFalse, is_some, option_copied, IfOk};
+ghost use Rattle.std.specs.Prelude.{◌≡◌, ◌==◌, ◌+◌, ◌<◌, ◌≤◌, [], ◌∷◌, ◌++◌, length, count_by, IsOk, OnOk};
+ghost use Rattle.std.specs.Prelude.{OnErr, IfErr, IfSome, IfNone, IsSome, IsFalse, is_some, option_copied};
+ghost use Rattle.std.specs.Prelude.{IfOk};
 ghost use Rattle.std.specs.List.{AllByRecursion};
 ghost use Rattle.qbase.specs.declared.errno.Errno.TheVariants.{NoMemory};
 ghost use Rattle.qqueue.specs.Best.{best_of, without_item, with_item_priority, item_of_number, is_pulse};
@@ -9,8 +11,8 @@ ghost use Rattle.qqueue.specs.Kept.{IsKept};
 ghost use Rattle.qqueue.specs.Rings.{places_of, items_at, item_of, pulses_of};
 
 use crate::item::{Item, Kind};
-use crate::links::key_of;
 use crate::level_rings::LevelRings;
+use crate::links::key_of;
 use crate::order::in_order;
 use qbase::errno::Errno;
 use qbase::priority::Priority;
@@ -45,7 +47,8 @@ fn take_out(lists: &mut LevelRings, pulses: &mut usize, key: usize) -> Item
     requires there { IsSome (item_of lists.old.nodes key) }
     requires counted { pulses.old ≡ pulses_of (items_at (places_of lists.old.nodes)) }
     ensures item { item_of lists.old.nodes key ≡ Some result }
-    ensures rest { items_at (places_of lists.new.nodes) ≡ without_item result.number (items_at (places_of lists.old.nodes)) }
+    ensures rest { items_at (places_of lists.new.nodes) ≡ without_item result.number
+        (items_at (places_of lists.old.nodes)) }
     ensures kept { IsKept lists.new }
     ensures room { lists.old.room ≤ lists.new.room }
     ensures counted { pulses.new ≡ pulses_of (items_at (places_of lists.new.nodes)) }

@@ -1,7 +1,8 @@
 //! Laws of the order of receipt. The functions do nothing: the contract of each is a law, proved for all
 //! items and all lists of items.
 
-ghost use Rattle.qqueue.specs.Order.{JustOneComesBefore, BeforeIsTransitive, NoneBeforeItself, BestIsFirst, NoBestIfNoneMayBeTaken};
+ghost use Rattle.qqueue.specs.Order.{JustOneComesBefore, BeforeIsTransitive, NoneBeforeItself, BestIsFirst};
+ghost use Rattle.qqueue.specs.Order.{NoBestIfNoneMayBeTaken};
 
 /// The order of receipt is a total order of items with different numbers.
 pub fn order_is_total()

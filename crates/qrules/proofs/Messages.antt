@@ -1,5 +1,6 @@
 -- The open Send of a number.
-use Rattle.qrules.proofs.Common.{arith, ◌≡◌, ◌⊎◌, ℕ, false, message_in, reply_buffer_in, Send, None, Some, option_map_or}
+use Rattle.qrules.proofs.Common.{arith, ◌≡◌, ◌⊎◌, ℕ, false, message_in, reply_buffer_in, Send, None, Some}
+use Rattle.qrules.proofs.Common.{option_map_or}
 use Rattle.qrules.proofs.Words.Facts.{is_held_by, sender_call}
 use Rattle.qrules.proofs.Traces.Past.Senders.{sender_sends}
 use Rattle.qrules.specs.Facts.{holds, message, open_send, reply_buffer, sender, threads_of, Facts, OpenSend}

@@ -66,7 +66,8 @@ first_among say (x ∷ completions) = option_or (say x) (first_among say complet
 abbrev pub copied_count_of : Trace → CallNo → Option ℕ
 copied_count_of [] i = None
 copied_count_of (e ∷ past) i = option_or (first_among
-    (λ x. option_and_then (λ r. if r.number == i then Some r.copied else None) (item_in x.mark)) e.completions)
+    (λ x. option_and_then (λ r. if r.number == i then Some r.copied else None) (item_in x.mark))
+    e.completions)
     (copied_count_of past i)
 
 -- item i has been received

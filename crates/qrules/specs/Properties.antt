@@ -68,7 +68,8 @@ AnswersOnce past e = (i : ReceiveId) → (effect_of e.call).answers ≡ Some i �
 -- completion of its message's Send
 abbrev pub AnsweredToSender : List Member → Trace → Type 0
 AnsweredToSender roster = InEachEvent (λ past e.
-    AllByRecursion (λ x. is_answer x.mark ≡ true → AnswersIts roster past e x) e.completions × AnswersOnce past e)
+    AllByRecursion (λ x. is_answer x.mark ≡ true → AnswersIts roster past e x) e.completions
+    × AnswersOnce past e)
 
 -- ---- every buffer and every count is exactly as the copying requires
 

@@ -47,4 +47,5 @@ AreApart (x ∷ completions) = (gets completions x.thread ≡ false) × AreApart
 -- these completions are in rising thread number
 abbrev pub RiseByThread : List Completion → Type 0
 RiseByThread [] = Unit {0}
-RiseByThread (x ∷ completions) = AllByRecursion (λ y. x.thread < y.thread) completions × RiseByThread completions
+RiseByThread (x ∷ completions) = AllByRecursion (λ y. x.thread < y.thread) completions
+    × RiseByThread completions

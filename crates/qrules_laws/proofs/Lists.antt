@@ -1,7 +1,8 @@
 -- Statements that hold for each element of a list, and counts of elements.
 use Rattle.qrules_laws.proofs.Common.{Bool, List, [], arith, cond, count_by, filter, sum_by-cons, ◌+◌, ◌∷◌, ◌≡◌, ◌≤◌}
 
-pub count_cons : {X : Type 0} (q : X → Bool) (x : X) (xs : List X) → count_by q (x ∷ xs) ≡ cond (q x) 1 0 + count_by q xs
+pub count_cons : {X : Type 0} (q : X → Bool) (x : X) (xs : List X)
+    → count_by q (x ∷ xs) ≡ cond (q x) 1 0 + count_by q xs
 count_cons q x xs = sum_by-cons (λ y. cond (q y) 1 0) x xs
 
 -- a filter doesn't make a count greater

@@ -1,6 +1,10 @@
 //! Laws of the completions of one event.
 
-ghost use Rattle.qrules_laws.specs.Completions.{BlockedUnlessEnded, CallerGetsItsOwn, CompletionsAreApart, CompletionsGoToBlocked, CompletionsKeepLength, CompletionsNameOwnCalls, CompletionsRiseByThread, EndsOrWaits, NothingFromDestroyed, OnlyRefusedWhenDown, ReceivedWasSent, RefusedChangesNothing};
+ghost use Rattle.qrules_laws.specs.Completions.{BlockedUnlessEnded, CallerGetsItsOwn, CompletionsAreApart};
+ghost use Rattle.qrules_laws.specs.Completions.{CompletionsGoToBlocked, CompletionsKeepLength};
+ghost use Rattle.qrules_laws.specs.Completions.{CompletionsNameOwnCalls, CompletionsRiseByThread};
+ghost use Rattle.qrules_laws.specs.Completions.{EndsOrWaits, NothingFromDestroyed, OnlyRefusedWhenDown};
+ghost use Rattle.qrules_laws.specs.Completions.{ReceivedWasSent, RefusedChangesNothing};
 
 /// Each completion goes to the thread that made the completed call.
 #[tactic(auto, using(qrules::proofs::Traces::TraceLaws::Completion::completions_name_own_calls))]

@@ -1,6 +1,7 @@
 //! Laws of ids: of open channels and live connections.
 
-ghost use Rattle.qrules_laws.specs.Ids.{ChannelsAreLimited, ConnectionsAreLimited, DestroyedStaysDestroyed, DetachedStaysDetached};
+ghost use Rattle.qrules_laws.specs.Ids.{ChannelsAreLimited, ConnectionsAreLimited, DestroyedStaysDestroyed};
+ghost use Rattle.qrules_laws.specs.Ids.{DetachedStaysDetached};
 
 /// No more than 64 channels are open.
 #[tactic(auto, using(crate::proofs::IdLaws::channels_are_limited))]

@@ -1,6 +1,9 @@
 //! Laws of open calls.
 
-ghost use Rattle.qrules_laws.specs.OpenCalls.{AtMostOneOpen, HeldIsOpenSend, NewestIsLast, NobodyWaitsAfterShutdown, NoneIsNewest, NothingPendingForWaiting, OpenIsUnended, OpenSendsAreRouted, ReceiveBuffersKeepLength, ReplyBuffersKeepLength};
+ghost use Rattle.qrules_laws.specs.OpenCalls.{AtMostOneOpen, HeldIsOpenSend, NewestIsLast};
+ghost use Rattle.qrules_laws.specs.OpenCalls.{NobodyWaitsAfterShutdown, NoneIsNewest};
+ghost use Rattle.qrules_laws.specs.OpenCalls.{NothingPendingForWaiting, OpenIsUnended, OpenSendsAreRouted};
+ghost use Rattle.qrules_laws.specs.OpenCalls.{ReceiveBuffersKeepLength, ReplyBuffersKeepLength};
 
 /// A thread has at most one accepted call that may block and hasn't completed. The thread is blocked in
 /// exactly this call.

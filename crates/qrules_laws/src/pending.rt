@@ -1,6 +1,8 @@
 //! Laws of queued items.
 
-ghost use Rattle.qrules_laws.specs.Pending.{FirstGoesFirst, NonePendingIsHeld, OneUnblockPulse, OthersKeepTheirOrder, PendingFollowsItsSender, PendingIsOpen, PendingRises, PlacesFall, PulsesAreLimited, SettingMovesItsOwn};
+ghost use Rattle.qrules_laws.specs.Pending.{FirstGoesFirst, NonePendingIsHeld, OneUnblockPulse};
+ghost use Rattle.qrules_laws.specs.Pending.{OthersKeepTheirOrder, PendingFollowsItsSender, PendingIsOpen};
+ghost use Rattle.qrules_laws.specs.Pending.{PendingRises, PlacesFall, PulsesAreLimited, SettingMovesItsOwn};
 
 /// The items that are queued on a channel are in rising number, and none is held. The sender of each message
 /// is blocked in its Send, and has the same priority as the message.

@@ -1,7 +1,9 @@
 -- On a channel with all three flags, each flag has its effect. Receipts don't change priorities, and a client
 -- that is to be unblocked stays blocked while its message is held.
-use Rattle.qrules_worked.specs.Words.{List, [], replicate, pos, negsuc, Intr, Ready, ReceiveBlocked, ReplyBlocked}
-use Rattle.qrules_worked.specs.Words.{Send, Receive, Reply, Info, ReceivePulse, Pulse, PrioritySet, Unblock, State}
+use Rattle.qrules_worked.specs.Words.{List, [], replicate, pos, negsuc, Intr, Ready, ReceiveBlocked}
+use Rattle.qrules_worked.specs.Words.{ReplyBlocked}
+use Rattle.qrules_worked.specs.Words.{Send, Receive, Reply, Info, ReceivePulse, Pulse, PrioritySet, Unblock}
+use Rattle.qrules_worked.specs.Words.{State}
 use Rattle.qrules_worked.specs.Words.{Blocked, Event, blocked, ended, event, info}
 use Rattle.std.specs.Prelude.{◌∷◌}
 use Rattle.qqueue.specs.declared.item.What.TheVariants as what

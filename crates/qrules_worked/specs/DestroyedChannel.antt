@@ -1,6 +1,8 @@
 -- A ChannelDestroy cancels the calls that are blocked on the channel, and later calls on it fail.
-use Rattle.qrules_worked.specs.Words.{List, [], pos, Srch, Badf, Inval, ChannelCreate, ConnectAttach, Send, Receive}
-use Rattle.qrules_worked.specs.Words.{Reply, ReceivePulse, Pulse, ChannelDestroy, Event, event, ended, flags_of}
+use Rattle.qrules_worked.specs.Words.{List, [], pos, Srch, Badf, Inval, ChannelCreate, ConnectAttach, Send}
+use Rattle.qrules_worked.specs.Words.{Receive}
+use Rattle.qrules_worked.specs.Words.{Reply, ReceivePulse, Pulse, ChannelDestroy, Event, event, ended}
+use Rattle.qrules_worked.specs.Words.{flags_of}
 use Rattle.qrules_worked.specs.Words.{connected}
 use Rattle.std.specs.Prelude.{◌∷◌}
 use Rattle.qqueue.specs.declared.item.What.TheVariants as what

@@ -1,7 +1,8 @@
 -- A ConnectDetach cancels the Sends over the connection, and the server of a channel with the disconnect flag
 -- gets a pulse for the last connection.
 use Rattle.qrules_worked.specs.Words.{List, [], pos, Badf, Inval, Srch, ReceiveBlocked, ChannelCreate}
-use Rattle.qrules_worked.specs.Words.{ConnectAttach, ConnectDetach, Send, Receive, Reply, Read, Info, ReceivePulse}
+use Rattle.qrules_worked.specs.Words.{ConnectAttach, ConnectDetach, Send, Receive, Reply, Read, Info}
+use Rattle.qrules_worked.specs.Words.{ReceivePulse}
 use Rattle.qrules_worked.specs.Words.{Blocked, Event, blocked, ended, event, flags_of, info, connected}
 use Rattle.std.specs.Prelude.{◌∷◌}
 use Rattle.qqueue.specs.declared.item.What.TheVariants as what

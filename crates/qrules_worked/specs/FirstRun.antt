@@ -1,6 +1,7 @@
 -- The first run: a server creates a channel; a client attaches to it and sends; the server receives and
 -- replies.
-use Rattle.qrules_worked.specs.Words.{List, [], pos, Member, ChannelCreate, ConnectAttach, Send, Receive, Reply}
+use Rattle.qrules_worked.specs.Words.{List, [], pos, Member, ChannelCreate, ConnectAttach, Send, Receive}
+use Rattle.qrules_worked.specs.Words.{Reply}
 use Rattle.qrules_worked.specs.Words.{Event, member, event, ended, flags_of, with_completions}
 use Rattle.std.specs.Prelude.{◌∷◌}
 use Rattle.qmodel.specs.declared.call.Mark.TheVariants as mark

@@ -1,6 +1,7 @@
 -- The server receives the queued message of greatest priority first, and among equals the message that was
 -- sent first.
-use Rattle.qrules_worked.specs.Words.{List, [], ReplyBlocked, ConnectAttach, Send, Receive, Blocked, Event, event}
+use Rattle.qrules_worked.specs.Words.{List, [], ReplyBlocked, ConnectAttach, Send, Receive, Blocked, Event}
+use Rattle.qrules_worked.specs.Words.{event}
 use Rattle.qrules_worked.specs.Words.{ended, blocked, with_completions, connected}
 use Rattle.std.specs.Prelude.{◌∷◌}
 use Rattle.qmodel.specs.declared.call.Mark.TheVariants as mark

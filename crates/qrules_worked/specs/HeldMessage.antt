@@ -1,5 +1,6 @@
 -- Info, Read and Write are allowed on a held message until the reply.
-use Rattle.qrules_worked.specs.Words.{List, [], pos, Srch, Send, Receive, Reply, Read, Write, Info, Event, ended}
+use Rattle.qrules_worked.specs.Words.{List, [], pos, Srch, Send, Receive, Reply, Read, Write, Info, Event}
+use Rattle.qrules_worked.specs.Words.{ended}
 use Rattle.qrules_worked.specs.Words.{event, info, connected}
 use Rattle.std.specs.Prelude.{◌∷◌}
 use Rattle.qmodel.specs.declared.call.Mark.TheVariants as mark

@@ -1,5 +1,6 @@
 -- The server gets a pulse for the last connection of each process, though another process is still attached.
-use Rattle.qrules_worked.specs.Words.{List, [], pos, negsuc, Badf, Inval, Srch, ConnectAttach, ConnectDetach, Send}
+use Rattle.qrules_worked.specs.Words.{List, [], pos, negsuc, Badf, Inval, Srch, ConnectAttach, ConnectDetach}
+use Rattle.qrules_worked.specs.Words.{Send}
 use Rattle.qrules_worked.specs.Words.{Receive, Pulse, PrioritySet, ReceivePulse, ChannelDestroy, Event, event}
 use Rattle.qrules_worked.specs.Words.{ended}
 use Rattle.std.specs.Prelude.{◌∷◌}

@@ -1,6 +1,7 @@
 -- The results of calls at a limit: 64 open channels, 1,024 live connections, or 1,024 pulses that are queued
 -- on a channel.
-use Rattle.qrules_worked.specs.Words.{ℕ, List, [], replicate, pos, ChannelCreate, ChannelDestroy, ConnectDetach}
+use Rattle.qrules_worked.specs.Words.{ℕ, List, [], replicate, pos, ChannelCreate, ChannelDestroy}
+use Rattle.qrules_worked.specs.Words.{ConnectDetach}
 use Rattle.qrules_worked.specs.Words.{Completion, Facts, facts_of, followed_by, Event, event, ended, flags_of}
 use Rattle.qrules_worked.specs.Words.{roster, connected}
 use Rattle.std.specs.Prelude.{◌≡◌, ◌+◌, ◌∷◌, ◌++◌}
@@ -21,7 +22,8 @@ facts_after events = facts_of roster (followed_by [] events)
 -- the call can only fail with this error
 abbrev pub IsRefusedWith : Facts → ℕ → Call → Errno → Type 0
 IsRefusedWith f t c e = Answers f t c (ended f.number t (mark.Failed e) (buffer_of c) ∷ [])
-    × ((completions : List Completion) → Answers f t c completions → completions ≡ ended f.number t (mark.Failed e)
+    × ((completions : List Completion) → Answers f t c completions
+    → completions ≡ ended f.number t (mark.Failed e)
     (buffer_of c) ∷ [])
 
 -- k channels are created, by the calls from n on

@@ -1,7 +1,9 @@
 -- A queued message takes the priority that is set for its sender, and is received at its place among the
 -- items of that priority. A held message and a pulse keep their priorities.
-use Rattle.qrules_worked.specs.Words.{List, [], pos, Busy, Srch, Ready, ReplyBlocked, SendBlocked, ConnectAttach}
-use Rattle.qrules_worked.specs.Words.{Send, Receive, Info, ReceivePulse, Pulse, PrioritySet, State, Unblock, Event}
+use Rattle.qrules_worked.specs.Words.{List, [], pos, Busy, Srch, Ready, ReplyBlocked, SendBlocked}
+use Rattle.qrules_worked.specs.Words.{ConnectAttach}
+use Rattle.qrules_worked.specs.Words.{Send, Receive, Info, ReceivePulse, Pulse, PrioritySet, State, Unblock}
+use Rattle.qrules_worked.specs.Words.{Event}
 use Rattle.qrules_worked.specs.Words.{ended, event, info, connected}
 use Rattle.std.specs.Prelude.{◌∷◌}
 use Rattle.qqueue.specs.declared.item.What.TheVariants as what

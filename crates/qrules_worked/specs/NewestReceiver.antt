@@ -1,5 +1,6 @@
 -- An item goes to the newest receiver that may take it.
-use Rattle.qrules_worked.specs.Words.{List, [], pos, ReceiveBlocked, ReplyBlocked, Send, Receive, ReceivePulse}
+use Rattle.qrules_worked.specs.Words.{List, [], pos, ReceiveBlocked, ReplyBlocked, Send, Receive}
+use Rattle.qrules_worked.specs.Words.{ReceivePulse}
 use Rattle.qrules_worked.specs.Words.{Pulse, Blocked, Event, event, ended, blocked, connected}
 use Rattle.std.specs.Prelude.{◌∷◌}
 use Rattle.qqueue.specs.declared.item.What.TheVariants as what

@@ -1,6 +1,7 @@
 -- A call on a message fails if the message hasn't been received yet, is held by another process, or has its
 -- reply already.
-use Rattle.qrules_worked.specs.Words.{List, [], pos, Srch, Send, Receive, Reply, Error, Read, Write, Info, Event}
+use Rattle.qrules_worked.specs.Words.{List, [], pos, Srch, Send, Receive, Reply, Error, Read, Write, Info}
+use Rattle.qrules_worked.specs.Words.{Event}
 use Rattle.qrules_worked.specs.Words.{event, ended, connected}
 use Rattle.std.specs.Prelude.{◌∷◌}
 use Rattle.qmodel.specs.declared.call.Mark.TheVariants as mark

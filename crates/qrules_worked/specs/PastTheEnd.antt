@@ -1,5 +1,6 @@
 -- In a Read or a Write, an offset at the end or past it copies nothing and isn't an error.
-use Rattle.qrules_worked.specs.Words.{List, [], pos, Send, Receive, Reply, Read, Write, Info, Event, ended, event}
+use Rattle.qrules_worked.specs.Words.{List, [], pos, Send, Receive, Reply, Read, Write, Info, Event, ended}
+use Rattle.qrules_worked.specs.Words.{event}
 use Rattle.qrules_worked.specs.Words.{info}
 use Rattle.std.specs.Prelude.{◌∷◌}
 use Rattle.qmodel.specs.declared.call.Mark.TheVariants as mark

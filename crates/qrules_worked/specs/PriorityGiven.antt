@@ -1,6 +1,7 @@
 -- A blocked receiver takes the priority of a pulse when the pulse is sent, and keeps it until its priority is
 -- set.
-use Rattle.qrules_worked.specs.Words.{List, [], pos, Srch, Ready, Receive, Pulse, PrioritySet, State, Event, event}
+use Rattle.qrules_worked.specs.Words.{List, [], pos, Srch, Ready, Receive, Pulse, PrioritySet, State, Event}
+use Rattle.qrules_worked.specs.Words.{event}
 use Rattle.qrules_worked.specs.Words.{ended, connected}
 use Rattle.std.specs.Prelude.{◌∷◌}
 use Rattle.qqueue.specs.declared.item.What.TheVariants as what

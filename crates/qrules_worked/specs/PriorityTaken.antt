@@ -1,7 +1,9 @@
 -- A server takes the priority of a message that it receives, and sends with it, unless the channel fixes
 -- priorities.
-use Rattle.qrules_worked.specs.Words.{List, [], Ready, ReplyBlocked, ChannelCreate, ConnectAttach, Send, Receive}
-use Rattle.qrules_worked.specs.Words.{Info, PrioritySet, State, Blocked, Event, blocked, ended, event, flags_of}
+use Rattle.qrules_worked.specs.Words.{List, [], Ready, ReplyBlocked, ChannelCreate, ConnectAttach, Send}
+use Rattle.qrules_worked.specs.Words.{Receive}
+use Rattle.qrules_worked.specs.Words.{Info, PrioritySet, State, Blocked, Event, blocked, ended, event}
+use Rattle.qrules_worked.specs.Words.{flags_of}
 use Rattle.qrules_worked.specs.Words.{info, connected}
 use Rattle.std.specs.Prelude.{◌∷◌}
 use Rattle.qmodel.specs.declared.call.Mark.TheVariants as mark

@@ -1,5 +1,6 @@
 -- A ReceivePulse takes a pulse though a message was sent before it, and blocks though a message is queued.
-use Rattle.qrules_worked.specs.Words.{List, [], pos, ReceiveBlocked, ReplyBlocked, Send, Receive, ReceivePulse}
+use Rattle.qrules_worked.specs.Words.{List, [], pos, ReceiveBlocked, ReplyBlocked, Send, Receive}
+use Rattle.qrules_worked.specs.Words.{ReceivePulse}
 use Rattle.qrules_worked.specs.Words.{Pulse, Blocked, Event, event, ended, blocked, connected}
 use Rattle.std.specs.Prelude.{◌∷◌}
 use Rattle.qqueue.specs.declared.item.What.TheVariants as what

@@ -1,5 +1,6 @@
 -- Calls that fail: each gets its buffer back as it was, and changes nothing.
-use Rattle.qrules_worked.specs.Words.{List, [], pos, Srch, Badf, Inval, Busy, ChannelCreate, ConnectAttach, Send}
+use Rattle.qrules_worked.specs.Words.{List, [], pos, Srch, Badf, Inval, Busy, ChannelCreate, ConnectAttach}
+use Rattle.qrules_worked.specs.Words.{Send}
 use Rattle.qrules_worked.specs.Words.{Receive, Reply, Event, event, ended, flags_of, connected}
 use Rattle.std.specs.Prelude.{◌∷◌}
 use Rattle.qmodel.specs.declared.call.Mark.TheVariants as mark

@@ -94,11 +94,13 @@ MayEnd roster events n completions = IsLawfulRun roster (with_completions n comp
 
 -- event n can have only the completions that are written: none is changed, left out or added
 abbrev pub EndsOnlySo : List Member → List Event → ℕ → Type 0
-EndsOnlySo roster events n = (completions : List Completion) → MayEnd roster events n completions → completions
+EndsOnlySo roster events n = (completions : List Completion) → MayEnd roster events n completions
+    → completions
     ≡ completions_at n events
 
 -- event n can only fail for lack of memory, or have the completions that are written
 abbrev pub EndsOnlySoWithMemory : List Member → List Event → ℕ → Type 0
 EndsOnlySoWithMemory roster events n = MayEnd roster events n (refused_at n events)
-    × ((completions : List Completion) → MayEnd roster events n completions → (completions ≡ completions_at n events) ⊎
+    × ((completions : List Completion) → MayEnd roster events n completions
+    → (completions ≡ completions_at n events) ⊎
     (completions ≡ refused_at n events))

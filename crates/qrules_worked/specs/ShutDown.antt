@@ -1,5 +1,6 @@
 -- A call of a blocked thread fails with Busy. A shutdown cancels every open call, and every later call fails.
-use Rattle.qrules_worked.specs.Words.{List, [], Srch, Busy, Down, ChannelCreate, Send, Receive, Write, ReceivePulse}
+use Rattle.qrules_worked.specs.Words.{List, [], Srch, Busy, Down, ChannelCreate, Send, Receive, Write}
+use Rattle.qrules_worked.specs.Words.{ReceivePulse}
 use Rattle.qrules_worked.specs.Words.{State, Shutdown, Event, event, ended, flags_of, connected}
 use Rattle.std.specs.Prelude.{◌∷◌}
 use Rattle.qmodel.specs.declared.call.Mark.TheVariants as mark

@@ -1,6 +1,7 @@
 -- A setting in which no number is used for two things: three processes, their threads, a channel with all
 -- three flags, and a connection of each client.
-use Rattle.qrules_worked.specs.Words.{List, [], Member, ChannelCreate, ConnectAttach, Event, member, event, ended}
+use Rattle.qrules_worked.specs.Words.{List, [], Member, ChannelCreate, ConnectAttach, Event, member, event}
+use Rattle.qrules_worked.specs.Words.{ended}
 use Rattle.qrules_worked.specs.Words.{flags_of}
 use Rattle.std.specs.Prelude.{◌∷◌}
 use Rattle.qmodel.specs.declared.call.Mark.TheVariants as mark

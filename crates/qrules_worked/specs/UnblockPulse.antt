@@ -1,7 +1,9 @@
 -- On a channel with the unblock flag, the client of a held message stays blocked, and its server gets one
 -- pulse.
-use Rattle.qrules_worked.specs.Words.{List, [], pos, ReceiveBlocked, ChannelCreate, ConnectAttach, Send, Receive}
-use Rattle.qrules_worked.specs.Words.{Reply, ReceivePulse, Unblock, Blocked, Event, event, ended, blocked, flags_of}
+use Rattle.qrules_worked.specs.Words.{List, [], pos, ReceiveBlocked, ChannelCreate, ConnectAttach, Send}
+use Rattle.qrules_worked.specs.Words.{Receive}
+use Rattle.qrules_worked.specs.Words.{Reply, ReceivePulse, Unblock, Blocked, Event, event, ended, blocked}
+use Rattle.qrules_worked.specs.Words.{flags_of}
 use Rattle.qrules_worked.specs.Words.{connected}
 use Rattle.std.specs.Prelude.{◌∷◌}
 use Rattle.qqueue.specs.declared.item.What.TheVariants as what

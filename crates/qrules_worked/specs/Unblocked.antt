@@ -1,6 +1,7 @@
 -- A thread that is blocked in a Send or a receive is unblocked. Nothing happens to a thread that isn't
 -- blocked.
-use Rattle.qrules_worked.specs.Words.{List, [], pos, Srch, Intr, Send, Receive, ReceivePulse, Pulse, Unblock, Event}
+use Rattle.qrules_worked.specs.Words.{List, [], pos, Srch, Intr, Send, Receive, ReceivePulse, Pulse, Unblock}
+use Rattle.qrules_worked.specs.Words.{Event}
 use Rattle.qrules_worked.specs.Words.{event, ended, connected}
 use Rattle.std.specs.Prelude.{◌∷◌}
 use Rattle.qqueue.specs.declared.item.What.TheVariants as what

@@ -2,7 +2,8 @@
 //! hold for them.
 
 ghost use Rattle.std.specs.Prelude.{[]};
-ghost use Rattle.qrules.specs.Properties.{AnsweredToSender, BestFirst, CopiedExactly, ReceivedOnce, SentOrder, ShutForGood};
+ghost use Rattle.qrules.specs.Properties.{AnsweredToSender, BestFirst, CopiedExactly, ReceivedOnce};
+ghost use Rattle.qrules.specs.Properties.{SentOrder, ShutForGood};
 ghost use Rattle.qrules.specs.Lawful.{IsLawful, HadMemory};
 ghost use Rattle.qrules_worked.specs.Broken.Answered as answered;
 ghost use Rattle.qrules_worked.specs.Broken.Copied as copied;

@@ -5,8 +5,8 @@
 #![tactic(auto)]
 
 pub mod broken;
-pub mod copied;
 pub mod completion;
+pub mod copied;
 pub mod messages;
 pub mod moving;
 pub mod priorities;

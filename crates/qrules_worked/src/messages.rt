@@ -9,7 +9,8 @@ ghost use Rattle.qrules_worked.specs.HeldMessage as held;
 ghost use Rattle.qrules_worked.specs.NewestReceiver as receivers;
 ghost use Rattle.qrules_worked.specs.PastTheEnd as past_the_end;
 ghost use Rattle.qrules_worked.specs.WaitingReceiver as waiting;
-ghost use Rattle.qrules_worked.specs.Runs.{EndsOnlySo, EndsOnlySoWithMemory, IsLawfulRun, IsUnlawfulRun, blocked_after};
+ghost use Rattle.qrules_worked.specs.Runs.{EndsOnlySo, EndsOnlySoWithMemory, IsLawfulRun, IsUnlawfulRun};
+ghost use Rattle.qrules_worked.specs.Runs.{blocked_after};
 ghost use Rattle.qrules_worked.specs.Setting.{roster};
 ghost use Rattle.qrules_worked.specs.ThreeProcesses as three;
 

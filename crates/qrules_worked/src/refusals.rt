@@ -3,7 +3,8 @@
 ghost use Rattle.std.specs.Prelude.{◌≡◌, [], ◌∷◌, pos, negsuc};
 ghost use Rattle.qbase.specs.declared.errno.Errno.TheVariants.{Again, Inval, Srch};
 ghost use Rattle.qrules.specs.Outcome.{Answers};
-ghost use Rattle.qmodel.specs.declared.call.Call.TheVariants.{ChannelCreate, ConnectAttach, ConnectDetach, Pulse, Unblock};
+ghost use Rattle.qmodel.specs.declared.call.Call.TheVariants.{ChannelCreate, ConnectAttach, ConnectDetach};
+ghost use Rattle.qmodel.specs.declared.call.Call.TheVariants.{Pulse, Unblock};
 ghost use Rattle.qmodel.specs.declared.call.Mark.TheVariants as mark;
 ghost use Rattle.qrules_worked.specs.Counted as counted;
 ghost use Rattle.qrules_worked.specs.Limits.{IsRefusedWith, facts_after};
@@ -70,26 +71,35 @@ pub fn counted()
 /// them.
 pub fn limits()
     ensures channels { IsLawfulRun roster limits.channels }
-    ensures no_more_channels { IsRefusedWith (facts_after limits.channels) 1 (ChannelCreate (flags_of 0)) Again }
+    ensures no_more_channels { IsRefusedWith (facts_after limits.channels) 1
+        (ChannelCreate (flags_of 0)) Again }
     ensures no_flags { IsRefusedWith (facts_after limits.channels) 1 (ChannelCreate (flags_of 8)) Inval }
-    ensures one_destroyed { Answers (facts_after limits.one_destroyed) 1 (ChannelCreate (flags_of 0)) (ended 67 1 (mark.Channel 67) [] ∷ []) }
-    ensures connections { Answers (limits.with_connections 1023) 2 (ConnectAttach 1) (ended 3 2 (mark.Connection 3) [] ∷ []) }
+    ensures one_destroyed { Answers (facts_after limits.one_destroyed) 1 (ChannelCreate (flags_of 0))
+        (ended 67 1 (mark.Channel 67) [] ∷ []) }
+    ensures connections { Answers (limits.with_connections 1023) 2 (ConnectAttach 1)
+        (ended 3 2 (mark.Connection 3) [] ∷ []) }
     ensures no_more_connections { IsRefusedWith (limits.with_connections 1024) 2 (ConnectAttach 1) Again }
     ensures no_channel { IsRefusedWith (limits.with_connections 1024) 2 (ConnectAttach 9) Srch }
 {}
 
 /// The results of calls that send a pulse at the limit of pulses, and just below it.
 pub fn limit_of_pulses()
-    ensures pulses { Answers (limits.with_pulses 1023) 2 (Pulse 2 1 (pos 0) (pos 0)) (ended 3 2 mark.Ok [] ∷ []) }
-    ensures messages_apart { Answers (limits.with_messages_and_pulses 1023) 2 (Pulse 2 1 (pos 0) (pos 0)) (ended 3 2 mark.Ok [] ∷ []) }
+    ensures pulses { Answers (limits.with_pulses 1023) 2 (Pulse 2 1 (pos 0) (pos 0))
+        (ended 3 2 mark.Ok [] ∷ []) }
+    ensures messages_apart { Answers (limits.with_messages_and_pulses 1023) 2 (Pulse 2 1 (pos 0) (pos 0))
+        (ended 3 2 mark.Ok [] ∷ []) }
     ensures no_more_pulses { IsRefusedWith (limits.with_pulses 1024) 2 (Pulse 2 1 (pos 0) (pos 0)) Again }
     ensures no_code { IsRefusedWith (limits.with_pulses 1024) 2 (Pulse 2 1 (negsuc 0) (pos 0)) Inval }
-    ensures unblock_pulses { Answers (limits.held_with_pulses 1023) 3 (Unblock 2) (ended 7 3 mark.Ok [] ∷ []) }
+    ensures unblock_pulses { Answers (limits.held_with_pulses 1023) 3 (Unblock 2)
+        (ended 7 3 mark.Ok [] ∷ []) }
     ensures no_more_unblock_pulses { IsRefusedWith (limits.held_with_pulses 1024) 3 (Unblock 2) Again }
     ensures others_thread { IsRefusedWith (limits.held_with_pulses 1024) 1 (Unblock 2) Srch }
     ensures not_blocked { Answers (limits.held_with_pulses 1024) 3 (Unblock 3) (ended 7 3 mark.Ok [] ∷ []) }
-    ensures disconnect_pulses { Answers (limits.last_with_pulses 1023) 2 (ConnectDetach 5) (ended 7 2 mark.Ok [] ∷ []) }
-    ensures no_more_disconnect_pulses { IsRefusedWith (limits.last_with_pulses 1024) 2 (ConnectDetach 5) Again }
+    ensures disconnect_pulses { Answers (limits.last_with_pulses 1023) 2 (ConnectDetach 5)
+        (ended 7 2 mark.Ok [] ∷ []) }
+    ensures no_more_disconnect_pulses { IsRefusedWith (limits.last_with_pulses 1024) 2
+        (ConnectDetach 5) Again }
     ensures others_connection { IsRefusedWith (limits.last_with_pulses 1024) 1 (ConnectDetach 5) Inval }
-    ensures not_the_last { Answers (limits.twice_with_pulses 1024) 2 (ConnectDetach 4) (ended 6 2 mark.Ok [] ∷ []) }
+    ensures not_the_last { Answers (limits.twice_with_pulses 1024) 2 (ConnectDetach 4)
+        (ended 6 2 mark.Ok [] ∷ []) }
 {}

@@ -5,11 +5,11 @@ ghost use Rattle.qscript.specs.Printing.Printed.{printed};
 
 pub mod buffer;
 pub mod ended_line;
-mod printing_laws;
 pub mod marks;
 pub mod open_line;
 pub(crate) mod operands;
 pub(crate) mod printer;
+mod printing_laws;
 
 use ended_line::shows;
 use printer::Printer;

@@ -1,6 +1,7 @@
 //! A run that is made and printed call by call.
 
-ghost use Rattle.std.specs.Prelude.{◌≡◌, ℕ, ◌+◌, ◌⊎◌, ◌++◌, ◌∷◌, [], List, IfErr, IfOk, OnOk, is_some, string_bytes, true};
+ghost use Rattle.std.specs.Prelude.{◌≡◌, ℕ, ◌+◌, ◌⊎◌, ◌++◌, ◌∷◌, [], List, IfErr, IfOk, OnOk, is_some};
+ghost use Rattle.std.specs.Prelude.{string_bytes, true};
 ghost use Rattle.qtables.specs.Members.{member_at};
 ghost use Rattle.qmodel.specs.declared.call.Call.{Call};
 ghost use Rattle.qkernel_state.specs.Kept.{members_of};
@@ -48,8 +49,10 @@ impl Run {
     /// roster, and `Exhausted` after 2^40 calls. Then no call is made. It is `NoMemory` if there is no memory
     /// for the text. Then the call is made, and the text must not be used afterwards.
     pub fn make(&mut self, thread: ThreadNo, call: Call) -> Result<(), Errno>
-        ensures text { OnOk result ((old : State) (calls : List (ℕ × Call)) → HasMade old calls self.old → HasMade old (calls ++ (thread, call) ∷ []) self.new) }
-        ensures event { OnOk result (AnswersAtTraces self.old.kernel thread call self.new.completions.items self.new.kernel) }
+        ensures text { OnOk result ((old : State) (calls : List (ℕ × Call)) → HasMade old calls self.old
+            → HasMade old (calls ++ (thread, call) ∷ []) self.new) }
+        ensures event { OnOk result
+            (AnswersAtTraces self.old.kernel thread call self.new.completions.items self.new.kernel) }
         ensures roster { members_of self.new.kernel.threads ≡ members_of self.old.kernel.threads }
         ensures known { OnOk result (is_some (member_at (members_of self.old.kernel.threads) thread) ≡ true) }
         ensures made { OnOk result (self.new.kernel.made ≡ self.old.kernel.made + 1) }

@@ -1,6 +1,7 @@
 //! Runs a script, from a reader to a writer.
 
-ghost use Rattle.std.specs.Prelude.{◌≡◌, ℕ, ◌+◌, ◌≤◌, ◌^◌, [], length, IfOk, IfErr, OnOk, IsErrOf, false, string_bytes};
+ghost use Rattle.std.specs.Prelude.{◌≡◌, ℕ, ◌+◌, ◌≤◌, ◌^◌, [], length, IfOk, IfErr, OnOk, IsErrOf, false};
+ghost use Rattle.std.specs.Prelude.{string_bytes};
 ghost use Rattle.qkernel.specs.Run.{AllKnown};
 ghost use Rattle.qkernel_state.specs.Kept.{members_of};
 ghost use Rattle.qscript.specs.Running.{HasMade};
@@ -51,7 +52,8 @@ fn make_calls(run: &mut Run, calls: Vec<(ThreadNo, Call)>) -> Result<(), AllocEr
 /// Returns the text of the run of a script on a new kernel.
 fn run_text(alloc: Global, script: Script) -> Result<String, ScriptFault>
     requires { CanRun script.roster.items script.calls.items }
-    ensures ok { IfOk result (λ text. IsTextOfRun script.roster.items script.calls.items (string_bytes text)) }
+    ensures ok { IfOk result
+        (λ text. IsTextOfRun script.roster.items script.calls.items (string_bytes text)) }
     ensures err { IfErr result (λ e. e ≡ ScriptFault.NoMemory) }
 {
     let roster = roster_with_all(alloc, script.roster.as_slice());
@@ -74,11 +76,14 @@ pub fn script<R: Read, W: Write>(
     ensures ok { OnOk result (IsRun (R.remaining (inner_of reader.old)) (R.remaining (inner_of reader.new))
         (W.contents (inner_of writer.old)) (W.contents (inner_of writer.new))) }
     ensures read { IsErrOf result ScriptFault.Read →
-        IsUnread (R.remaining (inner_of reader.old)) (R.remaining (inner_of reader.new)) (has_faulted reader.new) × (writer.new ≡ writer.old) }
+        IsUnread (R.remaining (inner_of reader.old)) (R.remaining (inner_of reader.new))
+        (has_faulted reader.new) × (writer.new ≡ writer.old) }
     ensures too_long { IsErrOf result ScriptFault.TooLong →
-        IsTooLong (R.remaining (inner_of reader.old)) (R.remaining (inner_of reader.new)) (has_faulted reader.new) × (writer.new ≡ writer.old) }
+        IsTooLong (R.remaining (inner_of reader.old)) (R.remaining (inner_of reader.new))
+        (has_faulted reader.new) × (writer.new ≡ writer.old) }
     ensures line { (n : ℕ) (f : LineFault) → IsErrOf result (ScriptFault.Line n f) →
-        IsFaulty (R.remaining (inner_of reader.old)) (R.remaining (inner_of reader.new)) n f × (writer.new ≡ writer.old) }
+        IsFaulty (R.remaining (inner_of reader.old)) (R.remaining (inner_of reader.new)) n f
+        × (writer.new ≡ writer.old) }
     ensures memory { IsErrOf result ScriptFault.NoMemory → writer.new ≡ writer.old }
     ensures write { IsErrOf result ScriptFault.Write →
         IsCut (R.remaining (inner_of reader.old)) (R.remaining (inner_of reader.new))

@@ -17,8 +17,11 @@ const CHUNK: usize = 4096;
 /// a script may have.
 pub fn read_all<R: Read>(alloc: Global, reader: &mut Watched<R>) -> Result<Vec<u8>, ScriptFault>
     requires { reader.old.faulted ≡ false }
-    ensures ok { IfOk result (λ text. IsReading (R.remaining reader.old.inner) (R.remaining reader.new.inner) text.items) }
-    ensures err { IfErr result (λ e. IsReadFault e (R.remaining reader.old.inner) (R.remaining reader.new.inner) reader.new.faulted) }
+    ensures ok { IfOk result
+        (λ text. IsReading (R.remaining reader.old.inner) (R.remaining reader.new.inner) text.items) }
+    ensures err { IfErr result
+        (λ e. IsReadFault e (R.remaining reader.old.inner)
+        (R.remaining reader.new.inner) reader.new.faulted) }
 {
     let mut text = Vec::new(alloc);
     let mut chunk = [0u8; CHUNK];
@@ -39,7 +42,9 @@ pub fn read_all<R: Read>(alloc: Global, reader: &mut Watched<R>) -> Result<Vec<u
 pub fn write_all<W: Write>(writer: &mut Watched<W>, bytes: &[u8]) -> Result<(), ScriptFault>
     requires { writer.old.faulted ≡ false }
     ensures ok { OnOk result (Appends (W.contents writer.old.inner) (W.contents writer.new.inner) bytes.now) }
-    ensures err { IfErr result (λ e. IsWriteFault e (W.contents writer.old.inner) (W.contents writer.new.inner) writer.new.faulted bytes.now) }
+    ensures err { IfErr result
+        (λ e. IsWriteFault e (W.contents writer.old.inner)
+        (W.contents writer.new.inner) writer.new.faulted bytes.now) }
 {
     let mut at = 0;
     'writing: while at < bytes.len() {

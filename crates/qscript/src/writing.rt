@@ -59,7 +59,8 @@ fn push_calls(out: &mut String, run: &Trace) -> Result<(), AllocError>
 /// Adds the line of the call at index `k` of the run.
 fn push_call_at(out: &mut String, run: &Trace, k: usize) -> Result<(), AllocError>
     requires { k < length run.now.events }
-    ensures { OnOk result (option_map (λ e. string_bytes out.old ++ call_text e) (slice_get run.now.events k) ≡ Some (string_bytes out.new)) }
+    ensures { OnOk result (option_map (λ e. string_bytes out.old ++ call_text e) (slice_get run.now.events k)
+        ≡ Some (string_bytes out.new)) }
 {
     let thread = run.thread(k).0;
     write!(out, "{thread}")?;

@@ -70,7 +70,8 @@ pub fn arrows_of(
     caller: ThreadNo,
     completions: &[Completion],
 ) -> Result<Vec<Arrow>, AllocError>
-    ensures { IfOk result (λ arrows. arrows.items ≡ filter_map (arrow_of callers.now caller) completions.now) }
+    ensures { IfOk result
+        (λ arrows. arrows.items ≡ filter_map (arrow_of callers.now caller) completions.now) }
 {
     completions
         .iter()

@@ -2,8 +2,8 @@
 
 use crate::row::ChartRow;
 use qbase::ids::ThreadNo;
-use qscript_explain::waiting::{Deadlock, Wait};
 use qkernel::open_call::Blocked;
+use qscript_explain::waiting::{Deadlock, Wait};
 use qscript_names::wording::Context;
 use qtables::member::Member;
 use std::alloc::AllocError;

@@ -11,14 +11,14 @@ use crate::fault::ChartFault;
 use crate::run::rows_of;
 use crate::svg::svg_of;
 use crate::text::text_of;
-use crate::view::{Style, ChartView};
+use crate::view::{ChartView, Style};
+use qscript::run::Run;
+use qscript::script::roster_with_all;
+use qscript::{Script, parse};
 use qscript_explain::history::CallHistory;
 use qscript_explain::waiting::{deadlocks, waits};
 use qscript_names::scope::Scope;
 use qscript_names::wording::Context;
-use qscript::run::Run;
-use qscript::script::roster_with_all;
-use qscript::{Script, parse};
 use qtables::member::Member;
 use std::alloc::{AllocError, Global};
 use std::mem;
@@ -40,7 +40,11 @@ pub fn drawing(alloc: Global, text: &[u8], view: &ChartView) -> Result<String, C
 
 /// Runs a script with these names on a new kernel, and returns the drawing of the run. Fails if there is no
 /// memory, or if more than 400 calls would be drawn.
-pub fn drawing_of(names: Context<'_>, script: Script, view: &ChartView) -> Result<String, ChartFault>
+pub fn drawing_of(
+    names: Context<'_>,
+    script: Script,
+    view: &ChartView,
+) -> Result<String, ChartFault>
     ensures { IfErr result (IsUncharted view.now script.calls.items) }
 {
     let whole = chart_of(names, script, view)?;
@@ -69,7 +73,8 @@ pub fn chart(alloc: Global, text: &[u8], view: &ChartView) -> Result<Chart, Char
 /// if there is no memory, or if more than 400 rows would be drawn.
 pub fn chart_of(names: Context<'_>, script: Script, view: &ChartView) -> Result<Chart, ChartFault>
     ensures few { IfOk result (λ _. drawn_count view.now (length script.calls.items) ≤ 400) }
-    ensures chart { CanRun script.roster.items script.calls.items → IfOk result (IsChartOf script.roster.items script.calls.items) }
+    ensures chart { CanRun script.roster.items script.calls.items
+        → IfOk result (IsChartOf script.roster.items script.calls.items) }
     ensures err { IfErr result (IsUncharted view.now script.calls.items) }
 {
     let alloc = names.alloc;

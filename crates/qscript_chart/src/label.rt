@@ -5,11 +5,11 @@ use crate::row::CancelledCall;
 use qbase::errno::word;
 use qbase::ids::ThreadNo;
 use qbase::priority::Priority;
-use qscript_explain::why::operand_shown;
 use qkernel::call::{Call, Completion, Mark};
 use qmodel::kind::CallKind;
-use qscript_names::wording::Context;
 use qqueue::item::What;
+use qscript_explain::why::operand_shown;
+use qscript_names::wording::Context;
 use qscript_text::states::state_name;
 use std::alloc::{AllocError, Global};
 
@@ -82,7 +82,10 @@ pub fn push_result(
     number: u64,
     completions: &[Completion],
 ) -> Result<(), AllocError> {
-    let Some(own) = completions.iter().find(|completion| completion.call == number) else {
+    let Some(own) = completions
+        .iter()
+        .find(|completion| completion.call == number)
+    else {
         return Ok(());
     };
     let (kind, id) = match own.mark {

@@ -15,12 +15,12 @@ use crate::changes::{Level, changes_since, levels_of};
 use crate::label::{arrow_labels, call_words, push_result};
 use crate::row::{CancelledCall, ChartRow};
 use qbase::ids::ThreadNo;
-use qscript_explain::history::{CallHistory, PastCall};
 use qkernel::call::{Call, Completion, Mark};
 use qkernel::kernel::Kernel;
 use qkernel::open_call::Blocked;
-use qscript_names::wording::Context;
 use qscript::run::Run;
+use qscript_explain::history::{CallHistory, PastCall};
+use qscript_names::wording::Context;
 use std::alloc::{AllocError, Global};
 
 /// The facts about the calls so far that later rows need.
@@ -79,10 +79,18 @@ pub fn rows_of(
 
 impl RunFacts<'_> {
     /// Makes a call, and returns its row.
-    fn next_row(&mut self, run: &mut Run, thread: ThreadNo, call: Call) -> Result<ChartRow, AllocError>
-        ensures event { OnOk result (AnswersAtTraces run.old.kernel thread call run.new.completions.items run.new.kernel) }
+    fn next_row(
+        &mut self,
+        run: &mut Run,
+        thread: ThreadNo,
+        call: Call,
+    ) -> Result<ChartRow, AllocError>
+        ensures event { OnOk result
+            (AnswersAtTraces run.old.kernel thread call run.new.completions.items run.new.kernel) }
         ensures thread { IfOk result (λ row. row.thread ≡ thread) }
-        ensures arrows { IfOk result (λ row. row.arrows.items ≡ filter_map (arrow_of (self.old.callers.items ++ thread ∷ []) thread) run.new.completions.items) }
+        ensures arrows { IfOk result
+            (λ row. row.arrows.items ≡ filter_map (arrow_of (self.old.callers.items ++ thread ∷ []) thread)
+            run.new.completions.items) }
         ensures changes { IfOk result (λ row. TellsChanges run.old.kernel run.new.kernel row.changes.items) }
         ensures blocked { IfOk result (λ row. AreBlocked run.new.kernel row.blocked.items) }
         ensures callers { OnOk result (self.new.callers.items ≡ self.old.callers.items ++ thread ∷ []) }
@@ -116,7 +124,11 @@ impl RunFacts<'_> {
 }
 
 /// Returns the calls that an event cancelled. The event's own call, which has this number, isn't one of them.
-fn cuts_of(alloc: Global, number: u64, completions: &[Completion]) -> Result<Vec<CancelledCall>, AllocError> {
+fn cuts_of(
+    alloc: Global,
+    number: u64,
+    completions: &[Completion],
+) -> Result<Vec<CancelledCall>, AllocError> {
     completions
         .iter()
         .filter_map(|completion| cut_of(number, completion))

@@ -1,13 +1,14 @@
 //! Draws a chart as SVG.
 
-mod fixed;
 mod canvas;
+mod fixed;
 
 use crate::arrow::{Arrow, ArrowKind};
-use crate::chart::{Drawn, Chart, head};
+use crate::chart::{Chart, Drawn, head};
 use crate::label::{cut_words, priority_words};
 use crate::plan::{Side, is_sent, leaves_at, words_side};
 use crate::row::ChartRow;
+use canvas::{BAR_HALF, LINE, SvgCanvas};
 use fixed::{LEGEND, START};
 use qbase::ids::ThreadNo;
 use qbase::state::ThreadState;
@@ -15,7 +16,6 @@ use qscript_explain::waiting::Wait;
 use qscript_names::wording::Context;
 use qscript_text::states::{state_among, state_word};
 use qtables::member::Member;
-use canvas::{BAR_HALF, LINE, SvgCanvas};
 use std::alloc::AllocError;
 
 /// The coordinates of a place, x and y.

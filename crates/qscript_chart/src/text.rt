@@ -3,7 +3,7 @@
 mod line;
 
 use crate::arrow::{Arrow, ArrowKind};
-use crate::chart::{Drawn, Chart, head};
+use crate::chart::{Chart, Drawn, head};
 use crate::label::{cut_words, priority_words};
 use crate::plan::is_sent;
 use crate::row::ChartRow;

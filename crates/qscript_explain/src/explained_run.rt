@@ -7,9 +7,9 @@ use qbase::errno::Errno;
 use qbase::ids::ThreadNo;
 use qkernel::kernel::Kernel;
 use qmodel::call::Call;
-use qscript_names::wording::Context;
 use qscript::run::Run;
 use qscript::script::roster_with_all;
+use qscript_names::wording::Context;
 use qtables::member::Member;
 use std::alloc::{AllocError, Global};
 
@@ -53,7 +53,12 @@ impl ExplainedRun {
     /// Returns the failures in the event of the latest call: the number of each call, and the reason in
     /// words.
     pub fn refusals(&self, names: Context<'_>) -> Result<Vec<(u64, String)>, AllocError> {
-        refusals(names, self.run.kernel(), &self.history, self.run.completions())
+        refusals(
+            names,
+            self.run.kernel(),
+            &self.history,
+            self.run.completions(),
+        )
     }
 
     /// Returns in words which thread waits for which now, a line for each, and then the deadlocks.

@@ -5,7 +5,7 @@ use qscript_names::hints::{buffer_hint, is_utf_16};
 use qscript_names::named::MOST_FAULTS;
 use qscript_text::fault::{LineFault, ParseError};
 use qscript_text::grammar::{OperandKind, call_form};
-use qscript_text::lexing::token::{TokenKind, Token, tokens};
+use qscript_text::lexing::token::{Token, TokenKind, tokens};
 use qscript_text::parts::{Lines, Span};
 use qscript_text::place::ReadError;
 use qscript_text::reading::line::ScriptLine;
@@ -147,7 +147,8 @@ fn buffer_of<'a>(tokens: &[Token<'a>]) -> Option<Token<'a>> {
     let form = call_form(call.get(front)?.bytes)?;
     let buffer = call.get(front.saturating_add(form.operands.len()))?;
     match form.operands.last() {
-        Some(OperandKind::Buffer | OperandKind::ReplyBuffer) if buffer.sort == TokenKind::Word => Some(*buffer),
+        Some(OperandKind::Buffer | OperandKind::ReplyBuffer) if buffer.sort == TokenKind::Word =>
+            Some(*buffer),
         _ => None,
     }
 }

@@ -88,7 +88,10 @@ impl CallHistory {
         self.calls.push(past)?;
         let number = self.made();
         for completion in completions {
-            if let Some(past) = self.calls.get_mut(completion.call.saturating_sub(1) as usize) {
+            if let Some(past) = self
+                .calls
+                .get_mut(completion.call.saturating_sub(1) as usize)
+            {
                 past.end = CallEnd::of(completion.mark, completion.call == number);
                 past.ended_by = number;
             }
@@ -123,6 +126,10 @@ impl CallHistory {
     /// Returns the thread that received a message.
     pub fn receiver_of(&self, message: u64) -> Option<ThreadNo> {
         let mut calls = self.calls.iter();
-        Some(calls.find(|past| past.end == CallEnd::Message(message))?.thread)
+        Some(
+            calls
+                .find(|past| past.end == CallEnd::Message(message))?
+                .thread,
+        )
     }
 }

@@ -3,12 +3,12 @@
 use crate::explained_run::ExplainedRun;
 use qbase::ids::ThreadNo;
 use qmodel::call::{Call, Mark};
-use qscript_names::scope::Scope;
-use qscript_names::wording::Context;
-use qscript_text::parts::call_lines;
 use qscript::fault::ScriptFault;
 use qscript::run::Run;
 use qscript::{Script, parse};
+use qscript_names::scope::Scope;
+use qscript_names::wording::Context;
+use qscript_text::parts::call_lines;
 use std::alloc::{AllocError, Global};
 
 /// The greatest number of failures that are reported.
@@ -96,7 +96,11 @@ impl ReportedRun {
     }
 
     /// Makes the calls of its script, and returns the result of `finish`.
-    fn end(mut self, names: Context<'_>, script: Script) -> Result<(String, RunReport), AllocError> {
+    fn end(
+        mut self,
+        names: Context<'_>,
+        script: Script,
+    ) -> Result<(String, RunReport), AllocError> {
         for (thread, call) in script.calls {
             self.make(names, thread, call)?;
         }

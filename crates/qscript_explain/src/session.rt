@@ -6,15 +6,15 @@ use crate::states::states_of;
 use qbase::errno::Errno;
 use qbase::ids::ThreadNo;
 use qmodel::call::Call;
+use qscript::MOST_TEXT;
+use qscript::fault::ScriptFault;
+use qscript::printing::open_line::push_open;
 use qscript_names::wording::Context;
 use qscript_text::fault::ParseError;
 use qscript_text::parts::Lines;
 pub use qscript_text::parts::last_line;
 use qscript_text::reading::line::ScriptLine;
 use qscript_text::reading::script::line_behind;
-use qscript::MOST_TEXT;
-use qscript::fault::ScriptFault;
-use qscript::printing::open_line::push_open;
 use qtables::member::Member;
 use std::alloc::{AllocError, Global};
 use std::mem;
@@ -124,7 +124,11 @@ impl ScriptSession {
     }
 
     /// Adds the thread of a line to the roster, or its call to `calls`.
-    fn keep(&mut self, said: ScriptLine, calls: &mut Vec<(ThreadNo, Call)>) -> Result<(), AllocError> {
+    fn keep(
+        &mut self,
+        said: ScriptLine,
+        calls: &mut Vec<(ThreadNo, Call)>,
+    ) -> Result<(), AllocError> {
         match said {
             ScriptLine::Blank => {}
             ScriptLine::Roster(member) => self.roster.push(member)?,

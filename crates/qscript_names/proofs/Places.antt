@@ -1,5 +1,6 @@
 -- The first place that passes a test.
-use Rattle.qscript_names.proofs.Common.{◌≡◌, ℕ, Bool, true, false, not, cond, List, length, position, Some, None, nat_lt, arith, position_or_len, common_steps}
+use Rattle.qscript_names.proofs.Common.{◌≡◌, ℕ, Bool, true, false, not, cond, List, length, position, Some, None}
+use Rattle.qscript_names.proofs.Common.{nat_lt, arith, position_or_len, common_steps}
 use Rattle.std.proofs.lemmas.List.Sums.{prefix_len-le-length}
 
 chosen : (n l : ℕ) (b : Bool) → (i : ℕ) → cond b (Some n) None ≡ Some i → n ≡ i

@@ -15,7 +15,8 @@ use Rattle.qscript_names.specs.declared.label.Label.{Label}
 use Rattle.qscript_names.specs.declared.label.NameError.{NameError}
 use Rattle.qscript_names.specs.declared.label.NameError.TheVariants.{Undefined, OtherKind, Twice}
 use Rattle.qscript_names.specs.declared.label.NameFault.{NameFault}
-use Rattle.qscript_names.specs.Names.{Names, latest, number_of, thread_number, process_number, with_line, same_kind}
+use Rattle.qscript_names.specs.Names.{Names, latest, number_of, thread_number, process_number, with_line}
+use Rattle.qscript_names.specs.Names.{same_kind}
 
 -- ---- the text
 

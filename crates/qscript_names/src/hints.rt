@@ -4,7 +4,7 @@ use qbase::errno;
 use qbase::errno::Errno;
 use qmodel::kind::LISTED;
 use qscript_text::grammar::{ERROR_WORDS, FLAGS, Form, OperandKind, errno_of};
-use qscript_text::lexing::token::{TokenKind, Token};
+use qscript_text::lexing::token::{Token, TokenKind};
 use qscript_text::near::{quotation, unknown_call};
 use qscript_text::place::{Fault, ReadError, fault_in_words};
 use qscript_text::reading::call::is;
@@ -126,13 +126,16 @@ pub fn is_utf_16(text: &[u8]) -> bool {
 }
 
 /// Adds a correction for a word that can't be read as this operand, if one is known.
-pub fn push_operand_hint(out: &mut String, slot: OperandKind, word: &[u8]) -> Result<(), AllocError> {
+pub fn push_operand_hint(
+    out: &mut String,
+    slot: OperandKind,
+    word: &[u8],
+) -> Result<(), AllocError> {
     match slot {
         OperandKind::Flags => push_flag_hint(out, word),
         OperandKind::ErrorCode => push_code_hint(out, word),
-        OperandKind::Message | OperandKind::ReplyBuffer | OperandKind::Buffer | OperandKind::Data => {
-            push_bytes_hint(out, word)
-        }
+        OperandKind::Message | OperandKind::ReplyBuffer | OperandKind::Buffer | OperandKind::Data =>
+            { push_bytes_hint(out, word) }
         _ => Ok(()),
     }
 }

@@ -40,7 +40,10 @@ pub type IncrementalStep = Result<Plain, Vec<Fault>>;
 
 impl IncrementalScript {
     /// Returns the lines of a script that was read, and its calls, which haven't been made yet.
-    pub fn of(alloc: Global, named: NamedScript) -> Result<(IncrementalScript, Vec<(ThreadNo, Call)>), AllocError> {
+    pub fn of(
+        alloc: Global,
+        named: NamedScript,
+    ) -> Result<(IncrementalScript, Vec<(ThreadNo, Call)>), AllocError> {
         let Script { roster, calls } = named.script;
         let mut growing = IncrementalScript {
             alloc,
@@ -107,7 +110,11 @@ impl IncrementalScript {
     }
 
     /// Adds a line with its expectations, and removes it again if its names or its plain line are faulty.
-    fn add_said(&mut self, said: &NamedLine, lined: &mut Lined) -> Result<IncrementalStep, AllocError> {
+    fn add_said(
+        &mut self,
+        said: &NamedLine,
+        lined: &mut Lined,
+    ) -> Result<IncrementalStep, AllocError> {
         let calls = self.check.calls.len();
         let states = self.check.states.len();
         let extent = self.check.scope.extent();

@@ -3,12 +3,12 @@
 
 pub mod expectation;
 pub mod expecting;
-pub mod incremental;
 pub mod hints;
+pub mod incremental;
 pub mod label;
-pub mod names_laws;
 pub mod line;
 pub mod named;
+pub mod names_laws;
 pub mod plain;
 pub mod reading;
 pub mod scope;
@@ -16,4 +16,4 @@ pub mod shown;
 pub mod translation;
 pub mod wording;
 
-pub use named::{NamedScript, NamedReading, read, read_so_far};
+pub use named::{NamedReading, NamedScript, read, read_so_far};

@@ -126,7 +126,10 @@ fn expectation_faults(context: Context<'_>, states: &[StateCheck], extent: Exten
 }
 
 /// Adds the number that the line of a thread has for its process, with its place.
-pub fn push_process_number(numbers: &mut Vec<(Place, u64)>, line: &NamedLine) -> Result<(), AllocError> {
+pub fn push_process_number(
+    numbers: &mut Vec<(Place, u64)>,
+    line: &NamedLine,
+) -> Result<(), AllocError> {
     if let NamedLine::Thread(thread) = line
         && let Process::Number(number) = &thread.process
     {
@@ -245,7 +248,11 @@ fn read_lines(alloc: Global, text: &[u8], extent: Extent) -> Result<NamedReading
 }
 
 /// Reads lines that have no faults of their own.
-fn read_lined(alloc: Global, lined: &mut Lined, extent: Extent) -> Result<NamedReading, AllocError> {
+fn read_lined(
+    alloc: Global,
+    lined: &mut Lined,
+    extent: Extent,
+) -> Result<NamedReading, AllocError> {
     let translation = match translate(alloc, lined.lines.as_slice()) {
         Ok(translation) => translation,
         Err(refusal) => return refusal_faults(alloc, lined, &refusal).map(NamedReading::Faulty),
@@ -267,7 +274,12 @@ fn read_lined(alloc: Global, lined: &mut Lined, extent: Extent) -> Result<NamedR
 
 /// Adds the process numbers of these lines, and returns their faults. If there are none, returns the faults
 /// of the names in the expectations.
-fn add_processes(alloc: Global, named: &mut NamedScript, lines: &[NamedLine], extent: Extent) -> NamedFaults {
+fn add_processes(
+    alloc: Global,
+    named: &mut NamedScript,
+    lines: &[NamedLine],
+    extent: Extent,
+) -> NamedFaults {
     for line in lines {
         push_process_number(&mut named.processes, line)?;
     }

@@ -1,11 +1,14 @@
 //! Writes the plain script of a script with names.
 
-ghost use Rattle.std.specs.Prelude.{◌≡◌, ℕ, ◌+◌, ◌<◌, ◌≤◌, ◌^◌, [], ◌∷◌, ◌++◌, length, OnOk, IfOk, string_bytes};
+ghost use Rattle.std.specs.Prelude.{◌≡◌, ℕ, ◌+◌, ◌<◌, ◌≤◌, ◌^◌, [], ◌∷◌, ◌++◌, length, OnOk, IfOk};
+ghost use Rattle.std.specs.Prelude.{string_bytes};
 ghost use Rattle.qscript_names.specs.Names.{none, latest, with_line};
-ghost use Rattle.qscript_names.specs.Plain.{bytes_word, zeros_word, word_of, words_of, line_text, plain_text, error_of, operand_fault, operands_fault, definition_fault, line_fault, listed, name_faults};
+ghost use Rattle.qscript_names.specs.Plain.{bytes_word, zeros_word, word_of, words_of, line_text, plain_text};
+ghost use Rattle.qscript_names.specs.Plain.{error_of, operand_fault, operands_fault, definition_fault};
+ghost use Rattle.qscript_names.specs.Plain.{line_fault, listed, name_faults};
 
 use crate::label::{NameError, NameFault};
-use crate::line::{CallLine, Definition, NamedLine, NameMention, Operand, ThreadLine};
+use crate::line::{CallLine, Definition, NameMention, NamedLine, Operand, ThreadLine};
 use crate::scope::{Scope, is_same_kind};
 use std::alloc::{AllocError, Global};
 
@@ -45,7 +48,8 @@ fn push_operand(
     scope: &Scope,
     operand: &Operand,
 ) -> Result<(), AllocError>
-    ensures { OnOk result (string_bytes out.new ≡ string_bytes out.old ++ word_of scope.now.labels operand.now) }
+    ensures { OnOk result (string_bytes out.new ≡ string_bytes out.old
+        ++ word_of scope.now.labels operand.now) }
 {
     match operand {
         Operand::Name(mention) => {
@@ -69,7 +73,8 @@ pub fn push_operands(
     scope: &Scope,
     operands: &[Operand],
 ) -> Result<(), AllocError>
-    ensures { OnOk result (string_bytes out.new ≡ string_bytes out.old ++ words_of scope.now.labels operands.now) }
+    ensures { OnOk result (string_bytes out.new ≡ string_bytes out.old
+        ++ words_of scope.now.labels operands.now) }
 {
     'operands: for operand in operands {
         out.push_str(" ")?;
@@ -85,7 +90,8 @@ fn push_call(
     scope: &Scope,
     call: &CallLine,
 ) -> Result<(), AllocError>
-    ensures { OnOk result (string_bytes out.new ≡ string_bytes out.old ++ line_text scope.now (NamedLine.Call call.now)) }
+    ensures { OnOk result (string_bytes out.new ≡ string_bytes out.old ++ line_text scope.now
+        (NamedLine.Call call.now)) }
 {
     push_operand(alloc, out, scope, &call.caller)?;
     out.push_str(" ")?;
@@ -97,7 +103,8 @@ fn push_call(
 fn push_thread(out: &mut String, scope: &Scope, line: &ThreadLine) -> Result<(), AllocError>
     requires threads { scope.now.threads < 2 ^ 63 }
     requires processes { length scope.now.processes < 2 ^ 63 }
-    ensures { OnOk result (string_bytes out.new ≡ string_bytes out.old ++ line_text scope.now (NamedLine.Thread line.now)) }
+    ensures { OnOk result (string_bytes out.new ≡ string_bytes out.old ++ line_text scope.now
+        (NamedLine.Thread line.now)) }
 {
     let thread = scope.thread(line);
     let process = scope.process(&line.process);
@@ -106,7 +113,12 @@ fn push_thread(out: &mut String, scope: &Scope, line: &ThreadLine) -> Result<(),
 }
 
 /// Adds the plain line of a line.
-fn push_line(alloc: Global, out: &mut String, scope: &Scope, line: &NamedLine) -> Result<(), AllocError>
+fn push_line(
+    alloc: Global,
+    out: &mut String,
+    scope: &Scope,
+    line: &NamedLine,
+) -> Result<(), AllocError>
     requires threads { scope.now.threads < 2 ^ 63 }
     requires processes { length scope.now.processes < 2 ^ 63 }
     ensures { OnOk result (string_bytes out.new ≡ string_bytes out.old ++ line_text scope.now line.now) }
@@ -212,8 +224,12 @@ impl Plain {
         requires threads { self.old.scope.threads < 2 ^ 63 }
         requires calls { self.old.scope.calls < 2 ^ 63 }
         requires processes { length self.old.scope.processes < 2 ^ 63 }
-        ensures text { OnOk result (string_bytes self.new.text ≡ string_bytes self.old.text ++ line_text self.old.scope line.now ++ 10 ∷ []) }
-        ensures faults { OnOk result (self.new.faults.items ≡ self.old.faults.items ++ listed (line_fault self.old.scope.labels line.now)) }
+        ensures text { OnOk result
+            (string_bytes self.new.text ≡ string_bytes self.old.text ++ line_text self.old.scope line.now
+            ++ 10 ∷ []) }
+        ensures faults { OnOk result
+            (self.new.faults.items ≡ self.old.faults.items
+            ++ listed (line_fault self.old.scope.labels line.now)) }
         ensures scope { OnOk result (self.new.scope ≡ with_line self.old.scope line.now) }
     {
         push_line(alloc, &mut self.text, &self.scope, line)?;

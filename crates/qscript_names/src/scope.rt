@@ -1,11 +1,14 @@
 //! The definitions in the lines above a line.
 
-ghost use Rattle.std.specs.Prelude.{◌≡◌, ℕ, ◌+◌, ◌<◌, ◌≤◌, ◌^◌, length, position, find, slice_get, true, OnOk, IfOk, IfSome};
+ghost use Rattle.std.specs.Prelude.{◌≡◌, ℕ, ◌+◌, ◌<◌, ◌≤◌, ◌^◌, length, position, find, slice_get, true};
+ghost use Rattle.std.specs.Prelude.{OnOk, IfOk, IfSome};
 ghost use Rattle.std.specs.List.{position_or_len, list_any};
 ghost use Rattle.std.specs.Str.{bytes_eq};
 ghost use Rattle.std.specs.Option.{option_map};
 ghost use Rattle.std.specs.HashMap.{get_by_text};
-ghost use Rattle.qscript_names.specs.Names.{Names, none, latest, number_of, with_label, thread_number, process_number, with_name, with_process, with_line, code_of, same_kind};
+ghost use Rattle.qscript_names.specs.Names.{Names, none, latest, number_of, with_label, thread_number};
+ghost use Rattle.qscript_names.specs.Names.{process_number, with_name, with_process, with_line, code_of};
+ghost use Rattle.qscript_names.specs.Names.{same_kind};
 ghost use Rattle.qscript_names.specs.Scope.{HasPlaces};
 
 use crate::label::Label;
@@ -30,7 +33,12 @@ pub struct Scope {
 impl Model for Scope {
     ghost Value = { Names };
 
-    ghost view = { λ a. record { threads = a.threads; calls = a.calls; processes = a.processes.items; labels = a.labels.items } };
+    ghost view = { λ a. record {
+      threads = a.threads;
+      calls = a.calls;
+      processes = a.processes.items;
+      labels = a.labels.items;
+    } };
 
     ghost invariant = { λ a. HasPlaces (get_by_text a.places) a.labels.items };
 }
@@ -295,7 +303,9 @@ impl Scope {
         definition: &Option<Definition>,
         number: u64,
     ) -> Result<(), AllocError>
-        ensures { OnOk result (self.new ≡ record self.old { labels = with_label definition.now number self.old.labels }) }
+        ensures { OnOk result (self.new ≡ record self.old {
+          labels = with_label definition.now number self.old.labels;
+        }) }
     {
         let Some(definition) = definition else {
             return Ok(());

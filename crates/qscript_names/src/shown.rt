@@ -72,7 +72,10 @@ impl<'a> Context<'a> {
     /// Returns the printed form of a call: its line, or `call` and its number in a plain script.
     pub fn call(self, number: u64) -> ShownNames<'a> {
         let call = self.calls.get(number.wrapping_sub(1) as usize);
-        call.map_or(ShownNames::Call(number), |call| ShownNames::Line(call.place.line))
+        call.map_or(
+            ShownNames::Call(number),
+            |call| ShownNames::Line(call.place.line),
+        )
     }
 
     /// Returns the name of a state, and the channel on which a thread in it is blocked.

@@ -54,7 +54,12 @@ impl Context<'_> {
     }
 
     /// Returns the message about a name of another kind than this, which is needed.
-    fn other_kind(&self, name: &Word, usage: Usage<'_>, kind: LineKind) -> Result<String, AllocError> {
+    fn other_kind(
+        &self,
+        name: &Word,
+        usage: Usage<'_>,
+        kind: LineKind,
+    ) -> Result<String, AllocError> {
         let Some(label) = self.scope.latest(name) else {
             return self.undefined(name);
         };

@@ -3,9 +3,9 @@
 pub mod bytes;
 pub mod call;
 pub mod forms;
-pub mod text_laws;
 pub mod line;
 pub mod lines;
 pub mod number;
 pub mod script;
+pub mod text_laws;
 pub mod words;

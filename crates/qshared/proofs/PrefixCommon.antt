@@ -3,7 +3,8 @@ pub use Rattle.qmodel.specs.Trace.{Event, Trace}
 pub use Rattle.qshared.specs.Halves.{calls_coded, heard_owns}
 pub use Rattle.qshared.specs.History.{Extends, history_owns, longer, pasts, seen_owns}
 pub use Rattle.qshared.specs.contracts.history.Prefix.{the_row, the_type}
-pub use Rattle.std.proofs.Common.{Bool, List, [], ap, arith, cond, false, leb, leb-false, leb-true, length, refl, reverse, subst, sym, true, ℕ, ◌++◌, ◌∙◌, ◌∷◌, ◌≡◌, ◌≤◌}
+pub use Rattle.std.proofs.Common.{Bool, List, [], ap, arith, cond, false, leb, leb-false, leb-true, length, refl}
+pub use Rattle.std.proofs.Common.{reverse, subst, sym, true, ℕ, ◌++◌, ◌∙◌, ◌∷◌, ◌≡◌, ◌≤◌}
 pub use Rattle.std.proofs.raw_atomic.Walks.{leaves, proved}
 pub use base.Fml.{Fml, Lft, fbor, feq, flft, fsep, ftrue}
 pub use base.Logic.{SProp, apply∗, emp, emp∗, ent, ex, fst∗, guard, id⊢, mono∗, sep, snd∗, via, wand}
@@ -35,7 +36,9 @@ pub use prog.Wp.{Calls, Loops, Tables, WpFn}
 pub use seplogic.Ra.Ura.{Ura}
 pub use sound.WpLaws.{WpFn-mono}
 pub use types.ByLocal.{alloc_all, free_all, get, look_at, pass_all, sets}
-pub use types.Kit.{ !, Goal, Item, Seq, Step, await, by, check, done, drop, feq_i, feq_l, fjoin, fjoin3, fpack, frame, fsplit, fsplit3, given, join, keep, later, learn, move, now, pick, prop, qed, raw, regoal, rewrite, some, split, step, suffices, updating, use0, use1, use2, ‵, ◌$◌, ◌∵◌, ◌⊛◌}
+pub use types.Kit.{ !, Goal, Item, Seq, Step, await, by, check, done, drop, feq_i, feq_l, fjoin, fjoin3, fpack, frame}
+pub use types.Kit.{fsplit, fsplit3, given, join, keep, later, learn, move, now, pick, prop, qed, raw, regoal, rewrite}
+pub use types.Kit.{some, split, step, suffices, updating, use0, use1, use2, ‵, ◌$◌, ◌∵◌, ◌⊛◌}
 pub use types.Logic.{Logic, lfts, sem}
 pub use types.Part.{agg}
 pub use types.Run.{and_then, enter, no_more, of_opd, returns, unit_lit}

@@ -21,7 +21,8 @@ pub record UnderLock : Type 0 where
 
 -- the history is valid and has the six properties, the kernel matches it, and the later completions of the
 -- threads were put into the cells
-pub record Agrees (roster : List Member) (kernel : State) (d : KernelView Completion) (past : Trace) : Type 0 where
+pub record Agrees (roster : List Member) (kernel : State) (d : KernelView Completion)
+    (past : Trace) : Type 0 where
   pub lawful : IsLawful roster past
   pub properties : HasProperties roster past
   pub stands : StandsAt roster kernel past

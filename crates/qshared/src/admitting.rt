@@ -28,11 +28,18 @@ pub(crate) fn admit(
 ) -> Result<(Call, Preallocated), Errno>
     requires copies { IfSome copies (λ c. c ≡ call.now) }
     requires room { (length log.old.events < limit) × (limit ≤ 2 ^ 20) }
-    ensures same { log.new ≡ record log.old { call_room = log.new.call_room; completion_room = log.new.completion_room } }
-    ensures kept { (log.old.call_room ≤ log.new.call_room) × (log.old.completion_room ≤ log.new.completion_room) }
+    ensures same { log.new ≡ record log.old {
+      call_room = log.new.call_room;
+      completion_room = log.new.completion_room;
+    } }
+    ensures kept { (log.old.call_room ≤ log.new.call_room)
+        × (log.old.completion_room ≤ log.new.completion_room) }
     ensures copy { IfOk result (λ r. r.0 ≡ call.now) }
     ensures grown { IfOk result (λ r. HasRoomFor limit log.new call.now r.1) }
-    ensures refused { IfErr result (λ e. ¬ (call.now ≡ Shutdown) × (((e ≡ Errno.TraceFull) × (length log.old.events + 1 ≡ limit)) ⊎ ((e ≡ Errno.NoMemory) × (length log.old.events + 1 < limit)))) }
+    ensures refused { IfErr result
+        (λ e. ¬ (call.now ≡ Shutdown)
+        × (((e ≡ Errno.TraceFull) × (length log.old.events + 1 ≡ limit))
+        ⊎ ((e ≡ Errno.NoMemory) × (length log.old.events + 1 < limit)))) }
 {
     if matches!(call, Call::Shutdown) {
         return Ok((Call::Shutdown, Preallocated::none(alloc)));

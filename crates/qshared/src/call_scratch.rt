@@ -32,7 +32,8 @@ impl CallScratch {
     /// Makes the room, 7 KB, for the port of the thread at this index.
     pub(crate) fn new(alloc: Global, seat: ThreadRef) -> Result<CallScratch, AllocError>
         ensures seat { IfOk result (λ scratch. scratch.seat ≡ seat) }
-        ensures none { IfOk result (λ scratch. (scratch.completions.value.items ≡ []) × (scratch.pending ≡ false)) }
+        ensures none { IfOk result
+            (λ scratch. (scratch.completions.value.items ≡ []) × (scratch.pending ≡ false)) }
     {
         Ok(CallScratch {
             alloc,

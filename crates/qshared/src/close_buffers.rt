@@ -2,10 +2,10 @@
 
 ghost use Rattle.std.specs.Prelude.{◌≡◌, ◌≤◌, [], vec_capacity};
 
+use crate::asking::PortCalls;
 use crate::tie::Tie;
 use qhandoff::seats::ThreadSeat;
 use qmodel::call::Completion;
-use crate::asking::PortCalls;
 use std::alloc::{AllocError, Global};
 use std::marker::PhantomData;
 
@@ -18,7 +18,10 @@ pub(crate) struct CloseBuffers<K: Tie> {
     pub(crate) left: Vec<Completion>,
     pub(crate) asked: Vec<PortCalls>,
     of: PhantomData<K>,
-    ghost roomy: { (seats.items ≡ []) × (K.names.cells.slots ≤ vec_capacity seats) × (calls.items ≡ []) × (K.names.cells.slots ≤ vec_capacity calls) × (left.items ≡ []) × (K.names.cells.slots ≤ vec_capacity left) × (asked.items ≡ []) × (K.names.cells.slots ≤ vec_capacity asked) },
+    ghost roomy: { (seats.items ≡ []) × (K.names.cells.slots ≤ vec_capacity seats) × (calls.items ≡ [])
+        × (K.names.cells.slots ≤ vec_capacity calls) × (left.items ≡ [])
+        × (K.names.cells.slots ≤ vec_capacity left) × (asked.items ≡ [])
+        × (K.names.cells.slots ≤ vec_capacity asked) },
 }
 
 impl<K: Tie> CloseBuffers<K> {

@@ -4,15 +4,15 @@ ghost use Rattle.std.specs.Prelude.{◌≡◌, ◌+◌, ◌<◌, ◌^◌, [], le
 ghost use Rattle.qrules.specs.Rules.{effect_of};
 ghost use Rattle.qshared.specs.Past.{is_down};
 
-use crate::logged_copy::LoggedCopy;
+use crate::ghost_trace::GhostTrace;
 use crate::log::Log;
+use crate::logged_copy::LoggedCopy;
 use crate::tie::Tie;
 use qbase::errno::Errno;
 use qkernel::completions::Completions;
 use qkernel::kernel::{CALL_LIMIT, Kernel};
 use qkernel::thread_ref::ThreadRef;
 use qmodel::call::Call;
-use crate::ghost_trace::GhostTrace;
 use std::alloc::Global;
 use std::marker::PhantomData;
 use std::snapshot::Snapshot;

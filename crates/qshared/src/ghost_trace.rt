@@ -5,8 +5,8 @@ ghost use base.Fml.{ftrue};
 ghost use Rattle.qmodel.specs.Trace.{Trace};
 
 use qbase::ids::ThreadNo;
-use qmodel::call::Call;
 use qkernel_state::completions::Completions;
+use qmodel::call::Call;
 use std::marker::Model;
 use std::snapshot::Snapshot;
 
@@ -29,8 +29,17 @@ impl GhostTrace {
     }
 
     /// Returns this history with one more event: this call of the thread, with these completions.
-    pub fn with(&self, _thread: &ThreadNo, _call: &Snapshot<Call>, _completions: &Completions) -> GhostTrace
-        ensures { result.trace ≡ record { thread = _thread.now; call = _call.now.value; completions = _completions.now.items } ∷ self.now.trace }
+    pub fn with(
+        &self,
+        _thread: &ThreadNo,
+        _call: &Snapshot<Call>,
+        _completions: &Completions,
+    ) -> GhostTrace
+        ensures { result.trace ≡ record {
+          thread = _thread.now;
+          call = _call.now.value;
+          completions = _completions.now.items;
+        } ∷ self.now.trace }
     {
         GhostTrace {}
     }

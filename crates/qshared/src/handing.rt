@@ -37,7 +37,8 @@ fn hand_one(
     requires may { MayPut (threads_of (members_of kernel.now.threads)) (kernel_view seat.old) completion }
     ensures cells { kernel_id seat.new ≡ kernel_id seat.old }
     ensures place { result < (cells_id cells.entry.now).slots }
-    ensures put { (place (threads_of (members_of kernel.now.threads)) completion.thread ≡ Some result) × (kernel_view seat.new ≡ put_kernel_view (kernel_view seat.old) result completion) }
+    ensures put { (place (threads_of (members_of kernel.now.threads)) completion.thread ≡ Some result)
+        × (kernel_view seat.new ≡ put_kernel_view (kernel_view seat.old) result completion) }
 {
     let Some(place) = place_of(kernel, completion.thread) else {
         unreachable!()
@@ -54,8 +55,8 @@ fn bit_of(place: usize) -> u64
 }
 
 /// Puts the completions of an event into their threads' cells, and sets the bit of every cell that is filled.
-/// If one of them is for `scratch`'s own thread, it isn't put but returned, and the thread's cell is closed. No
-/// two completions are for the same thread, so their order doesn't matter: the last is put first.
+/// If one of them is for `scratch`'s own thread, it isn't put but returned, and the thread's cell is closed.
+/// No two completions are for the same thread, so their order doesn't matter: the last is put first.
 pub(crate) fn hand_out(
     seat: &mut KernelSeat<Completion>,
     cells: &Cells<Completion>,
@@ -65,12 +66,16 @@ pub(crate) fn hand_out(
     requires few { (cells_id cells.now).slots ≤ 64 }
     requires cells { kernel_id seat.old ≡ cells_id cells.now }
     requires sized { length (threads_of (members_of kernel.now.threads)) ≡ (cells_id cells.now).slots }
-    requires place { place (threads_of (members_of kernel.now.threads)) scratch.old.seat.thread ≡ Some scratch.old.seat.index }
+    requires place { place (threads_of (members_of kernel.now.threads)) scratch.old.seat.thread
+        ≡ Some scratch.old.seat.index }
     requires apart { AreApart scratch.old.completions.value.items }
-    requires may { AllByRecursion (MayPut (threads_of (members_of kernel.now.threads)) (kernel_view seat.old)) scratch.old.completions.value.items }
+    requires may { AllByRecursion
+        (MayPut (threads_of (members_of kernel.now.threads)) (kernel_view seat.old))
+        scratch.old.completions.value.items }
     ensures cells { kernel_id seat.new ≡ kernel_id seat.old }
     ensures own { of_thread scratch.old.seat.thread scratch.old.completions.value.items ≡ one result }
-    ensures handed { Handed (threads_of (members_of kernel.now.threads)) scratch.old.seat.thread scratch.old.completions.value.items (kernel_view seat.old) (kernel_view seat.new) }
+    ensures handed { Handed (threads_of (members_of kernel.now.threads)) scratch.old.seat.thread
+        scratch.old.completions.value.items (kernel_view seat.old) (kernel_view seat.new) }
     ensures seat { (scratch.new.seat ≡ scratch.old.seat) × (scratch.new.pending ≡ scratch.old.pending) }
     ensures emptied { scratch.new.completions.value.items ≡ [] }
 {

@@ -6,8 +6,8 @@ ghost use Rattle.qmodel.specs.Trace.{Trace};
 ghost use Rattle.qshared.specs.History.{Extends, longer, history_owns, seen_owns};
 
 use qbase::ids::ThreadNo;
-use qmodel::call::Call;
 use qkernel_state::completions::Completions;
+use qmodel::call::Call;
 use std::marker::{Model, Send, Sync};
 use std::snapshot::Snapshot;
 
@@ -56,7 +56,11 @@ impl History {
     /// Adds an event: this call of the thread, with these completions.
     pub fn add(&mut self, _thread: &ThreadNo, _call: &Snapshot<Call>, _completions: &Completions)
         ensures name { self.new.name ≡ self.old.name }
-        ensures past { self.new.trace ≡ record { thread = _thread.now; call = _call.now.value; completions = _completions.now.items } ∷ self.old.trace }
+        ensures past { self.new.trace ≡ record {
+          thread = _thread.now;
+          call = _call.now.value;
+          completions = _completions.now.items;
+        } ∷ self.old.trace }
     {}
 
     /// Sets the prefix to the whole history, which extends the old prefix. Both must have the same name.

@@ -1,6 +1,7 @@
 //! The value under the lock.
 
-ghost use Rattle.std.specs.Prelude.{◌≡◌, ◌+◌, ◌++◌, ◌<◌, ◌≤◌, ◌^◌, ℕ, [], ◌∷◌, length, map, slice_index_or, IfSome, if◌then◌else◌, Some, true, false};
+ghost use Rattle.std.specs.Prelude.{◌≡◌, ◌+◌, ◌++◌, ◌<◌, ◌≤◌, ◌^◌, ℕ, [], ◌∷◌, length, map, slice_index_or};
+ghost use Rattle.std.specs.Prelude.{IfSome, if◌then◌else◌, Some, true, false};
 ghost use lib.ListN.{get_elem?};
 ghost use Rattle.qrules.specs.Facts.{threads_of};
 ghost use Rattle.qhandoff.specs.Words.{cells_id};
@@ -9,16 +10,16 @@ ghost use Rattle.qshared.specs.Answered.{Answered, IsMet};
 ghost use Rattle.qshared.specs.Counting.{is_call};
 ghost use Rattle.qshared.specs.Due.{place};
 
+use crate::asking::{KernelCalls, PortCalls};
+use crate::call_scratch::CallScratch;
 use crate::close_buffers::CloseBuffers;
+use crate::history::Prefix;
 use crate::log::Log;
 use crate::port::{Called, is_call};
 use crate::tie::{Tie, Whole};
 use crate::traced::Traced;
-use crate::call_scratch::CallScratch;
 use qhandoff::cells::Cells;
 use qmodel::call::{Call, Completion};
-use crate::asking::{PortCalls, KernelCalls};
-use crate::history::Prefix;
 use std::snapshot::Snapshot;
 use std::sync::ledger::{Book, Share};
 
@@ -35,7 +36,8 @@ pub(crate) struct LockState<K: Tie, L: Log> {
     pub(crate) whole: Whole<K>,
     ghost none_spare: { (spare.parts ≡ 0) × (spare.amount ≡ 0) },
     ghost counted: { length traced.past ≡ book.total },
-    ghost named: { (map (λ h. h.name) heard.items ≡ K.names.lists) × (length heard.items ≡ K.names.cells.slots) },
+    ghost named: { (map (λ h. h.name) heard.items ≡ K.names.lists)
+        × (length heard.items ≡ K.names.cells.slots) },
     ghost heard_all: { AreCallsOf K.names.roster (map (λ h. h.calls) heard.items) traced.past },
 }
 
@@ -60,7 +62,9 @@ impl<K: Tie, L: Log> LockState<K, L> {
         heard: Vec<KernelCalls>,
     ) -> LockState<K, L>
         requires counted { (traced.past ≡ []) × (book.total ≡ 0) }
-        requires heard { (map (λ h. h.name) heard.items ≡ K.names.lists) × (length heard.items ≡ K.names.cells.slots) × ((k : ℕ) → heard_in (get_elem? heard.items k) ≡ []) }
+        requires heard { (map (λ h. h.name) heard.items ≡ K.names.lists)
+            × (length heard.items ≡ K.names.cells.slots)
+            × ((k : ℕ) → heard_in (get_elem? heard.items k) ≡ []) }
         requires whole { K.parts ≡ K.names.cells.slots }
         requires none_spare { (spare.parts ≡ 0) × (spare.amount ≡ 0) }
     {
@@ -74,8 +78,8 @@ impl<K: Tie, L: Log> LockState<K, L> {
         }
     }
 
-    /// Makes a call of the thread that `scratch` belongs to. If the call is an event, counts it in the thread's
-    /// share and adds it to the thread's list. Afterwards `seen` is the whole history.
+    /// Makes a call of the thread that `scratch` belongs to. If the call is an event, counts it in the
+    /// thread's share and adds it to the thread's list. Afterwards `seen` is the whole history.
     pub(crate) fn call(
         &mut self,
         cells: &Cells<Completion>,
@@ -89,13 +93,16 @@ impl<K: Tie, L: Log> LockState<K, L> {
         requires part { 0 < share.old.parts }
         requires seat { (place (threads_of K.names.roster) scratch.old.seat.thread ≡ Some scratch.old.seat.index) × (scratch.old.seat.index < K.names.cells.slots) }
         requires none { scratch.old.completions.value.items ≡ [] }
-        requires pending { scratch.old.pending ≡ true → WaitedBefore seen.old.trace asked.old.calls scratch.old.seat.thread }
+        requires pending { scratch.old.pending ≡ true
+            → WaitedBefore seen.old.trace asked.old.calls scratch.old.seat.thread }
         requires asked { slice_index_or K.names.lists scratch.old.seat.index 0 ≡ asked.old.name }
         requires seen { seen.old.name ≡ K.names.history }
         requires copies { IfSome scratch.old.copies (λ c. c ≡ call) }
-        ensures met { IsMet K.names.roster scratch.old.seat.thread asked.old.calls seen.old.trace self.old.traced.past }
+        ensures met { IsMet K.names.roster scratch.old.seat.thread asked.old.calls seen.old.trace
+            self.old.traced.past }
         ensures idle { is_call result ≡ true → scratch.old.pending ≡ false }
-        ensures came { Answered K.names.roster L.refuses L.admits scratch.old.seat.thread call result self.old.traced.past seen.new.trace }
+        ensures came { Answered K.names.roster L.refuses L.admits scratch.old.seat.thread call result
+            self.old.traced.past seen.new.trace }
         ensures past { self.new.traced.past ≡ seen.new.trace }
         ensures seen { seen.new.name ≡ seen.old.name }
         ensures parts { share.new.parts ≡ share.old.parts }

@@ -1,6 +1,7 @@
 //! The log by which a locked kernel keeps its history.
 
-ghost use Rattle.std.specs.Prelude.{◌≡◌, ◌∷◌, ◌<◌, ◌^◌, Bool, List, length, IfErr, IfSome, OnOk, is_some, true, false};
+ghost use Rattle.std.specs.Prelude.{◌≡◌, ◌∷◌, ◌<◌, ◌^◌, Bool, List, length, IfErr, IfSome, OnOk, is_some};
+ghost use Rattle.std.specs.Prelude.{true, false};
 ghost use Rattle.qtables.specs.Members.{member_at};
 ghost use Rattle.qtables.specs.declared.member.Member.{Member};
 ghost use Rattle.qmodel.specs.declared.call.Call.{Call};
@@ -22,8 +23,8 @@ use qmodel::call::Call;
 use std::alloc::Global;
 
 /// A log by which a locked kernel keeps its history. A call is noted before it is made, and the log may
-/// refuse it. After the call was made, it is an event with its completions. `RecordedHistory` keeps the events in
-/// memory, and `Unkept` keeps none.
+/// refuse it. After the call was made, it is an event with its completions. `RecordedHistory` keeps the
+/// events in memory, and `Unkept` keeps none.
 pub trait Log: Drop {
     /// The roster of the kernel.
     ghost roster: { Self → List Member };
@@ -42,8 +43,8 @@ pub trait Log: Drop {
     /// The condition under which the log notes a call.
     ghost admits: { Admits };
 
-    /// LoggedCopy a call for `note`, before the lock is taken. Returns `None` if the log needs no copy, or if the
-    /// allocator refuses.
+    /// LoggedCopy a call for `note`, before the lock is taken. Returns `None` if the log needs no copy, or if
+    /// the allocator refuses.
     fn copies(alloc: Global, call: &Call) -> Option<LoggedCopy>
         ensures copied { IfSome result (λ copies. copies ≡ call.now) };
 
@@ -67,8 +68,14 @@ pub trait Log: Drop {
         requires ready { ready self.old ≡ true }
         requires up { is_down (past self.old) ≡ false }
         requires lawful { IsLawful (roster self.old) (past self.old) }
-        requires thread { (is_some (member_at (roster self.old) seat.now.thread) ≡ true) × (is_blocked (facts_of (roster self.old) (past self.old)) seat.now.thread ≡ false) }
-        requires answers { Answers (facts_of (roster self.old) (past self.old)) seat.now.thread (noted self.old) completions.now.items }
-        ensures event { past self.new ≡ record { thread = seat.now.thread; call = noted self.old; completions = completions.now.items } ∷ past self.old }
+        requires thread { (is_some (member_at (roster self.old) seat.now.thread) ≡ true)
+            × (is_blocked (facts_of (roster self.old) (past self.old)) seat.now.thread ≡ false) }
+        requires answers { Answers (facts_of (roster self.old) (past self.old)) seat.now.thread
+            (noted self.old) completions.now.items }
+        ensures event { past self.new ≡ record {
+          thread = seat.now.thread;
+          call = noted self.old;
+          completions = completions.now.items;
+        } ∷ past self.old }
         ensures same { roster self.new ≡ roster self.old };
 }

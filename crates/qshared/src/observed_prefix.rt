@@ -3,8 +3,8 @@
 ghost use Rattle.std.specs.Prelude.{◌≡◌};
 ghost use Rattle.qshared.specs.History.{Extends};
 
-use crate::tie::Tie;
 use crate::history;
+use crate::tie::Tie;
 use std::marker::{Model, PhantomData};
 
 /// A prefix of the history of the kernel that K names, which contracts see. It has no bytes, and its

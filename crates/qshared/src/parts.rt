@@ -9,14 +9,14 @@ ghost use Rattle.qhandoff.specs.Steps.{seated_kernel_view};
 ghost use Rattle.qhandoff.specs.Words.{cells_id, kernel_id, count, kernel_view, took, IsRow};
 ghost use Rattle.qshared.specs.Asking.{asked_in, heard_in};
 
+use crate::asking::{KernelCalls, PortCalls, halves};
+use crate::history::{History, Prefix};
 use qbase::errno::Errno;
 use qbase::ids::ThreadNo;
 use qhandoff::cells::Cells;
 use qhandoff::seats::{KernelSeat, ThreadSeat};
 use qkernel::kernel::Kernel;
 use qmodel::call::Completion;
-use crate::asking::{PortCalls, KernelCalls, halves};
-use crate::history::{History, Prefix};
 use qtables::member::Member;
 use qtables::roster::Roster;
 use std::alloc::{AllocError, Global};
@@ -37,14 +37,19 @@ pub struct Parts {
     pub(crate) heard: Vec<KernelCalls>,
     pub(crate) history: History,
     pub(crate) seen: Prefix,
-    ghost fits: { (kernel_id seat ≡ cells_id cells) × (kernel_view seat ≡ seated_kernel_view (count cells) (count cells)) × (blank.parts ≡ count cells) },
-    ghost row: { (length seats.items ≡ count cells) × IsRow (cells_id cells) seats.items × ((k : ℕ) → took (get_elem? seats.items k) ≡ []) },
+    ghost fits: { (kernel_id seat ≡ cells_id cells)
+        × (kernel_view seat ≡ seated_kernel_view (count cells) (count cells)) × (blank.parts ≡ count cells) },
+    ghost row: { (length seats.items ≡ count cells) × IsRow (cells_id cells) seats.items
+        × ((k : ℕ) → took (get_elem? seats.items k) ≡ []) },
     ghost stands: { StandsAt (members_of kernel.threads) kernel [] },
-    ghost threads_are: { (threads.items ≡ threads_of (members_of kernel.threads)) × (length threads.items ≡ count cells) },
+    ghost threads_are: { (threads.items ≡ threads_of (members_of kernel.threads))
+        × (length threads.items ≡ count cells) },
     ghost bounded: { (2 ≤ limit) × (limit ≤ 2 ^ 20) },
-    ghost halves: { (map (λ a. a.name) asked.items ≡ map (λ h. h.name) heard.items) × (length asked.items ≡ count cells) × (length heard.items ≡ count cells) },
+    ghost halves: { (map (λ a. a.name) asked.items ≡ map (λ h. h.name) heard.items)
+        × (length asked.items ≡ count cells) × (length heard.items ≡ count cells) },
     ghost unseen: { (history.name ≡ seen.name) × (history.trace ≡ []) × (seen.trace ≡ []) },
-    ghost empty: { ((k : ℕ) → asked_in (get_elem? asked.items k) ≡ []) × ((k : ℕ) → heard_in (get_elem? heard.items k) ≡ []) },
+    ghost empty: { ((k : ℕ) → asked_in (get_elem? asked.items k) ≡ [])
+        × ((k : ℕ) → heard_in (get_elem? heard.items k) ≡ []) },
 }
 
 /// Returns the thread numbers of these members.
@@ -62,7 +67,9 @@ fn threads_in(alloc: Global, members: &[Member]) -> Result<Vec<ThreadNo>, AllocE
 fn lists(alloc: Global, many: usize) -> Result<(Vec<PortCalls>, Vec<KernelCalls>), AllocError>
     ensures names { IfOk result (λ r. map (λ a. a.name) r.0.items ≡ map (λ h. h.name) r.1.items) }
     ensures many { IfOk result (λ r. (length r.0.items ≡ many) × (length r.1.items ≡ many)) }
-    ensures empty { IfOk result (λ r. ((k : ℕ) → asked_in (get_elem? r.0.items k) ≡ []) × ((k : ℕ) → heard_in (get_elem? r.1.items k) ≡ [])) }
+    ensures empty { IfOk result
+        (λ r. ((k : ℕ) → asked_in (get_elem? r.0.items k) ≡ [])
+        × ((k : ℕ) → heard_in (get_elem? r.1.items k) ≡ [])) }
 {
     let mut asked = Vec::with_capacity(alloc, many)?;
     let mut heard = Vec::with_capacity(alloc, many)?;
@@ -85,7 +92,8 @@ impl Parts {
     pub fn new(alloc: Global, roster: &Roster, trace_limit: u32) -> Result<Parts, Errno>
         ensures roster { IfOk result (λ p. members_of p.kernel.threads ≡ roster.now) }
         ensures limit { IfOk result (λ p. p.limit ≡ trace_limit) }
-        ensures error { IfErr result (λ e. ((e ≡ Errno.Inval) × ((trace_limit < 2) ⊎ (2 ^ 20 < trace_limit))) ⊎ ((e ≡ Errno.NoMemory) × (2 ≤ trace_limit) × (trace_limit ≤ 2 ^ 20))) }
+        ensures error { IfErr result (λ e. ((e ≡ Errno.Inval) × ((trace_limit < 2) ⊎ (2 ^ 20 < trace_limit)))
+            ⊎ ((e ≡ Errno.NoMemory) × (2 ≤ trace_limit) × (trace_limit ≤ 2 ^ 20))) }
     {
         if trace_limit < 2 || trace_limit > TRACE_LIMIT {
             return Err(Errno::Inval);

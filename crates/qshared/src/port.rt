@@ -1,6 +1,7 @@
 //! The port by which one thread calls a shared kernel.
 
-ghost use Rattle.std.specs.Prelude.{◌≡◌, ◌≤◌, ◌+◌, ◌++◌, [], ◌∷◌, true, false, IfSome, MatchOption, if◌then◌else◌, slice_index_or, Some};
+ghost use Rattle.std.specs.Prelude.{◌≡◌, ◌≤◌, ◌+◌, ◌++◌, [], ◌∷◌, true, false, IfSome, MatchOption};
+ghost use Rattle.std.specs.Prelude.{if◌then◌else◌, slice_index_or, Some};
 ghost use Rattle.qrules.specs.Facts.{threads_of};
 ghost use Rattle.qhandoff.specs.Words.{cells_id, thread_id, thread_of, taken, IsThreadOf};
 ghost use Rattle.qshared.specs.History.{Extends};
@@ -10,14 +11,15 @@ ghost use Rattle.qshared.specs.Answered.{AtPast, IsMet, Answered};
 ghost use Rattle.qshared.specs.Counting.{is_call, gives, pends};
 ghost use Rattle.qshared.specs.TwoCalls.{AnsweredBoth, is_ok, calls_in, asked_by, gives_both, pends_both};
 
+use crate::asking::PortCalls;
+use crate::call_scratch::CallScratch;
 use crate::lock_state::LockState;
 use crate::log::Log;
-use crate::spin_policy::SpinPolicy;
 use crate::observed_prefix::ObservedPrefix;
 use crate::shared::Shared;
-use crate::spinning;
+use crate::spin_policy::SpinPolicy;
 use crate::tie::Tie;
-use crate::call_scratch::CallScratch;
+use crate::{history, spinning};
 use crossbeam_utils::Backoff;
 use crossbeam_utils::sync::Parker;
 use qbase::bytes::Bytes;
@@ -26,13 +28,11 @@ use qbase::ids::ThreadNo;
 use qhandoff::cells::Cells;
 use qhandoff::seats::ThreadSeat;
 use qmodel::call::{Call, Completion, Mark};
-use crate::asking::PortCalls;
-use crate::history;
 use std::sync::Wait;
 use std::sync::ledger::Share;
 
-/// The outcome of a call that a port was asked to make. The calls of `crates/balsaeuchre_calls` read their results from
-/// it.
+/// The outcome of a call that a port was asked to make. The calls of `crates/balsaeuchre_calls` read their
+/// results from it.
 #[derive(Debug, Drop)]
 pub enum Called {
     /// The call is an event and completed in it. The port took this completion.
@@ -136,8 +136,10 @@ fn take(
 ) -> Option<Completion>
     requires { IsThreadOf cells.now seat.old }
     ensures seat { (thread_id seat.new ≡ thread_id seat.old) × (thread_of seat.new ≡ thread_of seat.old) }
-    ensures taken { MatchOption result (taken seat.new ≡ taken seat.old) (λ x. taken seat.new ≡ taken seat.old ++ x ∷ []) }
-    ensures pending { MatchOption result (pending.new ≡ pending.old) (λ x. (pending.old ≡ true) × (pending.new ≡ false)) }
+    ensures taken { MatchOption result (taken seat.new ≡ taken seat.old)
+        (λ x. taken seat.new ≡ taken seat.old ++ x ∷ []) }
+    ensures pending { MatchOption result (pending.new ≡ pending.old)
+        (λ x. (pending.old ≡ true) × (pending.new ≡ false)) }
 {
     if !*pending {
         return None;
@@ -159,8 +161,10 @@ fn look(
 ) -> Option<Completion>
     requires { IsThreadOf cells.now seat.old }
     ensures seat { (thread_id seat.new ≡ thread_id seat.old) × (thread_of seat.new ≡ thread_of seat.old) }
-    ensures taken { MatchOption result (taken seat.new ≡ taken seat.old) (λ x. taken seat.new ≡ taken seat.old ++ x ∷ []) }
-    ensures pending { MatchOption result (pending.new ≡ pending.old) (λ x. (pending.old ≡ true) × (pending.new ≡ false)) }
+    ensures taken { MatchOption result (taken seat.new ≡ taken seat.old)
+        (λ x. taken seat.new ≡ taken seat.old ++ x ∷ []) }
+    ensures pending { MatchOption result (pending.new ≡ pending.old)
+        (λ x. (pending.old ≡ true) × (pending.new ≡ false)) }
 {
     let backoff = Backoff::new();
     for _ in 0..patience.looks() {
@@ -184,13 +188,16 @@ impl<K: Tie> Port<K> {
         asked: PortCalls,
         seen: history::Prefix,
     ) -> Port<K>
-        requires seat { (thread_id seat ≡ K.names.cells) × (place (threads_of K.names.roster) scratch.seat.thread ≡ Some (thread_of seat)) }
-        requires scratch { (scratch.seat.index ≡ thread_of seat) × (scratch.completions.value.items ≡ []) × (scratch.pending ≡ false) }
+        requires seat { (thread_id seat ≡ K.names.cells)
+            × (place (threads_of K.names.roster) scratch.seat.thread ≡ Some (thread_of seat)) }
+        requires scratch { (scratch.seat.index ≡ thread_of seat) × (scratch.completions.value.items ≡ [])
+            × (scratch.pending ≡ false) }
         requires taken { taken seat ≡ [] }
         requires share { (share.amount ≡ 0) × (share.parts ≡ 1) }
         requires asked { slice_index_or K.names.lists (thread_of seat) 0 ≡ asked.name }
         requires seen { (seen.name ≡ K.names.history) × (seen.trace ≡ []) × (asked.calls ≡ []) }
-        ensures { (result.seat ≡ seat) × (result.calls ≡ 0) × (result.scratch.pending ≡ false) × (result.asked ≡ asked) × (result.seen ≡ seen) × (result.last.trace ≡ []) }
+        ensures { (result.seat ≡ seat) × (result.calls ≡ 0) × (result.scratch.pending ≡ false)
+            × (result.asked ≡ asked) × (result.seen ≡ seen) × (result.last.trace ≡ []) }
     {
         Port {
             thread: scratch.seat.thread(),
@@ -218,12 +225,17 @@ impl<K: Tie> Port<K> {
     /// of 2^40 events is left.
     /// `endpoint.rt` of `crates/balsaeuchre_calls` calls it.
     pub fn call<L: Log, R: Wait>(&mut self, shared: &Shared<K, L>, rt: &R, call: Call) -> Called
-        ensures came { AtPast K.names.roster self.old.thread self.old.asked.calls self.old.seen.trace (λ past. Answered K.names.roster L.refuses L.admits self.old.thread call result past self.new.seen.trace) }
+        ensures came { AtPast K.names.roster self.old.thread self.old.asked.calls self.old.seen.trace
+            (λ past. Answered K.names.roster L.refuses L.admits self.old.thread call result past
+            self.new.seen.trace) }
         ensures calls { self.new.calls ≡ self.old.calls + (if is_call result then 1 else 0) }
-        ensures asked { self.new.asked.calls ≡ self.old.asked.calls ++ (if is_call result then call ∷ [] else []) }
+        ensures asked { self.new.asked.calls ≡ self.old.asked.calls
+            ++ (if is_call result then call ∷ [] else []) }
         ensures pending { self.new.scratch.pending ≡ pends result self.old.scratch.pending }
-        ensures taken { collected self.new.last.trace self.new.thread (taken self.new.seat) ≡ collected self.old.last.trace self.old.thread (taken self.old.seat) ++ gives result }
-        ensures same { (self.new.thread ≡ self.old.thread) × (thread_of self.new.seat ≡ thread_of self.old.seat) }
+        ensures taken { collected self.new.last.trace self.new.thread (taken self.new.seat)
+            ≡ collected self.old.last.trace self.old.thread (taken self.old.seat) ++ gives result }
+        ensures same { (self.new.thread ≡ self.old.thread)
+            × (thread_of self.new.seat ≡ thread_of self.old.seat) }
     {
         self.scratch.woken = 0;
         self.scratch.lent = None;
@@ -248,12 +260,16 @@ impl<K: Tie> Port<K> {
         first: Call,
         second: Call,
     ) -> CalledPair
-        ensures came { AtPast K.names.roster self.old.thread self.old.asked.calls self.old.seen.trace (λ past. AnsweredBoth K.names.roster L.refuses L.admits self.old.thread first second result past self.new.seen.trace) }
+        ensures came { AtPast K.names.roster self.old.thread self.old.asked.calls self.old.seen.trace
+            (λ past. AnsweredBoth K.names.roster L.refuses L.admits self.old.thread first second result past
+            self.new.seen.trace) }
         ensures calls { self.new.calls ≡ self.old.calls + calls_in result }
         ensures asked { self.new.asked.calls ≡ self.old.asked.calls ++ asked_by first second result }
         ensures pending { self.new.scratch.pending ≡ pends_both result self.old.scratch.pending }
-        ensures taken { collected self.new.last.trace self.new.thread (taken self.new.seat) ≡ collected self.old.last.trace self.old.thread (taken self.old.seat) ++ gives_both result }
-        ensures same { (self.new.thread ≡ self.old.thread) × (thread_of self.new.seat ≡ thread_of self.old.seat) }
+        ensures taken { collected self.new.last.trace self.new.thread (taken self.new.seat)
+            ≡ collected self.old.last.trace self.old.thread (taken self.old.seat) ++ gives_both result }
+        ensures same { (self.new.thread ≡ self.old.thread)
+            × (thread_of self.new.seat ≡ thread_of self.old.seat) }
     {
         self.scratch.woken = 0;
         self.scratch.lent = None;
@@ -294,14 +310,19 @@ impl<K: Tie> Port<K> {
     ) -> Called
         requires cells { cells_id cells.now ≡ K.names.cells }
         requires copies { IfSome self.old.scratch.copies (λ c. c ≡ call) }
-        ensures met { IsMet K.names.roster self.old.thread self.old.asked.calls self.old.seen.trace locked.old.traced.past }
-        ensures came { Answered K.names.roster L.refuses L.admits self.old.thread call result locked.old.traced.past self.new.seen.trace }
+        ensures met { IsMet K.names.roster self.old.thread self.old.asked.calls self.old.seen.trace
+            locked.old.traced.past }
+        ensures came { Answered K.names.roster L.refuses L.admits self.old.thread call result
+            locked.old.traced.past self.new.seen.trace }
         ensures past { locked.new.traced.past ≡ self.new.seen.trace }
         ensures calls { self.new.calls ≡ self.old.calls + (if is_call result then 1 else 0) }
-        ensures asked { self.new.asked.calls ≡ self.old.asked.calls ++ (if is_call result then call ∷ [] else []) }
+        ensures asked { self.new.asked.calls ≡ self.old.asked.calls
+            ++ (if is_call result then call ∷ [] else []) }
         ensures pending { self.new.scratch.pending ≡ pends result self.old.scratch.pending }
-        ensures taken { collected self.new.last.trace self.new.thread (taken self.new.seat) ≡ collected self.old.last.trace self.old.thread (taken self.old.seat) ++ gives result }
-        ensures same { (self.new.thread ≡ self.old.thread) × (thread_of self.new.seat ≡ thread_of self.old.seat) }
+        ensures taken { collected self.new.last.trace self.new.thread (taken self.new.seat)
+            ≡ collected self.old.last.trace self.old.thread (taken self.old.seat) ++ gives result }
+        ensures same { (self.new.thread ≡ self.old.thread)
+            × (thread_of self.new.seat ≡ thread_of self.old.seat) }
     {
         let called = locked.call(
             cells,
@@ -321,9 +342,16 @@ impl<K: Tie> Port<K> {
     /// never waits.
     /// `qroundtrips` of `bench/programs` polls the two ports of one thread.
     pub fn poll<L: Log>(&mut self, shared: &Shared<K, L>) -> Option<Completion>
-        ensures taken { MatchOption result (collected self.new.last.trace self.new.thread (taken self.new.seat) ≡ collected self.old.last.trace self.old.thread (taken self.old.seat)) (λ x. collected self.new.last.trace self.new.thread (taken self.new.seat) ≡ collected self.old.last.trace self.old.thread (taken self.old.seat) ++ x ∷ []) }
-        ensures pending { MatchOption result (self.new.scratch.pending ≡ self.old.scratch.pending) (λ x. self.new.scratch.pending ≡ false) }
-        ensures same { (self.new.thread ≡ self.old.thread) × (thread_of self.new.seat ≡ thread_of self.old.seat) × (self.new.calls ≡ self.old.calls) × (self.new.asked ≡ self.old.asked) × (self.new.seen ≡ self.old.seen) }
+        ensures taken { MatchOption result
+            (collected self.new.last.trace self.new.thread (taken self.new.seat)
+            ≡ collected self.old.last.trace self.old.thread (taken self.old.seat))
+            (λ x. collected self.new.last.trace self.new.thread (taken self.new.seat)
+            ≡ collected self.old.last.trace self.old.thread (taken self.old.seat) ++ x ∷ []) }
+        ensures pending { MatchOption result (self.new.scratch.pending ≡ self.old.scratch.pending)
+            (λ x. self.new.scratch.pending ≡ false) }
+        ensures same { (self.new.thread ≡ self.old.thread)
+            × (thread_of self.new.seat ≡ thread_of self.old.seat) × (self.new.calls ≡ self.old.calls)
+            × (self.new.asked ≡ self.old.asked) × (self.new.seen ≡ self.old.seen) }
     {
         take(&mut self.seat, &shared.cells, &mut self.scratch.pending)
     }
@@ -333,9 +361,12 @@ impl<K: Tie> Port<K> {
     /// `endpoint.rt` of `crates/balsaeuchre_calls` waits with it.
     pub fn wait<L: Log, R: Wait>(&mut self, shared: &Shared<K, L>, rt: &R) -> Completion
         requires { self.old.scratch.pending ≡ true }
-        ensures taken { collected self.new.last.trace self.new.thread (taken self.new.seat) ≡ collected self.old.last.trace self.old.thread (taken self.old.seat) ++ result ∷ [] }
+        ensures taken { collected self.new.last.trace self.new.thread (taken self.new.seat)
+            ≡ collected self.old.last.trace self.old.thread (taken self.old.seat) ++ result ∷ [] }
         ensures pending { self.new.scratch.pending ≡ false }
-        ensures same { (self.new.thread ≡ self.old.thread) × (thread_of self.new.seat ≡ thread_of self.old.seat) × (self.new.calls ≡ self.old.calls) × (self.new.asked ≡ self.old.asked) × (self.new.seen ≡ self.old.seen) }
+        ensures same { (self.new.thread ≡ self.old.thread)
+            × (thread_of self.new.seat ≡ thread_of self.old.seat) × (self.new.calls ≡ self.old.calls)
+            × (self.new.asked ≡ self.old.asked) × (self.new.seen ≡ self.old.seen) }
     {
         let found = if shared.looks {
             look(
@@ -361,9 +392,16 @@ impl<K: Tie> Port<K> {
     /// Sleeps until the thread is woken, unless its completion is there already, and takes the completion.
     /// Returns `None` after a wake-up without a completion.
     fn sleep<L: Log, R: Wait>(&mut self, shared: &Shared<K, L>, rt: &R) -> Option<Completion>
-        ensures taken { MatchOption result (collected self.new.last.trace self.new.thread (taken self.new.seat) ≡ collected self.old.last.trace self.old.thread (taken self.old.seat)) (λ x. collected self.new.last.trace self.new.thread (taken self.new.seat) ≡ collected self.old.last.trace self.old.thread (taken self.old.seat) ++ x ∷ []) }
-        ensures pending { MatchOption result (self.new.scratch.pending ≡ self.old.scratch.pending) (λ x. self.new.scratch.pending ≡ false) }
-        ensures same { (self.new.thread ≡ self.old.thread) × (thread_of self.new.seat ≡ thread_of self.old.seat) × (self.new.calls ≡ self.old.calls) × (self.new.asked ≡ self.old.asked) × (self.new.seen ≡ self.old.seen) }
+        ensures taken { MatchOption result
+            (collected self.new.last.trace self.new.thread (taken self.new.seat)
+            ≡ collected self.old.last.trace self.old.thread (taken self.old.seat))
+            (λ x. collected self.new.last.trace self.new.thread (taken self.new.seat)
+            ≡ collected self.old.last.trace self.old.thread (taken self.old.seat) ++ x ∷ []) }
+        ensures pending { MatchOption result (self.new.scratch.pending ≡ self.old.scratch.pending)
+            (λ x. self.new.scratch.pending ≡ false) }
+        ensures same { (self.new.thread ≡ self.old.thread)
+            × (thread_of self.new.seat ≡ thread_of self.old.seat) × (self.new.calls ≡ self.old.calls)
+            × (self.new.asked ≡ self.old.asked) × (self.new.seen ≡ self.old.seen) }
     {
         let cell = self.seat.thread();
         shared.set_asleep(cell, true);
@@ -380,9 +418,12 @@ impl<K: Tie> Port<K> {
     /// serve for the bytes of the next call. Returns `None` if they were returned before.
     /// `endpoint.rt` of `crates/balsaeuchre_calls` keeps them for its replies.
     pub fn spare(&mut self) -> Option<Bytes>
-        ensures taken { collected self.new.last.trace self.new.thread (taken self.new.seat) ≡ collected self.old.last.trace self.old.thread (taken self.old.seat) }
+        ensures taken { collected self.new.last.trace self.new.thread (taken self.new.seat)
+            ≡ collected self.old.last.trace self.old.thread (taken self.old.seat) }
         ensures pending { self.new.scratch.pending ≡ self.old.scratch.pending }
-        ensures same { (self.new.thread ≡ self.old.thread) × (thread_of self.new.seat ≡ thread_of self.old.seat) × (self.new.calls ≡ self.old.calls) × (self.new.asked ≡ self.old.asked) × (self.new.seen ≡ self.old.seen) }
+        ensures same { (self.new.thread ≡ self.old.thread)
+            × (thread_of self.new.seat ≡ thread_of self.old.seat) × (self.new.calls ≡ self.old.calls)
+            × (self.new.asked ≡ self.old.asked) × (self.new.seen ≡ self.old.seen) }
     {
         let lent = self.scratch.lent.take()?;
         bytes_of(lent)
@@ -401,7 +442,9 @@ impl<K: Tie> Port<K> {
     pub fn learn(&mut self, other: &ObservedPrefix<K>)
         ensures own { Extends self.new.seen.trace self.old.seen.trace }
         ensures others { Extends self.new.seen.trace other.entry.now }
-        ensures same { (self.new.thread ≡ self.old.thread) × (self.new.seat ≡ self.old.seat) × (self.new.calls ≡ self.old.calls) × (self.new.scratch.pending ≡ self.old.scratch.pending) × (self.new.asked ≡ self.old.asked) × (self.new.last ≡ self.old.last) }
+        ensures same { (self.new.thread ≡ self.old.thread) × (self.new.seat ≡ self.old.seat)
+            × (self.new.calls ≡ self.old.calls) × (self.new.scratch.pending ≡ self.old.scratch.pending)
+            × (self.new.asked ≡ self.old.asked) × (self.new.last ≡ self.old.last) }
     {
         self.seen.learn(&other.beginning);
     }

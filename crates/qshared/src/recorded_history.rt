@@ -10,9 +10,9 @@ ghost use Rattle.qrules.specs.Trace.{followed_by};
 ghost use Rattle.qshared.specs.Private.Rooms.{MayCopy, Copied};
 
 use crate::admitting::admit;
-use crate::logged_copy::LoggedCopy;
 use crate::handing::place_of;
 use crate::log::Log;
+use crate::logged_copy::LoggedCopy;
 use crate::preallocated::Preallocated;
 use crate::tie::Tie;
 use qbase::errno::Errno;
@@ -52,7 +52,10 @@ impl<K: Tie> Model for RecordedHistory<K> {
 
     ghost view = { λ k. record { past = followed_by [] k.log.events; noted = k.noted; ready = k.ready } };
 
-    ghost invariant = { λ k. (k.limit ≡ K.names.limit) × IsKept K.names.roster k.limit (threads_of K.names.roster) k.rooms.items k.log k.noted k.room k.ready };
+    ghost invariant = { λ k. (
+        (k.limit ≡ K.names.limit)
+        × IsKept K.names.roster k.limit (threads_of K.names.roster) k.rooms.items k.log k.noted k.room
+        k.ready) };
 }
 
 /// Returns `many` rooms, each for 0 bytes.
@@ -77,8 +80,12 @@ fn copy_one(
     requires sized { length rooms.old.items ≡ length (threads_of (members_of kernel.now.threads)) }
     requires may { MayCopy (threads_of (members_of kernel.now.threads)) rooms.old.items completion.now }
     requires room { 0 < log.old.completion_room }
-    ensures copied { Copied (threads_of (members_of kernel.now.threads)) (completion.now ∷ []) rooms.old.items rooms.new.items }
-    ensures logged { log.new ≡ record log.old { completions = log.old.completions ++ completion.now ∷ []; completion_room = log.old.completion_room - 1 } }
+    ensures copied { Copied (threads_of (members_of kernel.now.threads))
+        (completion.now ∷ []) rooms.old.items rooms.new.items }
+    ensures logged { log.new ≡ record log.old {
+      completions = log.old.completions ++ completion.now ∷ [];
+      completion_room = log.old.completion_room - 1;
+    } }
 {
     let Some(place) = place_of(kernel, completion.thread) else {
         unreachable!()
@@ -102,10 +109,15 @@ fn copy_all(
 )
     requires sized { length rooms.old.items ≡ length (threads_of (members_of kernel.now.threads)) }
     requires apart { AreApart completions.now }
-    requires may { AllByRecursion (MayCopy (threads_of (members_of kernel.now.threads)) rooms.old.items) completions.now }
+    requires may { AllByRecursion (MayCopy (threads_of (members_of kernel.now.threads)) rooms.old.items)
+        completions.now }
     requires room { length completions.now ≤ log.old.completion_room }
-    ensures copied { Copied (threads_of (members_of kernel.now.threads)) completions.now rooms.old.items rooms.new.items }
-    ensures logged { log.new ≡ record log.old { completions = log.old.completions ++ completions.now; completion_room = log.old.completion_room - length completions.now } }
+    ensures copied { Copied (threads_of (members_of kernel.now.threads)) completions.now rooms.old.items
+        rooms.new.items }
+    ensures logged { log.new ≡ record log.old {
+      completions = log.old.completions ++ completions.now;
+      completion_room = log.old.completion_room - length completions.now;
+    } }
 {
     let mut i = 0;
     while i < completions.len() {
@@ -116,7 +128,11 @@ fn copy_all(
 
 impl<K: Tie> RecordedHistory<K> {
     /// Makes an empty history for a kernel with `many` threads, of at most `limit` events.
-    pub(crate) fn new(alloc: Global, many: usize, limit: usize) -> Result<RecordedHistory<K>, AllocError>
+    pub(crate) fn new(
+        alloc: Global,
+        many: usize,
+        limit: usize,
+    ) -> Result<RecordedHistory<K>, AllocError>
         requires roster { IsRoster K.names.roster × (many ≡ length (threads_of K.names.roster)) }
         requires limit { (2 ≤ limit) × (limit ≤ 2 ^ 20) × (limit ≡ K.names.limit) }
         ensures empty { IfOk result (λ kept. kept.past ≡ []) }

@@ -1,6 +1,7 @@
 //! The shared kernel: opening it, closing it, and waking threads.
 
-ghost use Rattle.std.specs.Prelude.{◌≡◌, ◌≤◌, ◌++◌, ℕ, [], length, map, sum, IfOk, IfErr, OnOk, IsTrue, ◌↔◌, ◌==◌, Some, false, not, vec_capacity};
+ghost use Rattle.std.specs.Prelude.{◌≡◌, ◌≤◌, ◌++◌, ℕ, [], length, map, sum, IfOk, IfErr, OnOk, IsTrue, ◌↔◌};
+ghost use Rattle.std.specs.Prelude.{◌==◌, Some, false, not, vec_capacity};
 ghost use mathlib.Core.Option.{some};
 ghost use lib.ListN.{get_elem?};
 ghost use Rattle.qtables.specs.Members.{IsRoster};
@@ -16,17 +17,19 @@ ghost use Rattle.qshared.specs.Naming.{AreParts, AreAll};
 ghost use Rattle.qshared.specs.Past.{AreSeen, RiseByThread};
 ghost use Rattle.qshared.specs.Unkept.{HasPast};
 
+use crate::asking::{KernelCalls, PortCalls};
+use crate::call_scratch::CallScratch;
 use crate::close_buffers::CloseBuffers;
-use crate::recorded_history::RecordedHistory;
+use crate::ghost_history::GhostHistory;
+use crate::history::{History, Prefix};
 use crate::lock_state::LockState;
 use crate::log::Log;
 use crate::parts::Parts;
 use crate::port::Port;
-use crate::report::{Report, EventCounts};
+use crate::recorded_history::RecordedHistory;
+use crate::report::{EventCounts, Report};
 use crate::tie::Tie;
 use crate::traced::Traced;
-use crate::call_scratch::CallScratch;
-use crate::ghost_history::GhostHistory;
 use crate::waker::Waker;
 use crossbeam_utils::CachePadded;
 use crossbeam_utils::sync::Parker;
@@ -36,8 +39,6 @@ use qhandoff::cells::Cells;
 use qhandoff::seats::ThreadSeat;
 use qkernel::kernel::Kernel;
 use qmodel::call::Completion;
-use crate::asking::{PortCalls, KernelCalls};
-use crate::history::{History, Prefix};
 use std::alloc::{AllocError, Global};
 use std::sync::Mutex;
 use std::sync::ledger::Share;
@@ -86,15 +87,20 @@ fn ports_for<K: Tie>(
     spare: &mut Share<K>,
     seen: &Prefix,
 ) -> Result<(Vec<Port<K>>, Vec<Waker>), AllocError>
-    requires roster { IsRoster K.names.roster × (threads.now ≡ threads_of K.names.roster) × (members_of kernel.now.threads ≡ K.names.roster) }
-    requires seats { (length seats.items ≡ length threads.now) × IsRow K.names.cells seats.items × ((k : ℕ) → took (get_elem? seats.items k) ≡ []) }
-    requires asked { (map (λ a. a.name) asked.items ≡ K.names.lists) × (length asked.items ≡ K.names.cells.slots) × ((k : ℕ) → asked_in (get_elem? asked.items k) ≡ []) }
+    requires roster { IsRoster K.names.roster × (threads.now ≡ threads_of K.names.roster)
+        × (members_of kernel.now.threads ≡ K.names.roster) }
+    requires seats { (length seats.items ≡ length threads.now) × IsRow K.names.cells seats.items
+        × ((k : ℕ) → took (get_elem? seats.items k) ≡ []) }
+    requires asked { (map (λ a. a.name) asked.items ≡ K.names.lists)
+        × (length asked.items ≡ K.names.cells.slots) × ((k : ℕ) → asked_in (get_elem? asked.items k) ≡ []) }
     requires sized { length threads.now ≡ K.names.cells.slots }
     requires spare { (spare.old.parts ≡ length seats.items) × (spare.old.amount ≡ 0) }
     requires seen { (seen.now.name ≡ K.names.history) × (seen.now.trace ≡ []) }
     ensures spare { OnOk result ((spare.new.parts ≡ 0) × (spare.new.amount ≡ 0)) }
     ensures ports { IfOk result (λ r. AreAll (λ p. thread_of p.seat) K.names.cells.slots r.0.items) }
-    ensures new { IfOk result (λ r. (k : ℕ) (p : _) → get_elem? r.0.items k ≡ some p → (p.calls ≡ 0) × (p.scratch.pending ≡ false) × (collected p.last.trace p.thread (taken p.seat) ≡ []) × (p.asked.calls ≡ []) × (p.seen.trace ≡ [])) }
+    ensures new { IfOk result (λ r. (k : ℕ) (p : _) → get_elem? r.0.items k ≡ some p → (p.calls ≡ 0)
+        × (p.scratch.pending ≡ false) × (collected p.last.trace p.thread (taken p.seat) ≡ [])
+        × (p.asked.calls ≡ []) × (p.seen.trace ≡ [])) }
 {
     let alloc = kernel.alloc();
     let mut ports = Vec::with_capacity(alloc, seats.len())?;
@@ -111,7 +117,14 @@ fn ports_for<K: Tie>(
             unreachable!()
         };
         let scratch = CallScratch::new(alloc, place)?;
-        let port = Port::new(scratch, seat, spare.split_off(1, 0), parker, own, seen.again());
+        let port = Port::new(
+            scratch,
+            seat,
+            spare.split_off(1, 0),
+            parker,
+            own,
+            seen.again(),
+        );
         ports.push_reserved(port);
     }
     Ok((ports, wakers))
@@ -175,7 +188,9 @@ impl<K: Tie, L: Log> Shared<K, L> {
         requires named { AreParts K.names K.name K.parts parts }
         requires log { (L.roster log ≡ K.names.roster) × (L.past log ≡ []) }
         ensures ports { IfOk result (λ r. AreAll (λ p. thread_of p.seat) K.names.cells.slots r.1.items) }
-        ensures new { IfOk result (λ r. (k : ℕ) (p : _) → get_elem? r.1.items k ≡ some p → (p.calls ≡ 0) × (p.scratch.pending ≡ false) × (collected p.last.trace p.thread (taken p.seat) ≡ []) × (p.asked.calls ≡ []) × (p.seen.trace ≡ [])) }
+        ensures new { IfOk result (λ r. (k : ℕ) (p : _) → get_elem? r.1.items k ≡ some p → (p.calls ≡ 0)
+            × (p.scratch.pending ≡ false) × (collected p.last.trace p.thread (taken p.seat) ≡ [])
+            × (p.asked.calls ≡ []) × (p.seen.trace ≡ [])) }
     {
         let Parts {
             cells,
@@ -265,10 +280,13 @@ impl<K: Tie, L: Log> Shared<K, L> {
         ensures sum { sum result.calls.items ≡ length (L.past result.log) }
         ensures asked { AreCallsOf K.names.roster (map (λ p. p.asked.calls) ports.items) (L.past result.log) }
         ensures seen { AreSeen (L.past result.log) (map (λ p. p.seen.trace) ports.items) }
-        ensures lawful { IsLawful K.names.roster (L.past result.log) × HasProperties K.names.roster (L.past result.log) }
+        ensures lawful { IsLawful K.names.roster (L.past result.log)
+            × HasProperties K.names.roster (L.past result.log) }
         ensures rises { RiseByThread result.left.items }
         ensures known { AreKnown K.names.roster result.left.items }
-        ensures due { AreDue K.names.roster (map (λ p. collected p.last.trace p.thread (taken p.seat)) ports.items) result.left.items (L.past result.log) }
+        ensures due { AreDue K.names.roster
+            (map (λ p. collected p.last.trace p.thread (taken p.seat)) ports.items) result.left.items
+            (L.past result.log) }
     {
         let Shared { cells, lock, .. } = self;
         let LockState {
@@ -318,7 +336,9 @@ impl<K: Tie> Shared<K, RecordedHistory<K>> {
     pub fn open(parts: Parts) -> Result<(Shared<K, RecordedHistory<K>>, Vec<Port<K>>), Errno>
         requires named { AreParts K.names K.name K.parts parts }
         ensures ports { IfOk result (λ r. AreAll (λ p. thread_of p.seat) K.names.cells.slots r.1.items) }
-        ensures new { IfOk result (λ r. (k : ℕ) (p : _) → get_elem? r.1.items k ≡ some p → (p.calls ≡ 0) × (p.scratch.pending ≡ false) × (collected p.last.trace p.thread (taken p.seat) ≡ []) × (p.asked.calls ≡ []) × (p.seen.trace ≡ [])) }
+        ensures new { IfOk result (λ r. (k : ℕ) (p : _) → get_elem? r.1.items k ≡ some p → (p.calls ≡ 0)
+            × (p.scratch.pending ≡ false) × (collected p.last.trace p.thread (taken p.seat) ≡ [])
+            × (p.asked.calls ≡ []) × (p.seen.trace ≡ [])) }
         ensures error { IfErr result (λ e. e ≡ Errno.NoMemory) }
     {
         let alloc = parts.kernel.alloc();
@@ -338,12 +358,17 @@ impl<K: Tie> Shared<K, RecordedHistory<K>> {
         ensures calls { result.calls.items ≡ map (λ p. p.calls) ports.items }
         ensures sum { sum result.calls.items ≡ length result.trace.events }
         ensures within { length result.trace.events ≤ K.names.limit }
-        ensures asked { AreCallsOf K.names.roster (map (λ p. p.asked.calls) ports.items) (followed_by [] result.trace.events) }
+        ensures asked { AreCallsOf K.names.roster (map (λ p. p.asked.calls) ports.items)
+            (followed_by [] result.trace.events) }
         ensures seen { AreSeen (followed_by [] result.trace.events) (map (λ p. p.seen.trace) ports.items) }
-        ensures lawful { (result.trace.first ≡ 1) × IsLawful K.names.roster (followed_by [] result.trace.events) × HasProperties K.names.roster (followed_by [] result.trace.events) }
+        ensures lawful { (result.trace.first ≡ 1)
+            × IsLawful K.names.roster (followed_by [] result.trace.events)
+            × HasProperties K.names.roster (followed_by [] result.trace.events) }
         ensures rises { RiseByThread result.left.items }
         ensures known { AreKnown K.names.roster result.left.items }
-        ensures due { AreDue K.names.roster (map (λ p. collected p.last.trace p.thread (taken p.seat)) ports.items) result.left.items (followed_by [] result.trace.events) }
+        ensures due { AreDue K.names.roster
+            (map (λ p. collected p.last.trace p.thread (taken p.seat)) ports.items) result.left.items
+            (followed_by [] result.trace.events) }
     {
         let Closed { log, calls, left } = self.close(ports);
         Report {
@@ -362,7 +387,9 @@ impl<K: Tie> Shared<K, GhostHistory<K>> {
     pub fn open(parts: Parts) -> Result<(Shared<K, GhostHistory<K>>, Vec<Port<K>>), Errno>
         requires named { AreParts K.names K.name K.parts parts }
         ensures ports { IfOk result (λ r. AreAll (λ p. thread_of p.seat) K.names.cells.slots r.1.items) }
-        ensures new { IfOk result (λ r. (k : ℕ) (p : _) → get_elem? r.1.items k ≡ some p → (p.calls ≡ 0) × (p.scratch.pending ≡ false) × (collected p.last.trace p.thread (taken p.seat) ≡ []) × (p.asked.calls ≡ []) × (p.seen.trace ≡ [])) }
+        ensures new { IfOk result (λ r. (k : ℕ) (p : _) → get_elem? r.1.items k ≡ some p → (p.calls ≡ 0)
+            × (p.scratch.pending ≡ false) × (collected p.last.trace p.thread (taken p.seat) ≡ [])
+            × (p.asked.calls ≡ []) × (p.seen.trace ≡ [])) }
         ensures error { IfErr result (λ e. e ≡ Errno.NoMemory) }
     {
         Ok(Shared::with_log(parts, GhostHistory::new())?)
@@ -378,7 +405,10 @@ impl<K: Tie> Shared<K, GhostHistory<K>> {
         ensures calls { result.calls.items ≡ map (λ p. p.calls) ports.items }
         ensures rises { RiseByThread result.left.items }
         ensures known { AreKnown K.names.roster result.left.items }
-        ensures past { HasPast K.names.roster (map (λ p. collected p.last.trace p.thread (taken p.seat)) ports.items) (map (λ p. p.asked.calls) ports.items) (map (λ p. p.seen.trace) ports.items) result.calls.items result.left.items }
+        ensures past { HasPast K.names.roster
+            (map (λ p. collected p.last.trace p.thread (taken p.seat)) ports.items)
+            (map (λ p. p.asked.calls) ports.items) (map (λ p. p.seen.trace) ports.items) result.calls.items
+            result.left.items }
     {
         let Closed { calls, left, .. } = self.close(ports);
         EventCounts { calls, left }

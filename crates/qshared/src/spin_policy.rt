@@ -46,7 +46,8 @@ impl SpinPolicy {
     /// Notes whether the last wait found the completion by spinning.
     pub(crate) fn note(&mut self, found: bool)
         ensures found { found ≡ true → (self.new.looks ≡ 80) × (self.new.in_vain ≡ self.old.in_vain) }
-        ensures in_vain { found ≡ false → (self.new.looks ≡ self.old.looks - self.old.looks / 16) × (self.new.in_vain ≡ (self.old.in_vain + 1) % 2 ^ 32) }
+        ensures in_vain { found ≡ false → (self.new.looks ≡ self.old.looks - self.old.looks / 16)
+            × (self.new.in_vain ≡ (self.old.in_vain + 1) % 2 ^ 32) }
     {
         if found {
             self.looks = MOST_LOOKS;

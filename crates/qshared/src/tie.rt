@@ -14,7 +14,14 @@ pub trait Tie: Ledger {
 }
 
 impl Tie for Brand {
-    ghost names = { record { roster = []; cells = record { words = 0; slots = 0; views_name = 0; atom = 0; block = 0; offset = 0; slot_names = [] }; lists = []; history = 0; limit = 0 } };
+    ghost names = { record {
+      roster = [];
+      cells =
+          record { words = 0; slots = 0; views_name = 0; atom = 0; block = 0; offset = 0; slot_names = [] };
+      lists = [];
+      history = 0;
+      limit = 0;
+    } };
 }
 
 /// Evidence that the ledger has as many parts as there are cells. It has no bytes. It is a struct of its own

@@ -16,11 +16,12 @@ ghost use Rattle.qshared.specs.Counting.{is_call};
 ghost use Rattle.qshared.specs.Due.{place};
 ghost use Rattle.qshared.specs.Performing.{Performs, outcome};
 
+use crate::call_scratch::CallScratch;
 use crate::handing::hand_out;
+use crate::history::{History, Prefix};
 use crate::log::Log;
 use crate::port::Called;
 use crate::tie::Tie;
-use crate::call_scratch::CallScratch;
 use qbase::errno::Errno;
 use qhandoff::cells::Cells;
 use qhandoff::seats::KernelSeat;
@@ -29,7 +30,6 @@ use qkernel::kernel::Kernel;
 use qkernel::lent_call::LentCall;
 use qkernel::thread_ref::ThreadRef;
 use qmodel::call::{Call, Completion};
-use crate::history::{History, Prefix};
 use std::marker::{Model, PhantomData};
 use std::snapshot::Snapshot;
 
@@ -55,7 +55,12 @@ impl<K: Tie, L: Log> Model for Traced<K, L> {
 
     ghost view = { λ t. record { kernel = t.kernel; kernel_view = kernel_view t.seat; past = L.past t.log } };
 
-    ghost invariant = { λ t. (kernel_id t.seat ≡ K.names.cells) × (L.roster t.log ≡ K.names.roster) × IsUnderLock K.names.roster K.names.cells.slots t.kernel (kernel_view t.seat) (threads_of (members_of t.kernel.threads)) (L.past t.log) × ((t.history.name ≡ K.names.history) × (t.history.trace ≡ L.past t.log)) };
+    ghost invariant = { λ t. (
+        (kernel_id t.seat ≡ K.names.cells)
+        × (L.roster t.log ≡ K.names.roster)
+        × IsUnderLock K.names.roster K.names.cells.slots t.kernel (kernel_view t.seat)
+        (threads_of (members_of t.kernel.threads)) (L.past t.log)
+        × ((t.history.name ≡ K.names.history) × (t.history.trace ≡ L.past t.log))) };
 }
 
 // Returns the outcome of a call that is an event: `Done` if its own completion came in the event, and
@@ -133,8 +138,10 @@ impl<K: Tie, L: Log> Traced<K, L> {
     ) -> Traced<K, L>
         requires history { (history.name ≡ K.names.history) × (history.trace ≡ []) }
         requires log { (L.roster log ≡ K.names.roster) × (L.past log ≡ []) }
-        requires seat { (kernel_id seat ≡ K.names.cells) × (kernel_view seat ≡ seated_kernel_view K.names.cells.slots K.names.cells.slots) }
-        requires roster { (members_of kernel.threads ≡ K.names.roster) × StandsAt (members_of kernel.threads) kernel [] }
+        requires seat { (kernel_id seat ≡ K.names.cells)
+            × (kernel_view seat ≡ seated_kernel_view K.names.cells.slots K.names.cells.slots) }
+        requires roster { (members_of kernel.threads ≡ K.names.roster)
+            × StandsAt (members_of kernel.threads) kernel [] }
         requires sized { length (threads_of (members_of kernel.threads)) ≡ K.names.cells.slots }
         ensures { result.past ≡ [] }
     {
@@ -157,8 +164,8 @@ impl<K: Tie, L: Log> Traced<K, L> {
         self.kernel.made()
     }
 
-    /// Makes a call of the thread that `scratch` belongs to, for `Port::call`, which holds the lock. Opens the
-    /// thread's cell, makes the call, and puts every other thread's completion into its cell. If the call
+    /// Makes a call of the thread that `scratch` belongs to, for `Port::call`, which holds the lock. Opens
+    /// the thread's cell, makes the call, and puts every other thread's completion into its cell. If the call
     /// completed, closes the thread's cell and returns the completion. Afterwards `seen` is the whole
     /// history.
     ///
@@ -172,13 +179,17 @@ impl<K: Tie, L: Log> Traced<K, L> {
         call: Call,
     ) -> Called
         requires cells { cells_id cells.now ≡ K.names.cells }
-        requires seat { place (threads_of K.names.roster) scratch.old.seat.thread ≡ Some scratch.old.seat.index }
+        requires seat { place (threads_of K.names.roster) scratch.old.seat.thread
+            ≡ Some scratch.old.seat.index }
         requires none { scratch.old.completions.value.items ≡ [] }
-        requires pending { scratch.old.pending ≡ true → WaitedBefore seen.old.trace (calls_of self.old.past scratch.old.seat.thread) scratch.old.seat.thread }
+        requires pending { scratch.old.pending ≡ true
+            → WaitedBefore seen.old.trace
+            (calls_of self.old.past scratch.old.seat.thread) scratch.old.seat.thread }
         requires seen { seen.old.name ≡ K.names.history }
         requires copies { IfSome scratch.old.copies (λ c. c ≡ call) }
         ensures idle { is_call result ≡ true → scratch.old.pending ≡ false }
-        ensures performs { Performs K.names.roster L.refuses L.admits self.old scratch.old.seat.thread call result self.new }
+        ensures performs { Performs K.names.roster L.refuses L.admits self.old scratch.old.seat.thread call
+            result self.new }
         ensures seat { (scratch.new.seat ≡ scratch.old.seat) × (scratch.new.pending ≡ scratch.old.pending) }
         ensures none { scratch.new.completions.value.items ≡ [] }
         ensures name { seen.new.name ≡ seen.old.name }

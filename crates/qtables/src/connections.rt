@@ -1,6 +1,8 @@
 //! The live connections.
 
-ghost use Rattle.std.specs.Prelude.{◌≡◌, ◌<◌, ◌≤◌, ◌==◌, nat_lt, ◌+◌, ◌&&◌, [], ◌∷◌, ◌++◌, length, count_by, option_copied, slice_get, if◌then◌else◌, Some, IfErr, IfOk, OnOk, OnErr, OnSome};
+ghost use Rattle.std.specs.Prelude.{◌≡◌, ◌<◌, ◌≤◌, ◌==◌, nat_lt, ◌+◌, ◌&&◌, [], ◌∷◌, ◌++◌, length, count_by};
+ghost use Rattle.std.specs.Prelude.{option_copied, slice_get, if◌then◌else◌, Some, IfErr, IfOk, OnOk, OnErr};
+ghost use Rattle.std.specs.Prelude.{OnSome};
 ghost use Rattle.std.specs.List.{AllByRecursion};
 ghost use Rattle.std.specs.Option.{option_copied_mut, option_map};
 ghost use Rattle.std.specs.Borrow.{sem};
@@ -66,7 +68,8 @@ impl Connections {
         ensures ok { OnOk result (self.new ≡ self.old ++ (number, entry) ∷ []) }
         ensures room { OnOk result (length self.old < 1024) }
         ensures err { OnErr result (self.new ≡ self.old) }
-        ensures error { IfErr result (λ e. e.0 ≡ (if nat_lt (length self.old) 1024 then Errno.NoMemory else Errno.Again)) }
+        ensures error { IfErr result
+            (λ e. e.0 ≡ (if nat_lt (length self.old) 1024 then Errno.NoMemory else Errno.Again)) }
         ensures returned { IfErr result (λ e. e.1 ≡ entry) }
     {
         self.entries.create(number.0, entry, CONNECTION_LIMIT)

@@ -1,6 +1,8 @@
 //! A map from numbers to records, which the tables of channels and of connections use.
 
-ghost use Rattle.std.specs.Prelude.{◌≡◌, ◌<◌, ◌≤◌, nat_lt, ◌+◌, [], ◌∷◌, ◌++◌, length, slice_get, option_copied, if◌then◌else◌, IfErr, IfOk, IfSome, IfNone, OnOk, OnErr, OnSome, None, Some};
+ghost use Rattle.std.specs.Prelude.{◌≡◌, ◌<◌, ◌≤◌, nat_lt, ◌+◌, [], ◌∷◌, ◌++◌, length, slice_get};
+ghost use Rattle.std.specs.Prelude.{option_copied, if◌then◌else◌, IfErr, IfOk, IfSome, IfNone, OnOk, OnErr};
+ghost use Rattle.std.specs.Prelude.{OnSome, None, Some};
 ghost use Rattle.std.specs.List.{AllByRecursion};
 ghost use Rattle.std.specs.Option.{option_copied_mut, option_map};
 ghost use Rattle.std.specs.Borrow.{sem};
@@ -88,7 +90,8 @@ impl<Record: Drop> Entries<Record> {
         ensures ok { OnOk result (self.new ≡ self.old ++ (number, entry) ∷ []) }
         ensures room { OnOk result (length self.old < limit) }
         ensures err { OnErr result (self.new ≡ self.old) }
-        ensures error { IfErr result (λ e. e.0 ≡ (if nat_lt (length self.old) limit then Errno.NoMemory else Errno.Again)) }
+        ensures error { IfErr result
+            (λ e. e.0 ≡ (if nat_lt (length self.old) limit then Errno.NoMemory else Errno.Again)) }
         ensures returned { IfErr result (λ e. e.1 ≡ entry) }
     {
         if self.index.len() >= limit {

@@ -1,6 +1,7 @@
 //! The roster: the threads that a kernel knows.
 
-ghost use Rattle.std.specs.Prelude.{◌≡◌, ◌<◌, ◌≤◌, ◌==◌, [], length, None, Some, IfOk, IfErr, OnOk, OnErr, MatchResult, is_some, option_map, slice_get, insert, true};
+ghost use Rattle.std.specs.Prelude.{◌≡◌, ◌<◌, ◌≤◌, ◌==◌, [], length, None, Some, IfOk, IfErr, OnOk, OnErr};
+ghost use Rattle.std.specs.Prelude.{MatchResult, is_some, option_map, slice_get, insert, true};
 ghost use Rattle.qtables.specs.declared.member.Member.{Member};
 
 use crate::member::Member;
@@ -59,7 +60,8 @@ impl Roster {
             (λ _. join_refusal self.old thread ≡ None)
             (λ e. join_refusal self.old thread ≡ Some e) }
         ensures ok { OnOk result
-            (self.new ≡ with_member (record { thread = thread; process = process; priority = priority }) self.old) }
+            (self.new ≡ with_member (record { thread = thread; process = process; priority = priority })
+            self.old) }
         ensures err { OnErr result (self.new ≡ self.old) }
     {
         match self.search(thread) {

@@ -1,12 +1,13 @@
 //! The completions that are kept until they are taken.
 
-ghost use Rattle.std.specs.Prelude.{◌≡◌, ◌+◌, ◌≤◌, ◌++◌, [], length, is_some, position, slice_get, vec_len, vec_capacity};
+ghost use Rattle.std.specs.Prelude.{◌≡◌, ◌+◌, ◌≤◌, ◌++◌, [], length, is_some, position, slice_get, vec_len};
+ghost use Rattle.std.specs.Prelude.{vec_capacity};
 ghost use Rattle.arrayvec.specs.ArrayVec.{array_vec_len};
 ghost use Rattle.balsaeuchre_calls.specs.Simulating.{completed_of, is_of, without, later};
 
 use qbase::ids::ThreadNo;
-use qmodel::call::Completion;
 use qkernel_state::completions::Completions;
+use qmodel::call::Completion;
 
 /// Moves the completions of one event to the end of the kept ones, for which there is room.
 pub(super) fn append(kept: &mut Vec<Completion>, completions: &mut Completions)

@@ -9,7 +9,7 @@ use super::{Outcome, Simulator, done};
 use crate::calls::Calls;
 use crate::completed::Completed;
 use crate::error::CallError;
-use crate::results::{Reply, Pulse, Received};
+use crate::results::{Pulse, Received, Reply};
 use crate::with_bytes;
 use qbase::ids::{ChannelId, ConnectionId, ThreadNo};
 use qmodel::call::Call;
@@ -24,16 +24,19 @@ pub struct SimulatorThread<'s> {
 
 impl<'s> SimulatorThread<'s> {
     /// Sends a message over a connection, with a reply buffer of `reply_len` bytes (`MsgSend`). The thread is
-    /// blocked until the reply, and then `Completed::answer` reads the reply from the completion. Refused with
-    /// `Badf` if the connection isn't live, is another process's, or its channel isn't open.
+    /// blocked until the reply, and then `Completed::answer` reads the reply from the completion. Refused
+    /// with `Badf` if the connection isn't live, is another process's, or its channel isn't open.
     pub fn msg_send(
         &mut self,
         coid: ConnectionId,
         message: &[u8],
         reply_len: usize,
     ) -> Result<Outcome<Reply>, CallError>
-        ensures made { SimulatesOfBytes (unless_blocked answer_in) self.old.thread (Call.Send coid message.now (replicate reply_len 0)) self.old.simulator.now self.new.simulator.now result }
-        ensures same { (self.new.thread ≡ self.old.thread) × (self.new.simulator.ghost_name ≡ self.old.simulator.ghost_name) }
+        ensures made { SimulatesOfBytes (unless_blocked answer_in) self.old.thread
+            (Call.Send coid message.now (replicate reply_len 0)) self.old.simulator.now
+            self.new.simulator.now result }
+        ensures same { (self.new.thread ≡ self.old.thread)
+            × (self.new.simulator.ghost_name ≡ self.old.simulator.ghost_name) }
     {
         let send = with_bytes::send(self.simulator.alloc(), coid, message, reply_len)?;
         match self.simulator.make(self.thread, send)? {
@@ -50,8 +53,10 @@ impl<'s> SimulatorThread<'s> {
         chid: ChannelId,
         len: usize,
     ) -> Result<Outcome<Received>, CallError>
-        ensures made { SimulatesOfBytes (unless_blocked received_in) self.old.thread (Call.Receive chid (replicate len 0)) self.old.simulator.now self.new.simulator.now result }
-        ensures same { (self.new.thread ≡ self.old.thread) × (self.new.simulator.ghost_name ≡ self.old.simulator.ghost_name) }
+        ensures made { SimulatesOfBytes (unless_blocked received_in) self.old.thread
+            (Call.Receive chid (replicate len 0)) self.old.simulator.now self.new.simulator.now result }
+        ensures same { (self.new.thread ≡ self.old.thread)
+            × (self.new.simulator.ghost_name ≡ self.old.simulator.ghost_name) }
     {
         let receive = with_bytes::receive(self.simulator.alloc(), chid, len)?;
         match self.simulator.make(self.thread, receive)? {
@@ -64,8 +69,10 @@ impl<'s> SimulatorThread<'s> {
     /// thread is blocked until one arrives, and then `Completed::pulse` reads it from the completion. Refused
     /// with `Srch` if the channel isn't open or is another process's.
     pub fn msg_receive_pulse(&mut self, chid: ChannelId) -> Result<Outcome<Pulse>, CallError>
-        ensures made { Simulates (unless_blocked pulse_in) self.old.thread (Call.ReceivePulse chid) self.old.simulator.now self.new.simulator.now result }
-        ensures same { (self.new.thread ≡ self.old.thread) × (self.new.simulator.ghost_name ≡ self.old.simulator.ghost_name) }
+        ensures made { Simulates (unless_blocked pulse_in) self.old.thread
+            (Call.ReceivePulse chid) self.old.simulator.now self.new.simulator.now result }
+        ensures same { (self.new.thread ≡ self.old.thread)
+            × (self.new.simulator.ghost_name ≡ self.old.simulator.ghost_name) }
     {
         match self.simulator.make(self.thread, Call::ReceivePulse(chid))? {
             Outcome::Done(completed) => done(completed.pulse()),
@@ -75,7 +82,10 @@ impl<'s> SimulatorThread<'s> {
 }
 
 impl<'s> Calls for SimulatorThread<'s> {
-    ghost made = { λ before call after completed. Simulates (at_once completed_in) before.thread call before.simulator.now after.simulator.now completed × (after.thread ≡ before.thread) × (after.simulator.ghost_name ≡ before.simulator.ghost_name) };
+    ghost made = { λ before call after completed. (
+        Simulates (at_once completed_in) before.thread call before.simulator.now after.simulator.now completed
+        × (after.thread ≡ before.thread)
+        × (after.simulator.ghost_name ≡ before.simulator.ghost_name)) };
 
     fn alloc(&self) -> Global {
         self.simulator.alloc()

@@ -1,8 +1,8 @@
 //! Unproved: words and layout. Finds the scripts to check, and their traces.
 
 use super::CheckRunner;
-use crate::designs::is_design;
 use crate::completion::tell_failed;
+use crate::designs::is_design;
 use crate::names::is_named;
 use std::alloc::{AllocError, Global};
 use std::rt::Files;

@@ -2,9 +2,10 @@
 //! line on that isn't plain.
 
 use qbase::ids::ThreadNo;
-use qscript_explain::session::ScriptSession;
 use qkernel::kernel::Kernel;
 use qmodel::call::Call;
+use qscript::fault::{LineFault, ScriptFault};
+use qscript_explain::session::ScriptSession;
 use qscript_names::incremental::IncrementalScript;
 use qscript_names::scope::Scope;
 use qscript_names::wording::Context;
@@ -13,7 +14,6 @@ use qscript_text::MOST_TEXT;
 use qscript_text::parts::{Lines, last_line};
 use qscript_text::place::Fault;
 use qscript_text::reading::line::ScriptLine;
-use qscript::fault::{LineFault, ScriptFault};
 use std::alloc::{AllocError, Global};
 
 /// The outcome of adding lines.

@@ -51,7 +51,8 @@ refusal_of_caller caller e =
 
 -- for Ok, the call is made with these completions; for Err, it fails with this error, and its completion
 -- isn't in the list yet
-abbrev pub MakesOrRefuses : {T : Type 0} → State → CallContext → Call → Result T Errno → List Completion → State
+abbrev pub MakesOrRefuses : {T : Type 0} → State → CallContext → Call → Result T Errno → List Completion
+    → State
     → Type 0
 MakesOrRefuses old caller c (Ok done) completions new = Makes old caller c completions new
 MakesOrRefuses old caller c (Err e) completions new =

@@ -11,14 +11,15 @@ ghost use Rattle.qkernel.specs.Blocked.{blocked_threads};
 
 use super::Kernel;
 use qbase::ids::ThreadNo;
-use qmodel::open_call::Blocked;
 use qkernel_state::thread::Thread;
 use qkernel_state::thread_state::state_of;
+use qmodel::open_call::Blocked;
 use std::alloc::{AllocError, Global};
 
 /// Adds the record of a thread to the list, if the thread is blocked.
 fn push_blocked(list: &mut Vec<Blocked>, thread: &Thread) -> Result<(), AllocError>
-    ensures { OnOk result (list.new.items ≡ list.old.items ++ option_to_list (blocked_thread thread.now.member.thread thread.now.open_call)) }
+    ensures { OnOk result (list.new.items ≡ list.old.items ++ option_to_list
+        (blocked_thread thread.now.member.thread thread.now.open_call)) }
 {
     if let Some(call) = &thread.open_call {
         list.push(Blocked {
@@ -46,7 +47,8 @@ impl Kernel {
     /// Returns the blocked threads, in ascending order of their numbers, for a report of how a run ended.
     /// Only the list takes memory.
     pub fn blocked(&self, alloc: Global) -> Result<Vec<Blocked>, AllocError>
-        ensures { (roster : List Member) (past : Trace) → StandsAt roster self.now past → IfOk result (λ list. list.items ≡ blocked_threads (facts_of roster past)) }
+        ensures { (roster : List Member) (past : Trace) → StandsAt roster self.now past
+            → IfOk result (λ list. list.items ≡ blocked_threads (facts_of roster past)) }
     {
         let mut list = Vec::new(alloc);
         for thread in self.objects.threads.records() {

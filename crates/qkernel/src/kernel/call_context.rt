@@ -6,10 +6,10 @@ use qbase::bytes::Bytes;
 use qbase::errno::Errno;
 use qbase::ids::ProcessNo;
 use qbase::priority::Priority;
-use qmodel::call::{Completion, Mark};
-use qqueue::item::{Item, What};
 use qkernel_state::completions::Completions;
 use qkernel_state::thread_ref::ThreadRef;
+use qmodel::call::{Completion, Mark};
+use qqueue::item::{Item, What};
 use std::alloc::Global;
 use std::mem;
 
@@ -38,7 +38,12 @@ impl CallContext {
     /// Returns the completion of the caller's call, with a buffer.
     #[inline(always)]
     pub(crate) fn completion_with(&self, mark: Mark, buffer: Bytes) -> Completion
-        ensures { result ≡ record { call = self.now.made + 1; thread = self.now.seat.thread; mark = mark; buffer = buffer } }
+        ensures { result ≡ record {
+          call = self.now.made + 1;
+          thread = self.now.seat.thread;
+          mark = mark;
+          buffer = buffer;
+        } }
     {
         Completion {
             call: self.number(),
@@ -50,7 +55,12 @@ impl CallContext {
 
     /// Returns the completion of the caller's call, with an empty buffer.
     pub(crate) fn completion(&self, mark: Mark) -> Completion
-        ensures { result ≡ record { call = self.now.made + 1; thread = self.now.seat.thread; mark = mark; buffer = [] } }
+        ensures { result ≡ record {
+          call = self.now.made + 1;
+          thread = self.now.seat.thread;
+          mark = mark;
+          buffer = [];
+        } }
     {
         self.completion_with(mark, Bytes::new(self.alloc))
     }
@@ -58,7 +68,12 @@ impl CallContext {
     /// Returns the completion of the caller's call, with the result `Ok`. Its buffer is empty, but has the
     /// memory of a message. So the message is freed with the completion, and not here.
     pub(crate) fn completion_taking(&self, message: &mut Bytes) -> Completion
-        ensures { result ≡ record { call = self.now.made + 1; thread = self.now.seat.thread; mark = Mark.Ok; buffer = [] } }
+        ensures { result ≡ record {
+          call = self.now.made + 1;
+          thread = self.now.seat.thread;
+          mark = Mark.Ok;
+          buffer = [];
+        } }
     {
         let mut memory = mem::replace(message, Bytes::new(self.alloc)).into_vec();
         memory.clear();
@@ -79,7 +94,12 @@ impl CallContext {
     /// Completes the caller's call with an error, and returns its buffer.
     pub(crate) fn refuse(&self, completions: &mut Completions, errno: Errno, buffer: Bytes)
         requires { completions.old.items ≡ [] }
-        ensures { completions.new.items ≡ record { call = self.now.made + 1; thread = self.now.seat.thread; mark = Mark.Failed errno; buffer = buffer } ∷ [] }
+        ensures { completions.new.items ≡ record {
+          call = self.now.made + 1;
+          thread = self.now.seat.thread;
+          mark = Mark.Failed errno;
+          buffer = buffer;
+        } ∷ [] }
     {
         completions.push(self.completion_with(Mark::Failed(errno), buffer));
     }

@@ -5,10 +5,10 @@ use super::call_context::CallContext;
 use qbase::errno::Errno;
 use qbase::flags::ChannelFlags;
 use qbase::ids::ChannelId;
-use qmodel::call::{Call, Mark};
-use qqueue::queue::Queue;
 use qkernel_state::channel::Channel;
 use qkernel_state::completions::{Completions, put};
+use qmodel::call::{Call, Mark};
+use qqueue::queue::Queue;
 
 impl Kernel {
     ghost use Rattle.qkernel.specs.Private.Caller.{MayCall, MakesOrRefuses};
@@ -21,7 +21,8 @@ impl Kernel {
         completions: &mut Completions,
     ) -> Result<(), Errno>
         requires { MayCall self.old caller.now completions.old.items }
-        ensures { MakesOrRefuses self.old caller.now (Call.ChannelCreate flags) result completions.new.items self.new }
+        ensures { MakesOrRefuses self.old caller.now
+            (Call.ChannelCreate flags) result completions.new.items self.new }
     {
         if !flags.is_known() {
             return Err(Errno::Inval);

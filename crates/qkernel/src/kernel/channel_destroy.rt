@@ -4,9 +4,9 @@ use super::Kernel;
 use super::call_context::CallContext;
 use qbase::errno::Errno;
 use qbase::ids::ChannelId;
-use qmodel::call::{Call, Mark};
 use qkernel_state::cancelling::CancelSet;
 use qkernel_state::completions::Completions;
+use qmodel::call::{Call, Mark};
 
 impl Kernel {
     ghost use Rattle.qkernel.specs.Private.Caller.{MayCall, MakesOrRefuses};
@@ -21,7 +21,8 @@ impl Kernel {
         completions: &mut Completions,
     ) -> Result<(), Errno>
         requires { MayCall self.old caller.now completions.old.items }
-        ensures { MakesOrRefuses self.old caller.now (Call.ChannelDestroy chid) result completions.new.items self.new }
+        ensures { MakesOrRefuses self.old caller.now
+            (Call.ChannelDestroy chid) result completions.new.items self.new }
     {
         if !self.objects.owns(caller.process, chid) {
             return Err(Errno::Inval);

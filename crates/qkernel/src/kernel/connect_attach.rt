@@ -4,8 +4,8 @@ use super::Kernel;
 use super::call_context::CallContext;
 use qbase::errno::Errno;
 use qbase::ids::{ChannelId, ConnectionId};
-use qmodel::call::{Call, Mark};
 use qkernel_state::completions::{Completions, put};
+use qmodel::call::{Call, Mark};
 use qtables::connection::Connection;
 
 impl Kernel {
@@ -19,7 +19,8 @@ impl Kernel {
         completions: &mut Completions,
     ) -> Result<(), Errno>
         requires { MayCall self.old caller.now completions.old.items }
-        ensures { MakesOrRefuses self.old caller.now (Call.ConnectAttach chid) result completions.new.items self.new }
+        ensures { MakesOrRefuses self.old caller.now
+            (Call.ConnectAttach chid) result completions.new.items self.new }
     {
         if !self.objects.is_open(chid) {
             return Err(Errno::Srch);

@@ -8,15 +8,16 @@ use super::call_context::CallContext;
 use qbase::errno::Errno;
 use qbase::ids::ConnectionId;
 use qbase::priority::Priority;
-use qmodel::call::{Call, Mark};
-use qqueue::item::{Item, What};
 use qkernel_state::cancelling::CancelSet;
 use qkernel_state::completions::{Completions, put_if};
+use qmodel::call::{Call, Mark};
+use qqueue::item::{Item, What};
 
 /// Returns the pulse by which a server learns that the caller's process has detached its last connection.
 /// Returns `None` if the connection isn't the last.
 fn pulse_for(caller: &CallContext, last: bool, priority: Priority) -> Option<Item>
-    ensures { result ≡ (if last then Some (disconnect_item (caller.now.made + 1) priority caller.now.process) else None) }
+    ensures { result
+        ≡ (if last then Some (disconnect_item (caller.now.made + 1) priority caller.now.process) else None) }
 {
     if last {
         Some(caller.item(priority, What::Disconnect(caller.process)))
@@ -38,7 +39,8 @@ impl Kernel {
         completions: &mut Completions,
     ) -> Result<(), Errno>
         requires { MayCall self.old caller.now completions.old.items }
-        ensures { MakesOrRefuses self.old caller.now (Call.ConnectDetach coid) result completions.new.items self.new }
+        ensures { MakesOrRefuses self.old caller.now
+            (Call.ConnectDetach coid) result completions.new.items self.new }
     {
         let Some(chid) = self.objects.own_connection(caller.process, coid) else {
             return Err(Errno::Inval);

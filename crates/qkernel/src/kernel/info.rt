@@ -4,8 +4,8 @@ use super::Kernel;
 use super::call_context::CallContext;
 use qbase::errno::Errno;
 use qbase::ids::ReceiveId;
-use qmodel::call::{Call, Info, Mark};
 use qkernel_state::completions::{Completions, put};
+use qmodel::call::{Call, Info, Mark};
 
 impl Kernel {
     ghost use Rattle.qkernel.specs.Stands.{InfoAtTraces};

@@ -29,7 +29,8 @@ impl Kernel {
         completions: &mut Completions,
     ) -> Result<(), Errno>
         requires { MayCall self.old caller.now completions.old.items }
-        ensures { MakesOrRefuses self.old caller.now (call_lent call.now) result completions.new.items self.new }
+        ensures { MakesOrRefuses self.old caller.now
+            (call_lent call.now) result completions.new.items self.new }
     {
         match call {
             LentCall::Reply {
@@ -75,13 +76,17 @@ impl Kernel {
     ) -> Result<(), Errno>
         requires seat { IsSeatIn self.old.threads seat.now }
         requires none { completions.old.items ≡ [] }
-        ensures event { OnOk result (AnswersAtTraces self.old seat.now.thread (call_lent call.now) completions.new.items self.new) }
-        ensures refused { OnOk result (LeavesIfRefused self.old seat.now.thread (call_lent call.now) completions.new.items self.new) }
+        ensures event { OnOk result
+            (AnswersAtTraces self.old seat.now.thread (call_lent call.now) completions.new.items self.new) }
+        ensures refused { OnOk result
+            (LeavesIfRefused self.old seat.now.thread (call_lent call.now) completions.new.items self.new) }
         ensures roster { members_of self.new.threads ≡ members_of self.old.threads }
         ensures ok { OnOk result ((self.old.made < 2 ^ 40) × (self.new.made ≡ self.old.made + 1)) }
 
         // An event completes at most its own call and calls that were open.
-        ensures room { OnOk result (length completions.new.items + blocked_count self.new.threads ≤ blocked_count self.old.threads + 1) }
+        ensures room { OnOk result
+            (length completions.new.items + blocked_count self.new.threads
+            ≤ blocked_count self.old.threads + 1) }
 
         // On an error nothing changes.
         ensures unchanged { OnErr result ((self.new ≡ self.old) × (completions.new.items ≡ [])) }

@@ -5,8 +5,8 @@ use super::call_context::CallContext;
 use qbase::errno::Errno;
 use qbase::ids::ThreadNo;
 use qbase::priority::Priority;
-use qmodel::call::{Call, Mark};
 use qkernel_state::completions::{Completions, put};
+use qmodel::call::{Call, Mark};
 
 impl Kernel {
     ghost use Rattle.qkernel.specs.Private.Caller.{MayCall, MakesOrRefuses};
@@ -21,7 +21,8 @@ impl Kernel {
         completions: &mut Completions,
     ) -> Result<(), Errno>
         requires { MayCall self.old caller.now completions.old.items }
-        ensures { MakesOrRefuses self.old caller.now (Call.PrioritySet target priority) result completions.new.items self.new }
+        ensures { MakesOrRefuses self.old caller.now
+            (Call.PrioritySet target priority) result completions.new.items self.new }
     {
         let fellow = self.objects.fellow(caller.process, target)?;
         self.objects.requeue_unread(&fellow, priority);

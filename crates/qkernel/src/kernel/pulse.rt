@@ -5,9 +5,9 @@ use super::call_context::CallContext;
 use qbase::errno::Errno;
 use qbase::ids::ConnectionId;
 use qbase::priority::Priority;
+use qkernel_state::completions::{Completions, put, put_if};
 use qmodel::call::{Call, Mark};
 use qqueue::item::What;
-use qkernel_state::completions::{Completions, put, put_if};
 
 impl Kernel {
     ghost use Rattle.qkernel.specs.Private.Caller.{MayCall, MakesOrRefuses};
@@ -24,7 +24,8 @@ impl Kernel {
         completions: &mut Completions,
     ) -> Result<(), Errno>
         requires { MayCall self.old caller.now completions.old.items }
-        ensures { MakesOrRefuses self.old caller.now (Call.Pulse coid priority code value) result completions.new.items self.new }
+        ensures { MakesOrRefuses self.old caller.now
+            (Call.Pulse coid priority code value) result completions.new.items self.new }
     {
         let Some(chid) = self.objects.route(caller.process, coid) else {
             return Err(Errno::Badf);

@@ -5,8 +5,8 @@ use super::call_context::CallContext;
 use qbase::bytes::Bytes;
 use qbase::errno::Errno;
 use qbase::ids::ReceiveId;
-use qmodel::call::{Call, Mark};
 use qkernel_state::completions::{Completions, put};
+use qmodel::call::{Call, Mark};
 
 impl Kernel {
     ghost use Rattle.qkernel.specs.Private.Caller.{MayCall, Makes, MakesOrRefuses};
@@ -30,7 +30,10 @@ impl Kernel {
         };
         let mut buffer = buffer;
         let copied = buffer.take(message, offset);
-        put(completions, caller.completion_with(Mark::Count(copied), buffer));
+        put(
+            completions,
+            caller.completion_with(Mark::Count(copied), buffer),
+        );
     }
 
     /// Copies bytes into the reply buffer of a held message's sender, beginning at an offset. The sender
@@ -45,7 +48,8 @@ impl Kernel {
         completions: &mut Completions,
     ) -> Result<(), Errno>
         requires { MayCall self.old caller.now completions.old.items }
-        ensures { MakesOrRefuses self.old caller.now (Call.Write rcvid offset bytes.now) result completions.new.items self.new }
+        ensures { MakesOrRefuses self.old caller.now
+            (Call.Write rcvid offset bytes.now) result completions.new.items self.new }
     {
         let holder = self.objects.holder(caller.process, rcvid)?;
         let copied = self.objects.threads.write_sent(&holder, offset, bytes);

@@ -8,9 +8,9 @@ use super::call_context::CallContext;
 use qbase::bytes::Bytes;
 use qbase::errno::Errno;
 use qbase::ids::ChannelId;
+use qkernel_state::completions::{Completions, put};
 use qmodel::open_call::{OpenCall, OpenReceive};
 use qqueue::item::Kind;
-use qkernel_state::completions::{Completions, put};
 
 impl Kernel {
     ghost use Rattle.qkernel.specs.Private.Caller.{MayCall, Makes};

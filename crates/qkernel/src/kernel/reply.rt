@@ -8,13 +8,18 @@ use super::Kernel;
 use super::call_context::CallContext;
 use qbase::errno::Errno;
 use qbase::ids::ReceiveId;
+use qkernel_state::completions::{Completions, put};
 use qmodel::call::{Call, Completion, Mark};
 use qmodel::open_call::OpenSend;
-use qkernel_state::completions::{Completions, put};
 
 /// Returns the completion of a Send that gets a reply: the bytes are copied to the front of its reply buffer.
 fn reply_completion(sent: OpenSend, status: i64, bytes: &[u8]) -> Completion
-    ensures { result ≡ record { call = sent.number; thread = sent.thread; mark = Mark.Replied status (laid_count sent.reply_buffer 0 bytes.now); buffer = lay_over sent.reply_buffer 0 bytes.now } }
+    ensures { result ≡ record {
+      call = sent.number;
+      thread = sent.thread;
+      mark = Mark.Replied status (laid_count sent.reply_buffer 0 bytes.now);
+      buffer = lay_over sent.reply_buffer 0 bytes.now;
+    } }
 {
     let mut sent = sent;
     let copied = sent.reply_buffer.lay(0, bytes);
@@ -49,7 +54,8 @@ impl Kernel {
         completions: &mut Completions,
     ) -> Result<(), Errno>
         requires { MayCall self.old caller.now completions.old.items }
-        ensures { MakesOrRefuses self.old caller.now (Call.Reply rcvid status bytes.now) result completions.new.items self.new }
+        ensures { MakesOrRefuses self.old caller.now
+            (Call.Reply rcvid status bytes.now) result completions.new.items self.new }
     {
         let mut sent = self.objects.take_held(caller.process, rcvid)?;
         put(completions, caller.completion_taking(&mut sent.message));
@@ -67,7 +73,8 @@ impl Kernel {
         completions: &mut Completions,
     ) -> Result<(), Errno>
         requires { MayCall self.old caller.now completions.old.items }
-        ensures { MakesOrRefuses self.old caller.now (Call.Error rcvid code) result completions.new.items self.new }
+        ensures { MakesOrRefuses self.old caller.now
+            (Call.Error rcvid code) result completions.new.items self.new }
     {
         let mut sent = self.objects.take_held(caller.process, rcvid)?;
         put(completions, caller.completion_taking(&mut sent.message));

@@ -10,18 +10,26 @@ use super::call_context::CallContext;
 use qbase::bytes::Bytes;
 use qbase::errno::Errno;
 use qbase::ids::{ConnectionId, ReceiveId};
+use qkernel_state::completions::{Completions, put};
 use qmodel::call::{Call, Completion, Mark};
 use qmodel::open_call::{OpenCall, OpenReceive, OpenSend, Receipt};
 use qqueue::item::{Item, What};
-use qkernel_state::completions::{Completions, put};
 
 /// Hands the message to a receive and completes it. Returns the receive's completion, and the receipt for the
 /// sender's open call.
 fn deliver(receive: OpenReceive, item: &Item, message: &Bytes) -> (Completion, Receipt)
     requires { is_pulse item.now.what ≡ false }
-    ensures ended { result.0 ≡ receipt_completion item.now message.now receive.thread receive.number receive.buffer }
-    ensures copied { item_in result.0.mark ≡ Some (record { number = item.now.number; copied = result.1.copied }) }
-    ensures receipt { result.1 ≡ record { priority = item.now.priority; copied = result.1.copied; unblocked = false } }
+    ensures ended { result.0 ≡ receipt_completion item.now message.now receive.thread receive.number
+        receive.buffer }
+    ensures copied { item_in result.0.mark ≡ Some (record {
+      number = item.now.number;
+      copied = result.1.copied;
+    }) }
+    ensures receipt { result.1 ≡ record {
+      priority = item.now.priority;
+      copied = result.1.copied;
+      unblocked = false;
+    } }
 {
     let mut receive = receive;
     let copied = receive.buffer.lay(0, message.as_slice());
@@ -48,7 +56,8 @@ impl Kernel {
         completions: &mut Completions,
     )
         requires { MayCall self.old caller.now completions.old.items }
-        ensures { Makes self.old caller.now (Call.Send coid message reply_buffer) completions.new.items self.new }
+        ensures { Makes self.old caller.now (Call.Send coid message reply_buffer) completions.new.items
+            self.new }
     {
         let objects = &mut self.objects;
         let priority = objects.threads.priority(&caller.seat);

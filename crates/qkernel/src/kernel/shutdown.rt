@@ -3,9 +3,9 @@
 use super::Kernel;
 use super::call_context::CallContext;
 use qbase::errno::Errno;
-use qmodel::call::{Call, Mark};
 use qkernel_state::cancelling::CancelSet;
 use qkernel_state::completions::Completions;
+use qmodel::call::{Call, Mark};
 
 impl Kernel {
     ghost use Rattle.qkernel.specs.Private.Caller.{MayCall, Makes};

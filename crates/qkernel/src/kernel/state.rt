@@ -4,8 +4,8 @@ use super::Kernel;
 use super::call_context::CallContext;
 use qbase::errno::Errno;
 use qbase::ids::ThreadNo;
-use qmodel::call::{Call, Mark};
 use qkernel_state::completions::{Completions, put};
+use qmodel::call::{Call, Mark};
 
 impl Kernel {
     ghost use Rattle.qkernel.specs.Private.Caller.{MayCall, MakesOrRefuses};
@@ -19,7 +19,8 @@ impl Kernel {
         completions: &mut Completions,
     ) -> Result<(), Errno>
         requires { MayCall self.old caller.now completions.old.items }
-        ensures { MakesOrRefuses self.old caller.now (Call.State target) result completions.new.items self.new }
+        ensures { MakesOrRefuses self.old caller.now
+            (Call.State target) result completions.new.items self.new }
     {
         let seat = self.seat(target).ok_or(Errno::Srch)?;
         let mark = Mark::State {

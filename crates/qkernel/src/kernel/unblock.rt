@@ -4,10 +4,10 @@ use super::Kernel;
 use super::call_context::CallContext;
 use qbase::errno::Errno;
 use qbase::ids::ThreadNo;
-use qmodel::call::{Call, Mark};
-use qqueue::item::What;
 use qkernel_state::cancelling::CancelSet;
 use qkernel_state::completions::{Completions, put, put_if};
+use qmodel::call::{Call, Mark};
+use qqueue::item::What;
 
 impl Kernel {
     ghost use Rattle.qkernel.specs.Private.Caller.{MayCall, MakesOrRefuses};
@@ -24,7 +24,8 @@ impl Kernel {
         completions: &mut Completions,
     ) -> Result<(), Errno>
         requires { MayCall self.old caller.now completions.old.items }
-        ensures { MakesOrRefuses self.old caller.now (Call.Unblock target) result completions.new.items self.new }
+        ensures { MakesOrRefuses self.old caller.now
+            (Call.Unblock target) result completions.new.items self.new }
     {
         let fellow = self.objects.fellow(caller.process, target)?;
         let Some(held) = self.objects.guarded_message(&fellow) else {

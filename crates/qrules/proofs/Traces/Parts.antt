@@ -1,5 +1,7 @@
 -- Parts of the look-ups, each a function of what was found so far. The proofs split on these.
-use Rattle.qrules.proofs.Common.{◌&&◌, ◌==◌, Bool, false, is_some, List, ℕ, ℤ, Option, None, Some, if◌then◌else◌, error_mark, tells_disconnect, disconnect_item, OpenChannel, ChannelId, ProcessNo, ThreadNo, SentItem, due_pulse_of, Connection, OpenCall, laid_count, lay_over}
+use Rattle.qrules.proofs.Common.{◌&&◌, ◌==◌, Bool, false, is_some, List, ℕ, ℤ, Option, None, Some, if◌then◌else◌}
+use Rattle.qrules.proofs.Common.{error_mark, tells_disconnect, disconnect_item, OpenChannel, ChannelId, ProcessNo}
+use Rattle.qrules.proofs.Common.{ThreadNo, SentItem, due_pulse_of, Connection, OpenCall, laid_count, lay_over}
 use Rattle.std.specs.Option.{option_and_then, option_map_or}
 use Rattle.qrules.proofs.Words.Items.{Finish}
 use Rattle.qrules.proofs.Words.Facts.{count_to, Facts, is_of_process, is_held_by}
@@ -12,7 +14,8 @@ is_owned_by f t channel = option_map_or (λ c. is_of_process f t c.owner) channe
 -- the channel that this connection leads to, if the thread's process attached it and the channel is open
 abbrev pub leads_to : Facts → ThreadNo → Option Connection → Option ChannelId
 leads_to f t connection =
-    option_and_then (λ c. if is_of_process f t c.process && is_some (f.channel c.channel) then Some c.channel else None) connection
+    option_and_then
+    (λ c. if is_of_process f t c.process && is_some (f.channel c.channel) then Some c.channel else None) connection
 
 -- a thread's open call is a Send whose message is held, on a channel of the process of thread t
 abbrev pub is_held_for : Facts → ThreadNo → Option OpenCall → Bool
@@ -42,7 +45,8 @@ detach_pulse f t c = record { item = disconnect_item f.number (f.priority t) c.p
 
 -- the disconnect pulse for a detach of this connection
 abbrev pub due_pulse_over : Facts → ThreadNo → Option Connection → Option SentItem
-due_pulse_over f t connection = option_and_then (λ c. if is_last_connection f c then Some (detach_pulse f t c) else None) connection
+due_pulse_over f t connection =
+    option_and_then (λ c. if is_last_connection f c then Some (detach_pulse f t c) else None) connection
 
 -- the connection is live, and the thread's process attached it
 abbrev pub is_own : Facts → ThreadNo → Option Connection → Bool

@@ -14,5 +14,6 @@ pub leads_over : (f : Facts) (t : ℕ) (o : Option Connection) (h : ℕ) → lea
 leads_over f t o h e = grind arith
 
 -- an accepted Send has a route, and so has an accepted Pulse
-pub has_way : (f : Facts) (t coid : ℕ) → cond (is_some (route f t coid)) None (Some Badf) ≡ None → (h : ℕ) × (route f t coid ≡ Some h)
+pub has_way : (f : Facts) (t coid : ℕ) → cond (is_some (route f t coid)) None (Some Badf) ≡ None
+    → (h : ℕ) × (route f t coid ≡ Some h)
 has_way f t coid r = grind arith

@@ -1,5 +1,6 @@
 -- The effect of each call by its rule, and the items that calls make.
-use Rattle.qrules.proofs.Common.{Bool, Option, None, Some, ChannelId, ConnectionId, OpenChannel, SentItem, ThreadNo, Connection, Member, Call, PriorityChange, Transfer, effect_of}
+use Rattle.qrules.proofs.Common.{Bool, Option, None, Some, ChannelId, ConnectionId, OpenChannel, SentItem, ThreadNo}
+use Rattle.qrules.proofs.Common.{Connection, Member, Call, PriorityChange, Transfer, effect_of}
 use Rattle.std.specs.Option.{option_and_then, option_map}
 use Rattle.qrules.proofs.Words.Facts.{Facts}
 use Rattle.qmodel.specs.declared.call.Call.TheVariants as calls

@@ -4,7 +4,11 @@ pub use Rattle.qrules.specs.Records.{disconnect_item, pulses_among, wait_on, is_
 pub use Rattle.qrules.specs.Records.{is_newest, newest_receiver_among, takes_into, takes, cancel_where}
 pub use Rattle.qrules.specs.Records.{error_mark, receive_of}
 use Rattle.std.specs.Option.{option_and_then, option_map, option_map_or}
-use Rattle.qrules.proofs.Common.{ℕ, ℤ, ◌&&◌, ◌==◌, Bool, false, List, not, Option, None, Some, if◌then◌else◌, [], SentItem, CallNo, ChannelId, Priority, ReceiveId, ThreadNo, PriorityChange, buffer_of, own_completion, Receive, Send, pulse_over, Item, Kind, Any, PulseOnly, best_of, is_pulse, Connection, Call, Completion, Mark, Receipt, OpenCall, Errno, Intr, newest_receiver, receipt_completion, disconnect_pulse, guards, unblock_pulse}
+use Rattle.qrules.proofs.Common.{ℕ, ℤ, ◌&&◌, ◌==◌, Bool, false, List, not, Option, None, Some, if◌then◌else◌, []}
+use Rattle.qrules.proofs.Common.{SentItem, CallNo, ChannelId, Priority, ReceiveId, ThreadNo, PriorityChange, buffer_of}
+use Rattle.qrules.proofs.Common.{own_completion, Receive, Send, pulse_over, Item, Kind, Any, PulseOnly, best_of}
+use Rattle.qrules.proofs.Common.{is_pulse, Connection, Call, Completion, Mark, Receipt, OpenCall, Errno, Intr}
+use Rattle.qrules.proofs.Common.{newest_receiver, receipt_completion, disconnect_pulse, guards, unblock_pulse}
 use Rattle.qqueue.specs.declared.item.What.TheVariants.{Message, User}
 use Rattle.qmodel.specs.declared.call.Info.{Info}
 use Rattle.qrules.proofs.Words.Facts.{Facts, message, route, sender}

@@ -1,5 +1,9 @@
 -- Searches in a history, which has the newest event first.
-use Rattle.qrules.proofs.Common.{ℕ, ◌==◌, ◌&&◌, Bool, List, [], ◌∷◌, length, Option, None, Some, if◌then◌else◌, option_and_then, ◌+◌, is_some, CallNo, ChannelId, Priority, ThreadNo, Event, Trace, OpenChannel, SentItem, ReceiveId, number_of, facts_of, item_made_by, items_and_priorities, list_any, option_map_or, Item, Member, Completion, OpenCall, channel_of}
+use Rattle.qrules.proofs.Common.{ℕ, ◌==◌, ◌&&◌, Bool, List, [], ◌∷◌, length, Option, None, Some, if◌then◌else◌}
+use Rattle.qrules.proofs.Common.{option_and_then, ◌+◌, is_some, CallNo, ChannelId, Priority, ThreadNo, Event, Trace}
+use Rattle.qrules.proofs.Common.{OpenChannel, SentItem, ReceiveId, number_of, facts_of, item_made_by}
+use Rattle.qrules.proofs.Common.{items_and_priorities, list_any, option_map_or, Item, Member, Completion, OpenCall}
+use Rattle.qrules.proofs.Common.{channel_of}
 use Rattle.qrules.proofs.Words.Facts.{count_to, is_fixed, with_buffer, held_call}
 use Rattle.qrules.proofs.Words.Items.{item_in}
 pub use Rattle.qrules.specs.Past.{accepted_at, attached_connection, channel_at, connection_at}

@@ -1,8 +1,13 @@
 -- One call: the facts after it, given the facts before it.
 pub use Rattle.qrules.specs.Records.{is_thread, written_call, unblocked_call, is_unread_send}
-use Rattle.qrules.proofs.Common.{◌≡◌, ℕ, ◌+◌, ◌==◌, ◌&&◌, ◌||◌, not, filter, Bool, is_some, List, [], ◌++◌, map, Option, None, Some, if◌then◌else◌, unwrap_or, option_map, option_or, ChannelId, ConnectionId, Priority, ReceiveId, ThreadNo, OpenChannel, SentItem, list_any, with_priority, without_item, Item, member_at, Connection, Call, OpenCall, row_of, PriorityChange, Transfer, channel_of}
+use Rattle.qrules.proofs.Common.{◌≡◌, ℕ, ◌+◌, ◌==◌, ◌&&◌, ◌||◌, not, filter, Bool, is_some, List, [], ◌++◌, map, Option}
+use Rattle.qrules.proofs.Common.{None, Some, if◌then◌else◌, unwrap_or, option_map, option_or, ChannelId, ConnectionId}
+use Rattle.qrules.proofs.Common.{Priority, ReceiveId, ThreadNo, OpenChannel, SentItem, list_any, with_priority}
+use Rattle.qrules.proofs.Common.{without_item, Item, member_at, Connection, Call, OpenCall, row_of, PriorityChange}
+use Rattle.qrules.proofs.Common.{Transfer, channel_of}
 use Rattle.qrules.proofs.Words.Facts.{Facts, sender, is_fixed, threads_of}
-use Rattle.qrules.proofs.Words.Effects.{asks, attaches, closes, creates, detaches, makes, sets, shuts_down, unblocks, writes}
+use Rattle.qrules.proofs.Words.Effects.{asks, attaches, closes, creates, detaches, makes, sets, shuts_down, unblocks}
+use Rattle.qrules.proofs.Words.Effects.{writes}
 use Rattle.qrules.proofs.Words.Items.{names, priority_set_for, receipt_of, Received}
 use Rattle.qrules.proofs.Words.Past.{made_on}
 pub use Rattle.qrules.proofs.Words.Facts.{held_call, with_buffer}

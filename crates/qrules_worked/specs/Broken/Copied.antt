@@ -1,6 +1,8 @@
 -- A byte or a count isn't as the copying requires.
-use Rattle.qrules_worked.specs.Words.{[], pos, Intr, Ready, ChannelCreate, ConnectAttach, Receive, Reply, Error}
-use Rattle.qrules_worked.specs.Words.{Read, Write, Info, Pulse, Unblock, State, Trace, ended, event, flags_of, info}
+use Rattle.qrules_worked.specs.Words.{[], pos, Intr, Ready, ChannelCreate, ConnectAttach, Receive, Reply}
+use Rattle.qrules_worked.specs.Words.{Error}
+use Rattle.qrules_worked.specs.Words.{Read, Write, Info, Pulse, Unblock, State, Trace, ended, event, flags_of}
+use Rattle.qrules_worked.specs.Words.{info}
 use Rattle.std.specs.Prelude.{◌∷◌}
 use Rattle.qqueue.specs.declared.item.What.TheVariants as what
 use Rattle.qmodel.specs.declared.call.Mark.TheVariants as mark

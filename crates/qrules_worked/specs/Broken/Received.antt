@@ -1,5 +1,6 @@
 -- An item is received twice or too early, or a call completes twice.
-use Rattle.qrules_worked.specs.Words.{[], pos, Srch, Send, Receive, Reply, ReceivePulse, Pulse, Shutdown, Trace}
+use Rattle.qrules_worked.specs.Words.{[], pos, Srch, Send, Receive, Reply, ReceivePulse, Pulse, Shutdown}
+use Rattle.qrules_worked.specs.Words.{Trace}
 use Rattle.qrules_worked.specs.Words.{event, ended}
 use Rattle.std.specs.Prelude.{◌∷◌}
 use Rattle.qqueue.specs.declared.item.What.TheVariants as what

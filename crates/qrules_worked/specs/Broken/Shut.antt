@@ -1,5 +1,6 @@
 -- A channel is destroyed, and calls on it continue.
-use Rattle.qrules_worked.specs.Words.{[], Srch, ConnectDetach, Receive, ReceivePulse, ChannelDestroy, Trace, event}
+use Rattle.qrules_worked.specs.Words.{[], Srch, ConnectDetach, Receive, ReceivePulse, ChannelDestroy, Trace}
+use Rattle.qrules_worked.specs.Words.{event}
 use Rattle.qrules_worked.specs.Words.{ended}
 use Rattle.std.specs.Prelude.{◌∷◌}
 use Rattle.qmodel.specs.declared.call.Mark.TheVariants as mark

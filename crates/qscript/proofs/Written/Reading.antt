@@ -1,5 +1,8 @@
 -- Written lines are read back.
-use Rattle.qscript.proofs.Common.{AllByRecursion, Bool, Call, IsSmall, IsTyped, IsTypedMember, IsTypedOperand, List, Member, Ok, Some, [], all_ascii_digits, ap, arith, bytes_eq, codes, decimal, digits_decimal, false, le-ltb, length, length-append, length-decimal-le, list_all, map, own, refl, subst, true, ℕ, ◌<◌, ◌^◌, ◌∙◌, ◌∷◌, ◌≡◌, ◌≤◌}
+use Rattle.qscript.proofs.Common.{AllByRecursion, Bool, Call, IsSmall, IsTyped, IsTypedMember, IsTypedOperand, List}
+use Rattle.qscript.proofs.Common.{Member, Ok, Some, [], all_ascii_digits, ap, arith, bytes_eq, codes, decimal}
+use Rattle.qscript.proofs.Common.{digits_decimal, false, le-ltb, length, length-append, length-decimal-le, list_all}
+use Rattle.qscript.proofs.Common.{map, own, refl, subst, true, ℕ, ◌<◌, ◌^◌, ◌∙◌, ◌∷◌, ◌≡◌, ◌≤◌}
 use Rattle.std.proofs.lemmas.Bool.{false_from_ne_true}
 use Rattle.std.proofs.lemmas.Slice.Eq.{bytes_eq-Decides}
 use Rattle.qmodel.specs.declared.call.Call.TheVariants as calls
@@ -52,11 +55,14 @@ puts c [] v = v
 puts c (s ∷ sorts) v = puts c sorts (put c s v)
 
 -- the word of an operand is a valid word, and is read back as the operand
-operand_back : (c : Call) (s : OperandKind) (v : Values) → IsTypedOperand c s → (is_word (operand_word c s) ≡ true) × (value_of s (operand_word c s) v ≡ Ok (put c s v))
-operand_back c s v h = grind (arith, small, number_word, number_back, priority_back, signed_word, integer_back, bytes_word, bytes_back)
+operand_back : (c : Call) (s : OperandKind) (v : Values) → IsTypedOperand c s → (is_word (operand_word c s) ≡ true)
+    × (value_of s (operand_word c s) v ≡ Ok (put c s v))
+operand_back c s v h =
+    grind (arith, small, number_word, number_back, priority_back, signed_word, integer_back, bytes_word, bytes_back)
 
 operands_back : (c : Call) (sorts : List OperandKind) (v : Values) → AllByRecursion (IsTypedOperand c) sorts
-    → (list_all is_word (map (operand_word c) sorts) ≡ true) × (values_of sorts (map (operand_word c) sorts) (Ok v) ≡ Ok (puts c sorts v))
+    → (list_all is_word (map (operand_word c) sorts) ≡ true)
+    × (values_of sorts (map (operand_word c) sorts) (Ok v) ≡ Ok (puts c sorts v))
 operands_back c [] v h = (refl, refl)
 operands_back c (s ∷ sorts) v h =
     let one = operand_back c s v h.0 in
@@ -73,7 +79,8 @@ unfolding call_words
 call_are_words c h = rw ((kind_back (kind_of c)).0, (operands_back c (sorts_of (kind_of c)) no_values h).0) refl
 
 -- a call is the call with the values of its operands
-call_made : (c : Call) → (let v = puts c (sorts_of (kind_of c)) no_values in call_with (kind_of c) v.numbers v.bytes v.buffer) ≡ c
+call_made : (c : Call) → (let v = puts c (sorts_of (kind_of c)) no_values in
+    call_with (kind_of c) v.numbers v.bytes v.buffer) ≡ c
 call_made calls.Shutdown = refl
 call_made c = refl
 
@@ -83,31 +90,44 @@ unfolding call_words call_of
 call_named c h =
     let sorts = sorts_of (kind_of c) in
     ap (λ k. call_by k (map (operand_word c) sorts)) (kind_back (kind_of c)).1
-    ∙ ap (λ r. r >>= (λ v. Ok (call_with (kind_of c) v.numbers v.bytes v.buffer))) (operands_back c sorts no_values h).1 ∙ ap Ok (call_made c)
+    ∙ ap (λ r. r >>= (λ v. Ok (call_with (kind_of c) v.numbers v.bytes v.buffer)))
+    (operands_back c sorts no_values h).1 ∙ ap Ok (call_made c)
 
 -- ---- lines
 
 -- a number isn't the word `thread`
 not_thread : (n : ℕ) → n < 2 ^ 64 → bytes_eq (decimal n) (codes "thread") ≡ false
 not_thread n h = false_from_ne_true _ (λ e.
-    let bad : all_ascii_digits (codes "thread") ≡ true = subst (λ w. all_ascii_digits w ≡ true) ((bytes_eq-Decides (decimal n) (codes "thread")).0 e) (digits_decimal own n h) in cc)
+    let bad : all_ascii_digits (codes "thread") ≡ true =
+    subst (λ w. all_ascii_digits w ≡ true) ((bytes_eq-Decides (decimal n) (codes "thread")).0 e)
+    (digits_decimal own n h) in cc)
 
-pub call_line_text : (thread : ℕ) (call : Call) → IsSmall thread → IsTyped call → list_all is_text (call_line thread call) ≡ true
+pub call_line_text : (thread : ℕ) (call : Call) → IsSmall thread → IsTyped call
+    → list_all is_text (call_line thread call) ≡ true
 call_line_text thread call t h = line_text (decimal thread) (call_words call) (small thread t).0 (call_are_words call h)
 
-call_said : (words : List (List ℕ)) (thread : ℕ) (call : Call) → (first_of words >>= (λ ws. call_of ws.0 ws.1)) ≡ Ok call
+call_said : (words : List (List ℕ)) (thread : ℕ) (call : Call)
+    → (first_of words >>= (λ ws. call_of ws.0 ws.1)) ≡ Ok call
     → (first_of words >>= (λ ws. call_of ws.0 ws.1 >>= (λ c. Ok (lines.Call thread c)))) ≡ Ok (lines.Call thread call)
 call_said [] thread call e = cc
 call_said (w ∷ ws) thread call e = rw e refl
 
 -- the line of a call is read as that call of that thread
-pub call_read : (is_late : Bool) (thread : ℕ) (call : Call) → IsSmall thread → IsTyped call → length (call_line thread call) ≤ 4096
+pub call_read : (is_late : Bool) (thread : ℕ) (call : Call) → IsSmall thread → IsTyped call
+    → length (call_line thread call) ≤ 4096
     → line_of is_late (call_line thread call) ≡ Ok (lines.Call thread call)
 unfolding line_of said_of call_line_of
 call_read is_late thread call t h short =
     let wide : thread < 2 ^ 64 = omega (arith, t) in
     let words = words_in_row (decimal thread) (call_words call) (small thread t).0 (call_are_words call h) in
-    rw (le-ltb 4096 (length (call_line thread call)) short, words, first_digit_not thread 35 wide (omega arith) (omega arith), call_line_text thread call t h, not_thread thread wide, (small thread t).1)
+    rw (
+      le-ltb 4096 (length (call_line thread call)) short,
+      words,
+      first_digit_not thread 35 wide (omega arith) (omega arith),
+      call_line_text thread call t h,
+      not_thread thread wide,
+      (small thread t).1,
+    )
     (call_said (call_words call) thread call (call_named call h))
 
 -- ---- threads
@@ -126,10 +146,18 @@ three : (n : ℕ) → n < 256 → length (decimal n) ≤ 3
 three n h = length-decimal-le 3 n (omega arith) (omega (arith, h)) (omega (arith, h))
 
 member_short : (m : Member) → IsTypedMember m → length (member_line m) ≤ 4096
-member_short m h = simp length-append (omega (arith, three m.thread h.0, three m.process h.1, three m.priority (omega (arith, h.2.1))))
+member_short m h =
+    simp length-append (omega (arith, three m.thread h.0, three m.process h.1, three m.priority (omega (arith, h.2.1))))
 
 -- the line of a thread is read as that thread, if it comes before the calls
 pub member_read : (m : Member) → IsTypedMember m → line_of false (member_line m) ≡ Ok (lines.Roster m)
 unfolding line_of said_of roster_line_of member_of
 member_read m h =
-    rw (le-ltb 4096 (length (member_line m)) (member_short m h), words_in_row (codes "thread") (row m) refl (row_words m h), member_line_text m h, (small m.thread h.0).1, (small m.process h.1).1, priority_back m.priority h.2.0 h.2.1) refl
+    rw (
+      le-ltb 4096 (length (member_line m)) (member_short m h),
+      words_in_row (codes "thread") (row m) refl (row_words m h),
+      member_line_text m h,
+      (small m.thread h.0).1,
+      (small m.process h.1).1,
+      priority_back m.priority h.2.0 h.2.1,
+    ) refl

@@ -35,8 +35,13 @@ fn is_shown(first: u64, shown: &[bool], number: u64) -> bool
     }
 }
 
-fn push_ended_buffer(out: &mut String, completion: &Completion, shows: bool) -> Result<(), AllocError>
-    ensures { OnOk result (string_bytes out.new ≡ string_bytes out.old ++ words_with_spaces (ended_words completion.now shows)) }
+fn push_ended_buffer(
+    out: &mut String,
+    completion: &Completion,
+    shows: bool,
+) -> Result<(), AllocError>
+    ensures { OnOk result (string_bytes out.new ≡ string_bytes out.old ++ words_with_spaces
+        (ended_words completion.now shows)) }
 {
     if shows {
         return push_buffer(out, completion.buffer.as_slice());
@@ -51,7 +56,8 @@ fn push_completion(
     completion: &Completion,
     shows: bool,
 ) -> Result<(), AllocError>
-    ensures { OnOk result (string_bytes out.new ≡ string_bytes out.old ++ ended_text event completion.now shows) }
+    ensures { OnOk result (string_bytes out.new ≡ string_bytes out.old
+        ++ ended_text event completion.now shows) }
 {
     let call = completion.call;
     let thread = completion.thread.0;
@@ -70,7 +76,8 @@ pub fn push_completions(
     event: u64,
     completions: &[Completion],
 ) -> Result<(), AllocError>
-    ensures { OnOk result (string_bytes out.new ≡ string_bytes out.old ++ flat_map (λ e. ended_text event e (shows_at first shown.now e.call)) completions.now) }
+    ensures { OnOk result (string_bytes out.new ≡ string_bytes out.old ++ flat_map
+        (λ e. ended_text event e (shows_at first shown.now e.call)) completions.now) }
 {
     'completions: for completion in completions {
         let shows = is_shown(first, shown, completion.call);

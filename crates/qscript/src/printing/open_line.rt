@@ -12,7 +12,8 @@ use std::alloc::AllocError;
 
 /// Adds the word of the state and its channel, each after a space.
 fn push_state(out: &mut String, state: ThreadState) -> Result<(), AllocError>
-    ensures { OnOk result (string_bytes out.new ≡ string_bytes out.old ++ words_with_spaces (state_words state)) }
+    ensures { OnOk result (string_bytes out.new ≡ string_bytes out.old ++ words_with_spaces
+        (state_words state)) }
 {
     match state {
         ThreadState::Ready => write!(out, " ready"),

@@ -7,14 +7,16 @@ use std::alloc::AllocError;
 
 /// Adds a space and `NAME NUMBER`.
 pub fn number(out: &mut String, name: &str, number: u64) -> Result<(), AllocError>
-    ensures { OnOk result (string_bytes out.new ≡ string_bytes out.old ++ words_with_spaces (name.now ∷ decimal number ∷ [])) }
+    ensures { OnOk result (string_bytes out.new ≡ string_bytes out.old ++ words_with_spaces
+        (name.now ∷ decimal number ∷ [])) }
 {
     write!(out, " {name} {number}")
 }
 
 /// Adds a space and `NAME NUMBER NUMBER`.
 pub fn numbers(out: &mut String, name: &str, first: u64, second: u64) -> Result<(), AllocError>
-    ensures { OnOk result (string_bytes out.new ≡ string_bytes out.old ++ words_with_spaces (name.now ∷ decimal first ∷ decimal second ∷ [])) }
+    ensures { OnOk result (string_bytes out.new ≡ string_bytes out.old ++ words_with_spaces
+        (name.now ∷ decimal first ∷ decimal second ∷ [])) }
 {
     write!(out, " {name} {first} {second}")
 }

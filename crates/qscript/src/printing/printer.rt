@@ -47,7 +47,9 @@ impl Printer {
         shows: bool,
         completions: &[Completion],
     ) -> Result<(), AllocError>
-        ensures { OnOk result ((run : Run) (e : Event) → HasPrinted run self.old → event ≡ run.first + length run.events → shows_buffer e.call ≡ shows → e.completions ≡ completions.now → HasPrinted (with_more run (e ∷ [])) self.new) }
+        ensures { OnOk result ((run : Run) (e : Event) → HasPrinted run self.old
+            → event ≡ run.first + length run.events → shows_buffer e.call ≡ shows
+            → e.completions ≡ completions.now → HasPrinted (with_more run (e ∷ [])) self.new) }
     {
         self.shown.push(shows)?;
         push_completions(
@@ -70,7 +72,8 @@ impl Printer {
     /// Returns the text of the whole run: the lines of its events, and a line for each of these blocked
     /// threads.
     pub fn finish(self, blocked: &[Blocked]) -> Result<String, AllocError>
-        ensures { IfOk result (λ text. (run : Run) → HasPrinted run self → string_bytes text ≡ printed run blocked.now) }
+        ensures { IfOk result (λ text. (run : Run) → HasPrinted run self
+            → string_bytes text ≡ printed run blocked.now) }
     {
         let mut text = self.text;
         push_open_lines(&mut text, blocked)?;

@@ -1,6 +1,6 @@
 //! Compares a run with the expectations of its script, call by call.
 
-use crate::expectation::{CallCheck, ExpectedCompletion, Expectation, Follower, StateCheck};
+use crate::expectation::{CallCheck, Expectation, ExpectedCompletion, Follower, StateCheck};
 use crate::expecting::completion::ShownEnd;
 use crate::line::Operand;
 use crate::scope::Scope;
@@ -121,7 +121,11 @@ impl ExpectationCheck {
 
     /// Compares the completions in the event of the next call, which this kernel made, and the states after
     /// it.
-    pub fn follow(&mut self, kernel: &Kernel, completions: &[Completion]) -> Result<(), AllocError> {
+    pub fn follow(
+        &mut self,
+        kernel: &Kernel,
+        completions: &[Completion],
+    ) -> Result<(), AllocError> {
         self.ends.push(None)?;
         let event = self.ends.len() as u64;
         for completion in completions {
@@ -166,7 +170,10 @@ impl ExpectationCheck {
             }
             _ => None,
         };
-        if let Some(end) = self.ends.get_mut(completion.call.saturating_sub(1) as usize) {
+        if let Some(end) = self
+            .ends
+            .get_mut(completion.call.saturating_sub(1) as usize)
+        {
             *end = Some(ShownEnd {
                 event,
                 mark: completion.mark,
@@ -182,7 +189,8 @@ impl ExpectationCheck {
             return Ok(None);
         };
         match &check.own {
-            Some(own) if matches!(own.completion, ExpectedCompletion::Parts(_)) || end.event == call => {
+            Some(own)
+                if matches!(own.completion, ExpectedCompletion::Parts(_)) || end.event == call => {
                 self.difference(end, own)
             }
             _ => self.silent_difference(call, check, end),
@@ -247,7 +255,10 @@ impl ExpectationCheck {
             if let Some(end) = end {
                 let difference = self.follower_difference(line, follower, end)?;
                 self.tell(difference)?;
-            } else if matches!(follower.expectation.completion, ExpectedCompletion::Parts(_)) {
+            } else if matches!(
+                follower.expectation.completion,
+                ExpectedCompletion::Parts(_)
+            ) {
                 self.waiting.push((line, place))?;
             }
         }
@@ -264,7 +275,9 @@ impl ExpectationCheck {
     /// Returns the difference between the completion of a call and the expectation in the line of call
     /// `event`.
     fn follower_difference(&self, event: u64, follower: &Follower, end: &ShownEnd) -> Mismatch {
-        if end.event == event || matches!(follower.expectation.completion, ExpectedCompletion::Blocked) {
+        if end.event == event
+            || matches!(follower.expectation.completion, ExpectedCompletion::Blocked)
+        {
             return self.difference(end, &follower.expectation);
         }
         let came = self.came(end, follower.place.line)?;
@@ -301,10 +314,15 @@ impl ExpectationCheck {
 
     /// Adds a line for each of these completions of the latest call. The line has the line number of that
     /// call, the completed call and its result, with names in place of numbers.
-    pub fn push_trace(&self, out: &mut String, completions: &[Completion]) -> Result<(), AllocError> {
+    pub fn push_trace(
+        &self,
+        out: &mut String,
+        completions: &[Completion],
+    ) -> Result<(), AllocError> {
         let line = self.line_of(self.ends.len() as u64);
         for completion in completions {
-            let (Some(check), Some(end)) = (self.at(completion.call), self.end_of(completion.call)) else {
+            let (Some(check), Some(end)) = (self.at(completion.call), self.end_of(completion.call))
+            else {
                 continue;
             };
             let thread = self.context().thread(completion.thread);

@@ -68,7 +68,9 @@ impl Part<'_> {
             (ExpectedResult::Process(name), part) => {
                 part.number() == Some(i128::from(scope.process_named(name)))
             }
-            (ExpectedResult::Front(bytes), Part::Buffer(buffer)) => buffer.starts_with(bytes.as_slice()),
+            (ExpectedResult::Front(bytes), Part::Buffer(buffer)) => buffer.starts_with(
+                bytes.as_slice(),
+            ),
             (ExpectedResult::Front(bytes), _) => bytes.is_empty(),
             _ => false,
         }
@@ -164,7 +166,11 @@ impl ShownEnd {
     }
 
     /// Returns whether the first parts match these patterns.
-    pub fn fits(&self, names: Context<'_>, patterns: &[ExpectedResult]) -> Result<bool, AllocError> {
+    pub fn fits(
+        &self,
+        names: Context<'_>,
+        patterns: &[ExpectedResult],
+    ) -> Result<bool, AllocError> {
         let parts = self.parts(names.alloc)?;
         if parts.len() < patterns.len() {
             return Ok(false);

@@ -1,6 +1,8 @@
 //! Checks the names in a script's expectations.
 
-use crate::expectation::{CallCheck, ExpectedCompletion, Expectation, Extent, ExpectedResult, StateCheck};
+use crate::expectation::{
+    CallCheck, Expectation, ExpectedCompletion, ExpectedResult, Extent, StateCheck,
+};
 use crate::label::NameError;
 use crate::line::{LineKind, NameMention, Operand};
 use crate::wording::{Context, Usage};
@@ -45,7 +47,9 @@ impl<'a> NameCheck<'a> {
             Some(label) if may_stand(label.kind, expected) => return Ok(()),
             Some(label) => NameError::OtherKind(label.kind),
         };
-        let what = self.context.words(name, Usage::Expectation, expected, error)?;
+        let what = self
+            .context
+            .words(name, Usage::Expectation, expected, error)?;
         self.faults.push(Fault { place, what })?;
         Ok(())
     }
@@ -77,7 +81,10 @@ impl<'a> NameCheck<'a> {
             match pattern {
                 ExpectedResult::Named(mention) => self.completion(mention)?,
                 ExpectedResult::Process(name) => self.process(expectation.place, name)?,
-                ExpectedResult::Word(_) | ExpectedResult::Number(_) | ExpectedResult::Front(_) | ExpectedResult::Any => {}
+                ExpectedResult::Word(_)
+                | ExpectedResult::Number(_)
+                | ExpectedResult::Front(_)
+                | ExpectedResult::Any => {}
             }
         }
         Ok(())

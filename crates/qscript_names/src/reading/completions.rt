@@ -7,7 +7,7 @@ use crate::expectation::{CallCheck, Expectation, Follower};
 use crate::reading::forms::completion;
 use qmodel::kind::CallKind;
 use qscript_text::lexing::name::is_name;
-use qscript_text::lexing::token::{TokenKind, Token};
+use qscript_text::lexing::token::{Token, TokenKind};
 use qscript_text::lexing::values::{expected, word_of};
 use qscript_text::place::{Place, ReadError, fault_in_words};
 use qscript_text::word::Word;

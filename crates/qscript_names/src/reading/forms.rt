@@ -12,8 +12,8 @@ use qbase::errno::ERRNOS;
 use qscript_text::fault::ParseError;
 use qscript_text::grammar::{CALL_ERRORS, OperandKind as Slot, errno_of};
 use qscript_text::lexing::name::is_name;
-use qscript_text::lexing::token::{TokenKind, Token};
-use qscript_text::lexing::values::{size_of, text_bytes, expected, word_of};
+use qscript_text::lexing::token::{Token, TokenKind};
+use qscript_text::lexing::values::{expected, size_of, text_bytes, word_of};
 use qscript_text::near::{no_such, quotation};
 use qscript_text::place::{ReadError, fault_at};
 use qscript_text::reading::bytes::bytes_said;
@@ -168,7 +168,8 @@ impl Patterns {
             Part::Number => number(alloc, token).map(ExpectedResult::Number),
             Part::Content => {
                 let content = bytes(alloc, token)?;
-                self.all.push(ExpectedResult::Number(content.len() as i128))?;
+                self.all
+                    .push(ExpectedResult::Number(content.len() as i128))?;
                 Ok(ExpectedResult::Front(content))
             }
             Part::Buffer => bytes(alloc, token).map(ExpectedResult::Front),
@@ -251,7 +252,11 @@ fn unknown_completion(alloc: Global, token: &Token<'_>) -> Result<String, AllocE
 }
 
 /// Reads the expected result of a call.
-pub fn completion(alloc: Global, first: &Token<'_>, rest: &[Token<'_>]) -> Result<ExpectedCompletion, ReadError> {
+pub fn completion(
+    alloc: Global,
+    first: &Token<'_>,
+    rest: &[Token<'_>],
+) -> Result<ExpectedCompletion, ReadError> {
     let Some((word, parts)) = form_of(&FORMS, first) else {
         return Err(fault_at(first.place, unknown_completion(alloc, first)));
     };

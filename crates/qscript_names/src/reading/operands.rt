@@ -2,10 +2,10 @@
 
 use crate::hints::{push_operand_hint, text_hint};
 use crate::line::{LineKind, NameMention, Operand};
-use qscript_text::grammar::{FLAGS, OperandKind as Slot, fault_of, expected_words};
+use qscript_text::grammar::{FLAGS, OperandKind as Slot, expected_words, fault_of};
 use qscript_text::lexing::name::is_name;
-use qscript_text::lexing::token::{TokenKind, Token};
-use qscript_text::lexing::values::{size_of, text_bytes, expected, word_of};
+use qscript_text::lexing::token::{Token, TokenKind};
+use qscript_text::lexing::values::{expected, size_of, text_bytes, word_of};
 use qscript_text::near::{no_such, quotation};
 use qscript_text::place::{ReadError, fault_at};
 use qscript_text::word::Word;
@@ -75,7 +75,12 @@ pub fn is_numeric(token: &Token<'_>) -> bool {
 }
 
 /// Reads a name, or a number in the notation of plain scripts.
-pub fn id(alloc: Global, kind: LineKind, slot: Slot, token: &Token<'_>) -> Result<Operand, ReadError> {
+pub fn id(
+    alloc: Global,
+    kind: LineKind,
+    slot: Slot,
+    token: &Token<'_>,
+) -> Result<Operand, ReadError> {
     if is_numeric(token) {
         return Ok(Operand::Plain(plain_word(alloc, slot, token)?));
     }

@@ -5,7 +5,7 @@ use crate::line::{Definition, Operand, Process, ThreadLine};
 use crate::reading::operands::{operand, plain_word};
 use qscript_text::grammar::{OperandKind as Slot, expected_words};
 use qscript_text::lexing::name::is_name;
-use qscript_text::lexing::token::{TokenKind, Token};
+use qscript_text::lexing::token::{Token, TokenKind};
 use qscript_text::lexing::values::{expected, word_of};
 use qscript_text::place::{Place, ReadError, fault_at, fault_in_words};
 use qscript_text::reading::number::small;

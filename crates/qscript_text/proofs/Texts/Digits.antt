@@ -1,9 +1,12 @@
 -- Digits read from the left.
-use Rattle.qscript_text.proofs.Common.{◌≡◌, ℕ, ◌+◌, ◌-◌, ◌*◌, ◌<◌, ◌≤◌, ◌^◌, List, true, false, length, take, get_or, arith, inl, inr, all_ascii_digits, digits_value, AllDigits, digits_value_more, cases_Bool}
+use Rattle.qscript_text.proofs.Common.{◌≡◌, ℕ, ◌+◌, ◌-◌, ◌*◌, ◌<◌, ◌≤◌, ◌^◌, List, true, false, length, take, get_or}
+use Rattle.qscript_text.proofs.Common.{arith, inl, inr, all_ascii_digits, digits_value, AllDigits, digits_value_more}
+use Rattle.qscript_text.proofs.Common.{cases_Bool}
 use Rattle.std.specs.Char.{digit_value, IsNotAsciiDigit}
 use Rattle.std.specs.Int.{IsInRange}
 use Rattle.std.proofs.lemmas.Str.{digit_value_digit}
-use Rattle.std.proofs.lemmas.Str.Parse.{IsNumeralModel, numerals_by_value, tells_all_ascii_digits, digits_value_short, digit_at, digit_from_value}
+use Rattle.std.proofs.lemmas.Str.Parse.{IsNumeralModel, numerals_by_value, tells_all_ascii_digits, digits_value_short}
+use Rattle.std.proofs.lemmas.Str.Parse.{digit_at, digit_from_value}
 
 -- std's test and its value of digits are a model of numerals
 pub own : IsNumeralModel (λ ds. all_ascii_digits ds ≡ true) (digits_value 10)
@@ -24,7 +27,8 @@ pub small : (ds : List ℕ) → AllDigits 10 ds → length ds ≤ 19 → digits_
 small ds d n = digits_value_short own ds 19 (own.from ds d) n
 
 -- the value with one more digit
-pub value_more : (ds : List ℕ) (i : ℕ) → i < length ds → digit_value (get_or ds i 0) < 10 → digits_value 10 (take (i + 1) ds) ≡ digits_value 10 (take i ds) * 10 + (get_or ds i 0 - 48)
+pub value_more : (ds : List ℕ) (i : ℕ) → i < length ds → digit_value (get_or ds i 0) < 10
+    → digits_value 10 (take (i + 1) ds) ≡ digits_value 10 (take i ds) * 10 + (get_or ds i 0 - 48)
 value_more ds i h d =
     let e : digit_value (get_or ds i 0) + 48 ≡ get_or ds i 0 = digit_value_digit _ (digit_from_value _ d) in
     omega (arith, e, digits_value_more 10 ds i h)

@@ -1,11 +1,16 @@
 -- How many lines of a text have been read.
-use Rattle.qscript_text.proofs.Common.{◌≡◌, ℕ, zero, suc, ◌+◌, ◌-◌, ◌<◌, ◌≤◌, List, [], ◌∷◌, ◌++◌, false, length, take, drop, get_or, refl, sym, ap, ◌∙◌, arith, Option, Some, None, Result, Ok, Err, add-one, add-zero, add-suc, cons_option, le-ltb, take_more, take_all, drop_more, length-drop, filter_map-append, Member, Call, Line, LineFault, Fails, lines_of}
+use Rattle.qscript_text.proofs.Common.{◌≡◌, ℕ, zero, suc, ◌+◌, ◌-◌, ◌<◌, ◌≤◌, List, [], ◌∷◌, ◌++◌, false, length, take}
+use Rattle.qscript_text.proofs.Common.{drop, get_or, refl, sym, ap, ◌∙◌, arith, Option, Some, None, Result, Ok, Err}
+use Rattle.qscript_text.proofs.Common.{add-one, add-zero, add-suc, cons_option, le-ltb, take_more, take_all, drop_more}
+use Rattle.qscript_text.proofs.Common.{length-drop, filter_map-append, Member, Call, Line, LineFault, Fails, lines_of}
 use Rattle.qscript_text.specs.declared.fault.ParseError.{ParseError}
 use Rattle.qscript_text.specs.declared.fault.ParseError.TheVariants as errors
 use Rattle.qscript_text.specs.declared.fault.ScriptFault.{ScriptFault}
 use Rattle.qscript_text.specs.declared.fault.ScriptFault.TheVariants as scripts
 use Rattle.qscript_text.specs.Reading.Line.{line_of}
-use Rattle.qscript_text.specs.Reading.Meaning.{TooLong, Faulty, Says, meaning, of_line, IsFaultOf, member_in, call_in, roster_of, calls_of, line_with, line_after, first_fault, fault_or, of_lines}
+use Rattle.qscript_text.specs.Reading.Meaning.{TooLong, Faulty, Says, meaning, of_line, IsFaultOf, member_in, call_in}
+use Rattle.qscript_text.specs.Reading.Meaning.{roster_of, calls_of, line_with, line_after, first_fault, fault_or}
+use Rattle.qscript_text.specs.Reading.Meaning.{of_lines}
 use Rattle.qscript_text.proofs.Texts.Early.{alone}
 
 -- ---- the first lines of a list
@@ -65,10 +70,12 @@ unfolding first_fault
 reads_fault ls n ms cs h lt f e =
     let here : first_fault ls (n + 1) ≡ Some (n, f) = rw (add-one, h.clean, next_line ls n ms cs h (Err f) e) in
     let there : n + 1 + (length ls - (n + 1)) ≡ length ls = omega arith in
-    let all : first_fault ls (length ls) ≡ Some (n, f) = rw there at (stays ls (n + 1) (length ls - (n + 1)) (n, f) here) in
+    let all : first_fault ls (length ls) ≡ Some (n, f) =
+    rw there at (stays ls (n + 1) (length ls - (n + 1)) (n, f) here) in
     rw all
 
-reads_all : (ls : List (List ℕ)) (n : ℕ) (ms : List Member) (cs : List (ℕ × Call)) → Reads ls n ms cs → n ≡ length ls → of_lines ls ≡ Says ms cs
+reads_all : (ls : List (List ℕ)) (n : ℕ) (ms : List Member) (cs : List (ℕ × Call)) → Reads ls n ms cs → n ≡ length ls
+    → of_lines ls ≡ Says ms cs
 reads_all ls n ms cs h e =
     let none : first_fault ls (length ls) ≡ None = rw e at h.clean in
     rw (none, h.roster, h.calls, take_all n ls (omega arith))
@@ -98,7 +105,8 @@ at_front ls n line behind e =
     let both : (get_or ls n [] ∷ drop (n + 1) ls) ≡ line ∷ behind = sym (drop_more ls n [] lt) ∙ e in
     (lt, (cc), (cc))
 
-pub stands_more : (text rest after line : List ℕ) (n : ℕ) (ms : List Member) (cs : List (ℕ × Call)) → Stands text rest n ms cs
+pub stands_more : (text rest after line : List ℕ) (n : ℕ) (ms : List Member) (cs : List (ℕ × Call))
+    → Stands text rest n ms cs
     → lines_of rest ≡ line ∷ lines_of after → length after < length rest
     → (l : Line) → line_with ms cs line ≡ Ok l
     → Stands text after (n + 1) (ms ++ cons_option (member_in (Ok l)) []) (cs ++ cons_option (call_in (Ok l)) [])
@@ -111,7 +119,8 @@ stands_more text rest after line n ms cs h e less l said =
       room = omega (arith, h.room);
     }
 
-pub stands_err : (text rest after line : List ℕ) (n : ℕ) (ms : List Member) (cs : List (ℕ × Call)) → Stands text rest n ms cs
+pub stands_err : (text rest after line : List ℕ) (n : ℕ) (ms : List Member) (cs : List (ℕ × Call))
+    → Stands text rest n ms cs
     → lines_of rest ≡ line ∷ lines_of after
     → (e : ParseError) → Fails e (line_with ms cs line) → IsFaultOf (of_line (n + 1) e) (of_lines (lines_of text))
 stands_err text rest after line n ms cs h e error k =
@@ -121,7 +130,8 @@ stands_err text rest after line n ms cs h e error k =
 pub stands_last : (text rest : List ℕ) (n : ℕ) (ms : List Member) (cs : List (ℕ × Call)) → Stands text rest n ms cs
     → lines_of rest ≡ [] → of_lines (lines_of text) ≡ Says ms cs
 stands_last text rest n ms cs h e =
-    reads_all (lines_of text) n ms cs h.reads (omega (arith, h.few, length-drop n (lines_of text), ap length (sym h.left ∙ e)))
+    reads_all (lines_of text) n ms cs h.reads
+    (omega (arith, h.few, length-drop n (lines_of text), ap length (sym h.left ∙ e)))
 
 -- ---- the length
 
@@ -129,12 +139,14 @@ pub not_long : (text : List ℕ) → length text ≤ 4194304 → meaning text �
 unfolding meaning
 not_long text h = rw (le-ltb 4194304 (length text) h)
 
-no_long_lines : (found : Option (ℕ × LineFault)) (ms : List Member) (cs : List (ℕ × Call)) → fault_or found (Says ms cs) ≡ TooLong → ⊥
+no_long_lines : (found : Option (ℕ × LineFault)) (ms : List Member) (cs : List (ℕ × Call))
+    → fault_or found (Says ms cs) ≡ TooLong → ⊥
 no_long_lines None ms cs e = cc
 no_long_lines (Some x) ms cs e = cc
 
 -- a text that fits isn't too long
-pub not_too_long : (text : List ℕ) (e : ScriptFault) → length text ≤ 4194304 → IsFaultOf e (meaning text) → e ≡ scripts.TooLong → ⊥
+pub not_too_long : (text : List ℕ) (e : ScriptFault) → length text ≤ 4194304 → IsFaultOf e (meaning text)
+    → e ≡ scripts.TooLong → ⊥
 not_too_long text scripts.TooLong h k s = no_long_lines _ _ _ (sym (not_long text h) ∙ k)
 not_too_long text scripts.Read h k s = cc
 not_too_long text (scripts.Line n f) h k s = cc

@@ -8,7 +8,8 @@ use Rattle.qmodel.specs.declared.call.Call.{Call}
 use Rattle.qscript_text.specs.declared.reading.line.ScriptLine.{ScriptLine}
 use Rattle.qscript_text.specs.declared.reading.line.ScriptLine.TheVariants as lines
 use Rattle.qscript_text.specs.declared.fault.LineFault.{LineFault}
-use Rattle.qscript_text.specs.declared.fault.LineFault.TheVariants.{DoubleThread, TooManyThreads, UnknownThread}
+use Rattle.qscript_text.specs.declared.fault.LineFault.TheVariants.{DoubleThread, TooManyThreads}
+use Rattle.qscript_text.specs.declared.fault.LineFault.TheVariants.{UnknownThread}
 use Rattle.qscript_text.specs.declared.fault.ParseError.{ParseError}
 use Rattle.qscript_text.specs.declared.fault.ParseError.TheVariants as errors
 use Rattle.qscript_text.specs.declared.fault.ScriptFault.{ScriptFault}

@@ -1,7 +1,7 @@
 //! Reads the value of a part of a line.
 
 use crate::lexing::quoted::quoted_bytes;
-use crate::lexing::token::{TokenKind, Token};
+use crate::lexing::token::{Token, TokenKind};
 use crate::near::quotation;
 use crate::place::{Place, ReadError, fault_at, fault_in_words};
 use crate::reading::bytes::MOST_REPEATS;

@@ -56,7 +56,9 @@ impl Values {
             OperandKind::PulseCode => values.numbers.pulse_code = byte(word)?,
             OperandKind::Value => values.numbers.value = narrow(word)?,
             OperandKind::Message | OperandKind::Data => values.bytes = bytes_said(alloc, word)?,
-            OperandKind::ReplyBuffer | OperandKind::Buffer => values.buffer = bytes_said(alloc, word)?,
+            OperandKind::ReplyBuffer | OperandKind::Buffer => values.buffer = bytes_said(
+                alloc, word,
+            )?,
         }
         Ok(values)
     }
@@ -107,7 +109,11 @@ fn with_next(
 pub fn member(alloc: Global, operands: &[u8]) -> Result<Member, ParseError>
     ensures { Gives result (member_of (words_of operands.now)) }
 {
-    let sorts = [OperandKind::Thread, OperandKind::Process, OperandKind::Priority];
+    let sorts = [
+        OperandKind::Thread,
+        OperandKind::Process,
+        OperandKind::Priority,
+    ];
     let values = Values::read(alloc, &sorts, operands)?;
     Ok(Member {
         thread: values.numbers.thread,

@@ -49,7 +49,8 @@ fn after(text: &[u8], at: usize) -> &[u8]
 /// Returns the first line of a text, without its line end, and the text after it. `None` if the text is
 /// empty.
 pub fn next_line(text: &[u8]) -> Option<(&[u8], &[u8])>
-    ensures lines { MatchOption result (lines_of text.now ≡ []) (λ next. lines_of text.now ≡ next.0.now ∷ lines_of next.1.now) }
+    ensures lines { MatchOption result (lines_of text.now ≡ [])
+        (λ next. lines_of text.now ≡ next.0.now ∷ lines_of next.1.now) }
     ensures shorter { IfSome result (λ next. length next.1.now < length text.now) }
 {
     if text.is_empty() {

@@ -2,7 +2,8 @@
 
 ghost use Rattle.std.specs.Prelude.{◌≡◌, ◌++◌, [], OnOk};
 ghost use Rattle.std.specs.List.{cons_option};
-ghost use Rattle.qscript_text.specs.Reading.Meaning.{of_line, member_in, call_in, is_in, line_after_roster, line_behind, line_with, meaning, Means};
+ghost use Rattle.qscript_text.specs.Reading.Meaning.{of_line, member_in, call_in, is_in, line_after_roster};
+ghost use Rattle.qscript_text.specs.Reading.Meaning.{line_behind, line_with, meaning, Means};
 ghost use Rattle.qscript_text.specs.Reading.Steps.{Gives};
 
 use crate::fault::{LineFault, ParseError, ScriptFault};
@@ -27,8 +28,10 @@ pub struct Script {
 impl Script {
     /// Adds the content of a line.
     fn add(&mut self, said: ScriptLine) -> Result<(), AllocError>
-        ensures roster { OnOk result (self.new.roster.items ≡ self.old.roster.items ++ cons_option (member_in (Ok said)) []) }
-        ensures calls { OnOk result (self.new.calls.items ≡ self.old.calls.items ++ cons_option (call_in (Ok said)) []) }
+        ensures roster { OnOk result
+            (self.new.roster.items ≡ self.old.roster.items ++ cons_option (member_in (Ok said)) []) }
+        ensures calls { OnOk result
+            (self.new.calls.items ≡ self.old.calls.items ++ cons_option (call_in (Ok said)) []) }
     {
         match said {
             ScriptLine::Blank => {}

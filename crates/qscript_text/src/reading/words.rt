@@ -1,6 +1,7 @@
 //! Takes one word after another from the front of a line.
 
-ghost use Rattle.std.specs.Prelude.{◌≡◌, ◌<◌, ◌≤◌, [], ◌∷◌, drop, length, not, position, IfSome, MatchOption, MatchResult};
+ghost use Rattle.std.specs.Prelude.{◌≡◌, ◌<◌, ◌≤◌, [], ◌∷◌, drop, length, not, position, IfSome, MatchOption};
+ghost use Rattle.std.specs.Prelude.{MatchResult};
 ghost use Rattle.std.specs.List.{position_or_len};
 ghost use Rattle.qscript_text.specs.Reading.Counts.{first_of};
 ghost use Rattle.qscript_text.specs.Reading.Words.{words_of, is_blank};
@@ -55,7 +56,8 @@ fn word_len(text: &[u8]) -> usize
 
 /// Returns the first word of a text and the text after it, or `None` if there is no word.
 pub fn next_word(text: &[u8]) -> Option<(&[u8], &[u8])>
-    ensures { MatchOption result (words_of text.now ≡ []) (λ next. words_of text.now ≡ next.0.now ∷ words_of next.1.now) }
+    ensures { MatchOption result (words_of text.now ≡ [])
+        (λ next. words_of text.now ≡ next.0.now ∷ words_of next.1.now) }
 {
     let from_word = skip_blanks(text);
     if from_word.is_empty() {
@@ -66,7 +68,8 @@ pub fn next_word(text: &[u8]) -> Option<(&[u8], &[u8])>
 
 /// Returns the first word and the text after it. Without a word the fault is `WordCount`.
 pub fn first(text: &[u8]) -> Result<(&[u8], &[u8]), LineFault>
-    ensures { MatchResult result (λ w. first_of (words_of text.now) ≡ Ok (w.0.now, words_of w.1.now)) (λ e. first_of (words_of text.now) ≡ Err e) }
+    ensures { MatchResult result (λ w. first_of (words_of text.now) ≡ Ok (w.0.now, words_of w.1.now))
+        (λ e. first_of (words_of text.now) ≡ Err e) }
 {
     match next_word(text) {
         Some(next) => Ok(next),

@@ -2,7 +2,8 @@
 
 ghost use Rattle.std.specs.Prelude.{◌≡◌, ◌<◌, true};
 ghost use Rattle.qhandoff.specs.Rule.{line};
-ghost use Rattle.qhandoff.specs.Words.{cells_id, count, kernel_view, kernel_id, thread_id, thread_of, IsKernelOf, IsThreadOf, IsRow};
+ghost use Rattle.qhandoff.specs.Words.{cells_id, count, kernel_view, kernel_id, thread_id, thread_of};
+ghost use Rattle.qhandoff.specs.Words.{IsKernelOf, IsThreadOf, IsRow};
 
 use crate::cells::making::{cells, completion, is_of, last_seat, seat_back};
 use qhandoff::cells::Cells;

@@ -6,5 +6,7 @@ use Rattle.balsaeuchre_examples.proofs.timeout.with_flag.Goals as goal
 pub returns : goal.returns
 returns c =
     let calls : map event_call c.in_ok-run.field-0.events ≡ map event_call told_events =
-    c.in_ok-run.ensures.told ∙ c.in_ok-push-2.ensures.items ∙ rw (c.in_ok-push.ensures.items, c.in_ok-calls.ensures) refl in
-    run_of roster told_events c.in_ok-run.field-0 (c.in_ok-run.ensures.headline roster [] tt c.in_ok-kernel.ensures) calls told_lawful told_memory
+    c.in_ok-run.ensures.told ∙ c.in_ok-push-2.ensures.items
+    ∙ rw (c.in_ok-push.ensures.items, c.in_ok-calls.ensures) refl in
+    run_of roster told_events c.in_ok-run.field-0 (c.in_ok-run.ensures.headline roster [] tt c.in_ok-kernel.ensures)
+    calls told_lawful told_memory

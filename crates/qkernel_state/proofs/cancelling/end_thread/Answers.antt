@@ -4,4 +4,5 @@ use Rattle.qkernel_state.proofs.cancelling.end_thread.Goals as goal
 
 pub returns-then-eq-clause-channels : goal.returns-then-eq-clause-channels
 returns-then-eq-clause-channels c = loses_nothing _ c.args.channels.now (λ k i.
-    ap (λ o. is_taken_from (is_cancelled_by c.args.cancel.now.set c.args.thread.now.member.thread) o k i) (c.requires.idle (sym c.if-eq.ensures)))
+    ap (λ o. is_taken_from (is_cancelled_by c.args.cancel.now.set c.args.thread.now.member.thread) o k i)
+    (c.requires.idle (sym c.if-eq.ensures)))

@@ -1,5 +1,8 @@
 -- The laws of ConnectDetach.
-use Rattle.qrules.proofs.Common.{arith, ◌≡◌, ◌⊎◌, ℕ, [], ap, sym, true, is_over, cancels, deliver, refusal_if_full_for, tells_disconnect, disconnect_item, option_or, Badf, is_pulse, Connection, row_of, disconnect_pulse, OpenChannel, SentItem, ConnectDetach, Completion, Option, None, Some, is_some}
+use Rattle.qrules.proofs.Common.{arith, ◌≡◌, ◌⊎◌, ℕ, [], ap, sym, true, is_over, cancels, deliver, refusal_if_full_for}
+use Rattle.qrules.proofs.Common.{tells_disconnect, disconnect_item, option_or, Badf, is_pulse, Connection, row_of}
+use Rattle.qrules.proofs.Common.{disconnect_pulse, OpenChannel, SentItem, ConnectDetach, Completion, Option, None, Some}
+use Rattle.qrules.proofs.Common.{is_some}
 use Rattle.qrules.proofs.Words.Items.{ends_receiver}
 use Rattle.qrules.proofs.Traces.Parts.{due_pulse_over}
 use Rattle.qrules.proofs.Words.Facts.{Facts}
@@ -14,7 +17,8 @@ pub record IsDue (f : Facts) (t : ℕ) (o : Option Connection) (m : SentItem) : 
   pub tells : tells_disconnect (f.channel m.channel) ≡ true
   pub made : record { item = disconnect_item f.number (f.priority t) connection.process; channel = m.channel } ≡ m
 
-pub due_parts : (f : Facts) (t : ℕ) (o : Option Connection) (m : SentItem) → due_pulse_over f t o ≡ Some m → IsDue f t o m
+pub due_parts : (f : Facts) (t : ℕ) (o : Option Connection) (m : SentItem) → due_pulse_over f t o ≡ Some m
+    → IsDue f t o m
 due_parts f t o m e = grind arith
 
 -- the item is a pulse
@@ -26,7 +30,8 @@ tells_open : (o : Option OpenChannel) → tells_disconnect o ≡ true → is_som
 tells_open o e = grind arith
 
 -- for an accepted ConnectDetach, there is room for its pulse
-pub own_passes : (f : Facts) (t k : ℕ) → (row_of f t (ConnectDetach k)).refusal ≡ None → refusal_if_full_for f (disconnect_pulse f t k) ≡ None
+pub own_passes : (f : Facts) (t k : ℕ) → (row_of f t (ConnectDetach k)).refusal ≡ None
+    → refusal_if_full_for f (disconnect_pulse f t k) ≡ None
 own_passes f t k r = grind arith
 
 -- ---- the calls that it completes
@@ -36,7 +41,9 @@ abbrev other_completion : Facts → ℕ → Option SentItem → ℕ → Option C
 other_completion f k m u = option_or (cancels f (λ v. is_over k) Badf u) (deliver f m [] u)
 
 -- another thread's call that completes is cancelled, or takes the pulse
-pub detach_ends : (f : Facts) (k : ℕ) (o : Option SentItem) (u : ℕ) (y : Completion) → other_completion f k o u ≡ Some y → IsCancelledCall (is_over k) Badf u (f.open_call u) y ⊎ (ends_receiver f o u ≡ Some y)
+pub detach_ends : (f : Facts) (k : ℕ) (o : Option SentItem) (u : ℕ) (y : Completion)
+    → other_completion f k o u ≡ Some y → IsCancelledCall (is_over k) Badf u (f.open_call u) y
+    ⊎ (ends_receiver f o u ≡ Some y)
 detach_ends f k o u y e = grind arith
 
 -- ---- the laws

@@ -1,5 +1,7 @@
 -- Common lemmas of the calls on held messages: the thread that sent the message, and its Send's completion.
-use Rattle.qrules.proofs.Common.{arith, ◌≡◌, ◌∙◌, ℕ, List, ap, refl, sym, subst, cond, Bool, true, false, Send, none-some, same_Some, Errno, refusal_unless_held, Completion, OpenCall, Receipt, Option, None, Some}
+use Rattle.qrules.proofs.Common.{arith, ◌≡◌, ◌∙◌, ℕ, List, ap, refl, sym, subst, cond, Bool, true, false, Send}
+use Rattle.qrules.proofs.Common.{none-some, same_Some, Errno, refusal_unless_held, Completion, OpenCall, Receipt}
+use Rattle.qrules.proofs.Common.{Option, None, Some}
 use Rattle.qrules.proofs.Words.Facts.{Facts, sender, threads_of, number_of, owns}
 use Rattle.qrules.proofs.Words.Items.{Finish, ends_sender, answer_completion}
 use Rattle.qrules.proofs.Traces.Past.Senders.{sender_sends}
@@ -22,7 +24,8 @@ passes : (b : Bool) (e : Errno) → cond b None (Some e) ≡ None → b ≡ true
 passes true e h = refl
 passes false e h = absurd (none-some e (sym h))
 
-pub held_for : (f : Facts) (t rcvid s : ℕ) → refusal_unless_held f t rcvid ≡ None → sender f rcvid ≡ Some s → IsHeldFor f t (f.open_call s)
+pub held_for : (f : Facts) (t rcvid s : ℕ) → refusal_unless_held f t rcvid ≡ None → sender f rcvid ≡ Some s
+    → IsHeldFor f t (f.open_call s)
 held_for f t rcvid s r e = grind arith
 
 -- a message for which the call doesn't fail has a sender
@@ -37,13 +40,17 @@ pub record SenderEnds (f : Facts) (t rcvid : ℕ) (finish : Finish) (u : ℕ) (y
   pub completion : answering rcvid u finish held.send.reply_buffer ≡ y
 
 -- the completion of the Send of a held message
-pub finished_held : (f : Facts) (t : ℕ) (finish : Finish) (u : ℕ) (call : Option OpenCall) (h : IsHeldFor f t call) → answer_completion finish u call ≡ Some (answering h.send.number u finish h.send.reply_buffer)
+pub finished_held : (f : Facts) (t : ℕ) (finish : Finish) (u : ℕ) (call : Option OpenCall) (h : IsHeldFor f t call)
+    → answer_completion finish u call ≡ Some (answering h.send.number u finish h.send.reply_buffer)
 finished_held f t finish u call h = rw h.is_open refl
 
-ends_parts : (f : Facts) (finish : Finish) (r : Option ℕ) (u : ℕ) (y : Completion) → ends_sender f finish r u ≡ Some y → (r ≡ Some u) × (answer_completion finish u (f.open_call u) ≡ Some y)
+ends_parts : (f : Facts) (finish : Finish) (r : Option ℕ) (u : ℕ) (y : Completion) → ends_sender f finish r u ≡ Some y
+    → (r ≡ Some u) × (answer_completion finish u (f.open_call u) ≡ Some y)
 ends_parts f finish r u y e = grind arith
 
-pub sender_ends : (f : Facts) (t rcvid : ℕ) (finish : Finish) (u : ℕ) (y : Completion) → refusal_unless_held f t rcvid ≡ None → ends_sender f finish (sender f rcvid) u ≡ Some y → SenderEnds f t rcvid finish u y
+pub sender_ends : (f : Facts) (t rcvid : ℕ) (finish : Finish) (u : ℕ) (y : Completion)
+    → refusal_unless_held f t rcvid ≡ None → ends_sender f finish (sender f rcvid) u ≡ Some y
+    → SenderEnds f t rcvid finish u y
 sender_ends f t rcvid finish u y r e =
     let p = ends_parts f finish (sender f rcvid) u y e in
     let h = held_for f t rcvid u r p.0 in
@@ -54,5 +61,7 @@ sender_ends f t rcvid finish u y r e =
       is_sender = p.0;
       held = h;
       number = number;
-      completion = subst (λ m. answering m u finish h.send.reply_buffer ≡ y) number (same_Some _ y (sym (finished_held f t finish u (f.open_call u) h) ∙ p.1));
+      completion =
+          subst (λ m. answering m u finish h.send.reply_buffer ≡ y) number
+          (same_Some _ y (sym (finished_held f t finish u (f.open_call u) h) ∙ p.1));
     }

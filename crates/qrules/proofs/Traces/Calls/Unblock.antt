@@ -1,5 +1,7 @@
 -- The laws of Unblock.
-use Rattle.qrules.proofs.Common.{arith, ◌≡◌, ℕ, ap, sym, eqb, Bool, true, false, unblock_pulse, guards, tells_unblock, Send, is_pulse, row_of, OpenChannel, SentItem, refusal_if_full_for, Unblock, OpenCall, Receipt, Option, None, Some, is_some, not, ◌&&◌}
+use Rattle.qrules.proofs.Common.{arith, ◌≡◌, ℕ, ap, sym, eqb, Bool, true, false, unblock_pulse, guards, tells_unblock}
+use Rattle.qrules.proofs.Common.{Send, is_pulse, row_of, OpenChannel, SentItem, refusal_if_full_for, Unblock, OpenCall}
+use Rattle.qrules.proofs.Common.{Receipt, Option, None, Some, is_some, not, ◌&&◌}
 use Rattle.qrules.proofs.Words.Items.{unblock_item}
 use Rattle.qrules.proofs.Traces.Parts.{due_pulse_of_open}
 use Rattle.qrules.proofs.Words.Facts.{Facts}
@@ -26,11 +28,13 @@ pub due_parts : (f : Facts) (o : Option OpenCall) (m : SentItem) → due_pulse_o
 due_parts f o m e = grind arith
 
 -- the item is a pulse
-pub due_is_pulse : (f : Facts) (thread : ℕ) (m : SentItem) → unblock_pulse f thread ≡ Some m → is_pulse m.item.what ≡ true
+pub due_is_pulse : (f : Facts) (thread : ℕ) (m : SentItem) → unblock_pulse f thread ≡ Some m
+    → is_pulse m.item.what ≡ true
 due_is_pulse f thread m e = ap (λ x. is_pulse x.item.what) (sym (due_parts f (f.open_call thread) m e).made)
 
 -- for an accepted Unblock, there is room for its pulse
-pub fellow_passes : (f : Facts) (t thread : ℕ) → (row_of f t (Unblock thread)).refusal ≡ None → refusal_if_full_for f (unblock_pulse f thread) ≡ None
+pub fellow_passes : (f : Facts) (t thread : ℕ) → (row_of f t (Unblock thread)).refusal ≡ None
+    → refusal_if_full_for f (unblock_pulse f thread) ≡ None
 fellow_passes f t thread r = grind arith
 
 -- ---- the laws

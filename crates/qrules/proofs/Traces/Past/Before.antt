@@ -1,6 +1,8 @@
 -- A thread's open call before an event, given its open call after it.
-use Rattle.qrules.proofs.Common.{arith, ◌≡◌, ℕ, List, Bool, false, with_buffer, held_call, unblocked_call, Call, OpenCall, Receipt, Option, Some}
-use Rattle.qrules.proofs.Basics.{receipt_of, Received, Facts, makes, unblocks, writes, after_receipt, after_unblock, after_write, unless}
+use Rattle.qrules.proofs.Common.{arith, ◌≡◌, ℕ, List, Bool, false, with_buffer, held_call, unblocked_call, Call}
+use Rattle.qrules.proofs.Common.{OpenCall, Receipt, Option, Some}
+use Rattle.qrules.proofs.Basics.{receipt_of, Received, Facts, makes, unblocks, writes, after_receipt, after_unblock}
+use Rattle.qrules.proofs.Basics.{after_write, unless}
 
 -- the thread had an open call before, for which g has the same value
 pub record IsBefore {A : Type 0} (g : OpenCall → A) (before : Option OpenCall) (o : OpenCall) : Type 0 where
@@ -9,7 +11,9 @@ pub record IsBefore {A : Type 0} (g : OpenCall → A) (before : Option OpenCall)
   pub same : g call ≡ g o
 
 -- the open call before a receipt
-pub before_receipt : {A : Type 0} (g : OpenCall → A) → ((receipt : Receipt) (w : OpenCall) → g (held_call receipt w) ≡ g w) → (r : Option Received) (u : ℕ) (before : Option OpenCall) (o : OpenCall)
+pub before_receipt : {A : Type 0} (g : OpenCall → A)
+    → ((receipt : Receipt) (w : OpenCall) → g (held_call receipt w) ≡ g w)
+    → (r : Option Received) (u : ℕ) (before : Option OpenCall) (o : OpenCall)
     → after_receipt r u before ≡ Some o → IsBefore g before o
 before_receipt g held r u before o e = grind arith
 
@@ -21,8 +25,11 @@ pub record Lasts {A : Type 0} (g : OpenCall → A) : Type 0 where
 
 -- the open call before a call of another thread
 pub before_other : {A : Type 0} (g : OpenCall → A) → Lasts g → (f : Facts) (t : ℕ) (c : Call) (u : ℕ) (o : OpenCall)
-    → after_unblock (makes f t c) (unblocks c) u (after_receipt (receipt_of f t c) u (after_write f (writes c) u (f.open_call u))) ≡ Some o → IsBefore g (f.open_call u) o
+    → after_unblock (makes f t c) (unblocks c) u
+    (after_receipt (receipt_of f t c) u (after_write f (writes c) u (f.open_call u))) ≡ Some o
+    → IsBefore g (f.open_call u) o
 before_other g lasts f t c u o e = grind (arith, before_receipt)
 
-pub unless_is : (b : Bool) (before : Option OpenCall) (o : OpenCall) → unless b before ≡ Some o → (b ≡ false) × (before ≡ Some o)
+pub unless_is : (b : Bool) (before : Option OpenCall) (o : OpenCall) → unless b before ≡ Some o → (b ≡ false)
+    × (before ≡ Some o)
 unless_is b before o e = grind arith

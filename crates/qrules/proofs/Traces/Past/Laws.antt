@@ -1,5 +1,8 @@
 -- The laws of each call, on which the lemmas about all calls depend.
-use Rattle.qrules.proofs.Common.{◌≡◌, ◌⊎◌, ℕ, Bool, true, false, is_some, not, Option, None, Some, option_map, Receive, Send, thread_of, best_of, is_pulse, Item, Kind, completion_to, row_of, SentItem, Call, ChannelDestroy, Shutdown, Unblock, ConnectDetach, Completion, OpenCall, Transfer, ReceivedItem, is_on}
+use Rattle.qrules.proofs.Common.{◌≡◌, ◌⊎◌, ℕ, Bool, true, false, is_some, not, Option, None, Some, option_map, Receive}
+use Rattle.qrules.proofs.Common.{Send, thread_of, best_of, is_pulse, Item, Kind, completion_to, row_of, SentItem, Call}
+use Rattle.qrules.proofs.Common.{ChannelDestroy, Shutdown, Unblock, ConnectDetach, Completion, OpenCall, Transfer}
+use Rattle.qrules.proofs.Common.{ReceivedItem, is_on}
 use Rattle.qrules.proofs.Words.Items.{receipt_of, sender_for, Received, item_in}
 use Rattle.qrules.proofs.Words.Facts.{Facts, sender, number_of, is_for_answer}
 use Rattle.qrules.proofs.Words.Past.{is_failure, is_unblock_for}
@@ -39,8 +42,10 @@ pub record CallLaws (c : Call) : Type 0 where
   pub asks_one : (n t h : ℕ) (o : OpenCall) → asks n t h c ≡ Some o → BeginsToWait n t h o
   pub makes_one : (f : Facts) (t : ℕ) (m : SentItem) → makes f t c ≡ Some m → MakesItem f.number c m
   pub waits_write : (n t h : ℕ) (o : OpenCall) → asks n t h c ≡ Some o → writes c ≡ None
-  pub unblocks_none : unblocks c ≡ None → (f : Facts) (t : ℕ) (m : SentItem) → makes f t c ≡ Some m → (i : ℕ) → is_unblock_for i m.item.what ≡ false
-  pub unblocks_one : (v : ℕ) → unblocks c ≡ Some v → (f : Facts) (t : ℕ) (m : SentItem) → makes f t c ≡ Some m → IsUnblock f v m
+  pub unblocks_none : unblocks c ≡ None → (f : Facts) (t : ℕ) (m : SentItem) → makes f t c ≡ Some m → (i : ℕ)
+      → is_unblock_for i m.item.what ≡ false
+  pub unblocks_one : (v : ℕ) → unblocks c ≡ Some v → (f : Facts) (t : ℕ) (m : SentItem) → makes f t c ≡ Some m
+      → IsUnblock f v m
 
 -- ---- an accepted call
 
@@ -108,9 +113,12 @@ pub record IsReceived (f : Facts) (t : ℕ) (c : Call) (r : Received) : Type 0 w
 pub record RowLaws (f : Facts) (t : ℕ) (c : Call) : Type 0 where
   pub owns : (y : Completion) → (row_of f t c).own ≡ Some y → IsOwn f.number t y
   pub ends_open : (u : ℕ) (y : Completion) → (row_of f t c).others u ≡ Some y → IsOfOpen f u y
-  pub ends_settled : is_forceful c ≡ false → (u : ℕ) (y : Completion) → (row_of f t c).others u ≡ Some y → IsSettled (f.open_call u)
-  pub own_receives : (y : Completion) (p : ReceivedItem) → (row_of f t c).own ≡ Some y → item_in y.mark ≡ Some p → IsReceipt (receipt_of f t c) t p
-  pub ends_receives : (u : ℕ) (y : Completion) (p : ReceivedItem) → (row_of f t c).others u ≡ Some y → item_in y.mark ≡ Some p → IsReceipt (receipt_of f t c) u p
+  pub ends_settled : is_forceful c ≡ false → (u : ℕ) (y : Completion) → (row_of f t c).others u ≡ Some y
+      → IsSettled (f.open_call u)
+  pub own_receives : (y : Completion) (p : ReceivedItem) → (row_of f t c).own ≡ Some y → item_in y.mark ≡ Some p
+      → IsReceipt (receipt_of f t c) t p
+  pub ends_receives : (u : ℕ) (y : Completion) (p : ReceivedItem) → (row_of f t c).others u ≡ Some y
+      → item_in y.mark ≡ Some p → IsReceipt (receipt_of f t c) u p
   pub receives : (r : Received) → (receipt_of f t c) ≡ Some r → IsReceived f t c r
   pub sends : (m : SentItem) → makes f t c ≡ Some m → is_pulse m.item.what ≡ false → (row_of f t c).own ≡ None
   pub makes_open : (m : SentItem) → makes f t c ≡ Some m → is_some (f.channel m.channel) ≡ true

@@ -8,5 +8,7 @@ use Rattle.qrules.proofs.Traces.Properties.ReceivedOnce.{received_once}
 use Rattle.qrules.proofs.Traces.Properties.SentOrder.{sent_order}
 use Rattle.qrules.proofs.Traces.Properties.ShutForGood.{shut_for_good}
 
-pub has_properties : (roster : List Member) (past : Trace) → IsRoster roster → IsLawful roster past → HasProperties roster past
-has_properties roster past r l = grind (arith, answered_to_sender, best_first, copied_exactly, received_once, sent_order, shut_for_good)
+pub has_properties : (roster : List Member) (past : Trace) → IsRoster roster → IsLawful roster past
+    → HasProperties roster past
+has_properties roster past r l =
+    grind (arith, answered_to_sender, best_first, copied_exactly, received_once, sent_order, shut_for_good)

@@ -1,6 +1,9 @@
 -- The newest receiver: it is blocked in a receive, no other receive that may take the item is later, and
 -- there is one if any receive may take the item.
-use Rattle.qrules.proofs.Common.{◌≡◌, ◌<◌, ◌≤◌, ◌∙◌, ℕ, List, [], ◌∷◌, refl, ap, sym, arith, eqb, true, false, inl, inr, Receive, is_after, is_newest, newest_receiver_among, wait_on, list_any, none-some, or-true, may_take, Item, OpenCall, newest_receiver, eqb_same, is_among, Option, None, Some, is_some, ◌⊎◌, nat_lt, Bool, find}
+use Rattle.qrules.proofs.Common.{◌≡◌, ◌<◌, ◌≤◌, ◌∙◌, ℕ, List, [], ◌∷◌, refl, ap, sym, arith, eqb, true, false, inl, inr}
+use Rattle.qrules.proofs.Common.{Receive, is_after, is_newest, newest_receiver_among, wait_on, list_any, none-some}
+use Rattle.qrules.proofs.Common.{or-true, may_take, Item, OpenCall, newest_receiver, eqb_same, is_among, Option, None}
+use Rattle.qrules.proofs.Common.{Some, is_some, ◌⊎◌, nat_lt, Bool, find}
 use Rattle.std.proofs.lemmas.Bool.{cases_Bool, eqb-true, le-ltb, lt-ltb, ltb-true, or_cases, true≢false}
 use Rattle.qrules.proofs.Words.Facts.{Facts, threads_of}
 use Rattle.qmodel.specs.declared.open_call.OpenReceive.{OpenReceive}
@@ -70,23 +73,49 @@ module _ (wait : ℕ → Option ℕ) where
 
   greatest_or_none : (ts : List ℕ) → (list_any (λ v. is_some (wait v)) ts ≡ false) ⊎ Greatest ts
   greatest_or_none [] = inl refl
-  greatest_or_none (t ∷ ts) = elim (wait t) as (λ o. wait t ≡ o → (list_any (λ v. is_some (wait v)) (t ∷ ts) ≡ false) ⊎ Greatest (t ∷ ts)) [
-    | None ↦ λ is. elim (greatest_or_none ts) [
-      | inl none ↦ inl (rw (is, none) refl)
-      | inr g ↦ inr (record { thread = g.thread; call = g.call; among = rw (g.among) (or-true (eqb t g.thread)); waits = g.waits; last = rw (is, g.last) refl })
-    ]
-    | Some n ↦ λ is. inr (elim (greatest_or_none ts) [
-      | inl none ↦ record { thread = t; call = n; among = rw (eqb_same t) refl; waits = is; last = rw (is, ltb_irreflexive n, unwaited n ts none) refl }
-      | inr g ↦ elim (cases_Bool (nat_lt g.call n)) [
-        | inl later ↦
-            let less : g.call < n = ltb-true g.call n later in
-            record { thread = t; call = n; among = rw (eqb_same t) refl; waits = is; last = rw (is, ltb_irreflexive n, none_after g.call n ts (omega arith) g.last) refl }
-        | inr earlier ↦ record { thread = g.thread; call = g.call; among = rw (g.among) (or-true (eqb t g.thread)); waits = g.waits; last = rw (is, earlier, g.last) refl }
-      ]
-    ])
-  ] refl where
-    ltb_irreflexive : (k : ℕ) → nat_lt k k ≡ false
-    ltb_irreflexive k = le-ltb k k (omega arith)
+  greatest_or_none (t ∷ ts) =
+      elim (wait t) as (λ o. wait t ≡ o → (list_any (λ v. is_some (wait v)) (t ∷ ts) ≡ false) ⊎ Greatest (t ∷ ts)) [
+        | None ↦ λ is. elim (greatest_or_none ts) [
+          | inl none ↦ inl (rw (is, none) refl)
+          | inr g ↦
+              inr (record {
+                thread = g.thread;
+                call = g.call;
+                among = rw (g.among) (or-true (eqb t g.thread));
+                waits = g.waits;
+                last = rw (is, g.last) refl;
+              })
+        ]
+        | Some n ↦ λ is. inr (elim (greatest_or_none ts) [
+          | inl none ↦ record {
+            thread = t;
+            call = n;
+            among = rw (eqb_same t) refl;
+            waits = is;
+            last = rw (is, ltb_irreflexive n, unwaited n ts none) refl;
+          }
+          | inr g ↦ elim (cases_Bool (nat_lt g.call n)) [
+            | inl later ↦
+                let less : g.call < n = ltb-true g.call n later in
+                record {
+                  thread = t;
+                  call = n;
+                  among = rw (eqb_same t) refl;
+                  waits = is;
+                  last = rw (is, ltb_irreflexive n, none_after g.call n ts (omega arith) g.last) refl;
+                }
+            | inr earlier ↦ record {
+              thread = g.thread;
+              call = g.call;
+              among = rw (g.among) (or-true (eqb t g.thread));
+              waits = g.waits;
+              last = rw (is, earlier, g.last) refl;
+            }
+          ]
+        ])
+      ] refl where
+        ltb_irreflexive : (k : ℕ) → nat_lt k k ≡ false
+        ltb_irreflexive k = le-ltb k k (omega arith)
 
   -- if one of these threads waits, one waits in the greatest call
   pub greatest : (ts : List ℕ) (u m : ℕ) → is_among ts u ≡ true → wait u ≡ Some m → Greatest ts
@@ -97,7 +126,8 @@ module _ (wait : ℕ → Option ℕ) where
     waited : (vs : List ℕ) → is_among vs u ≡ true → list_any (λ v. is_some (wait v)) vs ≡ true
     waited [] b = absurd (true≢false (sym b))
     waited (v ∷ vs) b = elim (or_cases (eqb v u) (is_among vs u) b) [
-      | inl same ↦ let here : is_some (wait v) ≡ true = ap (λ k. is_some (wait k)) (eqb-true v u same) ∙ ap is_some w in rw here refl
+      | inl same ↦ let here : is_some (wait v) ≡ true = ap (λ k. is_some (wait k)) (eqb-true v u same)
+          ∙ ap is_some w in rw here refl
       | inr rest ↦ rw (waited vs rest) (or-true (is_some (wait v)))
     ]
 
@@ -109,22 +139,28 @@ pub record IsNewest (open_call : ℕ → Option OpenCall) (h : ℕ) (item : Item
   pub waits : wait_on h item (open_call u) ≡ Some m
   pub last : any_after (λ v. wait_on h item (open_call v)) m ts ≡ false
 
-pub newest_parts : (open_call : ℕ → Option OpenCall) (h : ℕ) (item : Item) (ts : List ℕ) (u : ℕ) → newest_receiver_among open_call h item ts ≡ Some u → (m : ℕ) × IsNewest open_call h item ts u m
+pub newest_parts : (open_call : ℕ → Option OpenCall) (h : ℕ) (item : Item) (ts : List ℕ) (u : ℕ)
+    → newest_receiver_among open_call h item ts ≡ Some u → (m : ℕ) × IsNewest open_call h item ts u m
 newest_parts open_call h item ts u e = grind (arith, first_among_them, first_is)
 
 -- the newest receiver waits on the channel
-pub newest_waits : (f : Facts) (h : ℕ) (item : Item) (r : ℕ) → newest_receiver f h item ≡ Some r → WaitsOn h item (f.open_call r)
-newest_waits f h item r e = let n = newest_parts f.open_call h item (threads_of f.roster) r e in wait_on_is h item (f.open_call r) n.0 n.1.waits
+pub newest_waits : (f : Facts) (h : ℕ) (item : Item) (r : ℕ) → newest_receiver f h item ≡ Some r
+    → WaitsOn h item (f.open_call r)
+newest_waits f h item r e = let n = newest_parts f.open_call h item (threads_of f.roster) r e in
+    wait_on_is h item (f.open_call r) n.0 n.1.waits
 
-pub waiting_on : (h : ℕ) (item : Item) (call : Option OpenCall) (w : WaitsOn h item call) → wait_on h item call ≡ Some w.receive.number
+pub waiting_on : (h : ℕ) (item : Item) (call : Option OpenCall) (w : WaitsOn h item call)
+    → wait_on h item call ≡ Some w.receive.number
 waiting_on h item call w = rw (w.is_open, w.on, eqb_same h, w.may) refl
 
 -- if a thread of the roster waits on the channel for the item, there is a newest receiver
-pub newest_there : (f : Facts) (h : ℕ) (item : Item) (u m : ℕ) → is_among (threads_of f.roster) u ≡ true → wait_on h item (f.open_call u) ≡ Some m → is_some (newest_receiver f h item) ≡ true
+pub newest_there : (f : Facts) (h : ℕ) (item : Item) (u m : ℕ) → is_among (threads_of f.roster) u ≡ true
+    → wait_on h item (f.open_call u) ≡ Some m → is_some (newest_receiver f h item) ≡ true
 newest_there f h item u m a w =
     let ts = threads_of f.roster in
     let g = greatest (λ v. wait_on h item (f.open_call v)) ts u m a w in
     first_there (is_newest f.open_call h item ts) ts g.thread g.among (rw (g.waits, g.last) refl)
 
-pub newest_some : (f : Facts) (h : ℕ) (item : Item) (u : ℕ) → is_among (threads_of f.roster) u ≡ true → WaitsOn h item (f.open_call u) → is_some (newest_receiver f h item) ≡ true
+pub newest_some : (f : Facts) (h : ℕ) (item : Item) (u : ℕ) → is_among (threads_of f.roster) u ≡ true
+    → WaitsOn h item (f.open_call u) → is_some (newest_receiver f h item) ≡ true
 newest_some f h item u a w = newest_there f h item u w.receive.number a (waiting_on h item (f.open_call u) w)

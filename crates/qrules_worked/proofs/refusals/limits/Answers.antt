@@ -3,4 +3,148 @@ use Rattle.qrules_worked.proofs.refusals.limits.Goals as goal
 
 -- each event is of a thread of the roster, and its call is accepted
 pub returns-clause-channels : goal.returns-clause-channels
-returns-clause-channels c = (((((((((((((((((((((((((((((((((((((((((((((((((((((((((((((((((tt, (refl, inl (refl, refl))), (refl, inl (refl, refl))), (refl, inl (refl, refl))), (refl, inl (refl, refl))), (refl, inl (refl, refl))), (refl, inl (refl, refl))), (refl, inl (refl, refl))), (refl, inl (refl, refl))), (refl, inl (refl, refl))), (refl, inl (refl, refl))), (refl, inl (refl, refl))), (refl, inl (refl, refl))), (refl, inl (refl, refl))), (refl, inl (refl, refl))), (refl, inl (refl, refl))), (refl, inl (refl, refl))), (refl, inl (refl, refl))), (refl, inl (refl, refl))), (refl, inl (refl, refl))), (refl, inl (refl, refl))), (refl, inl (refl, refl))), (refl, inl (refl, refl))), (refl, inl (refl, refl))), (refl, inl (refl, refl))), (refl, inl (refl, refl))), (refl, inl (refl, refl))), (refl, inl (refl, refl))), (refl, inl (refl, refl))), (refl, inl (refl, refl))), (refl, inl (refl, refl))), (refl, inl (refl, refl))), (refl, inl (refl, refl))), (refl, inl (refl, refl))), (refl, inl (refl, refl))), (refl, inl (refl, refl))), (refl, inl (refl, refl))), (refl, inl (refl, refl))), (refl, inl (refl, refl))), (refl, inl (refl, refl))), (refl, inl (refl, refl))), (refl, inl (refl, refl))), (refl, inl (refl, refl))), (refl, inl (refl, refl))), (refl, inl (refl, refl))), (refl, inl (refl, refl))), (refl, inl (refl, refl))), (refl, inl (refl, refl))), (refl, inl (refl, refl))), (refl, inl (refl, refl))), (refl, inl (refl, refl))), (refl, inl (refl, refl))), (refl, inl (refl, refl))), (refl, inl (refl, refl))), (refl, inl (refl, refl))), (refl, inl (refl, refl))), (refl, inl (refl, refl))), (refl, inl (refl, refl))), (refl, inl (refl, refl))), (refl, inl (refl, refl))), (refl, inl (refl, refl))), (refl, inl (refl, refl))), (refl, inl (refl, refl))), (refl, inl (refl, refl))), (refl, inl (refl, refl))), (refl, inl (refl, refl)))
+returns-clause-channels c = (
+  (
+    (
+      (
+        (
+          (
+            (
+              (
+                (
+                  (
+                    (
+                      (
+                        (
+                          (
+                            (
+                              (
+                                (
+                                  (
+                                    (
+                                      (
+                                        (
+                                          (
+                                            (
+                                              (
+                                                (
+                                                  (
+                                                    (
+                                                      (
+                                                        (
+                                                          (
+                                                            (
+                                                              (
+                                                                (
+                                                                  (
+                                                                    (
+                                                                      (
+                                                                        (
+                                                                          (
+                                                                            (
+                                                                              (
+                                                                                (
+                                                                                  (
+                                                                                    (
+                                                                                      (
+                                                                                        (
+                                                                                          (
+                                                                                            (
+                                                                                              (
+                                                                                                (((((((((((((((((tt, (refl, inl (refl, refl))), (refl, inl (refl, refl))), (refl, inl (refl, refl))), (refl, inl (refl, refl))), (refl, inl (refl, refl))), (refl, inl (refl, refl))), (refl, inl (refl, refl))), (refl, inl (refl, refl))), (refl, inl (refl, refl))), (refl, inl (refl, refl))), (refl, inl (refl, refl))), (refl, inl (refl, refl))), (refl, inl (refl, refl))), (refl, inl (refl, refl))), (refl, inl (refl, refl))), (refl, inl (refl, refl))), (refl, inl (refl, refl))),
+                                                                                                (refl, inl (refl, refl)),
+                                                                                              ),
+                                                                                              (refl, inl (refl, refl)),
+                                                                                            ),
+                                                                                            (refl, inl (refl, refl)),
+                                                                                          ),
+                                                                                          (refl, inl (refl, refl)),
+                                                                                        ),
+                                                                                        (refl, inl (refl, refl)),
+                                                                                      ),
+                                                                                      (refl, inl (refl, refl)),
+                                                                                    ),
+                                                                                    (refl, inl (refl, refl)),
+                                                                                  ),
+                                                                                  (refl, inl (refl, refl)),
+                                                                                ),
+                                                                                (refl, inl (refl, refl)),
+                                                                              ),
+                                                                              (refl, inl (refl, refl)),
+                                                                            ),
+                                                                            (refl, inl (refl, refl)),
+                                                                          ),
+                                                                          (refl, inl (refl, refl)),
+                                                                        ),
+                                                                        (refl, inl (refl, refl)),
+                                                                      ),
+                                                                      (refl, inl (refl, refl)),
+                                                                    ),
+                                                                    (refl, inl (refl, refl)),
+                                                                  ),
+                                                                  (refl, inl (refl, refl)),
+                                                                ),
+                                                                (refl, inl (refl, refl)),
+                                                              ),
+                                                              (refl, inl (refl, refl)),
+                                                            ),
+                                                            (refl, inl (refl, refl)),
+                                                          ),
+                                                          (refl, inl (refl, refl)),
+                                                        ),
+                                                        (refl, inl (refl, refl)),
+                                                      ),
+                                                      (refl, inl (refl, refl)),
+                                                    ),
+                                                    (refl, inl (refl, refl)),
+                                                  ),
+                                                  (refl, inl (refl, refl)),
+                                                ),
+                                                (refl, inl (refl, refl)),
+                                              ),
+                                              (refl, inl (refl, refl)),
+                                            ),
+                                            (refl, inl (refl, refl)),
+                                          ),
+                                          (refl, inl (refl, refl)),
+                                        ),
+                                        (refl, inl (refl, refl)),
+                                      ),
+                                      (refl, inl (refl, refl)),
+                                    ),
+                                    (refl, inl (refl, refl)),
+                                  ),
+                                  (refl, inl (refl, refl)),
+                                ),
+                                (refl, inl (refl, refl)),
+                              ),
+                              (refl, inl (refl, refl)),
+                            ),
+                            (refl, inl (refl, refl)),
+                          ),
+                          (refl, inl (refl, refl)),
+                        ),
+                        (refl, inl (refl, refl)),
+                      ),
+                      (refl, inl (refl, refl)),
+                    ),
+                    (refl, inl (refl, refl)),
+                  ),
+                  (refl, inl (refl, refl)),
+                ),
+                (refl, inl (refl, refl)),
+              ),
+              (refl, inl (refl, refl)),
+            ),
+            (refl, inl (refl, refl)),
+          ),
+          (refl, inl (refl, refl)),
+        ),
+        (refl, inl (refl, refl)),
+      ),
+      (refl, inl (refl, refl)),
+    ),
+    (refl, inl (refl, refl)),
+  ),
+  (refl, inl (refl, refl)),
+)

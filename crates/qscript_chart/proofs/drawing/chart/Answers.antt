@@ -7,5 +7,8 @@ returns-clause-ok c = record {
   calls = c.in_ok-script.script.calls.items;
   meant = c.in_ok-script.ensures;
   few = c.in_ok-chart.ensures.few;
-  charted = c.in_ok-chart.ensures.chart (can_run c.args.text.now c.in_ok-script.script.roster.items c.in_ok-script.script.calls.items c.in_ok-script.ensures);
+  charted =
+      c.in_ok-chart.ensures.chart
+      (can_run c.args.text.now c.in_ok-script.script.roster.items c.in_ok-script.script.calls.items
+      c.in_ok-script.ensures);
 }

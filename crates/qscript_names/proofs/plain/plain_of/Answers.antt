@@ -10,10 +10,19 @@ lines-preserved c =
     let known = c.in_ok-add.ensures.scope in
     record {
       text = text_next names _ _ _ _ _ _ _ c.lines-test.true is c.in_ok-add.ensures.text known c.lines.invariant.text;
-      faults = faults_next names _ _ _ _ _ _ _ c.lines-test.true is c.in_ok-add.ensures.faults known c.lines.invariant.faults;
-      threads = omega (arith, ap (λ n. n.threads) known, few_threads names c.line-item.result, c.lines.invariant.threads);
+      faults =
+          faults_next names _ _ _ _ _ _ _ c.lines-test.true is c.in_ok-add.ensures.faults known
+          c.lines.invariant.faults;
+      threads =
+          omega (arith, ap (λ n. n.threads) known, few_threads names c.line-item.result, c.lines.invariant.threads);
       calls = omega (arith, ap (λ n. n.calls) known, few_calls names c.line-item.result, c.lines.invariant.calls);
-      processes = omega (arith, ap (λ n. length n.processes) known, few_processes names c.line-item.result, c.lines.invariant.processes);
+      processes =
+          omega (
+            arith,
+            ap (λ n. length n.processes) known,
+            few_processes names c.line-item.result,
+            c.lines.invariant.processes,
+          );
     }
 
 pub returns-clause-text : goal.returns-clause-text

@@ -1,5 +1,11 @@
 -- `halves` makes the name that both halves track. Assumes `Logic`.
-use Rattle.qshared.proofs.PrefixCommon.{◌≡◌, List, [], ◌∷◌, ◌++◌, refl, Ura, Fn, Val, vstruct, vcons, vnil, of_list, SProp, ent, feq, fsep, Memory, Routine, Calls, Loops, WpFn, Tables, Fun, WpFn-mono, Logic, ‵, raw, ◌⊛◌, ◌$◌, ◌∵◌, !, qed, by, move, keep, drop, split, join, fjoin, fjoin3, fpack, feq_i, suffices, frame, name_new, agg, enter, returns, no_more, and_then, alloc_all, pass_all, free_all, look_at, get, sets, RattleType, Valss, owns, types_at, nothing, Clauses, Ended, closing, alive, Meets, triple_of, entered, Stays, walk_of, ends_at, walk_Meets, calls_coded}
+use Rattle.qshared.proofs.PrefixCommon.{◌≡◌, List, [], ◌∷◌, ◌++◌, refl, Ura, Fn, Val, vstruct, vcons, vnil, of_list}
+use Rattle.qshared.proofs.PrefixCommon.{SProp, ent, feq, fsep, Memory, Routine, Calls, Loops, WpFn, Tables, Fun}
+use Rattle.qshared.proofs.PrefixCommon.{WpFn-mono, Logic, ‵, raw, ◌⊛◌, ◌$◌, ◌∵◌, !, qed, by, move, keep, drop, split}
+use Rattle.qshared.proofs.PrefixCommon.{join, fjoin, fjoin3, fpack, feq_i, suffices, frame, name_new, agg, enter}
+use Rattle.qshared.proofs.PrefixCommon.{returns, no_more, and_then, alloc_all, pass_all, free_all, look_at, get, sets}
+use Rattle.qshared.proofs.PrefixCommon.{RattleType, Valss, owns, types_at, nothing, Clauses, Ended, closing, alive}
+use Rattle.qshared.proofs.PrefixCommon.{Meets, triple_of, entered, Stays, walk_of, ends_at, walk_Meets, calls_coded}
 use contract.Running.{tables, tables_of}
 use Rattle.qshared.proofs.Walks.{none, none_made}
 use Rattle.qshared.proofs.PrefixFacts.{tells_all}
@@ -41,11 +47,13 @@ module _ {M : Type 1} {𝓤 : Ura M} (𝓛 : Logic 𝓤) (at_mem : Memory → SP
     abbrev toks : SProp 𝓤
     toks = alive 𝓛 ended.signature z.0.0 z.0.1
 
-    walks : ent 𝓤 ((walk_of 𝓛 ended stayed held).pre z) (WpFn 𝓤 H C Λ function ((walk_of 𝓛 ended stayed held).args z) Post)
+    walks : ent 𝓤 ((walk_of 𝓛 ended stayed held).pre z)
+        (WpFn 𝓤 H C Λ function ((walk_of 𝓛 ended stayed held).args z) Post)
     walks =
         let a = z.0.3 in
         let vss = z.0.4 in
-        qed 𝓛 ((raw toks ⊛ ‵ (owns (types_at ended.signature.params z.0.0) a vss)) ∷ raw ((held z.0.0 a).requires z.1) ∷ []) ∵
+        qed 𝓛 ((raw toks ⊛ ‵ (owns (types_at ended.signature.params z.0.0) a vss)) ∷ raw ((held z.0.0 a).requires z.1)
+        ∷ []) ∵
         keep ! (0 ∷ []) $ split ! $ move ! (1 ∷ []) $ drop ! $
         enter ! C Λ function [] Post $ alloc_all ! (λ l. pass_all ! refl tt $
         name_new ! tt (calls_coded.code []) (λ γ.
@@ -57,8 +65,11 @@ module _ {M : Type 1} {𝓤 : Ura M} (𝓛 : Logic 𝓤) (at_mem : Memory → SP
         returns ! (look_at ! 0 refl) $ free_all ! refl $
         suffices ! _ (ends_at 𝓛 ended stayed held z both (asked, heard) tt tt) $
         nothing ! $ move ! (2 ∷ 1 ∷ 0 ∷ []) $ fjoin3 ! $ feq_i ! (List Val) (both ∷ []) (both ∷ []) refl $ fjoin ! $
-        fpack ! (Valss (A ∷ B ∷ [])) (λ vss. fsep (feq (List Val) (both ∷ []) (vstruct (of_list (vss.0 ++ (vss.1.0 ++ []))) ∷ [])) (owns (A ∷ B ∷ []) (asked, (heard, tt)) vss)) (none ∷ [], (none ∷ [], tt)) $
-        nothing ! $ join ! $ move ! (1 ∷ []) $ join ! $ frame ! $ by ! (tells_all 𝓤 ((γ ≡ γ) ∷ (asked.calls ≡ []) ∷ (heard.calls ≡ []) ∷ []) (refl, (refl, refl)))))
+        fpack ! (Valss (A ∷ B ∷ []))
+        (λ vss. fsep (feq (List Val) (both ∷ []) (vstruct (of_list (vss.0 ++ (vss.1.0 ++ []))) ∷ []))
+        (owns (A ∷ B ∷ []) (asked, (heard, tt)) vss)) (none ∷ [], (none ∷ [], tt)) $
+        nothing ! $ join ! $ move ! (1 ∷ []) $ join ! $ frame ! $ by !
+        (tells_all 𝓤 ((γ ≡ γ) ∷ (asked.calls ≡ []) ∷ (heard.calls ≡ []) ∷ []) (refl, (refl, refl)))))
 
   meets : (𝓣 : Tables 𝓤 H) → Meets 𝓛 ended.signature (WpFn 𝓤 H 𝓣.C 𝓣.Λ function) (closing 𝓛 ended held)
   meets 𝓣 =

@@ -23,5 +23,6 @@ returns-clause-steps c =
       | in-Err w ↦
           let ended = rw (w.new.ensures, caller.made, caller.seat) at w.refuse-in-Err.ensures in
           rw (w.completions-is, ended, ← c.self.view_is) (rw (caller.made, caller.seat) at w.in-Err.ensures.1)
-      | in_default-make w ↦ rw (w.completions-is, ← c.self.view_is) (rw (caller.made, caller.seat) at w.in_default-make.ensures)
+      | in_default-make w ↦ rw (w.completions-is, ← c.self.view_is)
+          (rw (caller.made, caller.seat) at w.in_default-make.ensures)
     ]

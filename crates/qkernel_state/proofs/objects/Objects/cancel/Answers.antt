@@ -14,7 +14,9 @@ cancel_each-requires c = record {
 pub invariant_of-threads : goal.invariant_of-threads
 invariant_of-threads c =
     let cancelled = are_cancelled c.args.set c.args.errno c.threads.inside.records.items in
-    rw (c.cancel_each.ensures.threads) (indexed_cancelled c.args.set c.threads.inside.records.items c.threads.inside.index c.threads.invariant cancelled.members)
+    rw (c.cancel_each.ensures.threads)
+    (indexed_cancelled c.args.set c.threads.inside.records.items c.threads.inside.index c.threads.invariant
+    cancelled.members)
 
 pub returns : goal.returns
 returns c = rw (← c.threads.view_is) (record {

@@ -9,7 +9,9 @@ returns-in_ok-enqueue-in-None-clause-ok c =
       room = rw (there, ← c.pulses.ensures) (lt-ltb c.pulses.result 1024 c.if-pulses-ge-PULSE_LIMIT.false);
       nobody = c.in-None.ensures.nobody;
       threads_are = c.in-None.ensures.unchanged;
-      sets = sets_items c.args.self.now.channels c.args.chid c.in-Some.channel.now c.enqueue.new.self _ there c.enqueue.ensures.owner c.enqueue.ensures.flags
+      sets =
+          sets_items c.args.self.now.channels c.args.chid c.in-Some.channel.now c.enqueue.new.self _ there
+          c.enqueue.ensures.owner c.enqueue.ensures.flags
           (c.in_ok-enqueue-in-None.ensures.ok ∙ ap (λ xs. xs ++ c.args.item ∷ []) (sym (ap items_waiting_on there)));
     }
 
@@ -22,7 +24,9 @@ returns-in_err-enqueue-in-None-clause-err c =
       inr (record {
         room = rw (there, ← c.pulses.ensures) (lt-ltb c.pulses.result 1024 c.if-pulses-ge-PULSE_LIMIT.false);
         nobody = c.in-None.ensures.nobody;
-        sets = sets_items c.args.self.now.channels c.args.chid c.in-Some.channel.now c.enqueue.new.self _ there c.enqueue.ensures.owner c.enqueue.ensures.flags
+        sets =
+            sets_items c.args.self.now.channels c.args.chid c.in-Some.channel.now c.enqueue.new.self _ there
+            c.enqueue.ensures.owner c.enqueue.ensures.flags
             (c.in_err-enqueue-in-None.ensures.err ∙ sym (ap items_waiting_on there));
         error = c.in_err-enqueue-in-None.ensures.error;
       }),

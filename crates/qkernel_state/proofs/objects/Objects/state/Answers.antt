@@ -7,4 +7,5 @@ pub returns-in-None : goal.returns-in-None
 returns-in-None c = sym (ap (λ o. option_map_or state_in o Ready) (c.record.ensures.open_call ∙ c.in-None.is))
 
 pub returns-in-Some : goal.returns-in-Some
-returns-in-Some c = c.state_of.ensures ∙ sym (ap (λ o. option_map_or state_in o Ready) (c.record.ensures.open_call ∙ c.in-Some.is))
+returns-in-Some c = c.state_of.ensures
+    ∙ sym (ap (λ o. option_map_or state_in o Ready) (c.record.ensures.open_call ∙ c.in-Some.is))

@@ -9,5 +9,7 @@ returns-then-eq c =
     let found = c.in_ok-get.ensures.lookup.3 in
     let l : k < length c.self.inside.records.items = rw c.deref.ensures.value at found.0 in
     let there : t ≡ get_or c.self.inside.records.items k t = rw c.deref.ensures.value at (found.1 t) in
-    let number = ap (λ x. x.member.thread) (sym there) ∙ eqb-true t.member.thread c.args.thread (sym c.eq.ensures ∙ c.if-eq.true) in
-    rw (← c.self.view_is) (subst (λ u. seat_in c.self.inside.records.items u ≡ Some k) number (seat_here c.self.inside.records.items k t c.self.invariant.roster l))
+    let number = ap (λ x. x.member.thread) (sym there)
+    ∙ eqb-true t.member.thread c.args.thread (sym c.eq.ensures ∙ c.if-eq.true) in
+    rw (← c.self.view_is) (subst (λ u. seat_in c.self.inside.records.items u ≡ Some k) number
+    (seat_here c.self.inside.records.items k t c.self.invariant.roster l))

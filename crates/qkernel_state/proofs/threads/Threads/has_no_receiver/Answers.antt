@@ -7,4 +7,5 @@ returns c = λ is_empty channel item.
     let none = c.is_empty.ensures.0 is_empty in
     let s = search_begins channel item c.self.inside.records.items c.self.inside.index.receivers c.self.invariant.few in
     rw (← c.self.view_is) (sym (seat_found channel item c.self.inside.records.items None c.self.invariant.roster
-    (search_ends channel item c.self.inside.records.items c.self.inside.index.receivers c.self.inside.index.receivers None 0 c.self.invariant.receivers s none)))
+    (search_ends channel item c.self.inside.records.items c.self.inside.index.receivers c.self.inside.index.receivers
+    None 0 c.self.invariant.receivers s none)))

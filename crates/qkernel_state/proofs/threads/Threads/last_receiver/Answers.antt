@@ -12,7 +12,10 @@ returns-then-number-self-clause-newest c =
     let l : k < length items = rw c.deref.ensures.value at found.0 in
     let there : t ≡ get_or items k t = rw c.deref.ensures.value at (found.1 t) in
     let waits : wait_on c.args.channel c.args.item.now (get_or items k t).open_call ≡ Some c.in_ok-number.number =
-    ap (λ x. wait_on c.args.channel c.args.item.now x.open_call) (sym there) ∙ sym c.receives.ensures ∙ c.in_ok-number.was in
+    ap (λ x. wait_on c.args.channel c.args.item.now x.open_call) (sym there) ∙ sym c.receives.ensures
+    ∙ c.in_ok-number.was in
     let seat = rw (← c.self.view_is, c.seat_at.ensures.index) at c.seat_at.ensures.seat in
     let number = first_number c.seat_at.result.thread items k t (first_at c.seat_at.result.thread items k seat) in
-    rw (← c.self.view_is) (newest_is_last c.args.channel c.args.item.now items c.self.inside.index c.in_ok-number.number t c.self.invariant l c.if-self.true waits c.if-number-self.true ∙ ap Some number)
+    rw (← c.self.view_is)
+    (newest_is_last c.args.channel c.args.item.now items c.self.inside.index c.in_ok-number.number t c.self.invariant l
+    c.if-self.true waits c.if-number-self.true ∙ ap Some number)

@@ -6,7 +6,8 @@ use Rattle.qkernel_state.proofs.threads.Threads.seat.Goals.{in-Some, in-None+in_
 pub returns-in_err-index-in-None-clause-known : goal.returns-in_err-index-in-None-clause-known
 returns-in_err-index-in-None-clause-known c =
     let none = rw c.deref.ensures.value at (sym c.index_of.ensures ∙ c.in_err-index-in-None.was) in
-    rw (← c.self.view_is) (ap is_some c.from_residual.ensures ∙ sym (ap is_some none) ∙ is_there c.args.thread c.self.inside.records.items)
+    rw (← c.self.view_is) (ap is_some c.from_residual.ensures ∙ sym (ap is_some none)
+    ∙ is_there c.args.thread c.self.inside.records.items)
 
 pub returns-clause-known : goal.returns-clause-known
 returns-clause-known c =

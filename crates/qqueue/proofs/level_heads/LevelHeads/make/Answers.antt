@@ -9,4 +9,5 @@ returns-clause-kept c level =
     let old = c.args.self.now.firsts in
     let short : length old.items ≤ 256 = omega (arith, c.requires, old.ok.0) in
     ap (λ key. cond (has c.args.self.now.levels level) (Some key) None)
-    (resized (is_ok c.resize.result) old.items c.resize.new.self.items 256 (256 - vec_len old) short c.resize.ensures.items level)
+    (resized (is_ok c.resize.result) old.items c.resize.new.self.items 256
+    (256 - vec_len old) short c.resize.ensures.items level)

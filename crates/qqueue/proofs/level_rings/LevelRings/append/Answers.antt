@@ -5,7 +5,8 @@ use Rattle.qqueue.proofs.level_rings.LevelRings.append.Goals as goal
 pub put-requires-clause-next : goal.put-requires-clause-next
 put-requires-clause-next c =
     let item = c.args.item in
-    ap (λ places. first_of (keys_on (is_pulse item.what) item.priority places)) (sym (none_after item.number (places_of c.args.self.now.nodes) c.requires.newest))
+    ap (λ places. first_of (keys_on (is_pulse item.what) item.priority places))
+    (sym (none_after item.number (places_of c.args.self.now.nodes) c.requires.newest))
 
 pub returns-clause-items : goal.returns-clause-items
 returns-clause-items c =

@@ -8,7 +8,9 @@ returns-clause-kept c =
     let same = ap (λ s. s.slots) c.reserve.ensures.rest_kept in
     record {
       rises = subst (λ slots. Rises (places_from 0 slots)) (sym same) c.requires.rises;
-      rings = rings_same l.messages l.pulses c.make.new.self c.make-2.new.self l.nodes c.reserve.new.self c.make.ensures.kept c.make-2.ensures.kept same c.requires.rings;
+      rings =
+          rings_same l.messages l.pulses c.make.new.self c.make-2.new.self l.nodes c.reserve.new.self
+          c.make.ensures.kept c.make-2.ensures.kept same c.requires.rings;
       short = (omega (arith, c.in_ok-make.ensures.made), omega (arith, c.in_ok-make-2.ensures.made));
       within = omega (arith, c.room_of-self.ensures);
       made = λ _. (c.in_ok-make.ensures.made, c.in_ok-make-2.ensures.made);
@@ -20,7 +22,9 @@ returns-in_err-reserve-clause-kept c =
     let same = ap (λ s. s.slots) c.reserve.ensures.rest_kept in
     record {
       rises = subst (λ slots. Rises (places_from 0 slots)) (sym same) c.requires.rises;
-      rings = rings_same l.messages l.pulses c.make.new.self c.make-2.new.self l.nodes c.reserve.new.self c.make.ensures.kept c.make-2.ensures.kept same c.requires.rings;
+      rings =
+          rings_same l.messages l.pulses c.make.new.self c.make-2.new.self l.nodes c.reserve.new.self
+          c.make.ensures.kept c.make-2.ensures.kept same c.requires.rings;
       short = (omega (arith, c.in_ok-make.ensures.made), omega (arith, c.in_ok-make-2.ensures.made));
       within = omega (arith, c.requires.within, ap (λ slots. count_by is_some slots) same, c.reserve.ensures.capacity);
       made = λ _. (c.in_ok-make.ensures.made, c.in_ok-make-2.ensures.made);

@@ -1,11 +1,15 @@
-use Rattle.qqueue.proofs.Common.{◌≡◌, ℕ, ◌+◌, ◌<◌, true, false, cond, sym, ◌∙◌, subst, arith, slab_len, Item, is_pulse, without_item, first_at, IsKept, put_place, places_of, items_at, pulses_of}
+use Rattle.qqueue.proofs.Common.{◌≡◌, ℕ, ◌+◌, ◌<◌, true, false, cond, sym, ◌∙◌, subst, arith, slab_len, Item, is_pulse}
+use Rattle.qqueue.proofs.Common.{without_item, first_at, IsKept, put_place, places_of, items_at, pulses_of}
 use Rattle.qqueue.specs.declared.level_rings.LevelRings.{LevelRings}
 use Rattle.qqueue.proofs.LaneLaws.{pulse_others, message_others}
-use Rattle.qqueue.proofs.TakenLaws.{IsRemoved, neighbours_there, IsClosed, taken_rises, taken_places, taken_items, taken_pulses, taken_rings}
+use Rattle.qqueue.proofs.TakenLaws.{IsRemoved, neighbours_there, IsClosed, taken_rises, taken_places, taken_items}
+use Rattle.qqueue.proofs.TakenLaws.{taken_pulses, taken_rings}
 use Rattle.qqueue.proofs.level_rings.LevelRings.take_out.Goals as goal
 use Rattle.qqueue.proofs.level_rings.LevelRings.take_out.Goals.{then-is_pulse, else-is_pulse}
 
-removed_pulse : (c : goal.After-close_up-arg-then-is_pulse-1) → IsRemoved (first_at c.args.self.now.messages c.args.self.now.pulses) c.args.self.now.nodes c.remove-node.new.self c.args.key c.remove-node.result true
+removed_pulse : (c : goal.After-close_up-arg-then-is_pulse-1)
+    → IsRemoved (first_at c.args.self.now.messages c.args.self.now.pulses) c.args.self.now.nodes c.remove-node.new.self
+    c.args.key c.remove-node.result true
 removed_pulse c = record {
   kind = sym c.is_pulse.ensures ∙ c.if-is_pulse.true;
   up = c.requires.kept.rises;
@@ -16,13 +20,17 @@ removed_pulse c = record {
 
 pub close_up-requires-clause-before_there : goal.close_up-requires-clause-before_there
 close_up-requires-clause-before_there c among =
-    (neighbours_there (first_at c.args.self.now.messages c.args.self.now.pulses) c.args.self.now.nodes c.remove-node.new.self c.args.key c.remove-node.result true (removed_pulse c) among).0
+    (neighbours_there (first_at c.args.self.now.messages c.args.self.now.pulses) c.args.self.now.nodes
+    c.remove-node.new.self c.args.key c.remove-node.result true (removed_pulse c) among).0
 
 pub close_up-requires-clause-after_there : goal.close_up-requires-clause-after_there
 close_up-requires-clause-after_there c among =
-    (neighbours_there (first_at c.args.self.now.messages c.args.self.now.pulses) c.args.self.now.nodes c.remove-node.new.self c.args.key c.remove-node.result true (removed_pulse c) among).1
+    (neighbours_there (first_at c.args.self.now.messages c.args.self.now.pulses) c.args.self.now.nodes
+    c.remove-node.new.self c.args.key c.remove-node.result true (removed_pulse c) among).1
 
-removed_message : (c : goal.After-close_up-arg-else-is_pulse-2-1) → IsRemoved (first_at c.args.self.now.messages c.args.self.now.pulses) c.args.self.now.nodes c.remove-node.new.self c.args.key c.remove-node.result false
+removed_message : (c : goal.After-close_up-arg-else-is_pulse-2-1)
+    → IsRemoved (first_at c.args.self.now.messages c.args.self.now.pulses) c.args.self.now.nodes c.remove-node.new.self
+    c.args.key c.remove-node.result false
 removed_message c = record {
   kind = sym c.is_pulse.ensures ∙ c.if-is_pulse.false;
   up = c.requires.kept.rises;
@@ -33,18 +41,21 @@ removed_message c = record {
 
 pub close_up-requires-else-is_pulse-clause-before_there : goal.close_up-requires-else-is_pulse-clause-before_there
 close_up-requires-else-is_pulse-clause-before_there c among =
-    (neighbours_there (first_at c.args.self.now.messages c.args.self.now.pulses) c.args.self.now.nodes c.remove-node.new.self c.args.key c.remove-node.result false (removed_message c) among).0
+    (neighbours_there (first_at c.args.self.now.messages c.args.self.now.pulses) c.args.self.now.nodes
+    c.remove-node.new.self c.args.key c.remove-node.result false (removed_message c) among).0
 
 pub close_up-requires-else-is_pulse-clause-after_there : goal.close_up-requires-else-is_pulse-clause-after_there
 close_up-requires-else-is_pulse-clause-after_there c among =
-    (neighbours_there (first_at c.args.self.now.messages c.args.self.now.pulses) c.args.self.now.nodes c.remove-node.new.self c.args.key c.remove-node.result false (removed_message c) among).1
+    (neighbours_there (first_at c.args.self.now.messages c.args.self.now.pulses) c.args.self.now.nodes
+    c.remove-node.new.self c.args.key c.remove-node.result false (removed_message c) among).1
 
 -- the lists after the removal keep the invariant, and have all items except this one
 record Left (old : LevelRings) (key : ℕ) (item : Item) (new : LevelRings) : Type 0 where
   kept : IsKept new
   places : places_of old.nodes ≡ put_place (item, key) (places_of new.nodes)
   rest : items_at (places_of new.nodes) ≡ without_item item.number (items_at (places_of old.nodes))
-  counts : pulses_of (items_at (places_of old.nodes)) ≡ pulses_of (items_at (places_of new.nodes)) + cond (is_pulse item.what) 1 0
+  counts : pulses_of (items_at (places_of old.nodes)) ≡ pulses_of (items_at (places_of new.nodes)) + cond
+      (is_pulse item.what) 1 0
 
 left : (c : goal.After-result-1) → Left c.args.self.now c.args.key c.remove-node.result.item c.if-is_pulse.self
 left c =
@@ -53,7 +64,9 @@ left c =
     let node = c.remove-node.result in
     let removed = c.remove-node.new.self in
     let first = first_at l.messages l.pulses in
-    let made = c.requires.kept.made (let some : 0 < l.room + slab_len l.nodes = omega (arith, c.remove-node.ensures.len) in some) in
+    let made =
+    c.requires.kept.made (let some : 0 < l.room + slab_len l.nodes = omega (arith, c.remove-node.ensures.len) in
+    some) in
     elim c.if-is_pulse.branch [
       | then-is_pulse w ↦
           let lane = w.close_up.new.lane in
@@ -101,8 +114,21 @@ left c =
             kept = record {
               rises = taken_rises first (first_at lane l.pulses) l.nodes removed t key node false h done;
               rings = taken_rings first (first_at lane l.pulses) l.nodes removed t key node false h done;
-              short = (omega (arith, c.requires.kept.short.0, w.close_up-else-is_pulse.ensures.firsts), c.requires.kept.short.1);
-              within = omega (arith, c.room_of-self.ensures, w.close_up-else-is_pulse.ensures.len, w.close_up-else-is_pulse.ensures.capacity);
+              short = (
+                omega (
+                  arith,
+                  c.requires.kept.short.0,
+                  w.close_up-else-is_pulse.ensures.firsts,
+                ),
+                c.requires.kept.short.1,
+              );
+              within =
+                  omega (
+                    arith,
+                    c.room_of-self.ensures,
+                    w.close_up-else-is_pulse.ensures.len,
+                    w.close_up-else-is_pulse.ensures.capacity,
+                  );
               made = λ _. (w.close_up-else-is_pulse.ensures.firsts ∙ made.0, made.1);
             };
             places = taken_places first (first_at lane l.pulses) l.nodes removed t key node false h done;

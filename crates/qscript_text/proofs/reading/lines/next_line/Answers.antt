@@ -10,4 +10,5 @@ returns-then-is_empty-clause-lines c =
 pub returns-clause-lines : goal.returns-clause-lines
 returns-clause-lines c =
     let some : 0 < length c.args.text.now = grind (arith, common_steps) in
-    lines_next c.args.text.now _ _ _ _ some c.line_len-end.ensures.place c.trim_return-line.ensures c.split_at.ensures.front c.after.ensures.value
+    lines_next c.args.text.now _ _ _ _ some c.line_len-end.ensures.place c.trim_return-line.ensures
+    c.split_at.ensures.front c.after.ensures.value

@@ -18,7 +18,9 @@ returns-in-Err c =
 pub reading-preserved : goal.reading-preserved
 reading-preserved c =
     rw (c.in_ok-add.ensures.roster, c.in_ok-add.ensures.calls)
-    (stands_more _ _ _ _ _ _ _ c.reading.invariant c.in-Some.ensures.lines c.in-Some.ensures.shorter c.in-Ok.said c.in-Ok.ensures)
+    (stands_more _ _ _ _ _ _ _ c.reading.invariant c.in-Some.ensures.lines c.in-Some.ensures.shorter c.in-Ok.said
+    c.in-Ok.ensures)
 
 pub returns : goal.returns
-returns c = rw (not_long c.args.text.now (omega arith)) (stands_last _ _ _ _ _ c.reading.invariant c.in_default.ensures.lines)
+returns c =
+    rw (not_long c.args.text.now (omega arith)) (stands_last _ _ _ _ _ c.reading.invariant c.in_default.ensures.lines)

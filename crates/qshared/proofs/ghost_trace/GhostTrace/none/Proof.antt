@@ -1,5 +1,9 @@
 -- `none` picks no events. Assumes `Logic`.
-use Rattle.qshared.proofs.PrefixCommon.{[], ◌∷◌, refl, Ura, Fn, Val, SProp, ent, Memory, Routine, Calls, Loops, WpFn, Tables, Fun, WpFn-mono, Logic, ‵, raw, ◌⊛◌, ◌$◌, ◌∵◌, !, qed, move, keep, drop, split, fjoin, suffices, done, agg, enter, returns, no_more, alloc_all, pass_all, free_all, look_at, sets, owns, types_at, nothing, Clauses, Ended, closing, alive, Meets, triple_of, entered, says, Stays, walk_of, ends_at, walk_Meets}
+use Rattle.qshared.proofs.PrefixCommon.{[], ◌∷◌, refl, Ura, Fn, Val, SProp, ent, Memory, Routine, Calls, Loops, WpFn}
+use Rattle.qshared.proofs.PrefixCommon.{Tables, Fun, WpFn-mono, Logic, ‵, raw, ◌⊛◌, ◌$◌, ◌∵◌, !, qed, move, keep, drop}
+use Rattle.qshared.proofs.PrefixCommon.{split, fjoin, suffices, done, agg, enter, returns, no_more, alloc_all, pass_all}
+use Rattle.qshared.proofs.PrefixCommon.{free_all, look_at, sets, owns, types_at, nothing, Clauses, Ended, closing}
+use Rattle.qshared.proofs.PrefixCommon.{alive, Meets, triple_of, entered, says, Stays, walk_of, ends_at, walk_Meets}
 use contract.Running.{tables, tables_of}
 use Rattle.qshared.proofs.Walks.{none, none_made}
 use Rattle.qshared.specs.contracts.ghost_trace.GhostTrace as Past
@@ -30,12 +34,14 @@ module _ {M : Type 1} {𝓤 : Ura M} (𝓛 : Logic 𝓤) (at_mem : Memory → SP
     abbrev toks : SProp 𝓤
     toks = alive 𝓛 ended.signature z.0.0 z.0.1
 
-    walks : ent 𝓤 ((walk_of 𝓛 ended stayed held).pre z) (WpFn 𝓤 H C Λ function ((walk_of 𝓛 ended stayed held).args z) Post)
+    walks : ent 𝓤 ((walk_of 𝓛 ended stayed held).pre z)
+        (WpFn 𝓤 H C Λ function ((walk_of 𝓛 ended stayed held).args z) Post)
     walks =
         let a = z.0.3 in
         let vss = z.0.4 in
         let log : (GhostTrace.the_row).Denot = record { trace = [] } in
-        qed 𝓛 ((raw toks ⊛ ‵ (owns (types_at ended.signature.params z.0.0) a vss)) ∷ raw ((held z.0.0 a).requires z.1) ∷ []) ∵
+        qed 𝓛 ((raw toks ⊛ ‵ (owns (types_at ended.signature.params z.0.0) a vss)) ∷ raw ((held z.0.0 a).requires z.1)
+        ∷ []) ∵
         keep ! (0 ∷ []) $ split ! $ move ! (1 ∷ []) $ drop ! $
         enter ! C Λ function [] Post $ alloc_all ! (λ l. pass_all ! refl tt $
         sets ! (agg ! (no_more !)) refl (tt, tt) $

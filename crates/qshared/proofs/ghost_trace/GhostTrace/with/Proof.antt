@@ -1,5 +1,11 @@
 -- `with` picks the trace of the new history. Assumes `Logic`.
-use Rattle.qshared.proofs.PrefixCommon.{List, [], ◌∷◌, ◌++◌, refl, Ura, Fn, Val, vptr, SProp, ent, Memory, Routine, Calls, Loops, WpFn, Tables, Fun, WpFn-mono, Logic, ‵, raw, ◌⊛◌, prop, ◌$◌, ◌∵◌, !, qed, move, keep, drop, split, fsplit, fjoin, feq_l, regoal, suffices, done, agg, enter, returns, no_more, alloc_all, pass_all, free_all, look_at, sets, yes, owns, RefOf, plain, types_at, nothing, Clauses, Ended, closing, alive, Meets, triple_of, entered, says, Stays, stay_dropped, walk_of, ends_at, walk_Meets, Goes-dropped, number}
+use Rattle.qshared.proofs.PrefixCommon.{List, [], ◌∷◌, ◌++◌, refl, Ura, Fn, Val, vptr, SProp, ent, Memory, Routine}
+use Rattle.qshared.proofs.PrefixCommon.{Calls, Loops, WpFn, Tables, Fun, WpFn-mono, Logic, ‵, raw, ◌⊛◌, prop, ◌$◌, ◌∵◌}
+use Rattle.qshared.proofs.PrefixCommon.{ !, qed, move, keep, drop, split, fsplit, fjoin, feq_l, regoal, suffices, done}
+use Rattle.qshared.proofs.PrefixCommon.{agg, enter, returns, no_more, alloc_all, pass_all, free_all, look_at, sets, yes}
+use Rattle.qshared.proofs.PrefixCommon.{owns, RefOf, plain, types_at, nothing, Clauses, Ended, closing, alive, Meets}
+use Rattle.qshared.proofs.PrefixCommon.{triple_of, entered, says, Stays, stay_dropped, walk_of, ends_at, walk_Meets}
+use Rattle.qshared.proofs.PrefixCommon.{Goes-dropped, number}
 use contract.Running.{tables, tables_of}
 use Rattle.qshared.proofs.Walks.{none, none_made}
 use Rattle.qshared.specs.contracts.ghost_trace.GhostTrace as Past
@@ -37,7 +43,8 @@ module _ {M : Type 1} {𝓤 : Ura M} (𝓛 : Logic 𝓤) (at_mem : Memory → SP
     abbrev toks : SProp 𝓤
     toks = alive 𝓛 ended.signature z.0.0 z.0.1
 
-    walks : ent 𝓤 ((walk_of 𝓛 ended stayed held).pre z) (WpFn 𝓤 H C Λ function ((walk_of 𝓛 ended stayed held).args z) Post)
+    walks : ent 𝓤 ((walk_of 𝓛 ended stayed held).pre z)
+        (WpFn 𝓤 H C Λ function ((walk_of 𝓛 ended stayed held).args z) Post)
     walks =
         let a = z.0.3 in
         let vss = z.0.4 in
@@ -45,23 +52,56 @@ module _ {M : Type 1} {𝓤 : Ura M} (𝓛 : Logic 𝓤) (at_mem : Memory → SP
         let v : Val = vptr a.1.0.ref_ptr.0 a.1.0.ref_ptr.1 in
         let w : Val = vptr a.1.1.0.ref_ptr.0 a.1.1.0.ref_ptr.1 in
         let x : Val = vptr a.1.1.1.0.ref_ptr.0 a.1.1.1.0.ref_ptr.1 in
-        let past : (GhostTrace.the_row).Denot = record { trace = with_event a.1.0.now a.1.1.0.now.value a.1.1.1.0.now.items a.0.now.trace } in
-        qed 𝓛 ((raw toks ⊛ ‵ (owns (types_at ended.signature.params z.0.0) a vss)) ∷ raw ((held z.0.0 a).requires z.1) ∷ []) ∵
-        keep ! (0 ∷ []) $ split ! $ move ! (1 ∷ []) $ fsplit ! $ fsplit ! $ feq_l ! (λ is₀. drop ! $ fsplit ! $ fsplit ! $ feq_l ! (λ is₁. drop ! $ fsplit ! $ fsplit ! $ feq_l ! (λ is₂. drop ! $ fsplit ! $ fsplit ! $ feq_l ! (λ is₃. drop ! $ drop ! $
-        regoal ! (λ (us : List Val). prop (WpFn 𝓤 H C Λ function (us ++ (vss.1.0 ++ (vss.1.1.0 ++ (vss.1.1.1.0 ++ [])))) Post)) is₀ refl $
-        regoal ! (λ (us : List Val). prop (WpFn 𝓤 H C Λ function ((u ∷ []) ++ (us ++ (vss.1.1.0 ++ (vss.1.1.1.0 ++ [])))) Post)) is₁ refl $
-        regoal ! (λ (us : List Val). prop (WpFn 𝓤 H C Λ function ((u ∷ []) ++ ((v ∷ []) ++ (us ++ (vss.1.1.1.0 ++ [])))) Post)) is₂ refl $
-        regoal ! (λ (us : List Val). prop (WpFn 𝓤 H C Λ function ((u ∷ []) ++ ((v ∷ []) ++ ((w ∷ []) ++ (us ++ [])))) Post)) is₃ refl $
-        enter ! C Λ function (u ∷ v ∷ w ∷ x ∷ []) Post $ alloc_all ! (λ l. pass_all ! refl ((tt, tt), ((tt, tt), ((tt, tt), ((tt, tt), tt)))) $
+        let past : (GhostTrace.the_row).Denot =
+        record { trace = with_event a.1.0.now a.1.1.0.now.value a.1.1.1.0.now.items a.0.now.trace } in
+        qed 𝓛 ((raw toks ⊛ ‵ (owns (types_at ended.signature.params z.0.0) a vss)) ∷ raw ((held z.0.0 a).requires z.1)
+        ∷ []) ∵
+        keep ! (0 ∷ []) $ split ! $ move ! (1 ∷ []) $ fsplit ! $ fsplit ! $ feq_l !
+        (λ is₀. drop ! $ fsplit ! $ fsplit ! $ feq_l !
+        (λ is₁. drop ! $ fsplit ! $ fsplit ! $ feq_l !
+        (λ is₂. drop ! $ fsplit ! $ fsplit ! $ feq_l ! (λ is₃. drop ! $ drop ! $
+        regoal !
+        (λ (us : List Val). prop (WpFn 𝓤 H C Λ function (us ++ (vss.1.0 ++ (vss.1.1.0 ++ (vss.1.1.1.0 ++ [])))) Post))
+        is₀ refl $
+        regoal !
+        (λ (us : List Val). prop (WpFn 𝓤 H C Λ function ((u ∷ []) ++ (us ++ (vss.1.1.0 ++ (vss.1.1.1.0 ++ [])))) Post))
+        is₁ refl $
+        regoal !
+        (λ (us : List Val). prop (WpFn 𝓤 H C Λ function ((u ∷ []) ++ ((v ∷ []) ++ (us ++ (vss.1.1.1.0 ++ [])))) Post))
+        is₂ refl $
+        regoal !
+        (λ (us : List Val). prop (WpFn 𝓤 H C Λ function ((u ∷ []) ++ ((v ∷ []) ++ ((w ∷ []) ++ (us ++ [])))) Post)) is₃
+        refl $
+        enter ! C Λ function (u ∷ v ∷ w ∷ x ∷ []) Post $ alloc_all !
+        (λ l. pass_all ! refl ((tt, tt), ((tt, tt), ((tt, tt), ((tt, tt), tt)))) $
         sets ! (agg ! (no_more !)) refl (tt, tt) $
         nothing ! $ none_made ! $ fjoin ! $
         returns ! (look_at ! 0 refl) $ free_all ! refl $
-        suffices ! _ (ends_at 𝓛 ended stayed held z none past (tt, (tt, (tt, (tt, tt)))) (tt, (tt, (tt, (tt, tt))))) $ says ! refl $
-        nothing ! $ nothing ! $ fjoin ! $ nothing ! $ fjoin ! $ nothing ! $ fjoin ! $ nothing ! $ fjoin ! $ move ! (2 ∷ 0 ∷ 1 ∷ []) $ done !)))))
+        suffices ! _ (ends_at 𝓛 ended stayed held z none past (tt, (tt, (tt, (tt, tt)))) (
+          tt,
+          (tt, (tt, (tt, tt))),
+        )) $ says ! refl $
+        nothing ! $ nothing ! $ fjoin ! $ nothing ! $ fjoin ! $ nothing ! $ fjoin ! $ nothing ! $ fjoin ! $ move !
+        (2 ∷ 0 ∷ 1 ∷ []) $ done !)))))
 
   meets : (𝓣 : Tables 𝓤 H) → Meets 𝓛 ended.signature (WpFn 𝓤 H 𝓣.C 𝓣.Λ function) (closing 𝓛 ended held)
   meets 𝓣 =
-      walk_Meets 𝓛 ended stayed (Goes-dropped 𝓛 4 (RefOf (0 ∷ []) tt (plain (λ _. GhostTrace.the_row)) (λ _. tt)) yes (λ κs x f. refl), (Goes-dropped 𝓛 4 (RefOf (1 ∷ []) tt (plain (λ _. ThreadNo.the_row)) (λ _. tt)) yes (λ κs x f. refl), (Goes-dropped 𝓛 4 (RefOf (2 ∷ []) tt (plain (λ _. Snapshot.the_row Call.the_row)) (λ _. tt)) yes (λ κs x f. refl), (Goes-dropped 𝓛 4 (RefOf (3 ∷ []) tt (plain (λ _. ArrayVec.the_row Completion.the_row (number 64) Global.the_row)) (λ _. tt)) yes (λ κs x f. refl), tt)))) held
+      walk_Meets 𝓛 ended stayed (
+        Goes-dropped 𝓛 4 (RefOf (0 ∷ []) tt (plain (λ _. GhostTrace.the_row)) (λ _. tt)) yes (λ κs x f. refl),
+        (
+          Goes-dropped 𝓛 4 (RefOf (1 ∷ []) tt (plain (λ _. ThreadNo.the_row)) (λ _. tt)) yes (λ κs x f. refl),
+          (
+            Goes-dropped 𝓛 4 (RefOf (2 ∷ []) tt (plain (λ _. Snapshot.the_row Call.the_row)) (λ _. tt)) yes
+                (λ κs x f. refl),
+            (
+              Goes-dropped 𝓛 4
+                  (RefOf (3 ∷ []) tt (plain (λ _. ArrayVec.the_row Completion.the_row (number 64) Global.the_row))
+                  (λ _. tt)) yes (λ κs x f. refl),
+              tt,
+            ),
+          ),
+        ),
+      ) held
       (WpFn 𝓤 H 𝓣.C 𝓣.Λ function) (WpFn-mono 𝓤 H 𝓛.laws 𝓣 function) (walks 𝓣.C 𝓣.Λ)
 
 pub with_spec : {M : Type 1} → stated.statement M

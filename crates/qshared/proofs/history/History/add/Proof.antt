@@ -1,5 +1,13 @@
 -- `add` extends the history by an event. Assumes `Logic`.
-use Rattle.qshared.proofs.PrefixCommon.{◌≡◌, List, [], ◌∷◌, refl, sym, subst, Ura, Fn, Val, vunit, vptr, SProp, ent, via, fst∗, snd∗, Fml, ftrue, flft, WpFn, Model, Logic, sem, fact_use, WpFn-mono, ‵, raw, later, await, use1, ◌⊛◌, ◌$◌, ◌∵◌, !, qed, by, move, keep, drop, split, join, fsplit, fsplit3, fjoin, fjoin3, suffices, frame, feq_i, unit_lit, of_opd, returns, enter, alloc_all, pass_all, free_all, look_at, sets, yes, RattleType, owns, RefOf, Are, Ises, owns_show, showss, types_at, plain, nothing, opens, closes, Clauses, Ended, closing, on_entry, alive, Meets, triple_of, entered, Stays, stay_dropped, stay_ref, walk_of, ends_at, Goes-dropped, Goes-ref, walk_Meets, Event, history_owns, number}
+use Rattle.qshared.proofs.PrefixCommon.{◌≡◌, List, [], ◌∷◌, refl, sym, subst, Ura, Fn, Val, vunit, vptr, SProp, ent}
+use Rattle.qshared.proofs.PrefixCommon.{via, fst∗, snd∗, Fml, ftrue, flft, WpFn, Model, Logic, sem, fact_use, WpFn-mono}
+use Rattle.qshared.proofs.PrefixCommon.{‵, raw, later, await, use1, ◌⊛◌, ◌$◌, ◌∵◌, !, qed, by, move, keep, drop, split}
+use Rattle.qshared.proofs.PrefixCommon.{join, fsplit, fsplit3, fjoin, fjoin3, suffices, frame, feq_i, unit_lit, of_opd}
+use Rattle.qshared.proofs.PrefixCommon.{returns, enter, alloc_all, pass_all, free_all, look_at, sets, yes, RattleType}
+use Rattle.qshared.proofs.PrefixCommon.{owns, RefOf, Are, Ises, owns_show, showss, types_at, plain, nothing, opens}
+use Rattle.qshared.proofs.PrefixCommon.{closes, Clauses, Ended, closing, on_entry, alive, Meets, triple_of, entered}
+use Rattle.qshared.proofs.PrefixCommon.{Stays, stay_dropped, stay_ref, walk_of, ends_at, Goes-dropped, Goes-ref}
+use Rattle.qshared.proofs.PrefixCommon.{walk_Meets, Event, history_owns, number}
 use contract.Running.{Running, MachineTables, tables, tables_of}
 use contract.CodeStep
 use Rattle.qshared.proofs.PrefixFacts.{tells_all}
@@ -45,7 +53,10 @@ module _ {M : Type 1} {𝓤 : Ura M} (𝓛 : Logic 𝓤) (𝓜 : Model 𝓤 𝓛
     At vss = ((z.0.0, z.0.1, z.0.2, z.0.3, vss), z.1)
 
     abbrev Goes : Vss → Type 1
-    Goes vss = ent 𝓤 ((walk_of 𝓛 ended stayed held).pre (At vss)) (WpFn 𝓤 H 𝓣.C 𝓣.Λ function ((walk_of 𝓛 ended stayed held).args (At vss)) ((walk_of 𝓛 ended stayed held).post (At vss)))
+    Goes vss =
+        ent 𝓤 ((walk_of 𝓛 ended stayed held).pre (At vss))
+        (WpFn 𝓤 H 𝓣.C 𝓣.Λ function ((walk_of 𝓛 ended stayed held).args (At vss))
+        ((walk_of 𝓛 ended stayed held).post (At vss)))
 
     abbrev a : A.Denot
     a = z.0.3.0.now
@@ -77,25 +88,53 @@ module _ {M : Type 1} {𝓤 : Ura M} (𝓛 : Logic 𝓤) (𝓜 : Model 𝓤 𝓛
     walks : Goes passed
     walks =
         let r = z.0.3.0 in let a' : A.Denot = record { name = a.name; trace = e ∷ a.trace } in
-        qed 𝓛 (((‵ (flft z.0.0.0 z.0.1.0) ⊛ ‵ (flft z.0.0.1.0 z.0.1.1.0) ⊛ ‵ (flft z.0.0.1.1.0 z.0.1.1.1.0) ⊛ ‵ (flft z.0.0.1.1.1.0 z.0.1.1.1.1.0) ⊛ ‵ ftrue) ⊛ ‵ args) ∷ raw asked ∷ []) ∵
-        keep ! (0 ∷ []) $ split ! $ split ! $ move ! (2 ∷ []) $ fsplit ! $ fsplit3 ! $ drop ! $ keep ! (0 ∷ 1 ∷ 3 ∷ 4 ∷ []) $
-        enter ! 𝓣.C 𝓣.Λ function (u ∷ v ∷ w ∷ x ∷ []) _ $ alloc_all ! (λ l. pass_all ! refl ((tt, tt), ((tt, tt), ((tt, tt), ((tt, tt), tt)))) $
+        qed 𝓛 (((‵ (flft z.0.0.0 z.0.1.0) ⊛ ‵ (flft z.0.0.1.0 z.0.1.1.0) ⊛ ‵ (flft z.0.0.1.1.0 z.0.1.1.1.0) ⊛ ‵
+        (flft z.0.0.1.1.1.0 z.0.1.1.1.1.0) ⊛ ‵ ftrue) ⊛ ‵ args) ∷ raw asked ∷ []) ∵
+        keep ! (0 ∷ []) $ split ! $ split ! $ move ! (2 ∷ []) $ fsplit ! $ fsplit3 ! $ drop ! $ keep !
+        (0 ∷ 1 ∷ 3 ∷ 4 ∷ []) $
+        enter ! 𝓣.C 𝓣.Λ function (u ∷ v ∷ w ∷ x ∷ []) _ $ alloc_all !
+        (λ l. pass_all ! refl ((tt, tt), ((tt, tt), ((tt, tt), ((tt, tt), tt)))) $
         opens ! tt A r.ref_ptr.0 r.ref_ptr.1 (λ cs. move ! (1 ∷ []) $ fsplit ! $ move ! (1 ∷ []) $
-        use1 𝓛 (later (‵ (history_owns a.name (e ∷ a.trace)))) (adds 𝓛 a.name a.trace e) $ await ! tt $ move ! (1 ∷ 0 ∷ []) $ fjoin ! $
+        use1 𝓛 (later (‵ (history_owns a.name (e ∷ a.trace)))) (adds 𝓛 a.name a.trace e) $ await ! tt $ move !
+        (1 ∷ 0 ∷ []) $ fjoin ! $
         move ! (1 ∷ 0 ∷ 2 ∷ 3 ∷ 4 ∷ []) $ closes ! tt A a' cs r.ref_ptr.0 r.ref_ptr.1 $
-        sets ! (of_opd ! (unit_lit !)) refl (tt, tt) $ returns ! (look_at ! 0 refl) $ free_all ! refl $ suffices ! _ (ends_at 𝓛 ended stayed held (At passed) vunit tt (a', (tt, (tt, (tt, tt)))) (tt, (tt, (tt, (tt, tt))))) $
-        feq_i ! (List Val) (u ∷ []) (u ∷ []) refl $ fjoin3 ! $ nothing ! $ nothing ! $ fjoin ! $ nothing ! $ fjoin ! $ nothing ! $ fjoin ! $ move ! (1 ∷ 0 ∷ []) $ fjoin ! $
-        feq_i ! (List Val) (vunit ∷ []) (vunit ∷ []) refl $ move ! (1 ∷ 0 ∷ []) $ join ! $ move ! (1 ∷ 2 ∷ []) $ join ! $ join ! $ frame ! $
+        sets ! (of_opd ! (unit_lit !)) refl (tt, tt) $ returns ! (look_at ! 0 refl) $ free_all ! refl $ suffices ! _
+        (ends_at 𝓛 ended stayed held (At passed) vunit tt (a', (tt, (tt, (tt, tt)))) (tt, (tt, (tt, (tt, tt))))) $
+        feq_i ! (List Val) (u ∷ [])
+        (u ∷ []) refl $ fjoin3 ! $ nothing ! $ nothing ! $ fjoin ! $ nothing ! $ fjoin ! $ nothing ! $ fjoin ! $ move !
+        (1 ∷ 0 ∷ []) $ fjoin ! $
+        feq_i ! (List Val) (vunit ∷ []) (vunit ∷ []) refl $ move ! (1 ∷ 0 ∷ []) $ join ! $ move !
+        (1 ∷ 2 ∷ []) $ join ! $ join ! $ frame ! $
         by ! (tells_all 𝓤 ((a.name ≡ a.name) ∷ (a'.trace ≡ e ∷ a.trace) ∷ []) (refl, refl))))
 
   meets : Meets 𝓛 ended.signature (WpFn 𝓤 H 𝓣.C 𝓣.Λ function) (closing 𝓛 ended held)
   unfolding tables_of contract.CodeStep.c_Tables
   meets =
-      walk_Meets 𝓛 ended stayed (Goes-ref 𝓛 4 0 tt (plain (λ _. A)), (Goes-dropped 𝓛 4 (RefOf (1 ∷ []) tt (plain (λ _. ThreadNo.the_row)) (λ _. tt)) yes (λ κs x f. refl), (Goes-dropped 𝓛 4 (RefOf (2 ∷ []) tt (plain (λ _. Snapshot.the_row Call.the_row)) (λ _. tt)) yes (λ κs x f. refl), (Goes-dropped 𝓛 4 (RefOf (3 ∷ []) tt (plain (λ _. ArrayVec.the_row Completion.the_row (number 64) Global.the_row)) (λ _. tt)) yes (λ κs x f. refl), tt)))) held
+      walk_Meets 𝓛 ended stayed (
+        Goes-ref 𝓛 4 0 tt (plain (λ _. A)),
+        (
+          Goes-dropped 𝓛 4 (RefOf (1 ∷ []) tt (plain (λ _. ThreadNo.the_row)) (λ _. tt)) yes (λ κs x f. refl),
+          (
+            Goes-dropped 𝓛 4 (RefOf (2 ∷ []) tt (plain (λ _. Snapshot.the_row Call.the_row)) (λ _. tt)) yes
+                (λ κs x f. refl),
+            (
+              Goes-dropped 𝓛 4
+                  (RefOf (3 ∷ []) tt (plain (λ _. ArrayVec.the_row Completion.the_row (number 64) Global.the_row))
+                  (λ _. tt)) yes (λ κs x f. refl),
+              tt,
+            ),
+          ),
+        ),
+      ) held
       (WpFn 𝓤 H 𝓣.C 𝓣.Λ function) (WpFn-mono 𝓤 H 𝓛.laws (tables_of 𝓤 H 𝓜 𝓣) function)
-      (λ z. let a = z.0.3 in let vss = z.0.4 in let Rs : List RattleType = types_at ended.signature.params z.0.0 in let On : SProp 𝓤 = on_entry 𝓛 ended.signature z.0.0 z.0.1 a vss in
-      fact_use 𝓤 (Are Rs (Ises Rs) a vss) (via 𝓤 (sem 𝓛 (owns Rs a vss)) (via 𝓤 On (fst∗ 𝓤 On (asked z)) (snd∗ 𝓤 (alive 𝓛 ended.signature z.0.0 z.0.1) (sem 𝓛 (owns Rs a vss)))) (owns_show 𝓛 Rs (Ises Rs) (showss 𝓛 Rs) a vss)) (λ are.
-      subst (Goes z) (λ i. (sym are.0.0 i, (sym are.1.0.0 i, (sym are.1.1.0.0 i, (sym are.1.1.1.0.0 i, tt))))) (walks z)))
+      (λ z. let a = z.0.3 in let vss = z.0.4 in let Rs : List RattleType = types_at ended.signature.params z.0.0 in
+      let On : SProp 𝓤 = on_entry 𝓛 ended.signature z.0.0 z.0.1 a vss in
+      fact_use 𝓤 (Are Rs (Ises Rs) a vss)
+      (via 𝓤 (sem 𝓛 (owns Rs a vss))
+      (via 𝓤 On (fst∗ 𝓤 On (asked z)) (snd∗ 𝓤 (alive 𝓛 ended.signature z.0.0 z.0.1) (sem 𝓛 (owns Rs a vss))))
+      (owns_show 𝓛 Rs (Ises Rs) (showss 𝓛 Rs) a vss)) (λ are.
+      subst (Goes z) (λ i. (sym are.0.0 i, (sym are.1.0.0 i, (sym are.1.1.0.0 i, (sym are.1.1.1.0.0 i, tt)))))
+      (walks z)))
 
 pub add_spec : {M : Type 1} → stated.statement M
 add_spec 𝓤 𝓛 𝓜 𝓡 wired = let 𝓣' = tables 𝓤 𝓛.H 𝓜 𝓡 𝓡.env in

@@ -1,5 +1,12 @@
 -- `begin` makes the name of a history, and its prefix without events. Assumes `Logic`.
-use Rattle.qshared.proofs.PrefixCommon.{◌≡◌, ℕ, List, [], ◌∷◌, ◌++◌, refl, Ura, Fn, Val, vstruct, vcons, vnil, of_list, SProp, ent, feq, fsep, Memory, Routine, Calls, Loops, WpFn, Tables, Fun, WpFn-mono, Logic, ‵, raw, some, later, await, pick, use0, use1, ◌⊛◌, ◌$◌, ◌∵◌, !, qed, by, move, keep, drop, split, join, fjoin, fjoin3, fpack, feq_i, suffices, frame, agg, enter, returns, no_more, and_then, alloc_all, pass_all, free_all, look_at, get, sets, RattleType, Valss, owns, types_at, nothing, Clauses, Ended, closing, alive, Meets, triple_of, entered, Stays, walk_of, ends_at, walk_Meets, history_owns, seen_owns}
+use Rattle.qshared.proofs.PrefixCommon.{◌≡◌, ℕ, List, [], ◌∷◌, ◌++◌, refl, Ura, Fn, Val, vstruct, vcons, vnil, of_list}
+use Rattle.qshared.proofs.PrefixCommon.{SProp, ent, feq, fsep, Memory, Routine, Calls, Loops, WpFn, Tables, Fun}
+use Rattle.qshared.proofs.PrefixCommon.{WpFn-mono, Logic, ‵, raw, some, later, await, pick, use0, use1, ◌⊛◌, ◌$◌, ◌∵◌}
+use Rattle.qshared.proofs.PrefixCommon.{ !, qed, by, move, keep, drop, split, join, fjoin, fjoin3, fpack, feq_i}
+use Rattle.qshared.proofs.PrefixCommon.{suffices, frame, agg, enter, returns, no_more, and_then, alloc_all, pass_all}
+use Rattle.qshared.proofs.PrefixCommon.{free_all, look_at, get, sets, RattleType, Valss, owns, types_at, nothing}
+use Rattle.qshared.proofs.PrefixCommon.{Clauses, Ended, closing, alive, Meets, triple_of, entered, Stays, walk_of}
+use Rattle.qshared.proofs.PrefixCommon.{ends_at, walk_Meets, history_owns, seen_owns}
 use contract.Running.{tables, tables_of}
 use Rattle.qshared.proofs.Walks.{none, none_made}
 use Rattle.qshared.proofs.PrefixFacts.{tells_all}
@@ -42,11 +49,13 @@ module _ {M : Type 1} {𝓤 : Ura M} (𝓛 : Logic 𝓤) (at_mem : Memory → SP
     abbrev toks : SProp 𝓤
     toks = alive 𝓛 ended.signature z.0.0 z.0.1
 
-    walks : ent 𝓤 ((walk_of 𝓛 ended stayed held).pre z) (WpFn 𝓤 H C Λ function ((walk_of 𝓛 ended stayed held).args z) Post)
+    walks : ent 𝓤 ((walk_of 𝓛 ended stayed held).pre z)
+        (WpFn 𝓤 H C Λ function ((walk_of 𝓛 ended stayed held).args z) Post)
     walks =
         let a = z.0.3 in
         let vss = z.0.4 in
-        qed 𝓛 ((raw toks ⊛ ‵ (owns (types_at ended.signature.params z.0.0) a vss)) ∷ raw ((held z.0.0 a).requires z.1) ∷ []) ∵
+        qed 𝓛 ((raw toks ⊛ ‵ (owns (types_at ended.signature.params z.0.0) a vss)) ∷ raw ((held z.0.0 a).requires z.1)
+        ∷ []) ∵
         keep ! (0 ∷ []) $ split ! $ move ! (1 ∷ []) $ drop ! $
         enter ! C Λ function [] Post $ alloc_all ! (λ l. pass_all ! refl tt $
         use0 𝓛 (later (some (λ (n : ℕ). ‵ (history_owns n [])))) (begins 𝓛) $ await ! tt $ pick ! (λ γ.
@@ -59,8 +68,11 @@ module _ {M : Type 1} {𝓤 : Ura M} (𝓛 : Logic 𝓤) (at_mem : Memory → SP
         returns ! (look_at ! 0 refl) $ free_all ! refl $
         suffices ! _ (ends_at 𝓛 ended stayed held z both (past, seen) tt tt) $
         nothing ! $ move ! (2 ∷ 1 ∷ 0 ∷ []) $ fjoin3 ! $ feq_i ! (List Val) (both ∷ []) (both ∷ []) refl $ fjoin ! $
-        fpack ! (Valss (A ∷ B ∷ [])) (λ vss. fsep (feq (List Val) (both ∷ []) (vstruct (of_list (vss.0 ++ (vss.1.0 ++ []))) ∷ [])) (owns (A ∷ B ∷ []) (past, (seen, tt)) vss)) (none ∷ [], (none ∷ [], tt)) $
-        nothing ! $ join ! $ move ! (1 ∷ []) $ join ! $ frame ! $ by ! (tells_all 𝓤 ((γ ≡ γ) ∷ (past.trace ≡ []) ∷ (seen.trace ≡ []) ∷ []) (refl, (refl, refl)))))
+        fpack ! (Valss (A ∷ B ∷ []))
+        (λ vss. fsep (feq (List Val) (both ∷ []) (vstruct (of_list (vss.0 ++ (vss.1.0 ++ []))) ∷ []))
+        (owns (A ∷ B ∷ []) (past, (seen, tt)) vss)) (none ∷ [], (none ∷ [], tt)) $
+        nothing ! $ join ! $ move ! (1 ∷ []) $ join ! $ frame ! $ by !
+        (tells_all 𝓤 ((γ ≡ γ) ∷ (past.trace ≡ []) ∷ (seen.trace ≡ []) ∷ []) (refl, (refl, refl)))))
 
   meets : (𝓣 : Tables 𝓤 H) → Meets 𝓛 ended.signature (WpFn 𝓤 H 𝓣.C 𝓣.Λ function) (closing 𝓛 ended held)
   meets 𝓣 =

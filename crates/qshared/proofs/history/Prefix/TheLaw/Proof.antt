@@ -7,5 +7,8 @@ use Rattle.qshared.proofs.history.Prefix.TheLaw.Statement.{statement}
 
 pub shares : statement
 shares = of_Lends C.struct C.the_codes C.the_heap C.the_lent
-    (λ d p. record { contraction = λ M 𝓤 𝓛 κ. twice 𝓛 d.name d.trace; mono = λ M 𝓤 𝓛 κ' κ. snd∗ 𝓤 (sem 𝓛 (before κ' κ)) (sem 𝓛 (seen_owns d.name d.trace)) })
+    (λ d p. record {
+      contraction = λ M 𝓤 𝓛 κ. twice 𝓛 d.name d.trace;
+      mono = λ M 𝓤 𝓛 κ' κ. snd∗ 𝓤 (sem 𝓛 (before κ' κ)) (sem 𝓛 (seen_owns d.name d.trace));
+    })
     tt (λ M 𝓤 𝓛 d p. lends_twice 𝓛 (seen_owns d.name d.trace) (twice 𝓛 d.name d.trace) C.the_row.lives)

@@ -7,11 +7,18 @@ pub invariant_of-self : goal.invariant_of-self
 invariant_of-self g c =
     let self = c.args.self.now in let e = c.call-called.ensures in let t = self.scratch.seat.thread in
     let calls = ap (calls_of self.last.trace) self.scratch_is.0 ∙ self.calls_are in
-    let later = subst (λ u. AreLater self.scratch.pending (at_once self.last.trace u) (taken self.seat)) (sym self.scratch_is.0) self.later in
+    let later = subst (λ u. AreLater self.scratch.pending (at_once self.last.trace u) (taken self.seat))
+    (sym self.scratch_is.0) self.later in
     let since = extends_since self.seen.trace self.last.trace self.since in
     let copy = ap (λ s. s.trace) c.again-self.ensures.copy in
-    let kept = (calls_after g.K.Tie.names.roster g.L.Log.refuses g.L.Log.admits t c.args.call self.asked.calls self.seen.trace self.last.trace c.args.locked.now.traced.past c.call-called.new.seen.trace e.met since calls (taken self.seat) self.scratch.pending later c.call-called.result e.came) in
-    let r = later_after g.K.Tie.names.roster g.L.Log.refuses g.L.Log.admits t c.args.call self.asked.calls self.seen.trace self.last.trace c.args.locked.now.traced.past c.call-called.new.seen.trace e.met since calls (taken self.seat) self.scratch.pending later c.call-called.result e.came e.idle in
+    let kept =
+    (calls_after g.K.Tie.names.roster g.L.Log.refuses g.L.Log.admits t c.args.call self.asked.calls self.seen.trace
+    self.last.trace c.args.locked.now.traced.past c.call-called.new.seen.trace e.met since calls
+    (taken self.seat) self.scratch.pending later c.call-called.result e.came) in
+    let r =
+    later_after g.K.Tie.names.roster g.L.Log.refuses g.L.Log.admits t c.args.call self.asked.calls self.seen.trace
+    self.last.trace c.args.locked.now.traced.past c.call-called.new.seen.trace e.met since calls
+    (taken self.seat) self.scratch.pending later c.call-called.result e.came e.idle in
     record {
       seat_is = self.seat_is;
       thread_is = self.thread_is;
@@ -30,7 +37,11 @@ pub returns-clause-taken : goal.returns-clause-taken
 returns-clause-taken g c =
     let self = c.args.self.now in let e = c.call-called.ensures in let t = self.scratch.seat.thread in
     let calls = ap (calls_of self.last.trace) self.scratch_is.0 ∙ self.calls_are in
-    let later = subst (λ u. AreLater self.scratch.pending (at_once self.last.trace u) (taken self.seat)) (sym self.scratch_is.0) self.later in
+    let later = subst (λ u. AreLater self.scratch.pending (at_once self.last.trace u) (taken self.seat))
+    (sym self.scratch_is.0) self.later in
     let since = extends_since self.seen.trace self.last.trace self.since in
     let copy = ap (λ s. s.trace) c.again-self.ensures.copy in
-    rw (copy, sym self.scratch_is.0) (later_after g.K.Tie.names.roster g.L.Log.refuses g.L.Log.admits t c.args.call self.asked.calls self.seen.trace self.last.trace c.args.locked.now.traced.past c.call-called.new.seen.trace e.met since calls (taken self.seat) self.scratch.pending later c.call-called.result e.came e.idle).1
+    rw (copy, sym self.scratch_is.0)
+    (later_after g.K.Tie.names.roster g.L.Log.refuses g.L.Log.admits t c.args.call self.asked.calls self.seen.trace
+    self.last.trace c.args.locked.now.traced.past c.call-called.new.seen.trace e.met since calls
+    (taken self.seat) self.scratch.pending later c.call-called.result e.came e.idle).1
